@@ -1,0 +1,4 @@
+pub mod Address
+pub mod List
+pub mod Name
+pub mod NameText
