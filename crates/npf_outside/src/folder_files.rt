@@ -1,0 +1,85 @@
+ghost use Rattle.std.specs.Prelude.{ℕ, List, Option, None, ◌≡◌, ◌≢◌};
+ghost use Rattle.npf_outside.specs.Tree.{Tree};
+
+use crate::files::{FileFault, Files};
+use std::alloc::Global;
+use std::io::{Error, ErrorKind, Read, Result as IoResult};
+use std::{fs, rt};
+
+/// The files of the system, by paths from the current folder. It tells no contents.
+#[derive(Drop)]
+pub struct FolderFiles<'a, R: rt::Files> {
+    rt: &'a R,
+    read_faults: u64,
+    write_faults: u64,
+    taken: u64,
+}
+
+impl<'a, R: rt::Files> FolderFiles<'a, R> {
+    /// No faults yet, and nothing taken.
+    pub fn new(rt: &'a R) -> FolderFiles<'a, R>
+        ensures read_faults { result.read_faults ≡ 0 }
+        ensures write_faults { result.write_faults ≡ 0 }
+        ensures taken { result.taken ≡ 0 }
+    {
+        FolderFiles {
+            rt,
+            read_faults: 0,
+            write_faults: 0,
+            taken: 0,
+        }
+    }
+}
+
+impl<'a, R: rt::Files> Files for FolderFiles<'a, R> {
+    ghost contents = { λ _. None };
+
+    ghost read_faults = { λ files. files.read_faults };
+
+    ghost write_faults = { λ files. files.write_faults };
+
+    ghost taken = { λ files. files.taken };
+
+    fn read(&mut self, alloc: Global, name: &str, most: u64) -> Result<Vec<u8>, FileFault> {
+        let mut bytes = Vec::new(alloc);
+        let done = append_file(self.rt, name, most, &mut bytes);
+        self.taken = self.taken.saturating_add(bytes.len() as u64);
+        if bytes.len() as u64 > most {
+            return Err(FileFault::Long);
+        }
+        match done {
+            Ok(()) => Ok(bytes),
+            Err(error) => {
+                self.read_faults = self.read_faults.saturating_add(1);
+                Err(fault_of(&error))
+            }
+        }
+    }
+
+    fn write(&mut self, name: &str, bytes: &[u8]) -> Result<(), FileFault> {
+        match fs::write(self.rt, name, bytes) {
+            Ok(()) => Ok(()),
+            Err(error) => {
+                self.write_faults = self.write_faults.saturating_add(1);
+                Err(fault_of(&error))
+            }
+        }
+    }
+}
+
+/// Appends the file's bytes, of which it takes at most one more than `most`.
+fn append_file<R: rt::Files>(rt: &R, name: &str, most: u64, bytes: &mut Vec<u8>) -> IoResult<()> {
+    let file = fs::open(rt, name)?;
+    file.take(most.saturating_add(1)).read_to_end(bytes)?;
+    Ok(())
+}
+
+/// Want of memory is told apart from a refusal of the system.
+fn fault_of(error: &Error) -> FileFault
+    ensures { result ≢ FileFault.Long }
+{
+    match error.kind() {
+        ErrorKind::OutOfMemory => FileFault::NoMemory,
+        _ => FileFault::Failed,
+    }
+}
