@@ -1,4 +1,4 @@
-use Rattle.std.specs.Prelude.{◌≡◌, ℕ, ◌-◌, ◌*◌, ◌/◌, ◌^◌}
+use Rattle.std.specs.Prelude.{◌≡◌, ℕ, ◌-◌, ◌*◌, ◌/◌, ◌^◌, ◌==◌, Bool, false}
 use Rattle.npf_types.specs.declared.address.Addr.{Addr}
 use Rattle.npf_types.specs.declared.address.Addr.TheVariants.{V4, V6}
 
@@ -25,3 +25,9 @@ abbrev pub SharesFirst : ℕ → Addr → Addr → Type 0
 SharesFirst n (V4 a) (V4 b) = first_bits 32 n a ≡ first_bits 32 n b
 SharesFirst n (V6 a) (V6 b) = first_bits 128 n a ≡ first_bits 128 n b
 SharesFirst _ _ _ = ⊥
+
+-- the test of the same
+abbrev pub shares_first : ℕ → Addr → Addr → Bool
+shares_first n (V4 a) (V4 b) = first_bits 32 n a == first_bits 32 n b
+shares_first n (V6 a) (V6 b) = first_bits 128 n a == first_bits 128 n b
+shares_first _ _ _ = false

@@ -1,5 +1,5 @@
 ghost use Rattle.std.specs.Prelude.{◌≡◌, ◌≤◌, ◌-◌, ◌/◌, ◌*◌, ◌^◌, ◌↔◌, IsTrue, IsSome, IfSome};
-ghost use Rattle.npf_types.specs.Address.{width, cleared, SharesFirst, first_bits, kept_bits};
+ghost use Rattle.npf_types.specs.Address.{width, cleared, shares_first, SharesFirst, first_bits, kept_bits};
 
 /// An IPv4 or IPv6 address, its first byte the highest.
 #[derive(Clone, Copy, Debug, PartialEq, Eq, PartialOrd, Ord, Hash)]
@@ -48,7 +48,8 @@ impl Prefix {
 
     /// Whether the address lies in the block: its family agrees and its first `len` bits are equal.
     pub fn has(&self, addr: Addr) -> bool
-        ensures { IsTrue result ↔ SharesFirst self.now.len self.now.addr addr }
+        ensures value { result ≡ shares_first self.now.len self.now.addr addr }
+        ensures fact { IsTrue result ↔ SharesFirst self.now.len self.now.addr addr }
     {
         match (self.addr, addr) {
             (Addr::V4(a), Addr::V4(b)) => first_bits_v4(a, self.len) == first_bits_v4(b, self.len),
