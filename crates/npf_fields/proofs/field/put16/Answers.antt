@@ -1,0 +1,7 @@
+use Rattle.std.proofs.Common.{refl}
+use Rattle.npf_fields.proofs.FieldBytes.{after}
+use Rattle.byteorder.specs.Endian.{big_bytes}
+use Rattle.npf_fields.proofs.field.put16.Goals as goal
+
+pub returns-clause-after : goal.returns-clause-after
+returns-clause-after c = λ k d behind. rw c.write_u16.ensures (after c.args.bytes.now (big_bytes 2 c.args.v) c.args.at 2 c.requires refl k d behind)
