@@ -3,6 +3,8 @@ pub mod Cells
 pub mod Class
 pub mod Extent
 pub mod Flags
+pub mod Laws
+pub mod Mirror
 pub mod Opening
 pub mod Segment
 pub mod Sequence

@@ -16,6 +16,7 @@ mod cells;
 mod class;
 mod extent;
 mod flags;
+pub mod laws;
 mod opening;
 mod segment;
 mod sequence;
