@@ -6,7 +6,7 @@ use Rattle.npf_tcp.specs.declared.class.Class.TheVariants.{Rst, Syn, SynAck, Ack
 use Rattle.npf_tcp.specs.declared.state.TcpPhase.{TcpPhase}
 use Rattle.npf_tcp.specs.declared.state.TcpPhase.TheVariants.{Closed}
 use Rattle.npf_tcp.specs.Cells.{row, no, cell, forward_cell, backward_cell}
-use Rattle.npf_tcp.specs.Mirror.{mirrored_phase, mirrored_cell, opposite, is_one_sided, is_symmetric}
+use Rattle.npf_tcp.specs.Mirror.{mirrored_phase, mirrored_cell, opposite_way, is_one_sided, is_symmetric}
 
 -- a reset leads to CLOSED from every phase
 forward_cell-rst : (phase : TcpPhase) → forward_cell phase Rst ≡ Some Closed
@@ -52,7 +52,7 @@ forward_mirrored = elim [ Closed ↦ elim [ Rst ↦ λ h. cc | _ ↦ λ h. cc ] 
 backward_mirrored : (phase : TcpPhase) (class : Class) → is_one_sided phase class ≡ false → forward_cell (mirrored_phase phase) class ≡ mirrored_cell (backward_cell phase class)
 backward_mirrored = elim [ Closed ↦ elim [ Rst ↦ λ h. cc | _ ↦ λ h. cc ] | _ ↦ elim [ Rst ↦ λ h. cc | _ ↦ λ h. cc ] ]
 
-pub cell-mirrored : (phase : TcpPhase) (class : Class) → is_one_sided phase class ≡ false → (way : Way) → cell (mirrored_phase phase) (opposite way) class ≡ mirrored_cell (cell phase way class)
+pub cell-mirrored : (phase : TcpPhase) (class : Class) → is_one_sided phase class ≡ false → (way : Way) → cell (mirrored_phase phase) (opposite_way way) class ≡ mirrored_cell (cell phase way class)
 cell-mirrored phase class h Forward = forward_mirrored phase class h
 cell-mirrored phase class h Backward = backward_mirrored phase class h
 cell-mirrored phase class h Port = forward_mirrored phase class h

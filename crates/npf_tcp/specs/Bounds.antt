@@ -25,13 +25,13 @@ is_ack_in_bounds receiver seg =
     else true
 
 -- the bounds that hold where this much is known of the sender and of the receiver
-abbrev pub bounds : Known → Known → TcpSide → TcpSide → Segment → Bool
-bounds Seen Seen sender receiver seg = is_sent_in_bounds sender receiver seg && is_ack_in_bounds receiver seg
-bounds Expected Seen _ receiver seg = is_ack_in_bounds receiver seg
-bounds Nothing Seen _ receiver seg = is_ack_in_bounds receiver seg
-bounds _ Expected _ _ _ = true
-bounds _ Nothing _ _ _ = true
+abbrev pub is_in_bounds_by : Known → Known → TcpSide → TcpSide → Segment → Bool
+is_in_bounds_by Seen Seen sender receiver seg = is_sent_in_bounds sender receiver seg && is_ack_in_bounds receiver seg
+is_in_bounds_by Expected Seen _ receiver seg = is_ack_in_bounds receiver seg
+is_in_bounds_by Nothing Seen _ receiver seg = is_ack_in_bounds receiver seg
+is_in_bounds_by _ Expected _ _ _ = true
+is_in_bounds_by _ Nothing _ _ _ = true
 
 -- the segment's numbers lie within the bounds
 unfoldable pub is_in_bounds : TcpSide → TcpSide → Segment → Bool
-is_in_bounds sender receiver seg = bounds sender.known receiver.known sender receiver seg
+is_in_bounds sender receiver seg = is_in_bounds_by sender.known receiver.known sender receiver seg

@@ -11,9 +11,9 @@ use Rattle.npf_tcp.specs.declared.state.TcpState.{TcpState}
 use Rattle.npf_tcp.specs.Bounds.{is_in_bounds}
 use Rattle.npf_tcp.specs.Cells.{cell}
 use Rattle.npf_tcp.specs.Class.{class_of}
-use Rattle.npf_tcp.specs.Mirror.{mirrored, mirrored_phase, mirrored_cell, opposite, is_one_sided, is_symmetric}
+use Rattle.npf_tcp.specs.Mirror.{mirrored_state, mirrored_phase, mirrored_cell, opposite_way, is_one_sided, is_symmetric}
 use Rattle.npf_tcp.specs.Opening.{opening}
-use Rattle.npf_tcp.specs.Segment.{step, sender, receiver}
+use Rattle.npf_tcp.specs.Segment.{step, sender_of, receiver_of}
 use Rattle.npf_tcp.specs.Sequence.{plus, minus, is_at_or_before}
 
 -- the two parts of the answer
@@ -45,7 +45,7 @@ ResetCloses =
 abbrev pub ResetIsBounded : Type 0
 ResetIsBounded =
     (state : TcpState) (way : Way) (seg : Segment) → class_of seg.flags ≡ Rst →
-    is_accepted state way seg ≡ is_in_bounds (sender state way) (receiver state way) seg
+    is_accepted state way seg ≡ is_in_bounds (sender_of state way) (receiver_of state way) seg
 
 abbrev pub ClosedTakesOnlyReset : Type 0
 ClosedTakesOnlyReset =
@@ -96,7 +96,7 @@ abbrev pub OneSidedExactly : Type 0
 OneSidedExactly =
     (phase : TcpPhase) (class : Class) →
     (is_one_sided phase class ≡ false)
-    ↔ ((way : Way) → cell (mirrored_phase phase) (opposite way) class ≡ mirrored_cell (cell phase way class))
+    ↔ ((way : Way) → cell (mirrored_phase phase) (opposite_way way) class ≡ mirrored_cell (cell phase way class))
 
 -- the symmetric phases are those with no one-sided cell
 abbrev pub SymmetricExactly : Type 0
@@ -107,15 +107,15 @@ SymmetricExactly =
 abbrev pub SidesExchange : Type 0
 SidesExchange =
     (state : TcpState) (way : Way) (seg : Segment) → is_symmetric state.phase ≡ true →
-    (next_state (mirrored state) (opposite way) seg ≡ mirrored (next_state state way seg))
-    × (is_accepted (mirrored state) (opposite way) seg ≡ is_accepted state way seg)
+    (next_state (mirrored_state state) (opposite_way way) seg ≡ mirrored_state (next_state state way seg))
+    × (is_accepted (mirrored_state state) (opposite_way way) seg ≡ is_accepted state way seg)
 
 -- and so it does in each phase for the classes at which the table is symmetric
 abbrev pub ClassesExchange : Type 0
 ClassesExchange =
     (state : TcpState) (way : Way) (seg : Segment) → is_one_sided state.phase (class_of seg.flags) ≡ false →
-    (next_state (mirrored state) (opposite way) seg ≡ mirrored (next_state state way seg))
-    × (is_accepted (mirrored state) (opposite way) seg ≡ is_accepted state way seg)
+    (next_state (mirrored_state state) (opposite_way way) seg ≡ mirrored_state (next_state state way seg))
+    × (is_accepted (mirrored_state state) (opposite_way way) seg ≡ is_accepted state way seg)
 
 -- x <= y exactly where fewer than 2^31 bytes after x comes y
 abbrev pub OrderIsByDistance : Type 0

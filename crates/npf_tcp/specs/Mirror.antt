@@ -27,14 +27,14 @@ mirrored_cell (Some phase) = Some (mirrored_phase phase)
 mirrored_cell None = None
 
 -- the other way; the way of a port counts as forward
-abbrev pub opposite : Way → Way
-opposite Forward = Backward
-opposite Backward = Forward
-opposite Port = Backward
+abbrev pub opposite_way : Way → Way
+opposite_way Forward = Backward
+opposite_way Backward = Forward
+opposite_way Port = Backward
 
 -- the state with the sides exchanged
-abbrev pub mirrored : TcpState → TcpState
-mirrored state = record { phase = mirrored_phase state.phase; forward = state.backward; backward = state.forward }
+abbrev pub mirrored_state : TcpState → TcpState
+mirrored_state state = record { phase = mirrored_phase state.phase; forward = state.backward; backward = state.forward }
 
 -- The cells at which the table isn't symmetric: the first SYN and its answers have a side, while the connection opens.
 -- In SYN_SENT only the backward side may answer. In SIMSYN_SENT only the backward side may send FIN. In SYN_RECEIVED the

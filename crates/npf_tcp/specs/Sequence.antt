@@ -13,5 +13,5 @@ abbrev pub is_at_or_before : ℕ → ℕ → Bool
 is_at_or_before x y = nat_lt (minus y x) (2 ^ 31)
 
 -- y where x <= y, and otherwise x
-abbrev pub later : ℕ → ℕ → ℕ
-later x y = if is_at_or_before x y then y else x
+abbrev pub later_of : ℕ → ℕ → ℕ
+later_of x y = if is_at_or_before x y then y else x

@@ -25,3 +25,6 @@ mod state;
 pub use opening::open_tcp;
 pub use segment::step_tcp;
 pub use state::{Known, TcpPhase, TcpSide, TcpState};
+
+#[cfg(test)]
+mod tests;
