@@ -1,8 +1,8 @@
-use Rattle.std.proofs.Common.{◌≡◌, Option, Some, None, Bool, true, false, refl}
+use Rattle.std.proofs.Common.{◌≡◌, Some, None, true, false, refl}
 use Rattle.npf_types.specs.declared.connection.Way.{Way}
 use Rattle.npf_types.specs.declared.connection.Way.TheVariants.{Forward, Backward, Port}
 use Rattle.npf_tcp.specs.declared.class.Class.{Class}
-use Rattle.npf_tcp.specs.declared.class.Class.TheVariants.{Rst, Syn, SynAck, Ack, Fin, Invalid}
+use Rattle.npf_tcp.specs.declared.class.Class.TheVariants.{Rst, Syn, SynAck, Fin, Invalid}
 use Rattle.npf_tcp.specs.declared.state.TcpPhase.{TcpPhase}
 use Rattle.npf_tcp.specs.declared.state.TcpPhase.TheVariants.{Closed}
 use Rattle.npf_tcp.specs.Cells.{row, no, cell, forward_cell, backward_cell}
@@ -63,7 +63,7 @@ not_one_sided = elim [ Closed ↦ elim [ Rst ↦ λ h. cc | _ ↦ λ h. cc ] | _
 pub symmetric_class : (phase : TcpPhase) → is_symmetric phase ≡ true → (class : Class) → is_one_sided phase class ≡ false
 symmetric_class = elim [ Closed ↦ λ h. elim [ Rst ↦ cc | _ ↦ cc ] | _ ↦ λ h. elim [ Rst ↦ cc | _ ↦ cc ] ]
 
--- each class but one-sided ones at Syn, SynAck and Fin tells the four phases of the opening
+-- each of the four phases of the opening has a one-sided cell at SYN, SYN with ACK or FIN
 pub symmetric_phase : (phase : TcpPhase) → is_one_sided phase Syn ≡ false → is_one_sided phase SynAck ≡ false → is_one_sided phase Fin ≡ false → is_symmetric phase ≡ true
 symmetric_phase Closed syn syn_ack fin = cc
 symmetric_phase _ syn syn_ack fin = cc

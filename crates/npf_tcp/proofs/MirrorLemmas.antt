@@ -7,7 +7,6 @@ use Rattle.npf_tcp.specs.declared.state.TcpState.{TcpState}
 use Rattle.npf_tcp.specs.Bounds.{is_in_bounds}
 use Rattle.npf_tcp.specs.Cells.{cell}
 use Rattle.npf_tcp.specs.Class.{class_of}
-use Rattle.npf_tcp.specs.Laws.{next_state, is_accepted}
 use Rattle.npf_tcp.specs.Mirror.{mirrored_state, mirrored_phase, mirrored_cell, opposite_way, is_one_sided}
 use Rattle.npf_tcp.specs.Segment.{sender_of, receiver_of, state_after, answer, step}
 use Rattle.npf_tcp.proofs.CellLemmas.{cell-mirrored}

@@ -1,4 +1,4 @@
-use Rattle.std.proofs.Common.{◌≡◌, Option, Some, None, Bool, true, false, refl, is_some}
+use Rattle.std.proofs.Common.{◌≡◌, Option, Some, None, Bool, true, false, refl}
 use Rattle.npf_types.specs.declared.connection.Way.{Way}
 use Rattle.npf_types.specs.declared.connection.Way.TheVariants.{Forward, Backward, Port}
 use Rattle.npf_types.specs.declared.packet.Segment.{Segment}
@@ -8,7 +8,7 @@ use Rattle.npf_tcp.specs.declared.state.TcpState.{TcpState}
 use Rattle.npf_tcp.specs.Bounds.{is_in_bounds}
 use Rattle.npf_tcp.specs.Cells.{cell}
 use Rattle.npf_tcp.specs.Class.{class_of}
-use Rattle.npf_tcp.specs.Laws.{EachSide, BothSides, is_accepted}
+use Rattle.npf_tcp.specs.Laws.{EachSide, is_accepted}
 use Rattle.npf_tcp.specs.Segment.{sender_of, receiver_of, sender_after, receiver_after, state_after, answer, step}
 
 -- what holds of a refusal, and of a move where the table has a cell and the numbers lie within the bounds, holds of the answer

@@ -1,4 +1,4 @@
-use Rattle.std.specs.Prelude.{ℕ, Option, Some, None, ◌+◌, ◌*◌, ◌%◌, ◌^◌, max, min, if◌then◌else◌}
+use Rattle.std.specs.Prelude.{ℕ, Option, Some, ◌+◌, ◌*◌, ◌%◌, ◌^◌, max, min, if◌then◌else◌}
 use Rattle.npf_types.specs.declared.packet.Segment.{Segment}
 use Rattle.npf_tcp.specs.Flags.{has_fin, has_syn}
 

@@ -2,7 +2,7 @@ use Rattle.std.specs.Prelude.{Bool, true, false, Option, Some, None}
 use Rattle.npf_types.specs.declared.connection.Way.{Way}
 use Rattle.npf_types.specs.declared.connection.Way.TheVariants.{Forward, Backward, Port}
 use Rattle.npf_tcp.specs.declared.class.Class.{Class}
-use Rattle.npf_tcp.specs.declared.class.Class.TheVariants.{Rst, Syn, SynAck, Ack, Fin, Invalid}
+use Rattle.npf_tcp.specs.declared.class.Class.TheVariants.{Syn, SynAck, Ack, Fin}
 use Rattle.npf_tcp.specs.declared.state.TcpPhase.{TcpPhase}
 use Rattle.npf_tcp.specs.declared.state.TcpPhase.TheVariants.{Closed, SynSent, SimsynSent, SynReceived, Established, FinSent, FinReceived, CloseWait, FinWait, Closing, LastAck, TimeWait}
 use Rattle.npf_tcp.specs.declared.state.TcpState.{TcpState}

@@ -1,8 +1,7 @@
-use Rattle.std.specs.Prelude.{ℕ, Option, None, if◌then◌else◌}
+use Rattle.std.specs.Prelude.{ℕ, None, if◌then◌else◌}
 use Rattle.npf_types.specs.declared.packet.Segment.{Segment}
 use Rattle.npf_tcp.specs.declared.class.Class.{Class}
 use Rattle.npf_tcp.specs.declared.class.Class.TheVariants.{Rst, Syn, SynAck, Ack, Fin, Invalid}
-use Rattle.npf_tcp.specs.declared.state.Known.{Known}
 use Rattle.npf_tcp.specs.declared.state.Known.TheVariants.{Nothing, Expected, Seen}
 use Rattle.npf_tcp.specs.declared.state.TcpPhase.{TcpPhase}
 use Rattle.npf_tcp.specs.declared.state.TcpPhase.TheVariants.{Closed, SynSent, Established, FinSent}

@@ -38,8 +38,9 @@ pub fn maxwin_never_falls()
     ensures all { MaxwinNeverFalls }
 {}
 
-/// The table is symmetric in all phases but SYN_SENT, SIMSYN_SENT, SYN_RECEIVED and ESTABLISHED, and in these at all
-/// but six cells.
+/// The table of phases is symmetric, where FIN_SENT mirrors FIN_RECEIVED and FIN_WAIT mirrors CLOSE_WAIT, in all phases
+/// but those of the opening: SYN_SENT (at SYN and SYN with ACK), SIMSYN_SENT (at FIN), SYN_RECEIVED (at SYN and ACK) and
+/// ESTABLISHED (at SYN with ACK). At all other classes it is symmetric in these too.
 pub fn table_is_symmetric()
     ensures cells { OneSidedExactly }
     ensures phases { SymmetricExactly }

@@ -23,6 +23,12 @@ const FIN_ACK: u8 = 0x11;
 
 const PSH_ACK: u8 = 0x18;
 
+/// Where a segment leads that is refused.
+const NO: Option<TcpPhase> = None;
+
+/// A segment and its way, and the phase to which it leads, if it is accepted.
+type Step = (&'static str, (Way, Segment), Option<TcpPhase>);
+
 fn segment(flags: u8, seq: u32, ack: u32, win: u16, len: u32) -> Segment {
     Segment {
         flags,
@@ -34,29 +40,27 @@ fn segment(flags: u8, seq: u32, ack: u32, win: u16, len: u32) -> Segment {
     }
 }
 
-fn scaled(flags: u8, seq: u32, ack: u32, win: u16, scale: u8) -> Segment {
-    Segment {
-        flags,
-        seq,
-        ack,
-        win,
-        len: 0,
-        scale: Some(scale),
-    }
+fn there(flags: u8, seq: u32, ack: u32, win: u16, len: u32) -> (Way, Segment) {
+    (Forward, segment(flags, seq, ack, win, len))
 }
 
-/// Whether the segment is accepted, and the phase after it.
-type Step = (&'static str, Way, Segment, bool, TcpPhase);
+fn back(flags: u8, seq: u32, ack: u32, win: u16, len: u32) -> (Way, Segment) {
+    (Backward, segment(flags, seq, ack, win, len))
+}
 
-/// The state after these segments, each of which is answered as its row says.
+fn to(phase: TcpPhase) -> Option<TcpPhase> {
+    Some(phase)
+}
+
+/// The state after these segments, each of which is answered as its row says. A refused one changes nothing.
 fn follow(rt: &impl Abort, opened: TcpState, steps: &[Step]) -> TcpState {
     let mut state = opened;
-    for (name, way, seg, accepted, phase) in steps {
-        let (next, answer) = step_tcp(&state, *way, seg);
-        assert_eq!(rt; answer, *accepted, "{name}");
-        assert_eq!(rt; next.phase, *phase, "{name}");
-        if !answer {
-            assert_eq!(rt; next, state, "{name}");
+    for (name, (way, seg), led) in steps {
+        let (next, accepted) = step_tcp(&state, *way, seg);
+        assert_eq!(rt; accepted, led.is_some(), "{name}");
+        match led {
+            Some(phase) => assert_eq!(rt; next.phase, *phase, "{name}"),
+            None => assert_eq!(rt; next, state, "{name}"),
         }
         state = next;
     }
@@ -68,147 +72,57 @@ fn a_handshake_to_its_end(rt: HostRuntime) {
     let opened = open_tcp(&segment(SYN, 1000, 0, 1000, 0));
     assert_eq!(rt; opened.phase, SynSent);
     let steps = [
-        (
-            "2",
-            Backward,
-            segment(SYN_ACK, 5000, 1001, 2000, 0),
-            true,
-            SynReceived,
-        ),
-        (
-            "3",
-            Forward,
-            segment(ACK, 1001, 5001, 1000, 0),
-            true,
-            Established,
-        ),
-        (
-            "4",
-            Forward,
-            segment(PSH_ACK, 1001, 5001, 1000, 100),
-            true,
-            Established,
-        ),
-        (
-            "5",
-            Backward,
-            segment(ACK, 5001, 1101, 2000, 0),
-            true,
-            Established,
-        ),
-        (
-            "6",
-            Backward,
-            segment(PSH_ACK, 5001, 1101, 2000, 500),
-            true,
-            Established,
-        ),
-        (
-            "7",
-            Forward,
-            segment(FIN_ACK, 1101, 5501, 1000, 0),
-            true,
-            FinSent,
-        ),
-        (
-            "8",
-            Backward,
-            segment(ACK, 5501, 1102, 2000, 0),
-            true,
-            FinWait,
-        ),
-        (
-            "9",
-            Backward,
-            segment(FIN_ACK, 5501, 1102, 2000, 0),
-            true,
-            LastAck,
-        ),
-        (
-            "10",
-            Forward,
-            segment(ACK, 1102, 5502, 1000, 0),
-            true,
-            TimeWait,
-        ),
+        ("2", back(SYN_ACK, 5000, 1001, 2000, 0), to(SynReceived)),
+        ("3", there(ACK, 1001, 5001, 1000, 0), to(Established)),
+        ("4", there(PSH_ACK, 1001, 5001, 1000, 100), to(Established)),
+        ("5", back(ACK, 5001, 1101, 2000, 0), to(Established)),
+        ("6", back(PSH_ACK, 5001, 1101, 2000, 500), to(Established)),
+        ("7", there(FIN_ACK, 1101, 5501, 1000, 0), to(FinSent)),
+        ("8", back(ACK, 5501, 1102, 2000, 0), to(FinWait)),
+        ("9", back(FIN_ACK, 5501, 1102, 2000, 0), to(LastAck)),
+        ("10", there(ACK, 1102, 5502, 1000, 0), to(TimeWait)),
     ];
     follow(&rt, opened, &steps);
 }
 
-// Both sides shift by 14, and both sequences pass 2^32. The backward side may send up to 0 + 65535 * 2^14.
+// Both sides shift by 14, and both sequences pass 2^32. The backward side may send up to 0 + 65535 * 2^14, which is
+// 1073725440.
 #[test]
 fn scaled_windows_and_numbers_that_wrap(rt: HostRuntime) {
-    let opened = open_tcp(&scaled(SYN, 4294967290, 0, 65535, 14));
-    let past = segment(ACK, 1073725341, 4294967291, 65535, 100);
-    let inside = segment(ACK, 1073725340, 4294967291, 65535, 100);
+    let syn = Segment {
+        scale: Some(14),
+        ..segment(SYN, 4294967290, 0, 65535, 0)
+    };
+    let syn_ack = Segment {
+        scale: Some(14),
+        ..segment(SYN_ACK, 4294967295, 4294967291, 65535, 0)
+    };
+    let past = back(ACK, 1073725341, 4294967291, 65535, 100);
+    let inside = back(ACK, 1073725340, 4294967291, 65535, 100);
     let steps = [
-        (
-            "both scale",
-            Backward,
-            scaled(SYN_ACK, 4294967295, 4294967291, 65535, 14),
-            true,
-            SynReceived,
-        ),
-        (
-            "the handshake ends",
-            Forward,
-            segment(ACK, 4294967291, 0, 65535, 0),
-            true,
-            Established,
-        ),
-        (
-            "one byte past the window",
-            Backward,
-            past,
-            false,
-            Established,
-        ),
-        (
-            "the window's last byte",
-            Backward,
-            inside,
-            true,
-            Established,
-        ),
+        ("SYN and ACK", (Backward, syn_ack), to(SynReceived)),
+        ("ACK", there(ACK, 4294967291, 0, 65535, 0), to(Established)),
+        ("one byte past the window", past, NO),
+        ("the window's last byte", inside, to(Established)),
     ];
-    let state = follow(&rt, opened, &steps);
+    let state = follow(&rt, open_tcp(&syn), &steps);
     assert_eq!(rt; state.backward.end, 1073725440);
     assert_eq!(rt; state.backward.maxwin, 1073725440);
     assert_eq!(rt; state.forward.maxwin, 1073725440);
 }
 
-// A connection whose sides each sent SYN, at 100 and 300, and offer 1000 and 2000 bytes.
+/// A connection whose sides each sent SYN, at 100 and 300, and offer 1000 and 2000 bytes.
 fn opened_by_both(rt: &impl Abort) -> TcpState {
     let opened = open_tcp(&segment(SYN, 100, 0, 1000, 0));
     let steps = [
+        ("SYN", back(SYN, 300, 0, 2000, 0), to(SimsynSent)),
         (
-            "the other SYN",
-            Backward,
-            segment(SYN, 300, 0, 2000, 0),
-            true,
-            SimsynSent,
+            "with ACK",
+            there(SYN_ACK, 100, 301, 1000, 0),
+            to(SynReceived),
         ),
-        (
-            "SYN again with ACK",
-            Forward,
-            segment(SYN_ACK, 100, 301, 1000, 0),
-            true,
-            SynReceived,
-        ),
-        (
-            "and the other",
-            Backward,
-            segment(SYN_ACK, 300, 101, 2000, 0),
-            true,
-            SynReceived,
-        ),
-        (
-            "ACK",
-            Forward,
-            segment(ACK, 101, 301, 1000, 0),
-            true,
-            Established,
-        ),
+        ("too", back(SYN_ACK, 300, 101, 2000, 0), to(SynReceived)),
+        ("ACK", there(ACK, 101, 301, 1000, 0), to(Established)),
     ];
     follow(rt, opened, &steps)
 }
@@ -216,150 +130,52 @@ fn opened_by_both(rt: &impl Abort) -> TcpState {
 #[test]
 fn both_open_and_both_close(rt: HostRuntime) {
     let steps = [
-        (
-            "FIN",
-            Forward,
-            segment(FIN_ACK, 101, 301, 1000, 0),
-            true,
-            FinSent,
-        ),
-        (
-            "the other FIN",
-            Backward,
-            segment(FIN_ACK, 301, 101, 2000, 0),
-            true,
-            Closing,
-        ),
-        (
-            "one is acknowledged",
-            Forward,
-            segment(ACK, 102, 302, 1000, 0),
-            true,
-            LastAck,
-        ),
-        (
-            "both are",
-            Backward,
-            segment(ACK, 302, 102, 2000, 0),
-            true,
-            TimeWait,
-        ),
+        ("FIN", there(FIN_ACK, 101, 301, 1000, 0), to(FinSent)),
+        ("the other", back(FIN_ACK, 301, 101, 2000, 0), to(Closing)),
+        ("one ACK", there(ACK, 102, 302, 1000, 0), to(LastAck)),
+        ("both", back(ACK, 302, 102, 2000, 0), to(TimeWait)),
     ];
     follow(&rt, opened_by_both(&rt), &steps);
 }
 
+// The backward side may send up to 301 + 1000.
 #[test]
 fn resets(rt: HostRuntime) {
     let steps = [
-        (
-            "past the window",
-            Backward,
-            segment(RST, 1302, 0, 0, 0),
-            false,
-            Established,
-        ),
-        (
-            "in the window",
-            Backward,
-            segment(RST, 1301, 0, 0, 0),
-            true,
-            Closed,
-        ),
-        (
-            "data after it",
-            Forward,
-            segment(ACK, 101, 301, 1000, 5),
-            false,
-            Closed,
-        ),
-        (
-            "SYN after it",
-            Forward,
-            segment(SYN, 101, 0, 1000, 0),
-            false,
-            Closed,
-        ),
-        (
-            "a reset after it",
-            Forward,
-            segment(RST, 101, 0, 0, 0),
-            true,
-            Closed,
-        ),
+        ("past the window", back(RST, 1302, 0, 0, 0), NO),
+        ("in the window", back(RST, 1301, 0, 0, 0), to(Closed)),
+        ("data after it", there(ACK, 101, 301, 1000, 5), NO),
+        ("SYN after it", there(SYN, 101, 0, 1000, 0), NO),
+        ("a reset after it", there(RST, 101, 0, 0, 0), to(Closed)),
     ];
     follow(&rt, opened_by_both(&rt), &steps);
-    assert_eq!(rt; open_tcp(&segment(RST, 1, 0, 0, 0)).phase, Closed);
 }
 
 // The backward side has sent up to 301, and the forward side's greatest window is 1000 bytes: a keep-alive repeats
-// the byte before 301, and no segment may begin before 4294966597, which is 301 - 1000 modulo 2^32.
+// the byte before 301, and no segment may begin before 301 - 1000 modulo 2^32.
 #[test]
 fn segments_before_the_window(rt: HostRuntime) {
+    let oldest = back(ACK, 4294966597, 101, 2000, 1);
+    let older = back(ACK, 4294966596, 101, 2000, 1);
     let steps = [
-        (
-            "keep-alive",
-            Backward,
-            segment(ACK, 300, 101, 2000, 0),
-            true,
-            Established,
-        ),
-        (
-            "keep-alive with a byte",
-            Backward,
-            segment(ACK, 300, 101, 2000, 1),
-            true,
-            Established,
-        ),
-        (
-            "the oldest byte",
-            Backward,
-            segment(ACK, 4294966597, 101, 2000, 1),
-            true,
-            Established,
-        ),
-        (
-            "one byte before it",
-            Backward,
-            segment(ACK, 4294966596, 101, 2000, 1),
-            false,
-            Established,
-        ),
+        ("keep-alive", back(ACK, 300, 101, 2000, 0), to(Established)),
+        ("with a byte", back(ACK, 300, 101, 2000, 1), to(Established)),
+        ("the oldest byte", oldest, to(Established)),
+        ("one byte before it", older, NO),
     ];
     follow(&rt, opened_by_both(&rt), &steps);
 }
 
-// The backward side has sent up to 301. 66000 bytes before that lies 4294901597 modulo 2^32.
+// The backward side has sent up to 301. An acknowledgment may lie 66000 bytes before that, modulo 2^32.
 #[test]
 fn acknowledgments_new_and_old(rt: HostRuntime) {
+    let oldest = there(ACK, 101, 4294901597, 1000, 0);
+    let older = there(ACK, 101, 4294901596, 1000, 0);
     let steps = [
-        (
-            "of all",
-            Forward,
-            segment(ACK, 101, 301, 1000, 0),
-            true,
-            Established,
-        ),
-        (
-            "of what was not sent",
-            Forward,
-            segment(ACK, 101, 302, 1000, 0),
-            false,
-            Established,
-        ),
-        (
-            "the oldest",
-            Forward,
-            segment(ACK, 101, 4294901597, 1000, 0),
-            true,
-            Established,
-        ),
-        (
-            "one byte older",
-            Forward,
-            segment(ACK, 101, 4294901596, 1000, 0),
-            false,
-            Established,
-        ),
+        ("of all", there(ACK, 101, 301, 1000, 0), to(Established)),
+        ("of what was not sent", there(ACK, 101, 302, 1000, 0), NO),
+        ("the oldest", oldest, to(Established)),
+        ("one byte older", older, NO),
     ];
     follow(&rt, opened_by_both(&rt), &steps);
 }
@@ -413,6 +229,33 @@ fn a_closed_window_counts_as_a_byte(rt: HostRuntime) {
     assert_eq!(rt; state.backward, backward);
 }
 
+// The filter sees an acknowledgment first, and then the other side's first segment of 10 bytes at 20.
+#[test]
+fn a_connection_under_way(rt: HostRuntime) {
+    let opened = open_tcp(&segment(ACK, 10, 20, 100, 5));
+    let steps = [
+        ("of what was not sent", back(ACK, 20, 16, 500, 10), NO),
+        ("its first", back(ACK, 20, 15, 500, 10), to(Established)),
+    ];
+    let state = follow(&rt, opened, &steps);
+    let forward = TcpSide {
+        known: Known::Seen,
+        end: 15,
+        maxend: 515,
+        maxwin: 100,
+        scale: None,
+    };
+    let backward = TcpSide {
+        known: Known::Seen,
+        end: 30,
+        maxend: 120,
+        maxwin: 500,
+        scale: None,
+    };
+    assert_eq!(rt; state.forward, forward);
+    assert_eq!(rt; state.backward, backward);
+}
+
 #[test]
 fn the_first_segment_opens_a_phase(rt: HostRuntime) {
     let cases = [
@@ -434,8 +277,6 @@ fn the_first_segment_opens_a_phase(rt: HostRuntime) {
         );
     }
 }
-
-const NO: Option<TcpPhase> = None;
 
 /// A row of the table: a phase, and its cells of SYN, SYN with ACK, ACK and FIN, forward and then backward.
 type Row = (TcpPhase, [Option<TcpPhase>; 4], [Option<TcpPhase>; 4]);

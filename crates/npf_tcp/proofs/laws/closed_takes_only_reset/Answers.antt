@@ -1,4 +1,4 @@
-use Rattle.std.proofs.Common.{◌≡◌, ◌∙◌, Some, true, sym, ap}
+use Rattle.std.proofs.Common.{◌≡◌, ◌∙◌, true, sym, ap}
 use Rattle.npf_tcp.specs.declared.class.Class.TheVariants.{Rst}
 use Rattle.npf_tcp.specs.declared.state.TcpPhase.{TcpPhase}
 use Rattle.npf_tcp.specs.Cells.{cell}

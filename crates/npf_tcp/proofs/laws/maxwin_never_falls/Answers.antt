@@ -1,5 +1,4 @@
-use Rattle.std.proofs.Common.{◌≡◌, ◌≤◌, arith}
-use Rattle.npf_tcp.specs.declared.state.TcpSide.{TcpSide}
+use Rattle.std.proofs.Common.{◌≤◌, arith}
 use Rattle.npf_tcp.specs.Laws.{KeepsMaxwin, IsQuietUnseen}
 use Rattle.npf_tcp.proofs.SideLemmas.{sender_after-known, sender_after-maxwin, quiet_sender_after, receiver_after-is_acked, opening_is_quiet}
 use Rattle.npf_tcp.proofs.StepLemmas.{step_each}

@@ -1,5 +1,4 @@
-use Rattle.std.proofs.Common.{◌≡◌, ◌∙◌, Option, Some, true, refl, ap}
-use Rattle.npf_tcp.specs.declared.class.Class.{Class}
+use Rattle.std.proofs.Common.{◌≡◌, ◌∙◌, true, ap}
 use Rattle.npf_tcp.specs.declared.state.TcpPhase.TheVariants.{Closed}
 use Rattle.npf_tcp.specs.Cells.{cell}
 use Rattle.npf_tcp.proofs.CellLemmas.{cell-rst}
