@@ -1,0 +1,5 @@
+use Rattle.npf_tcp.proofs.ControlBits.{masked}
+use Rattle.npf_tcp.proofs.flags.has_ack.Goals as goal
+
+pub returns : goal.returns
+returns c = masked c.args.flags 4

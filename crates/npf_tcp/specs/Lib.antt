@@ -1,0 +1,10 @@
+pub mod Bounds
+pub mod Cells
+pub mod Class
+pub mod Extent
+pub mod Flags
+pub mod Laws
+pub mod Mirror
+pub mod Opening
+pub mod Segment
+pub mod Sequence

@@ -1,0 +1,70 @@
+ghost use Rattle.std.specs.Prelude.{◌≡◌};
+ghost use Rattle.npf_tcp.specs.Opening.{opening, opening_phase, opening_forward, opening_backward};
+
+use crate::class::Class;
+use crate::extent::{segment_end, window};
+use crate::flags::{has_ack, has_syn};
+use crate::state::{Known, TcpPhase, TcpSide, TcpState};
+use npf_types::Segment;
+
+/// The state that a connection's first segment opens, at any segment: its sender is the forward side. SYN opens
+/// SYN_SENT, RST opens CLOSED, FIN opens FIN_SENT, and all else ESTABLISHED, as a connection that was under way
+/// before the filter saw it.
+#[tactic(auto, unfolding(crate::specs::Opening::opening))]
+pub fn open_tcp(seg: &Segment) -> TcpState
+    ensures { result ≡ opening seg.now }
+{
+    TcpState {
+        phase: opening_phase(Class::of(seg.flags)),
+        forward: opening_forward(seg),
+        backward: opening_backward(seg),
+    }
+}
+
+fn opening_phase(class: Class) -> TcpPhase
+    ensures { result ≡ opening_phase class }
+{
+    match class {
+        Class::Syn => TcpPhase::SynSent,
+        Class::Rst => TcpPhase::Closed,
+        Class::Fin => TcpPhase::FinSent,
+        Class::SynAck | Class::Ack | Class::Invalid => TcpPhase::Established,
+    }
+}
+
+#[tactic(auto, unfolding(crate::specs::Opening::opening_forward))]
+fn opening_forward(seg: &Segment) -> TcpSide
+    ensures { result ≡ opening_forward seg.now }
+{
+    let end = segment_end(seg);
+    TcpSide {
+        known: Known::Seen,
+        end,
+        maxend: end,
+        maxwin: window(seg, None, None),
+        scale: if has_syn(seg.flags) { seg.scale } else { None },
+    }
+}
+
+#[tactic(auto, unfolding(crate::specs::Opening::opening_backward))]
+fn opening_backward(seg: &Segment) -> TcpSide
+    ensures { result ≡ opening_backward seg.now }
+{
+    if has_ack(seg.flags) {
+        TcpSide {
+            known: Known::Expected,
+            end: seg.ack,
+            maxend: seg.ack.wrapping_add(window(seg, None, None)),
+            maxwin: 0,
+            scale: None,
+        }
+    } else {
+        TcpSide {
+            known: Known::Nothing,
+            end: 0,
+            maxend: 0,
+            maxwin: 0,
+            scale: None,
+        }
+    }
+}
