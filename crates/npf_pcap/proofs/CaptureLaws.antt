@@ -44,7 +44,7 @@ no_bad_record Bad bad zero b link rs x y = y.bad
 no_bad_record Bad bad (suc n) b link rs x y =
     let same = one_format b x.format y.format x.header.opens y.header.opens in
     no_bad x.format (Bad x.format) (bad x.format) n (drop 24 b) rs x.spelled
-        (subst (λ (g : Format). IsFirstBad g (Bad g) (suc n) (drop 24 b)) (sym same) y.bad)
+    (subst (λ (g : Format). IsFirstBad g (Bad g) (suc n) (drop 24 b)) (sym same) y.bad)
 
 -- the first bad record has one number
 one_bad_record : (A B : Format → List ℕ → Type 0) → AreBad A → AreBad B → (n m : ℕ) (b : List ℕ) → HasBadRecord A n b → HasBadRecord B m b
@@ -55,7 +55,7 @@ one_bad_record A B a b' (suc n) zero b x y = absurd y.bad
 one_bad_record A B a b' (suc n) (suc m) b x y =
     let same = one_format b x.format y.format x.header.opens y.header.opens in
     let met = meets x.format (A x.format) (a x.format) (B x.format) (b' x.format) n m (drop 24 b) x.bad
-        (subst (λ (g : Format). IsFirstBad g (B g) (suc m) (drop 24 b)) (sym same) y.bad) in
+    (subst (λ (g : Format). IsFirstBad g (B g) (suc m) (drop 24 b)) (sym same) y.bad) in
     (ap suc met.0, (x.format, met.1))
 
 not_both : (n m : ℕ) (b : List ℕ) → HasBadRecord EndsInside n b → HasBadRecord IsTooLong m b → ⊥
@@ -79,10 +79,9 @@ captures_have_no_fault b link rs NoMemory x fault = refl
 -- no bytes are two captures
 pub one_capture : (b : List ℕ) (l m : Link) (rs ss : List Record) → IsCapture b l rs → IsCapture b m ss → (l ≡ m) × (rs ≡ ss)
 one_capture b l m rs ss x y =
-    let same = one_format b x.format y.format x.header.opens y.header.opens in
-    (
+    let same = one_format b x.format y.format x.header.opens y.header.opens in (
       one_link b x.format y.format l m x.header y.header,
-      same_records x.format (drop 24 b) rs ss x.spelled (subst (λ (g : Format). AreRecords g (drop 24 b) ss) (sym same) y.spelled)
+      same_records x.format (drop 24 b) rs ss x.spelled (subst (λ (g : Format). AreRecords g (drop 24 b) ss) (sym same) y.spelled),
     )
 
 -- The tests stand in an order, and this is the place of a fault's test. The tests of a record share theirs.

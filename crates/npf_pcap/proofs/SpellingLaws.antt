@@ -79,8 +79,3 @@ written_is_capture rs fits = record {
   header = record { opens = record { whole = omega arith; magic = refl }; version = (refl, refl); link_type = refl };
   spelled = are_records rs (recursion_from_All FitsCapture rs fits);
 }
-
-pub reads_again : (rs : List Record) → All FitsCapture rs → (r : Result (Vec ℕ) NoMemory) → IfOk r (λ v. v.items ≡ capture_bytes rs)
-    → IfOk r (λ v. IsCapture v.items Raw rs)
-reads_again rs fits (Ok v) e = rw e (written_is_capture rs fits)
-reads_again rs fits (Err e) _ = tt

@@ -9,12 +9,26 @@ ghost use Rattle.npf_pcap.specs.Reading.{HasRecordFault, FailsRecord};
 
 use crate::capture::{Capture, Record};
 use crate::fault::CaptureFault;
-use crate::format::{Format, Order};
+use crate::format::Format;
 use npf_fields::get32;
 use npf_types::{Link, List};
 use std::alloc::Global;
 
-/// Reads a capture: all of the bytes, or the first fault.
+// The sizes of a file's header and of a record's.
+const HEADER_LEN: usize = 24;
+
+const RECORD_HEADER_LEN: usize = 16;
+
+// The most bytes that a record may store, as libpcap has it.
+const MAX_STORED_LEN: usize = 262_144;
+
+const LINKTYPE_ETHERNET: u32 = 1;
+
+const LINKTYPE_RAW: u32 = 101;
+
+/// Reads a capture, whose bytes must be at most 268,435,456. The answer is the capture, or the first test that the
+/// bytes fail: those of the header in the order of `CaptureFault`, and then each record's. Of a record whose header is
+/// whole, `LongRecord` is tested before `CutRecord`. Zone, accuracy, snap length and a packet's own length aren't used.
 pub fn read_capture(alloc: Global, bytes: &[u8]) -> Result<Capture, CaptureFault>
     requires { length bytes.now ≤ 268435456 }
     // What is read is spelled so.
@@ -31,13 +45,14 @@ pub fn read_capture(alloc: Global, bytes: &[u8]) -> Result<Capture, CaptureFault
     read_all(alloc, bytes)
 }
 
+// What is read and refused, from which the two clauses more of `read_capture` follow by the laws of captures.
 fn read_all(alloc: Global, bytes: &[u8]) -> Result<Capture, CaptureFault>
     requires { length bytes.now ≤ 268435456 }
     ensures read { IfOk result (λ c. IsCapture bytes.now c.link c.records) }
     ensures fault { IfErr result (λ e. HasCaptureFault bytes.now e) }
 {
     let (format, link) = read_header(bytes)?;
-    let records = read_records(alloc, format, bytes.split_at(24).1)?;
+    let records = read_records(alloc, format, bytes.split_at(HEADER_LEN).1)?;
     Ok(Capture { link, records })
 }
 
@@ -45,7 +60,7 @@ fn read_header(bytes: &[u8]) -> Result<(Format, Link), CaptureFault>
     ensures read { IfOk result (λ h. HasHeader h.0 h.1 bytes.now) }
     ensures fault { IfErr result (λ e. HasCaptureFault bytes.now e) }
 {
-    if bytes.len() < 24 {
+    if bytes.len() < HEADER_LEN {
         return Err(CaptureFault::ShortHeader);
     }
     let Some(format) = Format::of_magic(get32(bytes, 0)) else {
@@ -72,8 +87,8 @@ fn link_with(number: u32) -> Option<Link>
     ensures none { IfNone result ((link : LinkType) → number ≢ link_number link) }
 {
     match number {
-        1 => Some(Link::Ethernet),
-        101 => Some(Link::Raw),
+        LINKTYPE_ETHERNET => Some(Link::Ethernet),
+        LINKTYPE_RAW => Some(Link::Raw),
         _ => None,
     }
 }
@@ -96,20 +111,25 @@ fn read_records(alloc: Global, format: Format, bytes: &[u8]) -> Result<List<Reco
 }
 
 // The first record, whose number is told, and the bytes behind it.
-fn read_record(alloc: Global, format: Format, bytes: &[u8], number: u32) -> Result<(Record, &[u8]), CaptureFault>
+fn read_record(
+    alloc: Global,
+    format: Format,
+    bytes: &[u8],
+    number: u32,
+) -> Result<(Record, &[u8]), CaptureFault>
     requires { 0 < length bytes.now }
     ensures read { IfOk result (λ r. Spells format bytes.now r.0) }
     ensures behind { IfOk result (λ r. r.1.now ≡ drop (record_len format bytes.now) bytes.now) }
     ensures fault { IfErr result (λ e. FailsRecord format number bytes.now e) }
 {
-    if bytes.len() < 16 {
+    if bytes.len() < RECORD_HEADER_LEN {
         return Err(CaptureFault::CutRecord(number));
     }
     let stored_len = format.order.number32(bytes, 8) as usize;
-    if stored_len > 262_144 {
+    if stored_len > MAX_STORED_LEN {
         return Err(CaptureFault::LongRecord(number));
     }
-    let behind_header = bytes.split_at(16).1;
+    let behind_header = bytes.split_at(RECORD_HEADER_LEN).1;
     if behind_header.len() < stored_len {
         return Err(CaptureFault::CutRecord(number));
     }

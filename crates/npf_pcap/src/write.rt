@@ -7,19 +7,13 @@ use crate::capture::Record;
 use npf_types::{Link, NoMemory};
 use std::alloc::Global;
 
-/// Writes a capture of these records with link `Raw`: the lowest byte first, in nanoseconds, with a snap length of
-/// 262,144 bytes.
+/// Writes a capture of these records with link `Raw`: the lowest byte first, in nanoseconds, zone and accuracy 0, and
+/// a snap length of 262,144. Each record must have at most that many bytes, and a time below 4,294,967,296 seconds; its
+/// two lengths are both the number of its bytes.
 pub fn write_capture(alloc: Global, records: &[Record]) -> Result<Vec<u8>, NoMemory>
     requires { All FitsCapture records.now }
     ensures spelling { IfOk result (λ v. v.items ≡ capture_bytes records.now) }
     ensures reads_again { IfOk result (λ v. IsCapture v.items Link.Raw records.now) }
-{
-    write_all(alloc, records)
-}
-
-fn write_all(alloc: Global, records: &[Record]) -> Result<Vec<u8>, NoMemory>
-    requires { All FitsCapture records.now }
-    ensures { IfOk result (λ v. v.items ≡ capture_bytes records.now) }
 {
     let mut out = Vec::new(alloc);
     write_header(&mut out)?;
