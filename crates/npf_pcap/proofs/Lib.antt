@@ -1,0 +1,4 @@
+pub mod FormatLaws
+pub mod RecordLaws
+pub mod CaptureLaws
+pub mod SpellingLaws

@@ -1,0 +1,6 @@
+pub mod Format
+pub mod Record
+pub mod Reading
+pub mod Capture
+pub mod Fault
+pub mod Spelling

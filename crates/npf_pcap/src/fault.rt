@@ -1,0 +1,93 @@
+ghost use Rattle.std.specs.Prelude.{◌≡◌};
+ghost use Rattle.npf_pcap.specs.Fault.{number_of, name_of, record_of};
+
+use std::alloc::{AllocError, AllocFailed};
+use thiserror::Error;
+
+/// Why bytes aren't a capture: the first test that they fail. Records are counted from 1.
+#[derive(Clone, Copy, Debug, PartialEq, Eq, Error)]
+pub enum CaptureFault {
+    /// The file header isn't whole.
+    #[error("the header has fewer than 24 bytes")]
+    ShortHeader,
+    /// The magic number is none of the four that captures begin with.
+    #[error("the magic number is none of a capture")]
+    BadMagic,
+    /// The version isn't 2.4.
+    #[error("the version isn't 2.4")]
+    BadVersion,
+    /// The link type is neither 1 nor 101.
+    #[error("the link type is neither 1 nor 101")]
+    BadLink,
+    /// The bytes end inside this record.
+    #[error("the bytes end inside record {0}")]
+    CutRecord(u32),
+    /// This record says that it stores more than 262,144 bytes.
+    #[error("record {0} is longer than 262144 bytes")]
+    LongRecord(u32),
+    /// Memory ran out, which says nothing of the bytes.
+    #[error("out of memory")]
+    NoMemory,
+}
+
+impl CaptureFault {
+    /// The number that is printed for the fault; 0 for want of memory, which has none.
+    pub fn number(&self) -> u8
+        ensures { result ≡ number_of self.now }
+    {
+        match self {
+            CaptureFault::ShortHeader => 1,
+            CaptureFault::BadMagic => 2,
+            CaptureFault::BadVersion => 3,
+            CaptureFault::BadLink => 4,
+            CaptureFault::CutRecord(_) => 5,
+            CaptureFault::LongRecord(_) => 6,
+            CaptureFault::NoMemory => 0,
+        }
+    }
+
+    /// The name that is printed for the fault.
+    pub fn name(&self) -> &'static str
+        ensures { result.now ≡ name_of self.now }
+    {
+        match self {
+            CaptureFault::ShortHeader => "ShortHeader",
+            CaptureFault::BadMagic => "BadMagic",
+            CaptureFault::BadVersion => "BadVersion",
+            CaptureFault::BadLink => "BadLink",
+            CaptureFault::CutRecord(_) => "CutRecord",
+            CaptureFault::LongRecord(_) => "LongRecord",
+            CaptureFault::NoMemory => "NoMemory",
+        }
+    }
+
+    /// The number of the record that the fault speaks of.
+    pub fn record_number(&self) -> Option<u32>
+        ensures { result ≡ record_of self.now }
+    {
+        match self {
+            CaptureFault::CutRecord(number) | CaptureFault::LongRecord(number) => Some(*number),
+            _ => None,
+        }
+    }
+}
+
+impl From<AllocError> for CaptureFault {
+    ghost use Rattle.npf_pcap.specs.declared.fault.CaptureFault.TheVariants.{NoMemory};
+
+    ghost from_gives = { λ _ e. e ≡ NoMemory };
+
+    fn from(_error: AllocError) -> CaptureFault {
+        CaptureFault::NoMemory
+    }
+}
+
+impl<T: Drop> From<AllocFailed<T>> for CaptureFault {
+    ghost use Rattle.npf_pcap.specs.declared.fault.CaptureFault.TheVariants.{NoMemory};
+
+    ghost from_gives = { λ _ e. e ≡ NoMemory };
+
+    fn from(_error: AllocFailed<T>) -> CaptureFault {
+        CaptureFault::NoMemory
+    }
+}

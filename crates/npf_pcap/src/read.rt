@@ -1,0 +1,150 @@
+ghost use Rattle.std.specs.Prelude.{◌≡◌, ◌≢◌, ◌+◌, ◌≤◌, ◌<◌, ◌↔◌, ◌⊎◌, List as Seq, length, drop, IsTrue, IfOk, IfErr, IfSome, IfNone, MatchResult, IsErrAnd};
+ghost use Rattle.npf_types.specs.declared.packet.Link.{Link as LinkType};
+ghost use Rattle.npf_pcap.specs.declared.capture.Record.{Record as RecordType};
+ghost use Rattle.npf_pcap.specs.declared.fault.CaptureFault.{CaptureFault as FaultType};
+ghost use Rattle.npf_pcap.specs.Capture.{IsCapture, HasCaptureFault, HasHeader, HasVersion};
+ghost use Rattle.npf_pcap.specs.Format.{link_number};
+ghost use Rattle.npf_pcap.specs.Record.{AreRecords, Spells, record_len, time_of as time_said, HasRecord};
+ghost use Rattle.npf_pcap.specs.Reading.{HasRecordFault, FailsRecord};
+
+use crate::capture::{Capture, Record};
+use crate::fault::CaptureFault;
+use crate::format::Format;
+use npf_fields::get32;
+use npf_types::{Link, List};
+use std::alloc::Global;
+
+// The sizes of a file's header and of a record's.
+const HEADER_LEN: usize = 24;
+
+const RECORD_HEADER_LEN: usize = 16;
+
+// The most bytes that a record may store, as libpcap has it.
+const MAX_STORED_LEN: usize = 262_144;
+
+const LINKTYPE_ETHERNET: u32 = 1;
+
+const LINKTYPE_RAW: u32 = 101;
+
+/// Reads a capture, whose bytes must be at most 268,435,456. The answer is the capture, or the first test that the
+/// bytes fail: those of the header in the order of `CaptureFault`, and then each record's. Of a record whose header is
+/// whole, `LongRecord` is tested before `CutRecord`. Zone, accuracy, snap length and a packet's own length aren't used.
+pub fn read_capture(alloc: Global, bytes: &[u8]) -> Result<Capture, CaptureFault>
+    requires { length bytes.now ≤ 268435456 }
+    // What is read is spelled so.
+    ensures read { IfOk result (λ c. IsCapture bytes.now c.link c.records) }
+    // A fault is that of the first test that fails.
+    ensures fault { IfErr result (λ e. HasCaptureFault bytes.now e) }
+
+    // What is spelled so is read, and what has a fault is refused for it, unless memory runs out.
+    ensures accepted { (link : LinkType) (records : Seq RecordType) → IsCapture bytes.now link records
+        → MatchResult result (λ c. (c.link ≡ link) × (c.records ≡ records)) (λ e. e ≡ CaptureFault.NoMemory) }
+    ensures refused { (e : FaultType) → HasCaptureFault bytes.now e → e ≢ CaptureFault.NoMemory
+        → IsErrAnd result (λ f. (f ≡ e) ⊎ (f ≡ CaptureFault.NoMemory)) }
+{
+    read_all(alloc, bytes)
+}
+
+// What is read and refused, from which the two clauses more of `read_capture` follow by the laws of captures.
+fn read_all(alloc: Global, bytes: &[u8]) -> Result<Capture, CaptureFault>
+    requires { length bytes.now ≤ 268435456 }
+    ensures read { IfOk result (λ c. IsCapture bytes.now c.link c.records) }
+    ensures fault { IfErr result (λ e. HasCaptureFault bytes.now e) }
+{
+    let (format, link) = read_header(bytes)?;
+    let records = read_records(alloc, format, bytes.split_at(HEADER_LEN).1)?;
+    Ok(Capture { link, records })
+}
+
+fn read_header(bytes: &[u8]) -> Result<(Format, Link), CaptureFault>
+    ensures read { IfOk result (λ h. HasHeader h.0 h.1 bytes.now) }
+    ensures fault { IfErr result (λ e. HasCaptureFault bytes.now e) }
+{
+    if bytes.len() < HEADER_LEN {
+        return Err(CaptureFault::ShortHeader);
+    }
+    let Some(format) = Format::of_magic(get32(bytes, 0)) else {
+        return Err(CaptureFault::BadMagic);
+    };
+    if !has_version(format, bytes) {
+        return Err(CaptureFault::BadVersion);
+    }
+    let Some(link) = link_with(format.order.number32(bytes, 20)) else {
+        return Err(CaptureFault::BadLink);
+    };
+    Ok((format, link))
+}
+
+fn has_version(format: Format, bytes: &[u8]) -> bool
+    requires { 24 ≤ length bytes.now }
+    ensures { IsTrue result ↔ HasVersion format bytes.now }
+{
+    format.order.number16(bytes, 4) == 2 && format.order.number16(bytes, 6) == 4
+}
+
+fn link_with(number: u32) -> Option<Link>
+    ensures found { IfSome result (λ link. number ≡ link_number link) }
+    ensures none { IfNone result ((link : LinkType) → number ≢ link_number link) }
+{
+    match number {
+        LINKTYPE_ETHERNET => Some(Link::Ethernet),
+        LINKTYPE_RAW => Some(Link::Raw),
+        _ => None,
+    }
+}
+
+fn read_records(alloc: Global, format: Format, bytes: &[u8]) -> Result<List<Record>, CaptureFault>
+    requires { length bytes.now ≤ 268435456 }
+    ensures read { IfOk result (λ records. AreRecords format bytes.now records) }
+    ensures fault { IfErr result (λ e. HasRecordFault format bytes.now e) }
+{
+    let mut records = Vec::new(alloc);
+    let mut rest = bytes;
+    let mut number = 0;
+    while !rest.is_empty() {
+        number += 1;
+        let (record, behind) = read_record(alloc, format, rest, number)?;
+        records.push(record)?;
+        rest = behind;
+    }
+    Ok(List::of_vec(records))
+}
+
+// The first record, whose number is told, and the bytes behind it.
+fn read_record(
+    alloc: Global,
+    format: Format,
+    bytes: &[u8],
+    number: u32,
+) -> Result<(Record, &[u8]), CaptureFault>
+    requires { 0 < length bytes.now }
+    ensures read { IfOk result (λ r. Spells format bytes.now r.0) }
+    ensures behind { IfOk result (λ r. r.1.now ≡ drop (record_len format bytes.now) bytes.now) }
+    ensures fault { IfErr result (λ e. FailsRecord format number bytes.now e) }
+{
+    if bytes.len() < RECORD_HEADER_LEN {
+        return Err(CaptureFault::CutRecord(number));
+    }
+    let stored_len = format.order.number32(bytes, 8) as usize;
+    if stored_len > MAX_STORED_LEN {
+        return Err(CaptureFault::LongRecord(number));
+    }
+    let behind_header = bytes.split_at(RECORD_HEADER_LEN).1;
+    if behind_header.len() < stored_len {
+        return Err(CaptureFault::CutRecord(number));
+    }
+    let (stored, behind) = behind_header.split_at(stored_len);
+    let time = time_of(format, bytes);
+    let bytes = List::of_vec(stored.to_vec(alloc)?);
+    Ok((Record { time, bytes }, behind))
+}
+
+// The time of the first record.
+fn time_of(format: Format, bytes: &[u8]) -> u64
+    requires { HasRecord format bytes.now }
+    ensures { result ≡ time_said format bytes.now }
+{
+    let seconds = u64::from(format.order.number32(bytes, 0));
+    let fraction = format.order.number32(bytes, 4);
+    seconds * 1_000_000_000 + format.precision.nanoseconds(fraction)
+}

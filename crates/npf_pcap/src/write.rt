@@ -1,0 +1,56 @@
+ghost use Rattle.std.specs.Prelude.{◌≡◌, ◌++◌, IfOk, OnOk, All};
+ghost use Rattle.byteorder.specs.Endian.{little_bytes};
+ghost use Rattle.npf_pcap.specs.Capture.{IsCapture};
+ghost use Rattle.npf_pcap.specs.Spelling.{FitsCapture, capture_bytes, header_bytes, record_bytes};
+
+use crate::capture::Record;
+use npf_types::{Link, NoMemory};
+use std::alloc::Global;
+
+/// Writes a capture of these records with link `Raw`: the lowest byte first, in nanoseconds, zone and accuracy 0, and
+/// a snap length of 262,144. Each record must have at most that many bytes, and a time below 4,294,967,296 seconds; its
+/// two lengths are both the number of its bytes.
+pub fn write_capture(alloc: Global, records: &[Record]) -> Result<Vec<u8>, NoMemory>
+    requires { All FitsCapture records.now }
+    ensures spelling { IfOk result (λ v. v.items ≡ capture_bytes records.now) }
+    ensures reads_again { IfOk result (λ v. IsCapture v.items Link.Raw records.now) }
+{
+    let mut out = Vec::new(alloc);
+    write_header(&mut out)?;
+    for record in records {
+        write_record(&mut out, record)?;
+    }
+    Ok(out)
+}
+
+// The magic number, the version, the time zone, the accuracy, the snap length and the link type.
+fn write_header(out: &mut Vec<u8>) -> Result<(), NoMemory>
+    ensures { OnOk result (out.new.items ≡ out.old.items ++ header_bytes) }
+{
+    write_u32(out, 0xa1b2_3c4d)?;
+    out.extend_from_slice(&[2, 0, 4, 0])?;
+    write_u32(out, 0)?;
+    write_u32(out, 0)?;
+    write_u32(out, 262_144)?;
+    write_u32(out, 101)
+}
+
+fn write_record(out: &mut Vec<u8>, record: &Record) -> Result<(), NoMemory>
+    requires { FitsCapture record.now }
+    ensures { OnOk result (out.new.items ≡ out.old.items ++ record_bytes record.now) }
+{
+    let stored = record.bytes.as_slice();
+    write_u32(out, (record.time / 1_000_000_000) as u32)?;
+    write_u32(out, (record.time % 1_000_000_000) as u32)?;
+    write_u32(out, stored.len() as u32)?;
+    write_u32(out, stored.len() as u32)?;
+    out.extend_from_slice(stored)?;
+    Ok(())
+}
+
+fn write_u32(out: &mut Vec<u8>, number: u32) -> Result<(), NoMemory>
+    ensures { OnOk result (out.new.items ≡ out.old.items ++ little_bytes 4 number) }
+{
+    out.extend_from_slice(&number.to_le_bytes())?;
+    Ok(())
+}
