@@ -1,0 +1,24 @@
+// Classic BPF: the instructions of McCanne and Jacobson's packet filter machine ("The BSD Packet
+// Filter: A New Architecture for User-level Packet Capture", USENIX 1993; bpf(4)), with the
+// coprocessor call of NetBSD's bpf(4), and the validator.
+//
+// An instruction comes as four numbers, the way a kernel is given it (`Insn`). The table of bpf(4)
+// says what it does: `decode` reads the table, and gives a named `Operation` or none.
+//
+// The contract in words: `validate` accepts exactly the programs that keep the rules, and refuses
+// any other at the first instruction that breaks one. So whoever holds a `Program` knows that each
+// instruction is in the table, that no jump leaves the program, that no memory index is past the
+// store, that no constant divisor is 0, and that the program can't run off its end.
+#![tactic(auto)]
+
+mod insn;
+mod operation;
+mod program;
+#[cfg(test)]
+mod tests;
+
+pub use insn::Insn;
+pub use operation::{
+    Arithmetic, Comparison, Distances, MEMORY_WORDS, Operand, Operation, Width, decode,
+};
+pub use program::{BadInsn, MAX_INSNS, Program, validate};

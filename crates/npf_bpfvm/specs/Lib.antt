@@ -1,0 +1,6 @@
+pub mod Answers
+pub mod Packet
+pub mod Arithmetic
+pub mod Outcome
+pub mod Value
+pub mod Step
