@@ -1,5 +1,5 @@
 -- A magic number tells one format, and a link type's number one link.
-use Rattle.std.proofs.Common.{◌≡◌, ◌≢◌, ℕ, ◌⊎◌, inl, inr, ◌∙◌, sym, ap, refl, cond, eqb, Option, Some, None, arith}
+use Rattle.std.proofs.Common.{◌≡◌, ◌≢◌, ℕ, ◌⊎◌, inl, inr, ◌∙◌, sym, ap, refl, cond, eqb, Option, Some, arith}
 use Rattle.std.proofs.lemmas.Bool.{cases_eq}
 use Rattle.npf_types.specs.declared.packet.Link.{Link}
 use Rattle.npf_types.specs.declared.packet.Link.TheVariants.{Ethernet, Raw}

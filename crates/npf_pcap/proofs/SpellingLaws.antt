@@ -1,21 +1,18 @@
 -- What is written is a capture of the same records.
-use Rattle.std.proofs.Common.{◌≡◌, ℕ, ◌+◌, ◌-◌, ◌*◌, ◌/◌, ◌%◌, ◌^◌, ◌<◌, ◌≤◌, ◌∙◌, sym, ap, subst, refl, List, [], ◌∷◌, ◌++◌, length, take, drop, arith, append_assoc, length-append, Result, Ok, Err, IfOk, All}
+use Rattle.std.proofs.Common.{◌≡◌, ℕ, ◌+◌, ◌/◌, ◌%◌, ◌^◌, ◌∙◌, sym, ap, subst, refl, List, [], ◌∷◌, ◌++◌, length, take, drop, arith, append_assoc, length-append, All}
 use Rattle.std.proofs.lemmas.List.{drop-drop, take_at, drop_at}
 use Rattle.std.proofs.lemmas.List.Elements.{recursion_from_All}
 use Rattle.std.specs.List.{flat_map, AllByRecursion}
-use Rattle.std.specs.Global.{Vec}
-use Rattle.byteorder.specs.Endian.{little_bytes, little_number}
 use Rattle.byteorder.specs.Numbers.{little_number-reads_back}
-use Rattle.npf_types.specs.declared.memory.NoMemory.{NoMemory}
 use Rattle.npf_types.specs.declared.packet.Link.TheVariants.{Raw}
 use Rattle.npf_pcap.specs.declared.format.Format.{Format}
 use Rattle.npf_pcap.specs.declared.format.Order.TheVariants.{Little}
 use Rattle.npf_pcap.specs.declared.format.Precision.TheVariants.{Nano}
 use Rattle.npf_pcap.specs.declared.capture.Record.{Record}
 use Rattle.npf_pcap.specs.Format.{number_at}
-use Rattle.npf_pcap.specs.Record.{stored_len, record_len, HasRecord, Spells, AreRecords}
+use Rattle.npf_pcap.specs.Record.{stored_len, record_len, Spells, AreRecords}
 use Rattle.npf_pcap.specs.Capture.{IsCapture}
-use Rattle.npf_pcap.specs.Spelling.{header_bytes, record_bytes, capture_bytes, FitsCapture}
+use Rattle.npf_pcap.specs.Spelling.{record_bytes, capture_bytes, FitsCapture}
 
 -- five pieces, appended one after the other
 pub five_appended : (o a b c d e p q r s t : List ℕ) → p ≡ o ++ a → q ≡ p ++ b → r ≡ q ++ c → s ≡ r ++ d → t ≡ s ++ e

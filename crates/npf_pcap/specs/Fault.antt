@@ -1,5 +1,5 @@
 -- How a fault of a capture is printed: its number, its name, and the number of the record that it speaks of.
-use Rattle.std.specs.Prelude.{◌++◌, ◌∷◌, [], ℕ, List, Option, Some, None, codes}
+use Rattle.std.specs.Prelude.{ℕ, List, Option, Some, None, codes}
 use Rattle.npf_pcap.specs.declared.fault.CaptureFault.{CaptureFault}
 use Rattle.npf_pcap.specs.declared.fault.CaptureFault.TheVariants.{ShortHeader, BadMagic, BadVersion, BadLink, CutRecord, LongRecord, NoMemory}
 

@@ -135,7 +135,7 @@ fn read_record(
     }
     let (stored, behind) = behind_header.split_at(stored_len);
     let time = time_of(format, bytes);
-    let bytes = List::of_vec(stored.to_vec(alloc)?);
+    let bytes = List::of_vec(Vec::from_slice(alloc, stored)?);
     Ok((Record { time, bytes }, behind))
 }
 

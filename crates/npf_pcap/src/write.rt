@@ -35,13 +35,13 @@ fn write_header(out: &mut Vec<u8>) -> Result<(), NoMemory>
     write_u32(out, 101)
 }
 
-fn write_record(out: &mut Vec<u8>, record: &Record) -> Result<(), NoMemory>
-    requires { FitsCapture record.now }
-    ensures { OnOk result (out.new.items ≡ out.old.items ++ record_bytes record.now) }
+fn write_record(out: &mut Vec<u8>, packet: &Record) -> Result<(), NoMemory>
+    requires { FitsCapture packet.now }
+    ensures { OnOk result (out.new.items ≡ out.old.items ++ record_bytes packet.now) }
 {
-    let stored = record.bytes.as_slice();
-    write_u32(out, (record.time / 1_000_000_000) as u32)?;
-    write_u32(out, (record.time % 1_000_000_000) as u32)?;
+    let stored = packet.bytes.as_slice();
+    write_u32(out, (packet.time / 1_000_000_000) as u32)?;
+    write_u32(out, (packet.time % 1_000_000_000) as u32)?;
     write_u32(out, stored.len() as u32)?;
     write_u32(out, stored.len() as u32)?;
     out.extend_from_slice(stored)?;

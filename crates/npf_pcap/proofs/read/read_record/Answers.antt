@@ -1,4 +1,4 @@
-use Rattle.std.proofs.Common.{◌∙◌, ◌+◌, ℕ, List, ap, drop}
+use Rattle.std.proofs.Common.{◌∙◌, ◌+◌, ℕ, ap, drop}
 use Rattle.std.proofs.lemmas.List.{drop-drop}
 use Rattle.npf_pcap.proofs.read.read_record.Goals as goal
 
