@@ -1,0 +1,15 @@
+pub mod Phrasing
+pub mod Configs
+pub mod Items
+pub mod Readers
+pub mod RunTokens
+pub mod TokenSteps
+pub mod RawCaptures
+pub mod Exactness
+pub mod Explaining
+pub mod Told
+pub mod ShortPackets
+pub mod Lines
+pub mod Clauses
+pub mod CommandLines
+pub mod Answering

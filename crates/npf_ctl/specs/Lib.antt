@@ -1,0 +1,17 @@
+pub mod Classes
+pub mod Tokens
+pub mod SoFar
+pub mod Front
+pub mod Reading
+pub mod Written
+pub mod Grammar
+pub mod Phrases
+pub mod PhraseViews
+pub mod Verdict
+pub mod RawCapture
+pub mod Explained
+pub mod ReportText
+pub mod Message
+pub mod Words
+pub mod Run
+pub mod Top

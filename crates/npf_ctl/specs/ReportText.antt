@@ -1,0 +1,90 @@
+-- The text of a report: a line for each packet, in order, and then the total line.
+use Rattle.std.specs.Prelude.{ℕ, ◌+◌, Bool, true, false, Option, Some, None, List, [], ◌∷◌, ◌++◌, length, count_by, codes}
+use Rattle.std.specs.Fmt.{decimal}
+use Rattle.npf_types.specs.declared.rule.Decision.{Decision}
+use Rattle.npf_types.specs.declared.rule.Decision.TheVariants.{Pass, Block}
+use Rattle.npf_types.specs.declared.rule.Dir.{Dir}
+use Rattle.npf_types.specs.declared.rule.Dir.TheVariants.{In, Out}
+use Rattle.npf_types.specs.declared.rule.Return.{Return}
+use Rattle.npf_types.specs.declared.rule.Return.TheVariants.{Nothing, Any, Rst, Icmp}
+use Rattle.npf_packet.specs.declared.decoded.BadPacket.{BadPacket}
+use Rattle.npf_packet.specs.declared.decoded.BadPacket.TheVariants.{Cut, Bad}
+use Rattle.npf_ctl.specs.declared.outcome.Outcome.{Outcome}
+use Rattle.npf_ctl.specs.declared.outcome.Outcome.TheVariants.{Skip, Malformed, ByRule}
+
+abbrev pub dir_text : Dir → List ℕ
+dir_text In = codes " in "
+dir_text Out = codes " out "
+
+abbrev pub return_text : Return → List ℕ
+return_text Nothing = []
+return_text Any = codes " return"
+return_text Rst = codes " return-rst"
+return_text Icmp = codes " return-icmp"
+
+abbrev pub malformed_text : BadPacket → ℕ → List ℕ
+malformed_text Cut at = codes "malformed cut " ++ decimal at
+malformed_text Bad at = codes "malformed bad " ++ decimal at
+
+-- what the rule of this number decided
+abbrev pub decision_text : ℕ → ℕ → Decision → List ℕ
+decision_text config rule Pass = codes "pass config " ++ (decimal config ++ (codes " rule " ++ decimal rule))
+decision_text config rule (Block answer) =
+    codes "block config " ++ (decimal config ++ (codes " rule " ++ (decimal rule ++ return_text answer)))
+
+-- rules are numbered from 1
+abbrev pub rule_text : ℕ → Option ℕ → Decision → List ℕ
+rule_text config None decision = codes "block config " ++ (decimal config ++ codes " none")
+rule_text config (Some place) decision = decision_text config (place + 1) decision
+
+abbrev pub outcome_text : Outcome → List ℕ
+outcome_text Skip = codes "skip"
+outcome_text (Malformed why at) = malformed_text why at
+outcome_text (ByRule config rule decision) = rule_text config rule decision
+
+-- the line of the packet of this number
+unfoldable pub line_text : ℕ → List ℕ → Dir → Outcome → List ℕ
+line_text n interface dir outcome = decimal n ++ codes " " ++ interface ++ dir_text dir ++ outcome_text outcome ++ codes "\n"
+
+abbrev pub is_passed : Outcome → Bool
+is_passed (ByRule _ _ Pass) = true
+is_passed _ = false
+
+abbrev pub is_blocked : Outcome → Bool
+is_blocked (ByRule _ _ (Block _)) = true
+is_blocked _ = false
+
+abbrev pub is_skipped : Outcome → Bool
+is_skipped Skip = true
+is_skipped _ = false
+
+abbrev pub is_malformed : Outcome → Bool
+is_malformed (Malformed _ _) = true
+is_malformed _ = false
+
+abbrev pub passed_text : List Outcome → List ℕ
+passed_text outcomes =
+    codes "packets " ++ (decimal (length outcomes) ++ (codes " pass " ++ (decimal (count_by is_passed outcomes)
+    ++ (codes " block " ++ decimal (count_by is_blocked outcomes)))))
+
+abbrev pub refused_text : List Outcome → List ℕ
+refused_text outcomes =
+    codes " drop 0 skip " ++ (decimal (count_by is_skipped outcomes)
+    ++ (codes " malformed " ++ (decimal (count_by is_malformed outcomes) ++ codes "\n")))
+
+-- how many packets there were, and how many had each outcome; none is dropped
+unfoldable pub total_text : List Outcome → List ℕ
+total_text outcomes =
+    passed_text outcomes ++ refused_text outcomes
+
+-- the lines of packets that are numbered from n on
+abbrev pub lines_from : ℕ → List ℕ → Dir → List Outcome → List ℕ
+lines_from n interface dir [] = []
+lines_from n interface dir (outcome ∷ outcomes) = line_text n interface dir outcome ++ lines_from (n + 1) interface dir outcomes
+
+-- every packet came in on the interface cap0
+abbrev pub cap0 : List ℕ
+cap0 = codes "cap0"
+
+abbrev pub report_text : List Outcome → List ℕ
+report_text outcomes = lines_from 1 cap0 In outcomes ++ total_text outcomes

@@ -1,0 +1,152 @@
+-- What the program answers to its words: what it did, or the first fault that it met with its cause and its line.
+use Rattle.std.specs.Prelude.{◌≡◌, ◌≢◌, ℕ, ◌<◌, ◌⊎◌, List, [], length, Option, Some, String}
+use Rattle.std.specs.Global.{Global}
+use Rattle.npf_outside.specs.Counts.{Rose, StoodStill}
+use Rattle.npf_outside.specs.Put.{Appends, AppendsFront}
+use Rattle.npf_outside.specs.Tree.{Tree, IsLonger}
+use Rattle.npf_pcap.specs.declared.capture.Record.{Record}
+use Rattle.npf_pcap.specs.declared.fault.CaptureFault.{CaptureFault}
+use Rattle.npf_ctl.specs.declared.fault.Fault.{Fault}
+use Rattle.npf_ctl.specs.declared.fault.Fault.TheVariants.{Usage, Unread, Long, Unbuilt, BadCapture, Unwritten, NoMemory}
+use Rattle.npf_ctl.specs.declared.fault.Input.{Input}
+use Rattle.npf_ctl.specs.declared.fault.Input.TheVariants.{Conf, Capture}
+use Rattle.npf_ctl.specs.Message.{message, status_of, file_of, most_bytes}
+use Rattle.npf_ctl.specs.Run.{OfFile, IsAccepted, IsRefused, IsBadCapture, Holds, Outside, PutsReport, PutsFront, PutsNothing, HasConf, HasFault}
+use Rattle.npf_ctl.specs.Words.{IsRun}
+
+abbrev pub Words : Type 0
+Words = List (String Global)
+
+-- the words are no command line
+abbrev pub IsNoCommand : Words → Type 0
+IsNoCommand words = (conf capture : List ℕ) → ¬ IsRun words conf capture
+
+-- what the error sink shows at a moment
+pub record Errors : Type 0 where
+  pub held : Option (List ℕ)
+  pub faults : ℕ
+
+abbrev pub errors : Option (List ℕ) → ℕ → Errors
+errors held faults = record { held = held; faults = faults }
+
+-- The line was put on the error sink; or a front of it, where the sink's own count rose; or, with status 1 alone, nothing.
+abbrev pub PutsLine : Errors → Errors → List ℕ → ℕ → Type 0
+PutsLine old new line status =
+    Appends old.held new.held line
+    ⊎ (Rose old.faults new.faults × AppendsFront old.held new.held line)
+    ⊎ ((status ≡ 1) × Appends old.held new.held [])
+
+module _ (words : Words) (before after : Outside) where
+  -- why this is the first fault, where the words name these files
+  abbrev pub HasCause : List ℕ → List ℕ → Fault → Type 0
+  HasCause conf capture Usage = IsNoCommand words × PutsNothing before after
+  HasCause conf capture NoMemory =
+      PutsNothing before after ⊎ (IsRun words conf capture × PutsFront before after conf capture)
+  HasCause conf capture fault = IsRun words conf capture × HasFault before after conf capture fault
+
+  -- the work was done: the report was put, and nothing on the error sink
+  pub record IsDone (old new : Errors) : Type 0 where
+    pub conf : List ℕ
+    pub capture : List ℕ
+    pub words_are : IsRun words conf capture
+    pub report : PutsReport before after conf capture
+    pub silent : Appends old.held new.held []
+
+  -- a fault was met first, and its line was put
+  pub record IsFaulted (old new : Errors) (status : ℕ) : Type 0 where
+    pub conf : List ℕ
+    pub capture : List ℕ
+    pub fault : Fault
+    pub status_is : status ≡ status_of fault
+    pub cause : HasCause conf capture fault
+    pub line : PutsLine old new (message conf capture fault) status
+
+  abbrev pub IsAnswered : Errors → Errors → ℕ → Type 0
+  IsAnswered old new status = ((status ≡ 0) × IsDone old new) ⊎ IsFaulted old new status
+
+  -- a configuration was refused
+  pub record RefusesConf : Type 0 where
+    pub conf : List ℕ
+    pub capture : List ℕ
+    pub words_are : IsRun words conf capture
+    pub refused : OfFile before.contents conf IsRefused
+
+  -- a capture was refused for this fault, and the configuration wasn't
+  pub record RefusesCapture : Type 0 where
+    pub conf : List ℕ
+    pub capture : List ℕ
+    pub fault : CaptureFault
+    pub words_are : IsRun words conf capture
+    pub accepted : HasConf before after conf capture
+    pub refused : OfFile before.contents capture (λ bytes. IsBadCapture bytes fault)
+
+  -- a file is longer than its kind may be
+  pub record RefusesLength : Type 0 where
+    pub conf : List ℕ
+    pub capture : List ℕ
+    pub input : Input
+    pub words_are : IsRun words conf capture
+    pub longer : IsLonger before.contents (file_of conf capture input) (most_bytes input) before.taken after.taken
+
+  -- a front of the report was put
+  pub record FrontOfReport : Type 0 where
+    pub conf : List ℕ
+    pub capture : List ℕ
+    pub words_are : IsRun words conf capture
+    pub front : PutsFront before after conf capture
+
+-- with these statuses nothing is put on the output
+abbrev pub IsQuiet : ℕ → Type 0
+IsQuiet status = (status ≢ 0) × (status ≢ 1) × (status ≢ 5)
+
+-- this status, or want of memory
+abbrev pub Answers : ℕ → ℕ → Type 0
+Answers wanted status = (status ≡ wanted) ⊎ (status ≡ 1)
+
+-- the files are told, and the file of this name has bytes of which this holds
+abbrev pub Told : Option Tree → List ℕ → (List ℕ → Type 0) → Type 0
+Told contents name P = (tree : Tree) × (contents ≡ Some tree) × ((bytes : List ℕ) × (tree name ≡ Some bytes) × P bytes)
+
+-- no read failed, no put on the output failed, and no count of either stands at its greatest value
+abbrev pub IsFaultless : Outside → Outside → Type 0
+IsFaultless before after = StoodStill before.reads after.reads × StoodStill before.puts after.puts
+
+-- the words, the configuration and the capture are in their grammars and limits
+pub record CanRun (words : Words) (contents : Option Tree) : Type 0 where
+  pub conf : List ℕ
+  pub capture : List ℕ
+  pub words_are : IsRun words conf capture
+  pub configured : Told contents conf IsAccepted
+  pub captured : Told contents capture (λ bytes. (records : List Record) × Holds bytes records)
+
+-- the words and the configuration's bytes are such that the configuration is refused
+pub record MustRefuseConf (words : Words) (contents : Option Tree) : Type 0 where
+  pub conf : List ℕ
+  pub capture : List ℕ
+  pub words_are : IsRun words conf capture
+  pub refused : Told contents conf IsRefused
+
+-- the words, the configuration and the capture's bytes are such that the capture is refused
+pub record MustRefuseCapture (words : Words) (contents : Option Tree) : Type 0 where
+  pub conf : List ℕ
+  pub capture : List ℕ
+  pub fault : CaptureFault
+  pub words_are : IsRun words conf capture
+  pub configured : Told contents conf IsAccepted
+  pub refused : Told contents capture (λ bytes. IsBadCapture bytes fault)
+
+-- The fault's line was put, or a front of it where the sink's own count rose, and this is its status; or memory ran out
+-- for the line, and nothing was put.
+abbrev pub SaysFault : Errors → Errors → List ℕ → List ℕ → Fault → ℕ → Type 0
+SaysFault old new conf capture fault status =
+    ((status ≡ status_of fault) × (Appends old.held new.held (message conf capture fault)
+    ⊎ (Rose old.faults new.faults × AppendsFront old.held new.held (message conf capture fault))))
+    ⊎ ((status ≡ 1) × Appends old.held new.held [])
+
+-- the words and the files are such that a file is too long
+pub record MustRefuseLength (words : Words) (contents : Option Tree) : Type 0 where
+  pub conf : List ℕ
+  pub capture : List ℕ
+  pub words_are : IsRun words conf capture
+  pub longer : Told contents conf (λ bytes. most_bytes Conf < length bytes)
+      ⊎ (Told contents conf IsAccepted × Told contents capture (λ bytes. most_bytes Capture < length bytes))

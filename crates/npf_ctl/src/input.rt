@@ -1,0 +1,96 @@
+// The files that a run reads: the configuration and the capture.
+ghost use Rattle.std.specs.Prelude.{◌≡◌, ◌≤◌, List as Seq, length, IfOk, IfErr, All};
+ghost use Rattle.std.specs.List.Sorted.{IsPermutation, IsSortedByKey, IsStableByKey};
+ghost use Rattle.std.specs.Ordering.{nat_cmp};
+ghost use Rattle.npf_outside.specs.Tree.{Has, SameFiles};
+ghost use Rattle.npf_ctl.specs.Explained.{AreInOrder};
+ghost use Rattle.npf_ctl.specs.Message.{most_bytes};
+ghost use Rattle.npf_ctl.specs.Run.{OfFile, Accepts, HasPackets, HasReadFault, HasConfFault, HasCaptureFileFault};
+
+use crate::capture::read_raw;
+use crate::config::read_rules;
+use crate::fault::{Fault, Input};
+use crate::rule::Rule;
+use npf_outside::{FileFault, Files};
+use npf_pcap::{CaptureFault, Record};
+use npf_types::{List, NoMemory};
+use std::alloc::Global;
+
+/// The rules of the configuration.
+pub(crate) fn load<F: Files>(alloc: Global, name: &str, files: &mut F) -> Result<Vec<Rule>, Fault>
+    ensures ok { IfOk result (λ rules. OfFile (F.contents files.old) name.now (λ text. Accepts text rules.items)) }
+    ensures few { IfOk result (λ rules. length rules.items ≤ 4096) }
+    ensures fault { IfErr result (HasConfFault (F.contents files.old) name.now (F.read_faults files.old) (F.read_faults files.new) (F.taken files.old) (F.taken files.new)) }
+    ensures same { SameFiles (F.contents files.old) (F.contents files.new) }
+    ensures reads { F.read_faults files.old ≤ F.read_faults files.new }
+    ensures taken { F.taken files.old ≤ F.taken files.new }
+{
+    let text = read_file(alloc, name, Input::Conf, files)?;
+    match read_rules(alloc, text.as_slice()) {
+        Ok(Some(rules)) => Ok(rules),
+        Ok(None) => Err(Fault::Unbuilt),
+        Err(NoMemory) => Err(Fault::NoMemory),
+    }
+}
+
+/// The packets of the capture, by time.
+pub(crate) fn read_packets<F: Files>(
+    alloc: Global,
+    name: &str,
+    files: &mut F,
+) -> Result<Vec<Record>, Fault>
+    ensures ok { IfOk result (λ packets. OfFile (F.contents files.old) name.now (λ bytes. HasPackets bytes packets.items)) }
+    ensures short { IfOk result (λ packets. All (λ packet. length packet.bytes ≤ 262144) packets.items) }
+    ensures fault { IfErr result (HasCaptureFileFault (F.contents files.old) name.now (F.read_faults files.old) (F.read_faults files.new) (F.taken files.old) (F.taken files.new)) }
+    ensures same { SameFiles (F.contents files.old) (F.contents files.new) }
+    ensures reads { F.read_faults files.old ≤ F.read_faults files.new }
+    ensures taken { F.taken files.old ≤ F.taken files.new }
+{
+    let bytes = read_file(alloc, name, Input::Capture, files)?;
+    match read_raw(alloc, bytes.as_slice()) {
+        Ok(records) => in_order(records),
+        Err(CaptureFault::NoMemory) => Err(Fault::NoMemory),
+        Err(fault) => Err(Fault::BadCapture(fault)),
+    }
+}
+
+/// The records by time, and those of one time as they stand.
+fn in_order(records: List<Record>) -> Result<Vec<Record>, Fault>
+    ensures ordered { IfOk result (λ packets. AreInOrder records packets.items) }
+    ensures memory { IfErr result (λ fault. fault ≡ Fault.NoMemory) }
+{
+    by_time(records.into_vec())
+}
+
+fn by_time(mut packets: Vec<Record>) -> Result<Vec<Record>, Fault>
+    ensures same { IfOk result (λ sorted. IsPermutation packets.items sorted.items) }
+    ensures sorted { IfOk result (λ sorted. IsSortedByKey (λ packet. packet.time) nat_cmp sorted.items) }
+    ensures stable { IfOk result (λ sorted. IsStableByKey (λ packet. packet.time) nat_cmp packets.items sorted.items) }
+    ensures memory { IfErr result (λ fault. fault ≡ Fault.NoMemory) }
+{
+    match packets.sort_by_key(|packet| packet.time) {
+        Ok(()) => Ok(packets),
+        Err(_) => Err(Fault::NoMemory),
+    }
+}
+
+fn read_file<F: Files>(
+    alloc: Global,
+    name: &str,
+    input: Input,
+    files: &mut F,
+) -> Result<Vec<u8>, Fault>
+    ensures whole { IfOk result (λ bytes. Has (F.contents files.old) name.now bytes.items) }
+    ensures fits { IfOk result (λ bytes. length bytes.items ≤ most_bytes input) }
+    ensures fault { IfErr result (HasReadFault (F.contents files.old) name.now input (F.read_faults files.old) (F.read_faults files.new) (F.taken files.old) (F.taken files.new)) }
+    ensures same { SameFiles (F.contents files.old) (F.contents files.new) }
+    ensures reads { F.read_faults files.old ≤ F.read_faults files.new }
+    ensures taken { F.taken files.old ≤ F.taken files.new }
+{
+    match files.read(alloc, name, input.most_bytes()) {
+        Ok(bytes) => Ok(bytes),
+        Err(FileFault::Failed) => Err(Fault::Unread(input)),
+        Err(FileFault::Long) => Err(Fault::Long(input)),
+        Err(FileFault::NoMemory) => Err(Fault::NoMemory),
+    }
+}
