@@ -47,10 +47,10 @@ module _ (words : Words) (before after : Outside) (conf capture : List ℕ) wher
   Cause = HasCause words before after conf capture
 
   -- a put that failed, and a capture that was refused
-  pub write_cause : (fault : Fault) → Cause fault → status_of fault ≡ 5 → Rose before.puts after.puts × FrontOfReport words before after
+  pub write_cause : (fault : Fault) → Cause fault → status_of fault ≡ 5 → Rose before.puts after.puts × FrontOfReport words before.contents before.held after.held
   write_cause Unwritten h is = (h.1.0, record { conf = conf; capture = capture; words_are = h.0; front = h.1.1 })
   write_cause _ h is = absurd (omega arith)
 
-  pub capture_cause : (fault : Fault) → Cause fault → status_of fault ≡ 7 → RefusesCapture words before after
+  pub capture_cause : (fault : Fault) → Cause fault → status_of fault ≡ 7 → RefusesCapture words before.contents
   capture_cause (BadCapture f) h is = record { conf = conf; capture = capture; fault = f; words_are = h.0; accepted = h.1.0; refused = h.1.1 }
   capture_cause _ h is = absurd (omega arith)

@@ -76,38 +76,39 @@ abbrev pub outside : Option Tree → ℕ → ℕ → ℕ → Option (List ℕ) �
 outside contents reads taken puts held =
     record { contents = contents; reads = reads; taken = taken; puts = puts; held = held }
 
--- nothing was put on the output
-abbrev pub PutsNothing : Outside → Outside → Type 0
-PutsNothing before after = Appends before.held after.held []
+-- nothing was put on a sink
+abbrev pub PutsNothing : Option (List ℕ) → Option (List ℕ) → Type 0
+PutsNothing held held' = Appends held held' []
 
-module _ (before after : Outside) (conf capture : List ℕ) where
+module _ (contents : Option Tree) (conf capture : List ℕ) (held held' : Option (List ℕ)) where
   -- the report was put on the output
   abbrev pub PutsReport : Type 0
-  PutsReport = OfFile before.contents conf (λ text. OfFile before.contents capture (λ bytes.
-      (report : List ℕ) × IsReport text bytes report × Appends before.held after.held report))
+  PutsReport = OfFile contents conf (λ text. OfFile contents capture (λ bytes.
+      (report : List ℕ) × IsReport text bytes report × Appends held held' report))
 
   -- a front of the report was put on the output
   abbrev pub PutsFront : Type 0
-  PutsFront = OfFile before.contents conf (λ text. OfFile before.contents capture (λ bytes.
-      (report : List ℕ) × IsReport text bytes report × AppendsFront before.held after.held report))
+  PutsFront = OfFile contents conf (λ text. OfFile contents capture (λ bytes.
+      (report : List ℕ) × IsReport text bytes report × AppendsFront held held' report))
 
-  -- the configuration is one
-  abbrev pub HasConf : Type 0
-  HasConf = OfFile before.contents conf IsAccepted
+-- the configuration is one
+abbrev pub HasConf : Option Tree → List ℕ → Type 0
+HasConf contents conf = OfFile contents conf IsAccepted
 
+module _ (before after : Outside) (conf capture : List ℕ) where
   -- why this is the first fault that the run met, in the order of its work: the configuration, the capture, the report
   abbrev pub HasFault : Fault → Type 0
   HasFault Usage = ⊥
-  HasFault (Unread Conf) = Rose before.reads after.reads × PutsNothing before after
-  HasFault (Long Conf) = IsLonger before.contents conf (most_bytes Conf) before.taken after.taken × PutsNothing before after
-  HasFault Unbuilt = OfFile before.contents conf IsRefused × PutsNothing before after
-  HasFault (Unread Capture) = HasConf × Rose before.reads after.reads × PutsNothing before after
+  HasFault (Unread Conf) = Rose before.reads after.reads × PutsNothing before.held after.held
+  HasFault (Long Conf) = IsLonger before.contents conf (most_bytes Conf) before.taken after.taken × PutsNothing before.held after.held
+  HasFault Unbuilt = OfFile before.contents conf IsRefused × PutsNothing before.held after.held
+  HasFault (Unread Capture) = HasConf before.contents conf × Rose before.reads after.reads × PutsNothing before.held after.held
   HasFault (Long Capture) =
-      HasConf × IsLonger before.contents capture (most_bytes Capture) before.taken after.taken × PutsNothing before after
+      HasConf before.contents conf × IsLonger before.contents capture (most_bytes Capture) before.taken after.taken × PutsNothing before.held after.held
   HasFault (BadCapture fault) =
-      HasConf × OfFile before.contents capture (λ bytes. IsBadCapture bytes fault) × PutsNothing before after
-  HasFault Unwritten = Rose before.puts after.puts × PutsFront
-  HasFault NoMemory = PutsNothing before after ⊎ PutsFront
+      HasConf before.contents conf × OfFile before.contents capture (λ bytes. IsBadCapture bytes fault) × PutsNothing before.held after.held
+  HasFault Unwritten = Rose before.puts after.puts × PutsFront before.contents conf capture before.held after.held
+  HasFault NoMemory = PutsNothing before.held after.held ⊎ PutsFront before.contents conf capture before.held after.held
 
 -- why a file of this kind and name is not read
 abbrev pub HasReadFault : Option Tree → List ℕ → Input → ℕ → ℕ → ℕ → ℕ → Fault → Type 0

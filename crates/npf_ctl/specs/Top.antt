@@ -1,7 +1,7 @@
 -- What the program answers to its words: what it did, or the first fault that it met with its cause and its line.
 use Rattle.std.specs.Prelude.{◌≡◌, ◌≢◌, ℕ, ◌<◌, ◌⊎◌, List, [], length, Option, Some, String}
 use Rattle.std.specs.Global.{Global}
-use Rattle.npf_outside.specs.Counts.{Rose, StoodStill}
+use Rattle.npf_outside.specs.Counts.{Rose}
 use Rattle.npf_outside.specs.Put.{Appends, AppendsFront}
 use Rattle.npf_outside.specs.Tree.{Tree, IsLonger}
 use Rattle.npf_pcap.specs.declared.capture.Record.{Record}
@@ -36,21 +36,51 @@ PutsLine old new line status =
     ⊎ (Rose old.faults new.faults × AppendsFront old.held new.held line)
     ⊎ ((status ≡ 1) × Appends old.held new.held [])
 
+-- the report was put on the output
+pub record IsDone (words : Words) (contents : Option Tree) (held held' : Option (List ℕ)) : Type 0 where
+  pub conf : List ℕ
+  pub capture : List ℕ
+  pub words_are : IsRun words conf capture
+  pub report : PutsReport contents conf capture held held'
+
+-- a front of the report was put on the output
+pub record FrontOfReport (words : Words) (contents : Option Tree) (held held' : Option (List ℕ)) : Type 0 where
+  pub conf : List ℕ
+  pub capture : List ℕ
+  pub words_are : IsRun words conf capture
+  pub front : PutsFront contents conf capture held held'
+
+-- a configuration was refused
+pub record RefusesConf (words : Words) (contents : Option Tree) : Type 0 where
+  pub conf : List ℕ
+  pub capture : List ℕ
+  pub words_are : IsRun words conf capture
+  pub refused : OfFile contents conf IsRefused
+
+-- a capture was refused for this fault, and the configuration wasn't
+pub record RefusesCapture (words : Words) (contents : Option Tree) : Type 0 where
+  pub conf : List ℕ
+  pub capture : List ℕ
+  pub fault : CaptureFault
+  pub words_are : IsRun words conf capture
+  pub accepted : HasConf contents conf
+  pub refused : OfFile contents capture (λ bytes. IsBadCapture bytes fault)
+
+-- a file is longer than its kind may be
+pub record RefusesLength (words : Words) (contents : Option Tree) (taken taken' : ℕ) : Type 0 where
+  pub conf : List ℕ
+  pub capture : List ℕ
+  pub input : Input
+  pub words_are : IsRun words conf capture
+  pub longer : IsLonger contents (file_of conf capture input) (most_bytes input) taken taken'
+
 module _ (words : Words) (before after : Outside) where
   -- why this is the first fault, where the words name these files
   abbrev pub HasCause : List ℕ → List ℕ → Fault → Type 0
-  HasCause conf capture Usage = IsNoCommand words × PutsNothing before after
+  HasCause conf capture Usage = IsNoCommand words × PutsNothing before.held after.held
   HasCause conf capture NoMemory =
-      PutsNothing before after ⊎ (IsRun words conf capture × PutsFront before after conf capture)
+      PutsNothing before.held after.held ⊎ (IsRun words conf capture × PutsFront before.contents conf capture before.held after.held)
   HasCause conf capture fault = IsRun words conf capture × HasFault before after conf capture fault
-
-  -- the work was done: the report was put, and nothing on the error sink
-  pub record IsDone (old new : Errors) : Type 0 where
-    pub conf : List ℕ
-    pub capture : List ℕ
-    pub words_are : IsRun words conf capture
-    pub report : PutsReport before after conf capture
-    pub silent : Appends old.held new.held []
 
   -- a fault was met first, and its line was put
   pub record IsFaulted (old new : Errors) (status : ℕ) : Type 0 where
@@ -61,39 +91,11 @@ module _ (words : Words) (before after : Outside) where
     pub cause : HasCause conf capture fault
     pub line : PutsLine old new (message conf capture fault) status
 
+  -- the work was done and nothing put on the error sink, or there is a fault
   abbrev pub IsAnswered : Errors → Errors → ℕ → Type 0
-  IsAnswered old new status = ((status ≡ 0) × IsDone old new) ⊎ IsFaulted old new status
-
-  -- a configuration was refused
-  pub record RefusesConf : Type 0 where
-    pub conf : List ℕ
-    pub capture : List ℕ
-    pub words_are : IsRun words conf capture
-    pub refused : OfFile before.contents conf IsRefused
-
-  -- a capture was refused for this fault, and the configuration wasn't
-  pub record RefusesCapture : Type 0 where
-    pub conf : List ℕ
-    pub capture : List ℕ
-    pub fault : CaptureFault
-    pub words_are : IsRun words conf capture
-    pub accepted : HasConf before after conf capture
-    pub refused : OfFile before.contents capture (λ bytes. IsBadCapture bytes fault)
-
-  -- a file is longer than its kind may be
-  pub record RefusesLength : Type 0 where
-    pub conf : List ℕ
-    pub capture : List ℕ
-    pub input : Input
-    pub words_are : IsRun words conf capture
-    pub longer : IsLonger before.contents (file_of conf capture input) (most_bytes input) before.taken after.taken
-
-  -- a front of the report was put
-  pub record FrontOfReport : Type 0 where
-    pub conf : List ℕ
-    pub capture : List ℕ
-    pub words_are : IsRun words conf capture
-    pub front : PutsFront before after conf capture
+  IsAnswered old new status =
+      ((status ≡ 0) × (IsDone words before.contents before.held after.held × PutsNothing old.held new.held))
+      ⊎ IsFaulted old new status
 
 -- with these statuses nothing is put on the output
 abbrev pub IsQuiet : ℕ → Type 0
@@ -106,10 +108,6 @@ Answers wanted status = (status ≡ wanted) ⊎ (status ≡ 1)
 -- the files are told, and the file of this name has bytes of which this holds
 abbrev pub Told : Option Tree → List ℕ → (List ℕ → Type 0) → Type 0
 Told contents name P = (tree : Tree) × (contents ≡ Some tree) × ((bytes : List ℕ) × (tree name ≡ Some bytes) × P bytes)
-
--- no read failed, no put on the output failed, and no count of either stands at its greatest value
-abbrev pub IsFaultless : Outside → Outside → Type 0
-IsFaultless before after = StoodStill before.reads after.reads × StoodStill before.puts after.puts
 
 -- the words, the configuration and the capture are in their grammars and limits
 pub record CanRun (words : Words) (contents : Option Tree) : Type 0 where

@@ -18,10 +18,7 @@ pub(crate) fn run<F: Files, O: Sink>(
     files: &mut F,
     out: &mut O,
 ) -> Result<(), Fault>
-    ensures done { OnOk result (PutsReport
-        (outside (F.contents files.old) (F.read_faults files.old) (F.taken files.old) (O.faults out.old) (O.held out.old))
-        (outside (F.contents files.new) (F.read_faults files.new) (F.taken files.new) (O.faults out.new) (O.held out.new))
-        conf.now capture.now) }
+    ensures done { OnOk result (PutsReport (F.contents files.old) conf.now capture.now (O.held out.old) (O.held out.new)) }
     ensures fault { IfErr result (HasFault
         (outside (F.contents files.old) (F.read_faults files.old) (F.taken files.old) (O.faults out.old) (O.held out.old))
         (outside (F.contents files.new) (F.read_faults files.new) (F.taken files.new) (O.faults out.new) (O.held out.new))

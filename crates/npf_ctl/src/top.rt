@@ -26,37 +26,26 @@ pub fn npfctl_top<F: Files, O: Sink, E: Sink>(
     err: &mut E,
 ) -> Status
     // 0: the report was put, of packets and outcomes that the configuration explains, and nothing on the error sink.
-    ensures done { result ≡ 0 → IsDone words.now
-        (outside (F.contents files.old) (F.read_faults files.old) (F.taken files.old) (O.faults out.old) (O.held out.old))
-        (outside (F.contents files.new) (F.read_faults files.new) (F.taken files.new) (O.faults out.new) (O.held out.new))
-        (errors (E.held err.old) (E.faults err.old)) (errors (E.held err.new) (E.faults err.new)) }
-    // Any other status: the first fault met has it, with its cause, and its line was put.
+    ensures done { result ≡ 0 → IsDone words.now (F.contents files.old) (O.held out.old) (O.held out.new) }
+    ensures silent { result ≡ 0 → PutsNothing (E.held err.old) (E.held err.new) }
+
+    // Any other status: that of the first fault met, with its cause, and its line was put.
     ensures faulted { result ≢ 0 → IsFaulted words.now
         (outside (F.contents files.old) (F.read_faults files.old) (F.taken files.old) (O.faults out.old) (O.held out.old))
         (outside (F.contents files.new) (F.read_faults files.new) (F.taken files.new) (O.faults out.new) (O.held out.new))
         (errors (E.held err.old) (E.faults err.old)) (errors (E.held err.new) (E.faults err.new)) result }
 
     // The cause of each status.
-    ensures memory { result ≡ 1 → PutsNothing
-        (outside (F.contents files.old) (F.read_faults files.old) (F.taken files.old) (O.faults out.old) (O.held out.old))
-        (outside (F.contents files.new) (F.read_faults files.new) (F.taken files.new) (O.faults out.new) (O.held out.new))
-        ⊎ FrontOfReport words.now
-        (outside (F.contents files.old) (F.read_faults files.old) (F.taken files.old) (O.faults out.old) (O.held out.old))
-        (outside (F.contents files.new) (F.read_faults files.new) (F.taken files.new) (O.faults out.new) (O.held out.new)) }
+    ensures memory { result ≡ 1 → PutsNothing (O.held out.old) (O.held out.new)
+        ⊎ FrontOfReport words.now (F.contents files.old) (O.held out.old) (O.held out.new) }
     ensures usage { result ≡ 2 → IsNoCommand words.now }
-    ensures conf { result ≡ 3 → RefusesConf words.now
-        (outside (F.contents files.old) (F.read_faults files.old) (F.taken files.old) (O.faults out.old) (O.held out.old))
-        (outside (F.contents files.new) (F.read_faults files.new) (F.taken files.new) (O.faults out.new) (O.held out.new)) }
+    ensures conf { result ≡ 3 → RefusesConf words.now (F.contents files.old) }
     ensures reads { result ≡ 4 → Rose (F.read_faults files.old) (F.read_faults files.new) }
-    ensures writes { result ≡ 5 → Rose (O.faults out.old) (O.faults out.new) × FrontOfReport words.now
-        (outside (F.contents files.old) (F.read_faults files.old) (F.taken files.old) (O.faults out.old) (O.held out.old))
-        (outside (F.contents files.new) (F.read_faults files.new) (F.taken files.new) (O.faults out.new) (O.held out.new)) }
-    ensures capture { result ≡ 7 → RefusesCapture words.now
-        (outside (F.contents files.old) (F.read_faults files.old) (F.taken files.old) (O.faults out.old) (O.held out.old))
-        (outside (F.contents files.new) (F.read_faults files.new) (F.taken files.new) (O.faults out.new) (O.held out.new)) }
-    ensures lengths { result ≡ 9 → RefusesLength words.now
-        (outside (F.contents files.old) (F.read_faults files.old) (F.taken files.old) (O.faults out.old) (O.held out.old))
-        (outside (F.contents files.new) (F.read_faults files.new) (F.taken files.new) (O.faults out.new) (O.held out.new)) }
+    ensures writes { result ≡ 5 → Rose (O.faults out.old) (O.faults out.new) }
+    ensures written { result ≡ 5 → FrontOfReport words.now (F.contents files.old) (O.held out.old) (O.held out.new) }
+    ensures capture { result ≡ 7 → RefusesCapture words.now (F.contents files.old) }
+    ensures lengths { result ≡ 9
+        → RefusesLength words.now (F.contents files.old) (F.taken files.old) (F.taken files.new) }
 
     // What must be refused is, and what can run does, but for want of memory.
     ensures refuses_words { IsNoCommand words.now → Answers 2 result }
@@ -71,9 +60,7 @@ pub fn npfctl_top<F: Files, O: Sink, E: Sink>(
         → StoodStill (O.faults out.old) (O.faults out.new) → Answers 0 result }
 
     // With 2, 3, 4, 7 and 9 nothing is put on the output, and no file changes.
-    ensures quiet { IsQuiet result → PutsNothing
-        (outside (F.contents files.old) (F.read_faults files.old) (F.taken files.old) (O.faults out.old) (O.held out.old))
-        (outside (F.contents files.new) (F.read_faults files.new) (F.taken files.new) (O.faults out.new) (O.held out.new)) }
+    ensures quiet { IsQuiet result → PutsNothing (O.held out.old) (O.held out.new) }
     ensures files { SameFiles (F.contents files.old) (F.contents files.new) }
 {
     answer(alloc, words, files, out, err)

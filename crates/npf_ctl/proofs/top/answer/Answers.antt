@@ -1,10 +1,25 @@
-use Rattle.std.proofs.Common.{[]}
+use Rattle.std.proofs.Common.{[], inl, refl}
 use Rattle.npf_outside.proofs.Putting.{Appends-nothing}
 use Rattle.npf_ctl.specs.declared.fault.Fault.TheVariants.{Usage}
 use Rattle.npf_ctl.specs.Run.{outside}
 use Rattle.npf_ctl.specs.Top.{errors}
 use Rattle.npf_ctl.proofs.Answering.{said, run_cause}
 use Rattle.npf_ctl.proofs.top.answer.Goals as goal
+
+pub returns-in-Ok-clause-answered : goal.returns-in-Ok-clause-answered
+returns-in-Ok-clause-answered g c =
+    inl (
+      refl,
+      (
+        record {
+          conf = c.in-Some.conf.now;
+          capture = c.in-Some.capture.now;
+          words_are = c.in-Some.ensures;
+          report = c.in-Ok.ensures.done;
+        },
+        Appends-nothing (g.E.Sink.held c.args.err.now),
+      ),
+    )
 
 pub returns-in-Err-clause-answered : goal.returns-in-Err-clause-answered
 returns-in-Err-clause-answered g c =

@@ -3,8 +3,8 @@ use Rattle.npf_ctl.specs.Top.{errors}
 use Rattle.npf_ctl.proofs.Clauses.{writes, refuses, refused_conf, refused_capture, refused_length, completes}
 use Rattle.npf_ctl.proofs.top.npfctl_top.Goals as goal
 
-pub returns-clause-writes : goal.returns-clause-writes
-returns-clause-writes g c =
+pub returns-clause-written : goal.returns-clause-written
+returns-clause-written g c =
     let files = c.args.files.now in
     let out = c.args.out.now in
     let before = outside (g.F.Files.contents files) (g.F.Files.read_faults files) (g.F.Files.taken files) (g.O.Sink.faults out) (g.O.Sink.held out) in
