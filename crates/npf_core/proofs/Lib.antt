@@ -1,0 +1,9 @@
+pub mod Building
+pub mod Histories
+pub mod Holders
+pub mod Identities
+pub mod Keys
+pub mod Lives
+pub mod LookUps
+pub mod Replays
+pub mod Tests

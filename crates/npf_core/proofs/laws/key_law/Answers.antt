@@ -1,0 +1,8 @@
+use Rattle.npf_core.proofs.Keys.{keeps_keys, shares_no_key}
+use Rattle.npf_core.proofs.laws.key_law.Goals as goal
+
+pub returns-clause-kept : goal.returns-clause-kept
+returns-clause-kept g c = λ slots. keeps_keys g.L.Law.meaning slots
+
+pub returns-clause-alone : goal.returns-clause-alone
+returns-clause-alone g c = λ slots. shares_no_key g.L.Law.meaning slots

@@ -1,0 +1,14 @@
+pub mod Allowed
+pub mod BuildingLaw
+pub mod ClaimedLaw
+pub mod History
+pub mod HistoryLaw
+pub mod HolderLaw
+pub mod IdentityLaw
+pub mod KeyLaw
+pub mod LookUpLaw
+pub mod Machine
+pub mod Meaning
+pub mod NextState
+pub mod ReplayLaw
+pub mod Replies
