@@ -16,7 +16,7 @@ use Rattle.npf_core.specs.Machine.{Machine, stage_of, HoldsNone}
 use Rattle.npf_core.specs.Meaning.{Meaning}
 use Rattle.npf_core.proofs.Holders.{Passes, rests, gives, loses, passes, may_hold, claimed_by}
 use Rattle.npf_core.proofs.Lives.{Life, stage_in, stage_of-is, Moves, keeps, claims, starts, steps, abandons, expires, frees as is_freed, entry_moves}
-use Rattle.npf_core.proofs.Tests.{is_id-Decides}
+use Rattle.npf_core.proofs.Equalities.{is_id-Decides}
 
 -- where a filter keeps nothing the first item fails its test, and it keeps nothing of the others
 none_first : {X : Type 0} (p : X → Bool) (x : X) (xs : List X) → filter p (x ∷ xs) ≡ [] → (p x ≡ false) × (filter p xs ≡ [])

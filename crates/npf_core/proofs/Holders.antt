@@ -18,7 +18,7 @@ use Rattle.npf_core.specs.NextState.{is_found, first_of, holder_after}
 use Rattle.npf_core.specs.Replies.{claimed_id}
 use Rattle.npf_core.proofs.Histories.{by_entries}
 use Rattle.npf_core.proofs.Lives.{Life, stage_in, stage_of-is, life_of, Moves, keeps, claims, starts, steps, abandons, expires, frees, entry_moves}
-use Rattle.npf_core.proofs.Tests.{is_key-Decides, is_found-Decides}
+use Rattle.npf_core.proofs.Equalities.{is_key-Decides, is_found-Decides}
 use Rattle.std.proofs.lemmas.Bool.Decides.{nat_tests}
 
 -- what an act makes of a key's holder

@@ -1,5 +1,5 @@
 -- The key law.
-use Rattle.std.proofs.Common.{◌≡◌, ℕ, true, List, [], ◌∷◌, ◌++◌, Option, Some, None, cond, refl, ap, sym, ◌∙◌}
+use Rattle.std.proofs.Common.{◌≡◌, ℕ, true, List, [], ◌∷◌, ◌++◌, Option, Some, None, cond, refl, ap, sym, ◌∙◌, append_assoc}
 use Rattle.npf_types.specs.declared.connection.Key.{Key}
 use Rattle.npf_core.specs.declared.entry.Entry.{Entry}
 use Rattle.npf_core.specs.declared.found.Found.{Found}
@@ -7,7 +7,7 @@ use Rattle.npf_core.specs.declared.held.Held.{Held}
 use Rattle.npf_core.specs.declared.reply.Reply.TheVariants.{ToHold}
 use Rattle.npf_core.specs.declared.stage.Stage.TheVariants.{Building}
 use Rattle.npf_core.specs.History.{MayFollow, after, Legal, LegalFrom, state_of, state_from}
-use Rattle.npf_core.specs.KeyLaw.{KeepsKeys, SharesNoKey}
+use Rattle.npf_core.specs.KeyLaw.{Gives, KeepsKeys, SharesNoKey, WasGiven, StaysHolder}
 use Rattle.npf_core.specs.Machine.{Machine, opening, stage_of, is_key, IsAlive}
 use Rattle.npf_core.specs.Meaning.{Meaning}
 use Rattle.npf_core.specs.NextState.{first_of}
@@ -15,7 +15,7 @@ use Rattle.npf_core.specs.Replies.{held_by}
 use Rattle.npf_core.proofs.Histories.{state_from-append, LegalFrom-rest, MayFollow-split, by_entries}
 use Rattle.npf_core.proofs.Holders.{Passes, rests, gives, loses, passes, may_hold, may_unhold, after_hold}
 use Rattle.npf_core.proofs.Lives.{Life, to_come, built, lives, killed, gone, stage_in, stage_of-is, life_of, Moves, keeps, claims, starts, steps, abandons, expires, frees, entry_moves}
-use Rattle.npf_core.proofs.Tests.{is_key-Decides}
+use Rattle.npf_core.proofs.Equalities.{is_key-Decides}
 
 -- a life that is Building or Live holds the key, and one that is over owes nothing
 abbrev pub Keeps : {S : Type 0} → Option Found → Found → Life S → Type 0
@@ -31,6 +31,13 @@ keeps_alive holder found (built seat) h alive = h
 keeps_alive holder found (lives flow n) h alive = h
 keeps_alive holder found killed h alive = absurd alive
 keeps_alive holder found gone h alive = absurd alive
+
+alive_keeps : {S : Type 0} (holder : Option Found) (found : Found) (x : Life S) → holder ≡ Some found → IsAlive (stage_in x) → Keeps holder found x
+alive_keeps holder found to_come h alive = alive
+alive_keeps holder found (built seat) h alive = h
+alive_keeps holder found (lives flow n) h alive = h
+alive_keeps holder found killed h alive = tt
+alive_keeps holder found gone h alive = tt
 
 module _ {S A R : Type 0} (m : Meaning S A R) (entry : Entry S A R) (found : Found) (holder next : Option Found) where
   still : (x : Life S) → (IsAlive (stage_in x) → holder ≡ Some found → next ≡ Some found) → Keeps holder found x → Keeps next found x
@@ -108,3 +115,35 @@ module _ {S A R : Type 0} (m : Meaning S A R) (slots : ℕ) where
       let first = keeps_keys history key found legal given alive in
       let second = keeps_keys history key other legal given' alive' in
       cc (first, second)
+
+  pub stays_holder : StaysHolder m slots
+  stays_holder k entries key found legal holds alive later =
+      let first = alive_keeps (k.holder key) found (life_of k found.id) holds (rw stage_of-is at alive) in
+      keeps_alive _ found _ (holder_kept k entries key found legal first) (rw stage_of-is at later)
+
+  -- what was given stays so as the history goes on
+  given_more : (past : List (Entry S A R)) (entry : Entry S A R) (key : Key) (found : Found) → Gives past key found → Gives (past ++ entry ∷ []) key found
+  given_more past entry key found given = record {
+    earlier = given.earlier;
+    entry = given.entry;
+    later = given.later ++ entry ∷ [];
+    split = ap (λ es. es ++ entry ∷ []) given.split ∙ append_assoc given.earlier (given.entry ∷ given.later) (entry ∷ []);
+    act = given.act;
+    done = given.done;
+  }
+
+  given_by : (past : List (Entry S A R)) (k : Machine S) (entry : Entry S A R) (key : Key) (found : Found) (x y : Option Found) → Passes entry.act key x y →
+      MayFollow m slots k entry → k.holder key ≡ x → y ≡ Some found → (k.holder key ≡ Some found → Gives past key found) → Gives (past ++ entry ∷ []) key found
+  given_by past k entry key found _ _ rests follows was now before = given_more past entry key found (before (was ∙ now))
+  given_by past k entry key found _ _ (gives given act) follows was now before =
+      let same : given ≡ found = cc in
+      let replied : entry.reply ≡ ToHold (held_by (k.holder key)) = rw act at follows.replied in
+      let done : entry.reply ≡ ToHold Held.Done = replied ∙ ap (λ h. ToHold (held_by h)) was in
+      record { earlier = past; entry = entry; later = []; split = refl; act = rw same at act; done = done }
+  given_by past k entry key found _ _ (loses lost act) follows was now before = absurd cc
+
+  pub was_given : WasGiven m slots
+  was_given history key found legal =
+      by_entries m slots (λ past k. k.holder key ≡ Some found → Gives past key found)
+      (λ past k entry before follows e. given_by past k entry key found _ _ (passes entry.act key (k.holder key)) follows refl e before)
+      [] opening history (λ e. absurd cc) legal

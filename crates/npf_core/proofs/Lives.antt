@@ -21,7 +21,7 @@ use Rattle.npf_core.specs.Meaning.{Meaning}
 use Rattle.npf_core.specs.NextState.{is_id, stepped, after_act}
 use Rattle.npf_core.specs.Replies.{claimed_id, step_answer, reply_of}
 use Rattle.npf_core.specs.ReplayLaw.{start_of, step_of}
-use Rattle.npf_core.proofs.Tests.{same_conn_id}
+use Rattle.npf_core.proofs.Equalities.{same_conn_id}
 
 -- not claimed yet, Building under a seat, Live with a flow and a count of steps, Dead, or freed
 pub data Life (S : Type 0) : Type 0 where

@@ -20,7 +20,7 @@ use Rattle.npf_core.specs.Replies.{step_answer}
 use Rattle.npf_core.specs.ReplayLaw.{start_of, step_of, starts, done_steps, replay, IsReplay, ReplaysFlows, ReplaysAnswers}
 use Rattle.npf_core.proofs.Histories.{LegalFrom-front, MayFollow-split, by_entries}
 use Rattle.npf_core.proofs.Lives.{Life, to_come, built, lives, killed, gone, stage_in, stage_of-is, life_of, IsSilent, Moves, keeps, claims, starts as is_start, steps as is_step, abandons, expires, frees, entry_moves, life_of-opening}
-use Rattle.npf_core.proofs.Tests.{is_id-Decides}
+use Rattle.npf_core.proofs.Equalities.{is_id-Decides}
 
 passed : {X Y : Type 0} (h : X → Option Y) (xs : List X) (x : X) → h x ≡ None → filter_map h (xs ++ x ∷ []) ≡ filter_map h xs
 passed h xs x e = filter_map-append h xs (x ∷ []) ∙ rw e (append-nil (filter_map h xs))

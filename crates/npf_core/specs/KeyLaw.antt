@@ -6,8 +6,8 @@ use Rattle.npf_core.specs.declared.act.Act.TheVariants.{Hold}
 use Rattle.npf_core.specs.declared.found.Found.{Found}
 use Rattle.npf_core.specs.declared.held.Held.{Held}
 use Rattle.npf_core.specs.declared.reply.Reply.TheVariants.{ToHold}
-use Rattle.npf_core.specs.History.{Legal, state_of}
-use Rattle.npf_core.specs.Machine.{stage_of, IsAlive}
+use Rattle.npf_core.specs.History.{Legal, LegalFrom, state_of, state_from}
+use Rattle.npf_core.specs.Machine.{Machine, stage_of, IsAlive}
 use Rattle.npf_core.specs.Meaning.{Meaning}
 
 -- the history has a Hold that gives this key to this holder
@@ -35,3 +35,16 @@ SharesNoKey {S} {A} {R} m slots =
     (history : List (Entry S A R)) (key : Key) (found other : Found) →
     Legal m slots history → Gives history key found → StillAlive m history found →
     Gives history key other → StillAlive m history other → found ≡ other
+
+-- who holds a key was given it by a Hold
+abbrev pub WasGiven : {S A R : Type 0} → Meaning S A R → ℕ → Type 0
+WasGiven {S} {A} {R} m slots =
+    (history : List (Entry S A R)) (key : Key) (found : Found) →
+    Legal m slots history → (state_of m history).holder key ≡ Some found → Gives history key found
+
+-- and holds it as long as it is Building or Live, whatever entries follow
+abbrev pub StaysHolder : {S A R : Type 0} → Meaning S A R → ℕ → Type 0
+StaysHolder {S} {A} {R} m slots =
+    (k : Machine S) (entries : List (Entry S A R)) (key : Key) (found : Found) →
+    LegalFrom m slots k entries → k.holder key ≡ Some found → IsAlive (stage_of k found.id) →
+    IsAlive (stage_of (state_from m k entries) found.id) → (state_from m k entries).holder key ≡ Some found

@@ -4,11 +4,16 @@ pub mod ClaimedLaw
 pub mod History
 pub mod HistoryLaw
 pub mod HolderLaw
+pub mod Holding
 pub mod IdentityLaw
 pub mod KeyLaw
 pub mod LookUpLaw
 pub mod Machine
 pub mod Meaning
 pub mod NextState
+pub mod PlainMachine
+pub mod Plays
+pub mod Replay
 pub mod ReplayLaw
 pub mod Replies
+pub mod Slots

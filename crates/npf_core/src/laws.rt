@@ -5,7 +5,7 @@ ghost use Rattle.npf_core.specs.ClaimedLaw.{StaysClaimed};
 ghost use Rattle.npf_core.specs.HistoryLaw.{PrefixesAreLegal, GoesOnLegally, GoesOnTo, ByAppend, PrefixesNest};
 ghost use Rattle.npf_core.specs.HolderLaw.{HoldersAreClaimed, UnclaimedHoldNone, HoldsOneAWay, ClaimsWithNone, InEachState};
 ghost use Rattle.npf_core.specs.IdentityLaw.{ClaimsOnce, CountsIncarnations};
-ghost use Rattle.npf_core.specs.KeyLaw.{KeepsKeys, SharesNoKey};
+ghost use Rattle.npf_core.specs.KeyLaw.{KeepsKeys, SharesNoKey, WasGiven, StaysHolder};
 ghost use Rattle.npf_core.specs.LookUpLaw.{LooksUpStale};
 ghost use Rattle.npf_core.specs.ReplayLaw.{ReplaysFlows, ReplaysAnswers};
 
@@ -18,10 +18,13 @@ pub fn replay_law<L: Law>()
     ensures answers { (slots : ℕ) → ReplaysAnswers L.meaning slots }
 {}
 
-/// The key law: a connection that is Building or Live holds every key that a Hold gave it, and no key has two holders.
+/// The key law: a connection that is Building or Live holds every key that a Hold gave it, and no key has two holders. Who
+/// holds a key was given it by a Hold, and holds it as long as it is Building or Live.
 pub fn key_law<L: Law>()
     ensures kept { (slots : ℕ) → KeepsKeys L.meaning slots }
     ensures alone { (slots : ℕ) → SharesNoKey L.meaning slots }
+    ensures given { (slots : ℕ) → WasGiven L.meaning slots }
+    ensures stays { (slots : ℕ) → StaysHolder L.meaning slots }
 {}
 
 /// The identity law: an identity is claimed at most once, and its incarnation is a number of 64 bits.

@@ -7,28 +7,40 @@
 // an object by the histories of its calls is Herlihy and Wing, "Linearizability", TOPLAS 12(3), 1990.
 //
 // The contract: the definitions stand in specs/, for any law and any number of slots, and `laws` has what holds of every legal
-// history: replay, key, identity and stale look-up law, and those that tables and their users need.
+// history: replay, key, identity and stale look-up law, and those that tables and their users need. `play` is the machine on a
+// plain value, and `replay` gives the legal history of a list of acts or the first act that isn't allowed.
 #![tactic(auto)]
 
 mod act;
+mod acts;
 mod conn_id;
 mod entry;
 mod found;
 mod held;
+mod history;
+mod holding;
 mod law;
 pub mod laws;
+mod plain_machine;
 mod reply;
 mod slot;
 mod stage;
 mod stepped;
 
 pub use act::{Act, Why};
+pub use acts::play;
 pub use conn_id::ConnId;
 pub use entry::Entry;
 pub use found::Found;
 pub use held::Held;
+pub use history::{Asked, ReplayFault, replay};
+pub use holding::Holding;
 pub use law::Law;
+pub use plain_machine::PlainMachine;
 pub use reply::Reply;
 pub use slot::Slot;
 pub use stage::Stage;
 pub use stepped::Stepped;
+
+#[cfg(test)]
+mod tests;
