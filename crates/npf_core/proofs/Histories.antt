@@ -4,10 +4,14 @@ use Rattle.std.specs.Prelude.{◌==◌}
 use Rattle.std.proofs.lemmas.List.Elements.{filter-append}
 use Rattle.npf_core.specs.declared.entry.Entry.{Entry}
 use Rattle.npf_core.specs.declared.conn_id.ConnId.{ConnId}
+use Rattle.npf_core.specs.declared.history.Asked.{Asked}
 use Rattle.npf_core.specs.History.{MayFollow, after, Legal, LegalFrom, state_from, state_of, IsPrefix, by, frees, is_free}
-use Rattle.npf_core.specs.HistoryLaw.{GoesOnLegally}
+use Rattle.npf_core.specs.HistoryLaw.{GoesOnLegally, ActsDecide}
 use Rattle.npf_core.specs.Machine.{Machine, opening}
 use Rattle.npf_core.specs.Meaning.{Meaning}
+use Rattle.npf_core.specs.NextState.{after_act}
+use Rattle.npf_core.specs.Replay.{asked_in}
+use Rattle.npf_core.specs.Replies.{reply_of}
 
 -- the state after entries goes on from the state after the first of them
 pub state_from-append : {S A R : Type 0} (m : Meaning S A R) (k : Machine S) (xs ys : List (Entry S A R)) → state_from m k (xs ++ ys) ≡ state_from m (state_from m k xs) ys
@@ -53,6 +57,9 @@ module _ {S A R : Type 0} (m : Meaning S A R) (slots : ℕ) where
       let rest = by_entries P step (past ++ x ∷ []) (after m k x) xs (step past k x p h.0) h.1 in
       rw (← append_assoc past (x ∷ []) xs) rest
 
+cons_heads : {X : Type 0} {x y : X} {xs ys : List X} → x ∷ xs ≡ y ∷ ys → (x ≡ y) × (xs ≡ ys)
+cons_heads {X} {x} {y} {xs} {ys} e = let heads : x ≡ y = cc in let rest : xs ≡ ys = cc in (heads, rest)
+
 -- prefixes
 pub IsPrefix-self : {E : Type 0} (xs : List E) → IsPrefix xs xs
 IsPrefix-self xs = record { rest = []; goes_on = sym (append-nil xs) }
@@ -77,3 +84,23 @@ module _ {S A R : Type 0} (m : Meaning S A R) (slots : ℕ) where
   pub goes_on_legally : GoesOnLegally m slots
   goes_on_legally history entry =
       (λ h. (LegalFrom-front m slots opening history (entry ∷ []) h, MayFollow-split m slots history [] entry h), λ h. Legal-append m slots history entry h.0 h.1)
+
+module _ {S A R : Type 0} (m : Meaning S A R) (slots : ℕ) where
+  same_entry : (x y : Entry S A R) → x.seat ≡ y.seat → x.act ≡ y.act → x.reply ≡ y.reply → x ≡ y
+  same_entry x y seat act reply = λ i. record { seat = seat i; act = act i; reply = reply i }
+
+  acts_decide_from : (k : Machine S) (xs ys : List (Entry S A R)) → LegalFrom m slots k xs → LegalFrom m slots k ys → asked_in xs ≡ asked_in ys → xs ≡ ys
+  acts_decide_from k [] [] h g e = refl
+  acts_decide_from k [] (y ∷ ys) h g e = absurd cc
+  acts_decide_from k (x ∷ xs) [] h g e = absurd cc
+  acts_decide_from k (x ∷ xs) (y ∷ ys) h g e =
+      let heads = cons_heads e in
+      let seat = ap (λ (a : Asked S A). a.seat) heads.0 in
+      let act = ap (λ (a : Asked S A). a.act) heads.0 in
+      let reply = h.0.replied ∙ (ap (reply_of m k) act ∙ sym g.0.replied) in
+      let next : after m k x ≡ after m k y = λ i. after_act m k (seat i) (act i) in
+      let rest = acts_decide_from (after m k x) xs ys h.1 (rw (← next) at g.1) heads.1 in
+      λ i. same_entry x y seat act reply i ∷ rest i
+
+  pub acts_decide : ActsDecide m slots
+  acts_decide history other h g e = acts_decide_from opening history other h g e

@@ -8,12 +8,14 @@ use Rattle.npf_core.specs.History.{LegalFrom, state_from, by}
 use Rattle.npf_core.specs.Machine.{Machine, stage_of, HoldsNone}
 use Rattle.npf_core.specs.Meaning.{Meaning}
 
+-- it stays Building
 abbrev pub StaysBuilding : {S A R : Type 0} → Meaning S A R → ℕ → Type 0
 StaysBuilding {S} {A} {R} m slots =
     (k : Machine S) (entries : List (Entry S A R)) (seat : ℕ) (id : ConnId) →
     LegalFrom m slots k entries → by seat entries ≡ [] →
     stage_of k id ≡ Building seat → stage_of (state_from m k entries) id ≡ Building seat
 
+-- it is given no key
 abbrev pub IsGivenNone : {S A R : Type 0} → Meaning S A R → ℕ → Type 0
 IsGivenNone {S} {A} {R} m slots =
     (k : Machine S) (entries : List (Entry S A R)) (seat : ℕ) (id : ConnId) (way : Way) →

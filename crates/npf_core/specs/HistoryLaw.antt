@@ -3,6 +3,7 @@ use Rattle.std.specs.Prelude.{◌≡◌, ℕ, ◌↔◌, List, [], ◌∷◌, �
 use Rattle.npf_core.specs.declared.entry.Entry.{Entry}
 use Rattle.npf_core.specs.History.{MayFollow, after, Legal, state_of, IsPrefix, by}
 use Rattle.npf_core.specs.Meaning.{Meaning}
+use Rattle.npf_core.specs.Replay.{asked_in}
 
 -- a prefix of a legal history is legal
 abbrev pub PrefixesAreLegal : {S A R : Type 0} → Meaning S A R → ℕ → Type 0
@@ -27,3 +28,8 @@ ByAppend S A R = (number : ℕ) (xs ys : List (Entry S A R)) → by number (xs +
 -- prefixes of prefixes are prefixes
 abbrev pub PrefixesNest : (S A R : Type 0) → Type 0
 PrefixesNest S A R = (first second third : List (Entry S A R)) → IsPrefix first second → IsPrefix second third → IsPrefix first third
+
+-- two legal histories of the same acts are one: the replies follow from the acts
+abbrev pub ActsDecide : {S A R : Type 0} → Meaning S A R → ℕ → Type 0
+ActsDecide {S} {A} {R} m slots =
+    (history other : List (Entry S A R)) → Legal m slots history → Legal m slots other → asked_in history ≡ asked_in other → history ≡ other

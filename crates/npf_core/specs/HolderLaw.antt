@@ -11,12 +11,15 @@ use Rattle.npf_core.specs.Machine.{Machine, stage_of, IsClaimed, Holds, HoldsNon
 use Rattle.npf_core.specs.Meaning.{Meaning}
 use Rattle.npf_core.specs.Replies.{claimed_id}
 
+-- each key's holder is claimed
 abbrev pub HoldersAreClaimed : {S : Type 0} → Machine S → Type 0
 HoldersAreClaimed k = (key : Key) (found : Found) → k.holder key ≡ Some found → IsClaimed (stage_of k found.id)
 
+-- an identity that isn't claimed holds no key
 abbrev pub UnclaimedHoldNone : {S : Type 0} → Machine S → Type 0
 UnclaimedHoldNone k = (id : ConnId) (way : Way) → stage_of k id ≡ Vacant → HoldsNone k id way
 
+-- two keys that a connection holds that way are one
 abbrev pub HoldsOneAWay : {S : Type 0} → Machine S → Type 0
 HoldsOneAWay k = (id : ConnId) (way : Way) (key other : Key) → Holds k id way key → Holds k id way other → key ≡ other
 

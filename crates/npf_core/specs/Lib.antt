@@ -11,6 +11,7 @@ pub mod LookUpLaw
 pub mod Machine
 pub mod Meaning
 pub mod NextState
+pub mod Pass
 pub mod PlainMachine
 pub mod Plays
 pub mod Replay

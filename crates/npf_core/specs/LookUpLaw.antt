@@ -33,6 +33,7 @@ pub record HadNoLive {S A R : Type 0} (m : Meaning S A R) (before : List (Entry 
   pub split : between ≡ earlier ++ later
   pub none : HasNoLive (state_of m (before ++ look ∷ earlier)) key
 
+-- so it is at each look-up whose holder a later step finds not Live
 abbrev pub LooksUpStale : {S A R : Type 0} → Meaning S A R → ℕ → Type 0
 LooksUpStale {S} {A} {R} m slots =
     (before between rest : List (Entry S A R)) (look step : Entry S A R) (key : Key) (found : Found) →

@@ -40,6 +40,7 @@ IsAlive (Building _) = Unit {0}
 IsAlive (Live _ _) = Unit {0}
 IsAlive Dead = ⊥
 
+-- Live
 abbrev pub IsLive : {S : Type 0} → Stage S → Type 0
 IsLive Vacant = ⊥
 IsLive (Building _) = ⊥

@@ -13,16 +13,18 @@ use Rattle.npf_core.specs.declared.stage.Stage.TheVariants.{Vacant, Building, Li
 use Rattle.npf_core.specs.Machine.{Machine, is_key}
 use Rattle.npf_core.specs.Meaning.{Meaning}
 
--- two ways, two identities, two holders are one
+-- two ways are one
 abbrev pub is_way : Way → Way → Bool
 is_way Forward Forward = true
 is_way Backward Backward = true
 is_way Port Port = true
 is_way _ _ = false
 
+-- two identities are one
 abbrev pub is_id : ConnId → ConnId → Bool
 is_id id other = (id.slot == other.slot) && (id.inc == other.inc)
 
+-- two holders are one
 abbrev pub is_found : Found → Found → Bool
 is_found found other = is_id found.id other.id && is_way found.way other.way
 
@@ -55,6 +57,7 @@ changed m seat (Kill id why) x = record x { stage = Dead }
 changed m seat (Unhold id way) x = x
 changed m seat (Free id) x = record x { stage = Vacant }
 
+-- the slot of this number after the act
 abbrev pub slot_after : {S A R : Type 0} → Meaning S A R → ℕ → Act S A → ℕ → Slot S → Slot S
 slot_after m seat act s x = if is_at s act then changed m seat act x else x
 

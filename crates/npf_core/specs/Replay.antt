@@ -21,6 +21,7 @@ pub record StopsAt {S A R : Type 0} (m : Meaning S A R) (slots : ℕ) (asked : L
   pub stands : slice_get asked at ≡ Some next
   pub refused : ¬ Allows m slots (state_of m history) next.seat next.act
 
+-- what a fault says of the acts; want of memory says nothing
 abbrev pub HasFault : {S A R : Type 0} → Meaning S A R → ℕ → List (Asked S A) → ReplayFault → Type 0
 HasFault m slots asked (NotAllowed at) = StopsAt m slots asked at
 HasFault m slots asked NoMemory = Unit {0}

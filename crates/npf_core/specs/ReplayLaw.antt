@@ -25,10 +25,11 @@ abbrev pub step_of : {S A R : Type 0} → ConnId → Act S A → Reply R → Opt
 step_of id (Step packet other way arg) (ToStep (Stepped.Done reply place)) = if is_id other id then Some (way, arg) else None
 step_of id _ _ = None
 
--- the connection's starts and its Done Steps in a history
+-- the starts of the connection in a history
 abbrev pub starts : {S A R : Type 0} → ConnId → List (Entry S A R) → List S
 starts id = filter_map (λ entry. start_of id entry.act)
 
+-- the Done Steps of the connection in a history
 abbrev pub done_steps : {S A R : Type 0} → ConnId → List (Entry S A R) → List (Way × A)
 done_steps id = filter_map (λ entry. step_of id entry.act entry.reply)
 
@@ -63,6 +64,7 @@ pub record AnswersBy {S A R : Type 0} (m : Meaning S A R) (before : List (Entry 
   pub replay : IsReplay m before id flow place
   pub answer : reply ≡ m.answer flow way arg
 
+-- each Done Step of a legal history does so
 abbrev pub ReplaysAnswers : {S A R : Type 0} → Meaning S A R → ℕ → Type 0
 ReplaysAnswers {S} {A} {R} m slots =
     (before rest : List (Entry S A R)) (entry : Entry S A R) (id : ConnId) (way : Way) (arg : A) (reply : R) (place : ℕ) →

@@ -28,6 +28,7 @@ abbrev pub step_answer : {S A R : Type 0} → Meaning S A R → Way → A → St
 step_answer m way arg (Live flow steps) = Stepped.Done (m.answer flow way arg) steps
 step_answer m way arg _ = Stepped.NotLive
 
+-- the reply to an act, one case each
 abbrev pub reply_of : {S A R : Type 0} → Meaning S A R → Machine S → Act S A → Reply R
 reply_of m k (Claim packet slot) = ToClaim (claimed_id k slot)
 reply_of m k (Look packet key) = ToLook (k.holder key)

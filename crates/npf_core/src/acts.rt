@@ -2,7 +2,7 @@ ghost use Rattle.std.specs.Prelude.{◌≡◌, ℕ, ◌↔◌, IsTrue, IfOk, OnE
 ghost use Rattle.npf_core.specs.Allowed.{IsDue};
 ghost use Rattle.npf_core.specs.Machine.{stage_of};
 ghost use Rattle.npf_core.specs.PlainMachine.{state_in, slots_in};
-ghost use Rattle.npf_core.specs.Plays.{Plays};
+ghost use Rattle.npf_core.specs.Plays.{PlaysOn, WantsMemory};
 
 use crate::act::{Act, Why};
 use crate::conn_id::ConnId;
@@ -16,14 +16,15 @@ use crate::stepped::Stepped;
 use npf_types::{Key, NoMemory, Way};
 
 /// Asks the machine for an act under a seat. Some reply where the act is allowed, and None, with nothing changed, where it
-/// isn't. Without memory nothing changes.
+/// isn't. Only a Hold may want memory, and then nothing changes.
 pub fn play<L: Law>(
     machine: &mut PlainMachine<L::State>,
     seat: u64,
     act: &Act<L::State, L::Arg>,
 ) -> Result<Option<Reply<L::Reply>>, NoMemory>
-    ensures plays { IfOk result (λ reply. Plays L.meaning (slots_in machine.old) (state_in machine.old) seat act.now reply (state_in machine.new)) }
+    ensures plays { IfOk result (λ reply. PlaysOn L.meaning machine.old seat act.now reply machine.new) }
     ensures same { OnErr result (state_in machine.new ≡ state_in machine.old) }
+    ensures memory { OnErr result (WantsMemory act.now) }
     ensures slots { slots_in machine.new ≡ slots_in machine.old }
 {
     Ok(match *act {
@@ -43,7 +44,7 @@ fn claim<L: Law>(
     seat: u64,
     slot: u32,
 ) -> Option<Reply<L::Reply>>
-    ensures plays { (packet : ℕ) → Plays L.meaning (slots_in machine.old) (state_in machine.old) seat (Act.Claim packet slot) result (state_in machine.new) }
+    ensures plays { (packet : ℕ) → PlaysOn L.meaning machine.old seat (Act.Claim packet slot) result machine.new }
     ensures slots { slots_in machine.new ≡ slots_in machine.old }
 {
     match machine.last_inc(slot) {
@@ -66,7 +67,7 @@ fn hold<L: Law>(
     key: Key,
     way: Way,
 ) -> Result<Option<Reply<L::Reply>>, NoMemory>
-    ensures plays { IfOk result (λ reply. Plays L.meaning (slots_in machine.old) (state_in machine.old) seat (Act.Hold id key way) reply (state_in machine.new)) }
+    ensures plays { IfOk result (λ reply. PlaysOn L.meaning machine.old seat (Act.Hold id key way) reply machine.new) }
     ensures same { OnErr result (state_in machine.new ≡ state_in machine.old) }
     ensures slots { slots_in machine.new ≡ slots_in machine.old }
 {
@@ -87,7 +88,7 @@ fn start<L: Law>(
     id: ConnId,
     init: L::State,
 ) -> Option<Reply<L::Reply>>
-    ensures plays { (packet : ℕ) → Plays L.meaning (slots_in machine.old) (state_in machine.old) seat (Act.Start id packet init) result (state_in machine.new) }
+    ensures plays { (packet : ℕ) → PlaysOn L.meaning machine.old seat (Act.Start id packet init) result machine.new }
     ensures slots { slots_in machine.new ≡ slots_in machine.old }
 {
     if !machine.is_building(id, seat) {
@@ -109,7 +110,7 @@ fn step<L: Law>(
     way: Way,
     arg: L::Arg,
 ) -> Option<Reply<L::Reply>>
-    ensures plays { (seat packet : ℕ) → Plays L.meaning (slots_in machine.old) (state_in machine.old) seat (Act.Step packet id way arg) result (state_in machine.new) }
+    ensures plays { (seat packet : ℕ) → PlaysOn L.meaning machine.old seat (Act.Step packet id way arg) result machine.new }
     ensures slots { slots_in machine.new ≡ slots_in machine.old }
 {
     match machine.stage(id) {
@@ -136,7 +137,7 @@ fn kill<L: Law>(
     id: ConnId,
     why: Why,
 ) -> Option<Reply<L::Reply>>
-    ensures plays { Plays L.meaning (slots_in machine.old) (state_in machine.old) seat (Act.Kill id why) result (state_in machine.new) }
+    ensures plays { PlaysOn L.meaning machine.old seat (Act.Kill id why) result machine.new }
     ensures slots { slots_in machine.new ≡ slots_in machine.old }
 {
     let may_kill = match why {
@@ -164,7 +165,7 @@ fn unhold<L: Law>(
     id: ConnId,
     way: Way,
 ) -> Option<Reply<L::Reply>>
-    ensures plays { (seat : ℕ) → Plays L.meaning (slots_in machine.old) (state_in machine.old) seat (Act.Unhold id way) result (state_in machine.new) }
+    ensures plays { (seat : ℕ) → PlaysOn L.meaning machine.old seat (Act.Unhold id way) result machine.new }
     ensures slots { slots_in machine.new ≡ slots_in machine.old }
 {
     let found = Found { id, way };
@@ -176,7 +177,7 @@ fn unhold<L: Law>(
 }
 
 fn free<L: Law>(machine: &mut PlainMachine<L::State>, id: ConnId) -> Option<Reply<L::Reply>>
-    ensures plays { (seat : ℕ) → Plays L.meaning (slots_in machine.old) (state_in machine.old) seat (Act.Free id) result (state_in machine.new) }
+    ensures plays { (seat : ℕ) → PlaysOn L.meaning machine.old seat (Act.Free id) result machine.new }
     ensures slots { slots_in machine.new ≡ slots_in machine.old }
 {
     if !machine.is_dead(id) || machine.holds_any(id) || id.inc == u64::MAX {

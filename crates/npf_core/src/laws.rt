@@ -2,7 +2,7 @@
 ghost use Rattle.std.specs.Prelude.{ℕ};
 ghost use Rattle.npf_core.specs.BuildingLaw.{StaysBuilding, IsGivenNone};
 ghost use Rattle.npf_core.specs.ClaimedLaw.{StaysClaimed};
-ghost use Rattle.npf_core.specs.HistoryLaw.{PrefixesAreLegal, GoesOnLegally, GoesOnTo, ByAppend, PrefixesNest};
+ghost use Rattle.npf_core.specs.HistoryLaw.{PrefixesAreLegal, GoesOnLegally, GoesOnTo, ByAppend, PrefixesNest, ActsDecide};
 ghost use Rattle.npf_core.specs.HolderLaw.{HoldersAreClaimed, UnclaimedHoldNone, HoldsOneAWay, ClaimsWithNone, InEachState};
 ghost use Rattle.npf_core.specs.IdentityLaw.{ClaimsOnce, CountsIncarnations};
 ghost use Rattle.npf_core.specs.KeyLaw.{KeepsKeys, SharesNoKey, WasGiven, StaysHolder};
@@ -59,11 +59,13 @@ pub fn holder_law<L: Law>()
     ensures one { (slots : ℕ) → InEachState L.meaning slots HoldsOneAWay }
 {}
 
-/// A history goes on by an entry that may follow, to the next state; prefixes of legal histories are legal.
+/// A history goes on by an entry that may follow, to the next state; prefixes of legal histories are legal; and a legal history
+/// is decided by its acts.
 pub fn history_law<L: Law>()
     ensures prefix { (slots : ℕ) → PrefixesAreLegal L.meaning slots }
     ensures appended { (slots : ℕ) → GoesOnLegally L.meaning slots }
     ensures state { GoesOnTo L.meaning }
+    ensures decided { (slots : ℕ) → ActsDecide L.meaning slots }
     ensures entries { ByAppend L.State L.Arg L.Reply }
     ensures nested { PrefixesNest L.State L.Arg L.Reply }
 {}

@@ -34,7 +34,6 @@ pub use entry::Entry;
 pub use found::Found;
 pub use held::Held;
 pub use history::{Asked, ReplayFault, replay};
-pub use holding::Holding;
 pub use law::Law;
 pub use plain_machine::PlainMachine;
 pub use reply::Reply;
