@@ -1,5 +1,5 @@
 -- What other seats, and entries that free nothing, leave alone.
-use Rattle.std.proofs.Common.{◌≡◌, ℕ, Bool, true, false, ◌==◌, List, [], ◌∷◌, Option, Some, cond, refl, sym, ◌∙◌}
+use Rattle.std.proofs.Common.{◌≡◌, ℕ, Bool, true, false, ◌==◌, List, [], ◌∷◌, Option, Some, cond, refl, sym, ◌∙◌, ◌+◌}
 use Rattle.std.specs.List.{filter}
 use Rattle.std.proofs.lemmas.Bool.Decides.{Decides-eqb, not_from_Decides}
 use Rattle.npf_types.specs.declared.connection.Key.{Key}
@@ -9,7 +9,7 @@ use Rattle.npf_core.specs.declared.conn_id.ConnId.{ConnId}
 use Rattle.npf_core.specs.declared.entry.Entry.{Entry}
 use Rattle.npf_core.specs.declared.found.Found.{Found}
 use Rattle.npf_core.specs.declared.stage.Stage.TheVariants.{Building}
-use Rattle.npf_core.specs.BuildingLaw.{StaysBuilding, IsGivenNone}
+use Rattle.npf_core.specs.BuildingLaw.{ClaimsBuild, StaysBuilding, IsGivenNone}
 use Rattle.npf_core.specs.ClaimedLaw.{StaysClaimed}
 use Rattle.npf_core.specs.History.{MayFollow, after, is_free}
 use Rattle.npf_core.specs.Machine.{Machine, stage_of, HoldsNone}
@@ -83,3 +83,10 @@ module _ {S A R : Type 0} (m : Meaning S A R) (slots : ℕ) where
   claimed_after k (entry ∷ entries) id legal none h =
       let first = none_first (λ (x : Entry S A R). is_free id x.act) entry entries none in
       claimed_after (after m k entry) entries id legal.1 first.1 (claimed_by m slots k entry id legal.0 (not_freed entry id first.0) h)
+
+-- what a claim of a slot gives is Building under the seat
+pub claim_builds : {S A R : Type 0} (m : Meaning S A R) → ClaimsBuild m
+claim_builds m k seat packet slot =
+    let here : (slot == slot) ≡ true = (Decides-eqb slot slot).1 refl in
+    let next : ((k.slot slot).inc + 1 == (k.slot slot).inc + 1) ≡ true = (Decides-eqb ((k.slot slot).inc + 1) ((k.slot slot).inc + 1)).1 refl in
+    rw (here, next) refl

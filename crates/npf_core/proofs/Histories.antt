@@ -77,10 +77,12 @@ IsPrefix-trans xs ys zs p q = record {
 pub by-append : {S A R : Type 0} (number : ℕ) (xs ys : List (Entry S A R)) → by number (xs ++ ys) ≡ by number xs ++ by number ys
 by-append number xs ys = filter-append (λ entry. entry.seat == number) xs ys
 
+-- the entries that free an identity
 pub frees-append : {S A R : Type 0} (id : ConnId) (xs ys : List (Entry S A R)) → frees id (xs ++ ys) ≡ frees id xs ++ frees id ys
 frees-append id xs ys = filter-append (λ entry. is_free id entry.act) xs ys
 
 module _ {S A R : Type 0} (m : Meaning S A R) (slots : ℕ) where
+  -- a history is legal with one more entry exactly where it is legal and the entry may follow
   pub goes_on_legally : GoesOnLegally m slots
   goes_on_legally history entry =
       (λ h. (LegalFrom-front m slots opening history (entry ∷ []) h, MayFollow-split m slots history [] entry h), λ h. Legal-append m slots history entry h.0 h.1)
@@ -102,5 +104,6 @@ module _ {S A R : Type 0} (m : Meaning S A R) (slots : ℕ) where
       let rest = acts_decide_from (after m k x) xs ys h.1 (rw (← next) at g.1) heads.1 in
       λ i. same_entry x y seat act reply i ∷ rest i
 
+  -- two legal histories of the same acts are one
   pub acts_decide : ActsDecide m slots
   acts_decide history other h g e = acts_decide_from opening history other h g e

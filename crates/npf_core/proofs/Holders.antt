@@ -41,6 +41,7 @@ unhold_passes id key way holder true e =
     loses holder (ap (λ (f : Found). Unhold f.id f.way) (sym same))
 unhold_passes id key way holder false e = rests
 
+-- an act passes each key on so
 pub passes : {S A : Type 0} (act : Act S A) (key : Key) (x : Option Found) → Passes act key x (holder_after act key x)
 passes (Hold id given way) key x = hold_passes id given key way x (is_key given key) refl
 passes (Unhold id way) key None = rests
@@ -81,6 +82,7 @@ next_vacant : {S : Type 0} (slot : Slot S) → stage_at slot (slot.inc + 1) ≡ 
 next_vacant slot = grind (arith, nat_tests)
 
 module _ {S A R : Type 0} (m : Meaning S A R) (slots : ℕ) where
+  -- by one entry
   pub claimed_by : (k : Machine S) (entry : Entry S A R) (id : ConnId) → MayFollow m slots k entry → ¬ (entry.act ≡ Free id) →
       IsClaimed (stage_of k id) → IsClaimed (stage_of (after m k entry) id)
   claimed_by k entry id f free h =
@@ -121,6 +123,7 @@ module _ {S A R : Type 0} (m : Meaning S A R) (slots : ℕ) where
     held_once once id way key other _ _ _ _ (loses lost act) _ wx wu ny nv = absurd cc
     held_once once id way key other _ _ _ _ _ (loses lost act) wx wu ny nv = absurd cc
 
+  -- a key's holder is claimed
   pub holders_claimed : InEachState m slots HoldersAreClaimed
   holders_claimed history legal =
       by_entries m slots (λ _ k. HoldersAreClaimed k)
@@ -130,9 +133,11 @@ module _ {S A R : Type 0} (m : Meaning S A R) (slots : ℕ) where
   unclaimed_none : (k : Machine S) → HoldersAreClaimed k → UnclaimedHoldNone k
   unclaimed_none k claimed id way unclaimed key holds = rw unclaimed at (claimed key (record { id = id; way = way }) holds)
 
+  -- an identity that isn't claimed holds no key
   pub unclaimed_hold_none : InEachState m slots UnclaimedHoldNone
   unclaimed_hold_none history legal = unclaimed_none (state_of m history) (holders_claimed history legal)
 
+  -- a connection holds one key of a way at most
   pub hold_one_a_way : InEachState m slots HoldsOneAWay
   hold_one_a_way history legal =
       by_entries m slots (λ _ k. HoldsOneAWay k)
@@ -140,6 +145,7 @@ module _ {S A R : Type 0} (m : Meaning S A R) (slots : ℕ) where
       held_once k entry f h id way key other _ _ _ _ (passes entry.act key (k.holder key)) (passes entry.act other (k.holder other)) refl refl e g)
       [] opening history (λ id way key other e g. absurd cc) legal
 
+  -- an identity that is claimed next holds no key
   pub claim_with_none : InEachState m slots ClaimsWithNone
   claim_with_none history legal slot way =
       let k = state_of m history in

@@ -48,10 +48,12 @@ module _ {S A R : Type 0} (m : Meaning S A R) (entry : Entry S A R) (id : ConnId
   claim_begins _ _ (frees act answer) e = absurd cc
 
 module _ {S A R : Type 0} (m : Meaning S A R) (slots : ℕ) where
+  -- what was claimed once is never to come again
   pub stays_born : (k : Machine S) (entries : List (Entry S A R)) (id : ConnId) → LegalFrom m slots k entries → IsBorn (life_of k id) → IsBorn (life_of (state_from m k entries) id)
   stays_born k entries id legal h =
       by_entries m slots (λ _ k. IsBorn (life_of k id)) (λ past k entry h f. born_moves m entry id _ _ (entry_moves m slots k entry id f) h) [] k entries h legal
 
+  -- an identity is claimed at most once
   pub claims_once : ClaimsOnce m slots
   claims_once before between rest first second id legal claimed again =
       let k = state_of m before in
@@ -99,6 +101,7 @@ module _ {S A R : Type 0} (m : Meaning S A R) (slots : ℕ) (k : Machine S) (sea
       let further = a.further in
       omega arith)
 
+-- each incarnation is a number of 64 bits
 pub counts_incarnations : {S A R : Type 0} (m : Meaning S A R) (slots : ℕ) → CountsIncarnations m slots
 counts_incarnations m slots history slot legal =
     by_entries m slots (λ _ k. IncarnationFits (k.slot slot)) (λ past k entry h f. fits_after m slots k entry.seat slot h entry.act f.allowed)

@@ -68,6 +68,7 @@ module _ {S A R : Type 0} (m : Meaning S A R) (slots : ℕ) where
       let over = (may_unhold m slots k entry.seat entry.act lost.id lost.way act follows.allowed).killed in
       absurd (rw (← same, over) at alive)
 
+  -- by one entry
   pub holder_stays : (k : Machine S) (entry : Entry S A R) (key : Key) (found : Found) → MayFollow m slots k entry →
       IsAlive (stage_of k found.id) → k.holder key ≡ Some found → (after m k entry).holder key ≡ Some found
   holder_stays k entry key found follows = holder_rests k entry key found _ _ (passes entry.act key (k.holder key)) follows
@@ -94,6 +95,7 @@ module _ {S A R : Type 0} (m : Meaning S A R) (slots : ℕ) where
   built_keeps holder found seat killed e h = tt
   built_keeps holder found seat gone e h = tt
 
+  -- a connection that is Building or Live holds every key that a Hold gave it
   pub keeps_keys : KeepsKeys m slots
   keeps_keys history key found legal given alive =
       let entry = given.entry in
@@ -110,12 +112,14 @@ module _ {S A R : Type 0} (m : Meaning S A R) (slots : ℕ) where
       let end : state_of m history ≡ state_from m (after m k entry) given.later = ap (state_of m) given.split ∙ state_from-append m opening given.earlier (entry ∷ given.later) in
       ap (λ (k : Machine S). k.holder key) end ∙ keeps_alive _ found _ last (rw (← stage_of-is _ found.id, ← end) alive)
 
+  -- no key has two holders
   pub shares_no_key : SharesNoKey m slots
   shares_no_key history key found other legal given alive given' alive' =
       let first = keeps_keys history key found legal given alive in
       let second = keeps_keys history key other legal given' alive' in
       cc (first, second)
 
+  -- a holder stays the holder while it is Building or Live
   pub stays_holder : StaysHolder m slots
   stays_holder k entries key found legal holds alive later =
       let first = alive_keeps (k.holder key) found (life_of k found.id) holds (rw stage_of-is at alive) in
@@ -142,6 +146,7 @@ module _ {S A R : Type 0} (m : Meaning S A R) (slots : ℕ) where
       record { earlier = past; entry = entry; later = []; split = refl; act = rw same at act; done = done }
   given_by past k entry key found _ _ (loses lost act) follows was now before = absurd cc
 
+  -- who holds a key was given it by a Hold
   pub was_given : WasGiven m slots
   was_given history key found legal =
       by_entries m slots (λ past k. k.holder key ≡ Some found → Gives past key found)

@@ -74,6 +74,7 @@ module _ {S A R : Type 0} (m : Meaning S A R) (slots : ℕ) where
       let replied : step.reply ≡ ToStep (step_answer m stale.way stale.arg (stage_of k id)) = rw stale.act at follows.replied in
       not_live m stale.way stale.arg (stage_of k id) (cc (replied, stale.answer))
 
+  -- between a look-up and a step that finds its holder not Live the key had no Live holder
   pub looks_up_stale : LooksUpStale m slots
   looks_up_stale before between rest look step key found legal finds stale =
       let k = state_of m before in

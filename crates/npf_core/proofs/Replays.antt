@@ -28,6 +28,7 @@ passed h xs x e = filter_map-append h xs (x ∷ []) ∙ rw e (append-nil (filter
 kept : {X Y : Type 0} (h : X → Option Y) (xs : List X) (x : X) (y : Y) → h x ≡ Some y → filter_map h (xs ++ x ∷ []) ≡ filter_map h xs ++ y ∷ []
 kept h xs x y e = filter_map-append h xs (x ∷ []) ∙ rw e refl
 
+-- one step more is the law's next flow
 pub replay-append : {S A R : Type 0} (m : Meaning S A R) (flow : S) (xs : List (Way × A)) (way : Way) (arg : A) → replay m flow (xs ++ (way, arg) ∷ []) ≡ m.next (replay m flow xs) way arg
 replay-append m flow [] way arg = refl
 replay-append m flow (x ∷ xs) way arg = replay-append m (m.next flow x.0 x.1) xs way arg
@@ -120,6 +121,7 @@ module _ {S A R : Type 0} (m : Meaning S A R) (slots : ℕ) where
   shows history id flow n killed e t = absurd cc
   shows history id flow n gone e t = absurd cc
 
+  -- a Live connection's flow is the replay of its start and its Done Steps
   pub replays_flows : ReplaysFlows m slots
   replays_flows history id flow n legal e =
       shows history id flow n (life_of (state_of m history) id) (sym (stage_of-is (state_of m history) id) ∙ e) (told history id legal)
@@ -132,6 +134,7 @@ module _ {S A R : Type 0} (m : Meaning S A R) (slots : ℕ) where
   done_live way arg reply place (Live flow n) e = let counts : place ≡ n = cc in (flow, rw counts refl, cc)
   done_live way arg reply place Dead e = absurd cc
 
+  -- a Done Step answers by the replay of those before it
   pub replays_answers : ReplaysAnswers m slots
   replays_answers before rest entry id way arg reply place legal step =
       let follows = MayFollow-split m slots before rest entry legal in

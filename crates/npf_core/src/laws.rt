@@ -1,6 +1,6 @@
 // What holds of every history, of every law and for every number of slots. The functions do nothing: each is a theorem.
 ghost use Rattle.std.specs.Prelude.{ℕ};
-ghost use Rattle.npf_core.specs.BuildingLaw.{StaysBuilding, IsGivenNone};
+ghost use Rattle.npf_core.specs.BuildingLaw.{ClaimsBuild, StaysBuilding, IsGivenNone};
 ghost use Rattle.npf_core.specs.ClaimedLaw.{StaysClaimed};
 ghost use Rattle.npf_core.specs.HistoryLaw.{PrefixesAreLegal, GoesOnLegally, GoesOnTo, ByAppend, PrefixesNest, ActsDecide};
 ghost use Rattle.npf_core.specs.HolderLaw.{HoldersAreClaimed, UnclaimedHoldNone, HoldsOneAWay, ClaimsWithNone, InEachState};
@@ -39,8 +39,9 @@ pub fn stale_look_up_law<L: Law>()
     ensures { (slots : ℕ) → LooksUpStale L.meaning slots }
 {}
 
-/// The entries of other seats leave a connection that is Building alone, and give it no key.
+/// What a claim gives is Building under its seat; the entries of other seats leave it alone, and give it no key.
 pub fn building_law<L: Law>()
+    ensures claimed { ClaimsBuild L.meaning }
     ensures stays { (slots : ℕ) → StaysBuilding L.meaning slots }
     ensures given { (slots : ℕ) → IsGivenNone L.meaning slots }
 {}
