@@ -1,0 +1,12 @@
+pub mod Building
+pub mod Equalities
+pub mod Histories
+pub mod Holders
+pub mod Holdings
+pub mod Identities
+pub mod Keys
+pub mod Lives
+pub mod LookUps
+pub mod PlainMachines
+pub mod Replaying
+pub mod Replays

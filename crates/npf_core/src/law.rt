@@ -1,0 +1,27 @@
+ghost use Rattle.std.specs.Prelude.{◌≡◌};
+
+use npf_types::Way;
+
+/// How a connection's flow goes on from packet to packet, and when it ends.
+pub trait Law {
+    ghost use Rattle.npf_core.specs.Meaning.{Meaning};
+
+    /// The flow of a live connection.
+    type State: Copy + Send;
+    /// What a packet brings to a step.
+    type Arg: Copy;
+    /// What a step answers.
+    type Reply: Drop;
+
+    /// The law that the functions compute.
+    ghost meaning: { Meaning Self.State Self.Arg Self.Reply };
+
+    /// The flow after a packet of that way, and the answer.
+    fn step(state: &Self::State, way: Way, arg: &Self::Arg) -> (Self::State, Self::Reply)
+        ensures next { result.0 ≡ meaning.next state.now way arg.now }
+        ensures answer { result.1 ≡ meaning.answer state.now way arg.now };
+
+    /// Whether the flow has run out at that time.
+    fn due(state: &Self::State, now: u64) -> bool
+        ensures { result ≡ meaning.is_due state.now now };
+}
