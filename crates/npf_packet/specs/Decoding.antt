@@ -1,37 +1,43 @@
 -- What a record's bytes say, by tests in order: the first that fits is answered.
-use Rattle.std.specs.Prelude.{◌≡◌, ℕ, ◌+◌, ◌/◌, ◌==◌, nat_lt, if◌then◌else◌, List, length, slice_index}
+use Rattle.std.specs.Prelude.{◌≡◌, ℕ, Result, MatchResult, List}
 use Rattle.npf_types.specs.declared.packet.Link.{Link}
 use Rattle.npf_types.specs.declared.packet.Link.TheVariants.{Ethernet, Raw}
 use Rattle.npf_packet.specs.declared.decoded.Decoded.{Decoded}
-use Rattle.npf_packet.specs.declared.decoded.Decoded.TheVariants.{Skip}
-use Rattle.npf_fields.specs.Fields.{number16}
-use Rattle.npf_packet.specs.Answers.{cut, bad}
-use Rattle.npf_packet.specs.Ipv4.{decoding_v4}
+use Rattle.npf_packet.specs.declared.link.Version.{Version}
+use Rattle.npf_packet.specs.declared.link.Version.TheVariants.{V4, V6}
+use Rattle.npf_packet.specs.declared.packet.Packet.{Packet}
+use Rattle.npf_packet.specs.Ethernet.{version_in_frame}
+use Rattle.npf_packet.specs.Version.{version_of_packet}
+use Rattle.npf_packet.specs.Ipv4.{packet_v4}
+use Rattle.npf_packet.specs.Ipv6.{IsPacketV6}
+use Rattle.npf_packet.specs.Upper.{Carries}
 
--- the version in the first half of the IP header's first byte (RFC 791 section 3.1, RFC 8200 section 3)
-abbrev pub version_at : List ℕ → ℕ → ℕ
-version_at bytes ip_at = slice_index bytes ip_at / 16
+-- where the IP header begins
+abbrev pub packet_at : Link → ℕ
+packet_at Raw = 0
+packet_at Ethernet = 14
 
--- an IP packet with no link header
-abbrev pub decoding_raw : List ℕ → Decoded
-decoding_raw bytes =
-    if length bytes == 0 then cut 0
-    else (if version_at bytes 0 == 4 then decoding_v4 bytes 0
-    else (if version_at bytes 0 == 6 then Skip else bad 0))
+-- the version of the IP packet behind the link's header
+abbrev pub version_behind : Link → List ℕ → Result Version Decoded
+version_behind Raw bytes = version_of_packet bytes
+version_behind Ethernet bytes = version_in_frame bytes
 
--- an Ethernet II frame of IPv4, whose EtherType stands at 12 and whose packet begins at 14 (RFC 894)
-abbrev pub decoding_frame : List ℕ → Decoded
-decoding_frame bytes =
-    if nat_lt (length bytes) 14 then cut (length bytes)
-    else (if number16 bytes 12 == 0x0800
-    then (if length bytes == 14 then cut 14
-    else (if version_at bytes 14 == 4 then decoding_v4 bytes 14 else bad 14))
-    else Skip)
+-- what the headers of IP say, or the answer where one of their tests fits
+abbrev pub IsPacket : Version → List ℕ → ℕ → Result Packet Decoded → Type 0
+IsPacket V4 bytes ip_at header = header ≡ packet_v4 bytes ip_at
+IsPacket V6 bytes ip_at header = IsPacketV6 bytes ip_at header
 
-abbrev pub decoding : Link → List ℕ → Decoded
-decoding Raw bytes = decoding_raw bytes
-decoding Ethernet bytes = decoding_frame bytes
+-- the packet whose IP header begins here says this
+pub record DecodesIp (version : Version) (bytes : List ℕ) (ip_at : ℕ) (decoded : Decoded) : Type 0 where
+  pub header : Result Packet Decoded
+  pub read : IsPacket version bytes ip_at header
+  pub says : MatchResult header (λ packet. Carries bytes packet decoded) (λ answer. decoded ≡ answer)
 
 -- a record of this link with these bytes says this
 abbrev pub Decodes : Link → List ℕ → Decoded → Type 0
-Decodes link bytes decoded = decoded ≡ decoding link bytes
+Decodes link bytes decoded =
+    MatchResult (version_behind link bytes) (λ version. DecodesIp version bytes (packet_at link) decoded) (λ answer. decoded ≡ answer)
+
+-- for each link and bytes there is one decoding
+abbrev pub OneDecoding : Type 0
+OneDecoding = (link : Link) (bytes : List ℕ) (one other : Decoded) → Decodes link bytes one → Decodes link bytes other → one ≡ other

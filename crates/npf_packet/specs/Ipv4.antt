@@ -4,16 +4,13 @@
 --    4: identification               6: flags and fragment offset
 --    8: time to live    9: protocol  10: header checksum
 --   12: source address              16: destination address
-use Rattle.std.specs.Prelude.{ℕ, ◌+◌, ◌*◌, ◌%◌, ◌==◌, nat_lt, not, if◌then◌else◌, Bool, List, length, slice_index}
+use Rattle.std.specs.Prelude.{ℕ, ◌+◌, ◌*◌, ◌%◌, ◌==◌, nat_lt, not, if◌then◌else◌, Bool, Result, Ok, Err, List, length, slice_index}
 use Rattle.npf_types.specs.declared.address.Addr.TheVariants.{V4}
-use Rattle.npf_types.specs.declared.packet.Facts.{Facts}
-use Rattle.npf_types.specs.declared.packet.L4.{L4}
-use Rattle.npf_types.specs.declared.packet.L4.TheVariants.{Other}
 use Rattle.npf_packet.specs.declared.decoded.Decoded.{Decoded}
-use Rattle.npf_packet.specs.declared.decoded.Decoded.TheVariants.{Skip, Ip}
+use Rattle.npf_packet.specs.declared.decoded.Decoded.TheVariants.{Skip}
+use Rattle.npf_packet.specs.declared.packet.Packet.{Packet}
 use Rattle.npf_fields.specs.Fields.{number16, number32}
 use Rattle.npf_packet.specs.Answers.{cut, bad}
-use Rattle.npf_packet.specs.Udp.{udp_of}
 
 module _ (bytes : List ℕ) (ip_at : ℕ) where
   -- the header's length in bytes: its field counts words of four
@@ -28,40 +25,21 @@ module _ (bytes : List ℕ) (ip_at : ℕ) where
   abbrev pub is_fragment : Bool
   is_fragment = not (number16 bytes (ip_at + 6) % 0x4000 == 0)
 
-  abbrev pub protocol : ℕ
-  protocol = slice_index bytes (ip_at + 9)
-
-  abbrev pub end_of : ℕ
-  end_of = ip_at + total_len
-
-  -- what the packet carries begins behind the header
-  abbrev pub layer4_at : ℕ
-  layer4_at = ip_at + header_len
-
-  abbrev pub facts_v4 : L4 → Facts
-  facts_v4 l4 = record {
+  -- a whole packet's fields; what it carries begins behind the header
+  abbrev pub fields_v4 : Packet
+  fields_v4 = record {
     src = V4 (number32 bytes (ip_at + 12));
     dst = V4 (number32 bytes (ip_at + 16));
-    proto = protocol;
+    proto = slice_index bytes (ip_at + 9);
     ip_at = ip_at;
-    l4_at = layer4_at;
-    end = end_of;
-    l4 = l4;
+    l4_at = ip_at + header_len;
+    end = ip_at + total_len;
   }
 
-  -- what the packet carries, by its protocol: ICMP (1) and TCP (6) aren't looked into
-  abbrev pub carried_v4 : Decoded
-  carried_v4 =
-      if protocol == 1 then Skip
-      else (if protocol == 6 then Skip
-      else (if protocol == 17
-      then (if nat_lt end_of (layer4_at + 8) then cut end_of else Ip (facts_v4 (udp_of bytes layer4_at)))
-      else Ip (facts_v4 Other)))
-
-  abbrev pub decoding_v4 : Decoded
-  decoding_v4 =
-      if nat_lt (length bytes) (ip_at + 20) then cut (length bytes)
-      else (if nat_lt header_len 20 then bad ip_at
-      else (if nat_lt total_len header_len then bad (ip_at + 2)
-      else (if nat_lt (length bytes) end_of then cut (length bytes)
-      else (if is_fragment then Skip else carried_v4))))
+  abbrev pub packet_v4 : Result Packet Decoded
+  packet_v4 =
+      if nat_lt (length bytes) (ip_at + 20) then Err (cut (length bytes))
+      else (if nat_lt header_len 20 then Err (bad ip_at)
+      else (if nat_lt total_len header_len then Err (bad (ip_at + 2))
+      else (if nat_lt (length bytes) (ip_at + total_len) then Err (cut (length bytes))
+      else (if is_fragment then Err Skip else Ok fields_v4))))

@@ -1,4 +1,14 @@
 pub mod Answers
+pub mod Chain
 pub mod Decoding
+pub mod Ethernet
+pub mod Icmp
+pub mod Icmpv6
 pub mod Ipv4
+pub mod Ipv6
+pub mod Options
+pub mod Packet
+pub mod Tcp
 pub mod Udp
+pub mod Upper
+pub mod Version

@@ -1,8 +1,11 @@
 -- The header of UDP (RFC 768): 0: source port, 2: destination port, 4: length, 6: checksum.
 use Rattle.std.specs.Prelude.{ℕ, ◌+◌, List}
-use Rattle.npf_types.specs.declared.packet.L4.{L4}
 use Rattle.npf_types.specs.declared.packet.L4.TheVariants.{Udp}
+use Rattle.npf_packet.specs.declared.decoded.Decoded.{Decoded}
+use Rattle.npf_packet.specs.declared.packet.Packet.{Packet}
 use Rattle.npf_fields.specs.Fields.{number16}
+use Rattle.npf_packet.specs.Packet.{with_header}
 
-abbrev pub udp_of : List ℕ → ℕ → L4
-udp_of bytes at = Udp (number16 bytes at) (number16 bytes (at + 2))
+abbrev pub decoding_udp : List ℕ → Packet → Decoded
+decoding_udp bytes packet =
+    with_header packet 8 (Udp (number16 bytes packet.l4_at) (number16 bytes (packet.l4_at + 2)))

@@ -1,11 +1,12 @@
 // IPv4 (RFC 791 section 3.1); specs/Ipv4.antt has the picture of its header.
-ghost use Rattle.std.specs.Prelude.{◌≡◌, ◌+◌, ◌*◌, ◌%◌, ◌==◌, ◌≤◌, ◌<◌, not, length};
-ghost use Rattle.npf_packet.specs.Ipv4.{decoding_v4, carried_v4, facts_v4, header_len, end_of};
+ghost use Rattle.std.specs.Prelude.{◌≡◌, ◌+◌, ◌*◌, ◌%◌, ◌==◌, ◌≤◌, not, length, IfOk};
+ghost use Rattle.npf_packet.specs.Ipv4.{packet_v4};
+ghost use Rattle.npf_packet.specs.Packet.{IsPlaced};
 
 use crate::decoded::Decoded;
-use crate::udp::{UDP_HEADER, udp_at};
+use crate::packet::Packet;
 use npf_fields::{get16, get32};
-use npf_types::{Addr, Facts, L4};
+use npf_types::Addr;
 
 /// The offsets of the header's fields, in bytes.
 mod field {
@@ -23,76 +24,39 @@ mod field {
 /// The header without options, in bytes.
 const HEADER: usize = 20;
 
-/// The protocols that are told apart (assigned Internet protocol numbers).
-const ICMP: u8 = 1;
-
-const TCP: u8 = 6;
-
-const UDP: u8 = 17;
-
-/// What the packet says whose IPv4 header begins at `ip_at`.
-pub(crate) fn decode_v4(bytes: &[u8], ip_at: usize) -> Decoded
+/// What the header says that begins at `ip_at`, or the answer where one of its tests fits.
+pub(crate) fn packet_v4(bytes: &[u8], ip_at: usize) -> Result<Packet, Decoded>
     requires size { length bytes.now ≤ 262144 }
     requires place { ip_at ≤ 14 }
-    ensures { result ≡ decoding_v4 bytes.now ip_at }
+    ensures value { result ≡ packet_v4 bytes.now ip_at }
+    ensures placed { IfOk result (IsPlaced bytes.now) }
 {
     let size = bytes.len();
     if size < ip_at + HEADER {
-        return Decoded::cut(size);
+        return Err(Decoded::cut(size));
     }
     let header_len = header_len(bytes[ip_at]);
     if header_len < HEADER {
-        return Decoded::bad(ip_at);
+        return Err(Decoded::bad(ip_at));
     }
     let total_len = get16(bytes, ip_at + field::TOTAL_LEN) as usize;
     if total_len < header_len {
-        return Decoded::bad(ip_at + field::TOTAL_LEN);
+        return Err(Decoded::bad(ip_at + field::TOTAL_LEN));
     }
     if size < ip_at + total_len {
-        return Decoded::cut(size);
+        return Err(Decoded::cut(size));
     }
     if is_fragment(get16(bytes, ip_at + field::FRAGMENT)) {
-        return Decoded::Skip;
+        return Err(Decoded::Skip);
     }
-    carried(bytes, ip_at, ip_at + header_len, ip_at + total_len)
-}
-
-/// What the packet says whose header is whole and which is no fragment.
-fn carried(bytes: &[u8], ip_at: usize, l4_at: usize, end: usize) -> Decoded
-    requires header { ip_at + 20 ≤ l4_at }
-    requires layer4 { l4_at ≡ ip_at + header_len bytes.now ip_at }
-    requires total { end ≡ end_of bytes.now ip_at }
-    requires order { l4_at ≤ end }
-    requires whole { end ≤ length bytes.now }
-    requires size { length bytes.now ≤ 262144 }
-    ensures { result ≡ carried_v4 bytes.now ip_at }
-{
-    match bytes[ip_at + field::PROTOCOL] {
-        ICMP | TCP => Decoded::Skip,
-        UDP if end < l4_at + UDP_HEADER => Decoded::cut(end),
-        UDP => Decoded::Ip(facts(bytes, ip_at, l4_at, end, udp_at(bytes, l4_at))),
-        _ => Decoded::Ip(facts(bytes, ip_at, l4_at, end, L4::Other)),
-    }
-}
-
-fn facts(bytes: &[u8], ip_at: usize, l4_at: usize, end: usize, l4: L4) -> Facts
-    requires header { ip_at + 20 ≤ length bytes.now }
-    requires layer4 { l4_at ≡ ip_at + header_len bytes.now ip_at }
-    requires total { end ≡ end_of bytes.now ip_at }
-    requires order { l4_at ≤ end }
-    requires whole { end ≤ length bytes.now }
-    requires size { length bytes.now ≤ 262144 }
-    ensures { result ≡ facts_v4 bytes.now ip_at l4 }
-{
-    Facts {
+    Ok(Packet {
         src: Addr::V4(get32(bytes, ip_at + field::SOURCE)),
         dst: Addr::V4(get32(bytes, ip_at + field::DESTINATION)),
         proto: bytes[ip_at + field::PROTOCOL],
-        ip_at: ip_at as u32,
-        l4_at: l4_at as u32,
-        end: end as u32,
-        l4,
-    }
+        ip_at,
+        l4_at: ip_at + header_len,
+        end: ip_at + total_len,
+    })
 }
 
 /// The header's length in bytes, from its first byte.

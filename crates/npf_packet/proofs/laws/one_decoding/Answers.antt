@@ -1,0 +1,5 @@
+use Rattle.npf_packet.proofs.DecodingLaws.{one_decoding_lem}
+use Rattle.npf_packet.proofs.laws.one_decoding.Goals as goal
+
+pub returns : goal.returns
+returns c = one_decoding_lem

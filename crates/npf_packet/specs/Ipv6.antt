@@ -1,0 +1,77 @@
+-- The header of IPv6 (RFC 8200 section 3), by the offsets of its fields:
+--
+--    0: version, traffic class and flow label
+--    4: payload length   6: next header   7: hop limit
+--    8: source address
+--   24: destination address
+--
+-- An extension header begins with 0: next header, 1: length (RFC 8200 section 4.2, RFC 4302 section 2).
+use Rattle.std.specs.Prelude.{◌≡◌, ℕ, ◌+◌, ◌*◌, ◌==◌, ◌||◌, nat_lt, if◌then◌else◌, Bool, Option, Some, None, Result, Ok, Err, MatchResult, List, length, slice_index}
+use Rattle.npf_types.specs.declared.address.Addr.TheVariants.{V6}
+use Rattle.npf_packet.specs.declared.decoded.Decoded.{Decoded}
+use Rattle.npf_packet.specs.declared.decoded.Decoded.TheVariants.{Skip}
+use Rattle.npf_packet.specs.declared.packet.Packet.{Packet}
+use Rattle.npf_packet.specs.declared.ipv6.Header.{Header}
+use Rattle.npf_fields.specs.Fields.{number16, number128}
+use Rattle.npf_packet.specs.Answers.{cut}
+use Rattle.npf_packet.specs.Chain.{IsChain}
+
+-- hop-by-hop options (0), routing (43), authentication (51) and destination options (60)
+abbrev pub is_extension : ℕ → Bool
+is_extension kind = kind == 0 || kind == 43 || kind == 51 || kind == 60
+
+-- an extension header's bytes: its length counts units of 8 beyond the first, in an authentication header units of 4
+-- beyond the first two
+abbrev pub extension_len : ℕ → ℕ → ℕ
+extension_len kind len = if kind == 51 then 4 * (len + 2) else 8 * (len + 1)
+
+-- the header behind an extension header that is whole before the packet's end: its kind is the one that this tells
+abbrev pub next_header : List ℕ → ℕ → Header → Option Header
+next_header bytes end header =
+    let next_at = header.at + extension_len header.kind (slice_index bytes (header.at + 1)) in
+    if is_extension header.kind
+    then (if nat_lt end (header.at + 2) then None
+    else (if nat_lt end next_at then None
+    else Some (record { kind = slice_index bytes header.at; at = next_at })))
+    else None
+
+module _ (bytes : List ℕ) (ip_at : ℕ) where
+  -- where the packet ends, whose payload's length doesn't count the header
+  abbrev pub end_v6 : Result ℕ Decoded
+  end_v6 =
+      let end = ip_at + 40 + number16 bytes (ip_at + 4) in
+      if nat_lt (length bytes) (ip_at + 40) then Err (cut (length bytes))
+      else (if nat_lt (length bytes) end then Err (cut (length bytes)) else Ok end)
+
+  -- the header behind this one
+  abbrev pub first_header : Header
+  first_header = record { kind = slice_index bytes (ip_at + 6); at = ip_at + 40 }
+
+  -- the headers from the first on are a chain of kinds and offsets, of which this is the last
+  pub record HasLast (end : ℕ) (last : Header) : Type 0 where
+    pub headers : List Header
+    pub chain : IsChain (next_header bytes end) first_header headers last
+
+  -- what the last header says: an extension header isn't whole, a fragment (44) isn't looked into, and any other kind
+  -- is the protocol of what is carried
+  abbrev pub behind_last : ℕ → Header → Result Packet Decoded
+  behind_last end last =
+      if is_extension last.kind then Err (cut end)
+      else (if last.kind == 44 then Err Skip
+      else Ok (record {
+        src = V6 (number128 bytes (ip_at + 8));
+        dst = V6 (number128 bytes (ip_at + 24));
+        proto = last.kind;
+        ip_at = ip_at;
+        l4_at = last.at;
+        end = end;
+      }))
+
+  -- what the headers say of a packet that is whole
+  pub record IsBehindChain (end : ℕ) (header : Result Packet Decoded) : Type 0 where
+    pub last : Header
+    pub chain : HasLast end last
+    pub says : header ≡ behind_last end last
+
+  abbrev pub IsPacketV6 : Result Packet Decoded → Type 0
+  IsPacketV6 header = MatchResult end_v6 (λ end. IsBehindChain end header) (λ answer. header ≡ Err answer)

@@ -1,0 +1,152 @@
+// IPv6 and its extension headers (RFC 8200 sections 3 and 4); specs/Ipv6.antt has the picture of the header.
+ghost use Rattle.std.specs.Prelude.{◌≡◌, ◌+◌, ◌<◌, ◌≤◌, length, IfOk, IfSome};
+ghost use Rattle.npf_packet.specs.Ipv6.{IsPacketV6, HasLast, end_v6, is_extension, extension_len, next_header};
+ghost use Rattle.npf_packet.specs.Packet.{IsPlaced};
+
+use crate::decoded::Decoded;
+use crate::packet::Packet;
+use npf_fields::{get16, get128};
+use npf_types::Addr;
+
+/// The offsets of the header's fields, in bytes.
+mod field {
+    pub const PAYLOAD_LEN: usize = 4;
+
+    pub const NEXT_HEADER: usize = 6;
+
+    pub const SOURCE: usize = 8;
+
+    pub const DESTINATION: usize = 24;
+}
+
+/// The header, in bytes.
+const HEADER: usize = 40;
+
+/// The kinds of extension headers (assigned Internet protocol numbers).
+mod kind {
+    pub const HOP_BY_HOP: u8 = 0;
+
+    pub const ROUTING: u8 = 43;
+
+    pub const FRAGMENT: u8 = 44;
+
+    pub const AUTHENTICATION: u8 = 51;
+
+    pub const DESTINATION: u8 = 60;
+}
+
+/// One header of the chain: the kind that the header before it tells, and where it begins.
+#[derive(Clone, Copy)]
+struct Header {
+    kind: u8,
+    at: usize,
+}
+
+/// What the headers say of which the first begins at `ip_at`, or the answer where one of their tests fits.
+pub(crate) fn packet_v6(bytes: &[u8], ip_at: usize) -> Result<Packet, Decoded>
+    requires size { length bytes.now ≤ 262144 }
+    requires place { ip_at ≤ 14 }
+    ensures value { IsPacketV6 bytes.now ip_at result }
+    ensures placed { IfOk result (IsPlaced bytes.now) }
+{
+    let end = match end_v6(bytes, ip_at) {
+        Ok(end) => end,
+        Err(answer) => return Err(answer),
+    };
+    let last = last_header(bytes, ip_at, end);
+    if is_extension(last.kind) {
+        return Err(Decoded::cut(end));
+    }
+    if last.kind == kind::FRAGMENT {
+        return Err(Decoded::Skip);
+    }
+    Ok(Packet {
+        src: Addr::V6(get128(bytes, ip_at + field::SOURCE)),
+        dst: Addr::V6(get128(bytes, ip_at + field::DESTINATION)),
+        proto: last.kind,
+        ip_at,
+        l4_at: last.at,
+        end,
+    })
+}
+
+/// Where the packet ends whose header begins at `ip_at`.
+fn end_v6(bytes: &[u8], ip_at: usize) -> Result<usize, Decoded>
+    requires size { length bytes.now ≤ 262144 }
+    requires place { ip_at ≤ 14 }
+    ensures value { result ≡ end_v6 bytes.now ip_at }
+    ensures header { IfOk result (λ end. ip_at + 40 ≤ end) }
+    ensures whole { IfOk result (λ end. end ≤ length bytes.now) }
+{
+    let size = bytes.len();
+    if size < ip_at + HEADER {
+        return Err(Decoded::cut(size));
+    }
+    let end = ip_at + HEADER + get16(bytes, ip_at + field::PAYLOAD_LEN) as usize;
+    if size < end {
+        return Err(Decoded::cut(size));
+    }
+    Ok(end)
+}
+
+/// The last header of the chain that the header at `ip_at` begins.
+fn last_header(bytes: &[u8], ip_at: usize, end: usize) -> Header
+    requires header { ip_at + 40 ≤ end }
+    requires whole { end ≤ length bytes.now }
+    requires size { length bytes.now ≤ 262144 }
+    ensures last { HasLast bytes.now ip_at end result }
+    ensures after { ip_at + 40 ≤ result.at }
+    ensures before { result.at ≤ end }
+{
+    let mut header = Header {
+        kind: bytes[ip_at + field::NEXT_HEADER],
+        at: ip_at + HEADER,
+    };
+    'headers: while let Some(next) = next_header(bytes, end, header) {
+        header = next;
+    }
+    header
+}
+
+/// The header behind a whole extension header.
+fn next_header(bytes: &[u8], end: usize, header: Header) -> Option<Header>
+    requires whole { end ≤ length bytes.now }
+    requires size { length bytes.now ≤ 262144 }
+    requires place { header.at ≤ end }
+    ensures value { result ≡ next_header bytes.now end header }
+    ensures after { IfSome result (λ next. header.at < next.at) }
+    ensures before { IfSome result (λ next. next.at ≤ end) }
+{
+    if !is_extension(header.kind) || end < header.at + 2 {
+        return None;
+    }
+    let next_at = header.at + extension_len(header.kind, bytes[header.at + 1]);
+    if end < next_at {
+        return None;
+    }
+    Some(Header {
+        kind: bytes[header.at],
+        at: next_at,
+    })
+}
+
+/// Whether this is the kind of an extension header that has its length in its second byte.
+fn is_extension(kind: u8) -> bool
+    ensures { result ≡ is_extension kind }
+{
+    matches!(
+        kind,
+        kind::HOP_BY_HOP | kind::ROUTING | kind::AUTHENTICATION | kind::DESTINATION
+    )
+}
+
+/// How many bytes an extension header has.
+fn extension_len(kind: u8, len: u8) -> usize
+    ensures { result ≡ extension_len kind len }
+{
+    if kind == kind::AUTHENTICATION {
+        4 * (len as usize + 2)
+    } else {
+        8 * (len as usize + 1)
+    }
+}
