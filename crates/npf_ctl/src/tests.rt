@@ -19,6 +19,21 @@ const FRAGMENT: [u8; 28] = [
 
 const CUT: [u8; 10] = [0x45, 0, 0, 0x14, 0, 0, 0, 0, 0x40, 0x11];
 
+/// From 10.0.0.1 to 192.0.2.1: a TCP segment with SYN and an ICMP echo request; and a UDP packet of IPv6.
+const TCP: [u8; 40] = [
+    0x45, 0, 0, 40, 0, 0, 0, 0, 64, 6, 0, 0, 10, 0, 0, 1, 192, 0, 2, 1, 0x13, 0x88, 0, 80, 0, 0, 3,
+    0xe8, 0, 0, 0, 0, 0x50, 2, 3, 0xe8, 0, 0, 0, 0,
+];
+
+const ECHO: [u8; 28] = [
+    0x45, 0, 0, 28, 0, 0, 0, 0, 64, 1, 0, 0, 10, 0, 0, 1, 192, 0, 2, 1, 8, 0, 0, 0, 0, 7, 0, 1,
+];
+
+const IPV6: [u8; 48] = [
+    0x60, 0, 0, 0, 0, 8, 17, 64, 0x20, 1, 0xd, 0xb8, 0, 0, 0, 0, 0, 0, 0, 0, 0, 0, 0, 1, 0x20, 1,
+    0xd, 0xb8, 0, 0, 0, 0, 0, 0, 0, 0, 0, 0, 0, 2, 0x13, 0x88, 0, 53, 0, 8, 0, 0,
+];
+
 /// Magic, version 2.4, zone, accuracy, snap length and link type 101, the lowest byte first.
 const HEADER: [u8; 24] = [
     0xd4, 0xc3, 0xb2, 0xa1, 2, 0, 4, 0, 0, 0, 0, 0, 0, 0, 0, 0, 0, 0, 4, 0, 101, 0, 0, 0,
@@ -96,7 +111,7 @@ fn run(alloc: Global, conf: &[u8], capture: &[u8]) -> Result<Answer, NoMemory> {
 
 #[test]
 fn reports_are_those_of_the_rules(rt: HostRuntime) -> Result<(), Fail> {
-    let cases: [(&str, &str, &[(u8, &[u8])], &str); 8] = [
+    let cases: [(&str, &str, &[(u8, &[u8])], &str); 9] = [
         (
             "the empty capture",
             "group default { block all }",
@@ -140,6 +155,13 @@ fn reports_are_those_of_the_rules(rt: HostRuntime) -> Result<(), Fail> {
             &[(9, &FRAGMENT), (3, &UDP), (3, &CUT), (1, &[0x10])],
             "1 cap0 in malformed bad 0\n2 cap0 in pass config 0 rule 1\n3 cap0 in malformed cut 10\n4 cap0 in skip\n\
              packets 4 pass 1 block 0 drop 0 skip 1 malformed 2\n",
+        ),
+        (
+            "TCP, ICMP and IPv6, of which no IPv4 block has the addresses",
+            "group default { pass all; block final from 0.0.0.0/0 to 192.0.2.1 }",
+            &[(0, &TCP), (1, &ECHO), (2, &IPV6)],
+            "1 cap0 in block config 0 rule 2\n2 cap0 in block config 0 rule 2\n3 cap0 in pass config 0 rule 1\n\
+             packets 3 pass 1 block 2 drop 0 skip 0 malformed 0\n",
         ),
         (
             "comments, separators and lines that go on",
