@@ -1,7 +1,8 @@
 // The report, put line by line.
 ghost use Rattle.std.specs.Prelude.{◌≡◌, ◌≤◌, OnOk, IfErr};
 ghost use Rattle.npf_outside.specs.Put.{Appends, AppendsFront};
-ghost use Rattle.npf_ctl.specs.ReportText.{report_text};
+ghost use Rattle.npf_types.specs.Name.{name_bytes};
+ghost use Rattle.npf_ctl.specs.ReportText.{report_text, cap0};
 ghost use Rattle.npf_ctl.specs.Run.{HasPutFault};
 
 use crate::fault::Fault;
@@ -21,15 +22,23 @@ pub(crate) fn put_report<O: Sink>(
     ensures front { AppendsFront (O.held out.old) (O.held out.new) (report_text outcomes.now) }
     ensures fault { IfErr result (HasPutFault (O.faults out.old) (O.faults out.new)) }
 {
-    let Some(interface) = Name::of(b"cap0") else {
-        return Err(Fault::NoMemory);
-    };
+    let interface = cap0();
     for (place, outcome) in outcomes.iter().enumerate() {
         let text = line(alloc, place as u64 + 1, interface, Dir::In, outcome)?;
         put(out, text.as_slice())?;
     }
     let text = total(alloc, outcomes)?;
     put(out, text.as_slice())
+}
+
+/// The one interface, on which every packet came in.
+fn cap0() -> Name
+    ensures { name_bytes result ≡ cap0 }
+{
+    match Name::of(b"cap0") {
+        Some(name) => name,
+        None => unreachable!(),
+    }
 }
 
 fn put<O: Sink>(out: &mut O, bytes: &[u8]) -> Result<(), Fault>
