@@ -1,0 +1,53 @@
+-- How a fault of a configuration is printed: its number and its name.
+use Rattle.std.specs.Prelude.{ℕ, List, codes}
+use Rattle.npf_lexer.specs.declared.fault.Excess.{Excess}
+use Rattle.npf_lexer.specs.declared.fault.Excess.TheVariants as Excess
+use Rattle.npf_lexer.specs.declared.fault.Fault.{Fault}
+use Rattle.npf_lexer.specs.declared.fault.Fault.TheVariants.{BadByte, OpenString, NumberTooLarge, Expected, UnknownVariable, UnknownInterface, UnknownService, EmptyList, BadIfaceFile, BadTableFile, NoDefault, TwoDefaults, UnknownTable, UnknownProcedure, FamilyMix, PortNeedsTcpUdp, DuplicateName, BadMap, Unbuilt, TooMany}
+
+-- a row of the table of faults
+pub record Printed : Type 0 where
+  pub number : ℕ
+  pub name : List ℕ
+
+abbrev row : ℕ → List ℕ → Printed
+row number name = record { number = number; name = name }
+
+-- the table of faults
+abbrev pub printed : Fault → Printed
+printed BadByte = row 10 (codes "BadByte")
+printed OpenString = row 11 (codes "OpenString")
+printed NumberTooLarge = row 12 (codes "NumberTooLarge")
+printed Expected = row 20 (codes "Expected")
+printed UnknownVariable = row 30 (codes "UnknownVariable")
+printed UnknownInterface = row 31 (codes "UnknownInterface")
+printed UnknownService = row 32 (codes "UnknownService")
+printed EmptyList = row 33 (codes "EmptyList")
+printed BadIfaceFile = row 34 (codes "BadIfaceFile")
+printed (BadTableFile _) = row 35 (codes "BadTableFile")
+printed NoDefault = row 40 (codes "NoDefault")
+printed TwoDefaults = row 41 (codes "TwoDefaults")
+printed UnknownTable = row 42 (codes "UnknownTable")
+printed UnknownProcedure = row 43 (codes "UnknownProcedure")
+printed FamilyMix = row 44 (codes "FamilyMix")
+printed PortNeedsTcpUdp = row 45 (codes "PortNeedsTcpUdp")
+printed DuplicateName = row 46 (codes "DuplicateName")
+printed BadMap = row 47 (codes "BadMap")
+printed Unbuilt = row 48 (codes "Unbuilt")
+printed (TooMany _ _) = row 49 (codes "TooMany")
+
+abbrev pub number_of : Fault → ℕ
+number_of fault = (printed fault).number
+
+abbrev pub name_of : Fault → List ℕ
+name_of fault = (printed fault).name
+
+abbrev pub excess_name : Excess → List ℕ
+excess_name Excess.Rules = codes "rules"
+excess_name Excess.Tables = codes "tables"
+excess_name Excess.Maps = codes "maps"
+excess_name Excess.Procedures = codes "procedures"
+excess_name Excess.Elements = codes "elements"
+excess_name Excess.Entries = codes "entries"
+excess_name Excess.Weight = codes "weight"
+excess_name Excess.Instructions = codes "instructions"

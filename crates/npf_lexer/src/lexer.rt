@@ -1,0 +1,47 @@
+ghost use Rattle.std.specs.Prelude.{◌≡◌, ◌≤◌, Ok, Err, IfOk, IfErr, length};
+ghost use Rattle.npf_lexer.specs.Tokens.{IsOnly, IfFault, end_token};
+
+use crate::fault::Refused;
+use crate::front::{Front, front_at};
+use crate::place::Place;
+use crate::token::{Token, TokenKind};
+use std::alloc::Global;
+
+/// The tokens of a text of npf.conf(5), the last of them `End`; or the first fault of the text: a byte or run that is no
+/// token (10), a string without its end (11), a number past 4,294,967,295 (12). The text has at most 4,194,304 bytes.
+pub fn lex(alloc: Global, text: &[u8]) -> Result<Vec<Token>, Refused>
+    requires { length text.now ≤ 4194304 }
+    ensures tokens { IfOk result (λ tokens. IsOnly text.now (Ok tokens.items)) }
+    ensures fault { IfErr result (IfFault (λ fault. IsOnly text.now (Err fault))) }
+{
+    let mut tokens = Vec::new(alloc);
+    let mut place = Place::start();
+    let mut rest = text;
+    'tokens: loop {
+        match front_at(alloc, place, rest)? {
+            Front::End => {
+                tokens.push(end_token(place))?;
+                return Ok(tokens);
+            }
+            Front::Skipped(len, next) => {
+                place = next;
+                rest = rest.split_at(len).1;
+            }
+            Front::Found(token, len, next) => {
+                tokens.push(token)?;
+                place = next;
+                rest = rest.split_at(len).1;
+            }
+            Front::Faulty(fault) => return Err(Refused::Fault(fault)),
+        }
+    }
+}
+
+fn end_token(place: Place) -> Token
+    ensures { result ≡ end_token place }
+{
+    Token {
+        kind: TokenKind::End,
+        span: place.span(0),
+    }
+}

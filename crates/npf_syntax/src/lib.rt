@@ -1,0 +1,27 @@
+// The tree of npf.conf(5): what a configuration says, by the lines of the grammar, before variables are replaced.
+//
+// Each line of the grammar with alternatives is an enum with a variant for each, and each other line a struct. Their
+// fields are the parts of the line in its order, but for single quoted words: an optional part is an `Option`, an
+// optional quoted word a `bool`, a repeated part a `List`, and a choice of quoted words an enum of them.
+//
+// The contract: these types say no more than their fields. Each has the span of the text that it was read from, from its
+// first token to its last.
+#![tactic(auto)]
+
+mod filter;
+mod group;
+mod map;
+mod procedure;
+mod rule;
+mod stmt;
+mod value;
+mod word;
+
+pub use filter::{Addresses, Detail, Ends, Family, Filter, ProtoPart, Protocols, Where};
+pub use group::{GroupHead, Item};
+pub use map::{Arrow, MapKind, Side};
+pub use procedure::{Call, LogName, Opt};
+pub use rule::{Answer, Direction, RuleAction, RuleTree, Stateful};
+pub use stmt::{Setting, Stmt, TableType, Tree};
+pub use value::{Function, Iface, One, OneList, Value, ValueList, Values};
+pub use word::{Address, Number, Str, Var, Word};

@@ -1,0 +1,75 @@
+use crate::filter::Filter;
+use crate::group::{GroupHead, Item};
+use crate::map::{Arrow, MapKind, Side};
+use crate::procedure::Call;
+use crate::value::{Iface, One, Values};
+use crate::word::{Number, Str, Var, Word};
+use npf_types::{List, Span};
+
+/// `WORD | NUMBER`: what a parameter is set to.
+#[derive(Debug, Drop)]
+pub enum Setting {
+    Word { word: Word, span: Span },
+    Number { number: Number, span: Span },
+}
+
+/// `"ipset" | "lpm" | "const"`.
+#[derive(Clone, Copy, Debug, PartialEq, Eq)]
+pub enum TableType {
+    IpSet { span: Span },
+    Lpm { span: Span },
+    Const { span: Span },
+}
+
+/// A statement: the definition of a variable, `set`, `alg`, `table`, `map`, `group` or `procedure`. A table's name is a
+/// `Name`, the name of its file UTF-8.
+#[derive(Debug, Drop)]
+pub enum Stmt {
+    Define {
+        var: Var,
+        values: Values,
+        span: Span,
+    },
+    Set {
+        name: Word,
+        value: Setting,
+        span: Span,
+    },
+    Alg {
+        name: Str,
+        span: Span,
+    },
+    Table {
+        name: Word,
+        kind: TableType,
+        file: Option<Str>,
+        span: Span,
+    },
+    Map {
+        iface: Iface,
+        kind: MapKind,
+        proto: Option<One>,
+        left: Side,
+        arrow: Arrow,
+        right: Side,
+        pass: Option<Filter>,
+        span: Span,
+    },
+    Group {
+        head: GroupHead,
+        items: List<Item>,
+        span: Span,
+    },
+    Procedure {
+        name: Str,
+        calls: List<Call>,
+        span: Span,
+    },
+}
+
+/// A configuration: its statements in order, and the place of the text's end.
+#[derive(Debug, Drop)]
+pub struct Tree {
+    pub stmts: List<Stmt>,
+    pub end: Span,
+}
