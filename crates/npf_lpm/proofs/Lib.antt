@@ -1,0 +1,4 @@
+pub mod BlockLemmas
+pub mod LengthLemmas
+pub mod MemberLemmas
+pub mod PrefixLemmas

@@ -1,0 +1,47 @@
+-- Two prefixes are one where their addresses and lengths are, which is what `==` tests.
+use Rattle.std.proofs.Common.{◌≡◌, ◌≤◌, Bool, true, ap}
+use mathlib.Core.HLevel.{is_prop→PathP}
+use Rattle.std.specs.Cmp.{IsEquivalence}
+use Rattle.std.proofs.lemmas.Bool.{and_parts}
+use Rattle.std.proofs.lemmas.Map.Views.{exact_unsigned_eq}
+use Rattle.npf_types.specs.declared.address.Addr.{Addr}
+use Rattle.npf_types.specs.declared.address.Addr.TheVariants.{V4, V6}
+use Rattle.npf_types.specs.declared.address.Prefix.{Prefix}
+use Rattle.npf_types.specs.contracts.address.Addr.{the_row}
+use Rattle.npf_types.specs.contracts.address.Prefix.{short-found, zeroed-found}
+use Rattle.npf_types.specs.contracts.address.PrefixPartialEq.TheImpl as prefix_eq
+use Rattle.npf_types.specs.contracts.address.PrefixEq.TheImpl.Laws.{laws-law}
+use Rattle.npf_types.specs.contracts.address.AddrPartialEq.TheImpl as addr_eq
+use Rattle.npf_types.specs.Address.{width, cleared}
+
+-- the test that `==` of two prefixes is
+abbrev pub same_prefix : Prefix → Prefix → Bool
+same_prefix = (prefix_eq.ghosts).eq
+
+pub same_prefix_laws : IsEquivalence same_prefix
+same_prefix_laws = laws-law
+
+abbrev same_addr : Addr → Addr → Bool
+same_addr = (addr_eq.ghosts).eq
+
+same_addr_tells : (a b : Addr) → same_addr a b ≡ true → a ≡ b
+same_addr_tells (V4 a) (V4 b) same = ap V4 (exact_unsigned_eq a b same)
+same_addr_tells (V4 a) (V6 b) same = cc
+same_addr_tells (V6 a) (V4 b) same = cc
+same_addr_tells (V6 a) (V6 b) same = ap V6 (exact_unsigned_eq a b same)
+
+-- what a prefix's ghost fields say has one proof
+pub Prefix-same : (p q : Prefix) → p.addr ≡ q.addr → p.len ≡ q.len → p ≡ q
+Prefix-same p q a l =
+    let short = is_prop→PathP (λ i. l i ≤ width (a i)) (λ i. short-found the_row.coded (a i) (l i)) p.short q.short in
+    λ i. record {
+      addr = a i;
+      len = l i;
+      short = short i;
+      zeroed = is_prop→PathP (λ j. a j ≡ cleared (a j) (l j)) (λ j. zeroed-found the_row.coded (a j) (l j) (short j)) p.zeroed q.zeroed i;
+    }
+
+pub same_prefix_tells : (p q : Prefix) → same_prefix p q ≡ true → p ≡ q
+same_prefix_tells p q same =
+    let both = and_parts (same_addr p.addr q.addr) _ same in
+    Prefix-same p q (same_addr_tells _ _ both.0) (exact_unsigned_eq _ _ both.1)

@@ -1,0 +1,4 @@
+pub mod AddressLemmas
+pub mod EntryLemmas
+pub mod LineLemmas
+pub mod ReadingLemmas

@@ -1,0 +1,83 @@
+// The text of an entry: an address, or an address with the length of its block.
+ghost use Rattle.std.specs.Prelude.{◌≡◌, ◌==◌, ◌≢◌, position, slice_index};
+ghost use Rattle.npf_table.specs.AddressText.{IsAddressText};
+ghost use Rattle.npf_table.specs.PrefixText.{IsPrefixText, IsHostText, IsBlockText, IsByteLengthText, IsByteNumber};
+ghost use Rattle.npf_table.specs.Reading.{IsReading};
+
+use npf_types::{Addr, Prefix};
+use std::net::IpAddr;
+use std::str;
+
+/// The prefix that the text writes, or None where it writes none.
+pub(crate) fn written_prefix(text: &[u8]) -> Option<Prefix>
+    ensures { IsReading IsPrefixText text.now result }
+{
+    match first_place(text, b'/') {
+        None => host(text),
+        Some(at) => block(&text[..at], &text[at + 1..]),
+    }
+}
+
+fn host(text: &[u8]) -> Option<Prefix>
+    ensures { IsReading IsHostText text.now result }
+{
+    match address_of(text) {
+        Some(addr) => Prefix::of(addr, addr.width()),
+        None => None,
+    }
+}
+
+fn block(address: &[u8], digits: &[u8]) -> Option<Prefix>
+    ensures { IsReading (IsBlockText address.now) digits.now result }
+{
+    let Some(addr) = address_of(address) else {
+        return None;
+    };
+    let Some(len) = length_of(digits) else {
+        return None;
+    };
+    Prefix::of(addr, len)
+}
+
+fn address_of(text: &[u8]) -> Option<Addr>
+    ensures { IsReading IsAddressText text.now result }
+{
+    match IpAddr::parse_ascii(text) {
+        Ok(IpAddr::V4(ip)) => Some(Addr::V4(ip.to_bits())),
+        Ok(IpAddr::V6(ip)) => Some(Addr::V6(ip.to_bits())),
+        Err(_) => None,
+    }
+}
+
+// The length, where it fits a byte; a longer one is longer than any address.
+fn length_of(digits: &[u8]) -> Option<u8>
+    ensures { IsReading IsByteLengthText digits.now result }
+{
+    let Some(first) = digits.first() else {
+        return None;
+    };
+    if *first == b'+' || (*first == b'0' && digits.len() > 1) {
+        return None;
+    }
+    number_of(digits)
+}
+
+fn number_of(digits: &[u8]) -> Option<u8>
+    requires { slice_index digits.now 0 ≢ 43 }
+    ensures { IsReading IsByteNumber digits.now result }
+{
+    let Ok(text) = str::from_utf8(digits) else {
+        return None;
+    };
+    match text.parse::<u8>() {
+        Ok(number) => Some(number),
+        Err(_) => None,
+    }
+}
+
+/// The first place at which the byte stands.
+pub(crate) fn first_place(text: &[u8], byte: u8) -> Option<usize>
+    ensures { result ≡ position (λ b. b == byte) text.now }
+{
+    text.iter().position(|b| *b == byte)
+}
