@@ -10,31 +10,31 @@ pub record Printed : Type 0 where
   pub number : ℕ
   pub name : List ℕ
 
-abbrev row : ℕ → List ℕ → Printed
-row number name = record { number = number; name = name }
+abbrev numbered : ℕ → List ℕ → Printed
+numbered number name = record { number = number; name = name }
 
 -- the table of faults
 abbrev pub printed : Fault → Printed
-printed BadByte = row 10 (codes "BadByte")
-printed OpenString = row 11 (codes "OpenString")
-printed NumberTooLarge = row 12 (codes "NumberTooLarge")
-printed Expected = row 20 (codes "Expected")
-printed UnknownVariable = row 30 (codes "UnknownVariable")
-printed UnknownInterface = row 31 (codes "UnknownInterface")
-printed UnknownService = row 32 (codes "UnknownService")
-printed EmptyList = row 33 (codes "EmptyList")
-printed BadIfaceFile = row 34 (codes "BadIfaceFile")
-printed (BadTableFile _) = row 35 (codes "BadTableFile")
-printed NoDefault = row 40 (codes "NoDefault")
-printed TwoDefaults = row 41 (codes "TwoDefaults")
-printed UnknownTable = row 42 (codes "UnknownTable")
-printed UnknownProcedure = row 43 (codes "UnknownProcedure")
-printed FamilyMix = row 44 (codes "FamilyMix")
-printed PortNeedsTcpUdp = row 45 (codes "PortNeedsTcpUdp")
-printed DuplicateName = row 46 (codes "DuplicateName")
-printed BadMap = row 47 (codes "BadMap")
-printed Unbuilt = row 48 (codes "Unbuilt")
-printed (TooMany _ _) = row 49 (codes "TooMany")
+printed BadByte = numbered 10 (codes "BadByte")
+printed OpenString = numbered 11 (codes "OpenString")
+printed NumberTooLarge = numbered 12 (codes "NumberTooLarge")
+printed Expected = numbered 20 (codes "Expected")
+printed UnknownVariable = numbered 30 (codes "UnknownVariable")
+printed UnknownInterface = numbered 31 (codes "UnknownInterface")
+printed UnknownService = numbered 32 (codes "UnknownService")
+printed EmptyList = numbered 33 (codes "EmptyList")
+printed BadIfaceFile = numbered 34 (codes "BadIfaceFile")
+printed (BadTableFile _) = numbered 35 (codes "BadTableFile")
+printed NoDefault = numbered 40 (codes "NoDefault")
+printed TwoDefaults = numbered 41 (codes "TwoDefaults")
+printed UnknownTable = numbered 42 (codes "UnknownTable")
+printed UnknownProcedure = numbered 43 (codes "UnknownProcedure")
+printed FamilyMix = numbered 44 (codes "FamilyMix")
+printed PortNeedsTcpUdp = numbered 45 (codes "PortNeedsTcpUdp")
+printed DuplicateName = numbered 46 (codes "DuplicateName")
+printed BadMap = numbered 47 (codes "BadMap")
+printed Unbuilt = numbered 48 (codes "Unbuilt")
+printed (TooMany _ _) = numbered 49 (codes "TooMany")
 
 abbrev pub number_of : Fault → ℕ
 number_of fault = (printed fault).number
