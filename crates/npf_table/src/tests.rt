@@ -10,7 +10,7 @@ const DOCUMENTATION: u128 = 0x2001_0db8 << 96;
 // A text, and the number of its entries or of its first bad line.
 #[test]
 fn files_are_read_line_by_line(rt: HostRuntime) -> Result<(), Fail> {
-    let cases: [(Kind, &[u8], Result<u64, u32>); 39] = [
+    let cases: [(Kind, &[u8], Result<u64, u32>); 40] = [
         (Kind::Lpm, b"", Ok(0)),
         (Kind::Ipset, b"\n# all is comment\n \t \n#", Ok(0)),
         (Kind::Ipset, b"10.0.0.1", Ok(1)),
@@ -50,7 +50,8 @@ fn files_are_read_line_by_line(rt: HostRuntime) -> Result<(), Fail> {
         (Kind::Lpm, b"10.0.0.256", Err(1)),
         (Kind::Lpm, b"10.0.0.1\r\n", Err(1)),
         (Kind::Lpm, b"10.0.0.1\n\r\n", Err(2)),
-        (Kind::Lpm, b"10.0.0.1 # comment\r\n", Ok(1)),
+        (Kind::Lpm, b"10.0.0.1\n# comment\r\n", Err(2)),
+        (Kind::Lpm, b"10.0.0.1 # comment\r\n", Err(1)),
         (Kind::Lpm, b"1:2:3:4::5:6:7:8", Err(1)),
         (Kind::Lpm, b"1:2:3:4:5:6:7", Err(1)),
         (Kind::Lpm, b"::ffff:010.0.0.1", Err(1)),
