@@ -31,9 +31,9 @@ module _ {A : Type 0} (read : List Token → Reading A) (inside : Bool) where
       whole ≡ all_onto (done ++ a ∷ []) (comma_list read inside (suc m) next)
   comma_goes_on whole done n m ts a us next so_far is comma less =
       so_far ∙ ap (all_onto done) (comma_turn n ts
-        ∙ ap (λ r. r >>= (λ b. if_behind (behind_sign Comma (skip inside b.1)) (λ rest. onto b.0 (comma_list read inside n rest)) (Ok (b.0 ∷ [], b.1)))) is
-        ∙ ap (λ o. if_behind o (λ rest. onto a (comma_list read inside n rest)) (Ok (a ∷ [], us))) comma
-        ∙ ap (λ k. onto a (comma_list read inside k next)) less) ∙ all_onto_one done a (comma_list read inside (suc m) next)
+      ∙ ap (λ r. r >>= (λ b. if_behind (behind_sign Comma (skip inside b.1)) (λ rest. onto b.0 (comma_list read inside n rest)) (Ok (b.0 ∷ [], b.1)))) is
+      ∙ ap (λ o. if_behind o (λ rest. onto a (comma_list read inside n rest)) (Ok (a ∷ [], us))) comma
+      ∙ ap (λ k. onto a (comma_list read inside k next)) less) ∙ all_onto_one done a (comma_list read inside (suc m) next)
 
   -- none stands behind the last
   pub comma_ends : (whole : Reading (List A)) (done : List A) (n : ℕ) (ts : List Token) (a : A) (us : List Token) →
@@ -41,15 +41,15 @@ module _ {A : Type 0} (read : List Token → Reading A) (inside : Bool) where
       whole ≡ Ok (done ++ a ∷ [], us)
   comma_ends whole done n ts a us so_far is no_comma =
       so_far ∙ ap (all_onto done) (comma_turn n ts
-        ∙ ap (λ r. r >>= (λ b. if_behind (behind_sign Comma (skip inside b.1)) (λ rest. onto b.0 (comma_list read inside n rest)) (Ok (b.0 ∷ [], b.1)))) is
-        ∙ ap (λ o. if_behind o (λ rest. onto a (comma_list read inside n rest)) (Ok (a ∷ [], us))) no_comma)
+      ∙ ap (λ r. r >>= (λ b. if_behind (behind_sign Comma (skip inside b.1)) (λ rest. onto b.0 (comma_list read inside n rest)) (Ok (b.0 ∷ [], b.1)))) is
+      ∙ ap (λ o. if_behind o (λ rest. onto a (comma_list read inside n rest)) (Ok (a ∷ [], us))) no_comma)
 
   -- no item stands there
   pub comma_fails : (whole : Reading (List A)) (done : List A) (n : ℕ) (ts : List Token) (span : Span) →
       whole ≡ all_onto done (comma_list read inside (suc n) ts) → read ts ≡ Err span → whole ≡ Err span
   comma_fails whole done n ts span so_far is =
       so_far ∙ ap (all_onto done) (comma_turn n ts
-        ∙ ap (λ r. r >>= (λ b. if_behind (behind_sign Comma (skip inside b.1)) (λ rest. onto b.0 (comma_list read inside n rest)) (Ok (b.0 ∷ [], b.1)))) is)
+      ∙ ap (λ r. r >>= (λ b. if_behind (behind_sign Comma (skip inside b.1)) (λ rest. onto b.0 (comma_list read inside n rest)) (Ok (b.0 ∷ [], b.1)))) is)
 
 module _ {A : Type 0} (read : List Token → Reading A) (closes : List Token → Bool) where
   -- what follows an item
@@ -86,7 +86,7 @@ module _ {A : Type 0} (read : List Token → Reading A) (closes : List Token →
       whole ≡ all_onto done (block_list read closes (suc n) ts) → us ≡ skip_separators ts → closes us ≡ false → read us ≡ Ok (a, vs) → (closes vs || is_at_separator vs) ≡ false → whole ≡ Err (place_of vs)
   block_stops whole done n ts us a vs so_far us_is open_yet is neither =
       item_turn whole done n ts us so_far us_is open_yet ∙ ap (λ r. all_onto done (r >>= after n)) is
-        ∙ ap (λ b. all_onto done (if b then onto a (block_list read closes n vs) else Err (place_of vs))) neither
+      ∙ ap (λ b. all_onto done (if b then onto a (block_list read closes n vs) else Err (place_of vs))) neither
 
   -- an item is ended
   pub block_goes_on : (whole : Reading (List A)) (done : List A) (n m : ℕ) (ts us : List Token) (a : A) (vs : List Token) →
@@ -94,8 +94,8 @@ module _ {A : Type 0} (read : List Token → Reading A) (closes : List Token →
       whole ≡ all_onto (done ++ a ∷ []) (block_list read closes (suc m) vs)
   block_goes_on whole done n m ts us a vs so_far us_is open_yet is ended less =
       item_turn whole done n ts us so_far us_is open_yet ∙ ap (λ r. all_onto done (r >>= after n)) is
-        ∙ ap (λ b. all_onto done (if b then onto a (block_list read closes n vs) else Err (place_of vs))) ended
-        ∙ ap (λ k. all_onto done (onto a (block_list read closes k vs))) less ∙ all_onto_one done a (block_list read closes (suc m) vs)
+      ∙ ap (λ b. all_onto done (if b then onto a (block_list read closes n vs) else Err (place_of vs))) ended
+      ∙ ap (λ k. all_onto done (onto a (block_list read closes k vs))) less ∙ all_onto_one done a (block_list read closes (suc m) vs)
 
 -- an item that was refused
 pub comma_refused : {A : Type 0} (read : List Token → Reading A) (inside : Bool) (whole : Reading (List A)) (done : List A) (n : ℕ) (ts : List Token) (refused : Refused) →

@@ -62,8 +62,8 @@ unfoldable pub addresses_of : List Token → Reading Addresses
 addresses_of ts =
     if_behind (behind_word (codes "any") ts) (λ rest. Ok (Addresses.Any (span_to ts rest), rest))
     (if_behind (behind_sign OpenBrace ts)
-      (λ _. value_list_of Role.Address ts >>= (λ list. Ok (Addresses.List list.0 (span_to ts list.1), list.1)))
-      (value_of Role.Address false ts >>= (λ value. Ok (Addresses.One value.0 (span_to ts value.1), value.1))))
+    (λ _. value_list_of Role.Address ts >>= (λ list. Ok (Addresses.List list.0 (span_to ts list.1), list.1)))
+    (value_of Role.Address false ts >>= (λ value. Ok (Addresses.One value.0 (span_to ts value.1), value.1))))
 
 abbrev pub ports_behind : List Token → List Token → Reading Ends
 ports_behind ts us = do

@@ -70,8 +70,8 @@ one_list_of ts = do
 unfoldable pub protocols_of : List Token → Reading Protocols
 protocols_of ts =
     if_behind (behind_sign OpenBrace ts)
-      (λ _. one_list_of ts >>= (λ list. Ok (Protocols.List list.0 (span_to ts list.1), list.1)))
-      (one_of ts >>= (λ one. Ok (Protocols.One one.0 (span_to ts one.1), one.1)))
+    (λ _. one_list_of ts >>= (λ list. Ok (Protocols.List list.0 (span_to ts list.1), list.1)))
+    (one_of ts >>= (λ one. Ok (Protocols.One one.0 (span_to ts one.1), one.1)))
 
 -- which of the three functions a word is, where `(` stands behind it
 unfoldable pub function_of : Bool → List Token → Option (Function × List Token)
@@ -183,13 +183,13 @@ unfoldable pub value_list_of : Role → List Token → Reading ValueList
 value_list_of role ts = do
   inside ← after_sign OpenBrace ts
   if_behind (behind_sign CloseBrace (skip true inside))
-    (λ rest. Ok (record { values = []; span = span_to ts rest }, rest))
-    (comma_list (listed_value_of role) true (suc (length inside)) inside >>= (λ values.
+      (λ rest. Ok (record { values = []; span = span_to ts rest }, rest))
+      (comma_list (listed_value_of role) true (suc (length inside)) inside >>= (λ values.
       after_sign CloseBrace (skip true values.1) >>= (λ rest. Ok (record { values = values.0; span = span_to ts rest }, rest))))
 
 -- value | vlist
 unfoldable pub values_of : Role → List Token → Reading Values
 values_of role ts =
     if_behind (behind_sign OpenBrace ts)
-      (λ _. value_list_of role ts >>= (λ list. Ok (Values.List list.0 (span_to ts list.1), list.1)))
-      (value_of role false ts >>= (λ value. Ok (Values.One value.0 (span_to ts value.1), value.1)))
+    (λ _. value_list_of role ts >>= (λ list. Ok (Values.List list.0 (span_to ts list.1), list.1)))
+    (value_of role false ts >>= (λ value. Ok (Values.One value.0 (span_to ts value.1), value.1)))

@@ -20,10 +20,20 @@ fn read_family(tokens: &[Token]) -> Result<(Family, &[Token]), Refused>
     ensures left { Leaves tokens.now result }
 {
     if let Some(rest) = behind_word("inet4", tokens) {
-        return Ok((Family::Inet4 { span: span_to(tokens, rest) }, rest));
+        return Ok((
+            Family::Inet4 {
+                span: span_to(tokens, rest),
+            },
+            rest,
+        ));
     }
     if let Some(rest) = behind_word("inet6", tokens) {
-        return Ok((Family::Inet6 { span: span_to(tokens, rest) }, rest));
+        return Ok((
+            Family::Inet6 {
+                span: span_to(tokens, rest),
+            },
+            rest,
+        ));
     }
     Err(expected(tokens))
 }
@@ -68,27 +78,51 @@ fn read_code(tokens: &[Token]) -> Result<(Option<Number>, &[Token]), Refused>
 }
 
 #[tactic(auto, unfolding(crate::specs::Filters::flags_detail_of))]
-fn read_flags_detail<'a>(alloc: Global, tokens: &'a [Token], behind: &'a [Token]) -> Result<(Option<Detail>, &'a [Token]), Refused>
+fn read_flags_detail<'a>(
+    alloc: Global,
+    tokens: &'a [Token],
+    behind: &'a [Token],
+) -> Result<(Option<Detail>, &'a [Token]), Refused>
     ensures read { Answers (flags_detail_of tokens.now behind.now) result }
     ensures left { Leaves behind.now result }
 {
     let (flags, rest) = read_flags(alloc, behind)?;
     let (mask, rest) = read_mask(alloc, rest)?;
-    Ok((Some(Detail::Flags { flags, mask, span: span_to(tokens, rest) }), rest))
+    Ok((
+        Some(Detail::Flags {
+            flags,
+            mask,
+            span: span_to(tokens, rest),
+        }),
+        rest,
+    ))
 }
 
 #[tactic(auto, unfolding(crate::specs::Filters::icmp_detail_of))]
-fn read_icmp_detail<'a>(tokens: &'a [Token], behind: &'a [Token]) -> Result<(Option<Detail>, &'a [Token]), Refused>
+fn read_icmp_detail<'a>(
+    tokens: &'a [Token],
+    behind: &'a [Token],
+) -> Result<(Option<Detail>, &'a [Token]), Refused>
     ensures read { Answers (icmp_detail_of tokens.now behind.now) result }
     ensures left { Leaves behind.now result }
 {
     let (number, rest) = read_number_to(255, behind)?;
     let (code, rest) = read_code(rest)?;
-    Ok((Some(Detail::IcmpType { number, code, span: span_to(tokens, rest) }), rest))
+    Ok((
+        Some(Detail::IcmpType {
+            number,
+            code,
+            span: span_to(tokens, rest),
+        }),
+        rest,
+    ))
 }
 
 #[tactic(auto, unfolding(crate::specs::Filters::detail_of))]
-fn read_detail<'a>(alloc: Global, tokens: &'a [Token]) -> Result<(Option<Detail>, &'a [Token]), Refused>
+fn read_detail<'a>(
+    alloc: Global,
+    tokens: &'a [Token],
+) -> Result<(Option<Detail>, &'a [Token]), Refused>
     ensures read { Answers (detail_of tokens.now) result }
     ensures left { Leaves tokens.now result }
 {
@@ -102,7 +136,10 @@ fn read_detail<'a>(alloc: Global, tokens: &'a [Token]) -> Result<(Option<Detail>
 }
 
 #[tactic(auto, unfolding(crate::specs::Filters::proto_part_of))]
-fn read_proto_part<'a>(alloc: Global, tokens: &'a [Token]) -> Result<(Option<ProtoPart>, &'a [Token]), Refused>
+fn read_proto_part<'a>(
+    alloc: Global,
+    tokens: &'a [Token],
+) -> Result<(Option<ProtoPart>, &'a [Token]), Refused>
     ensures read { Answers (proto_part_of tokens.now) result }
     ensures left { Leaves tokens.now result }
 {
@@ -110,33 +147,63 @@ fn read_proto_part<'a>(alloc: Global, tokens: &'a [Token]) -> Result<(Option<Pro
         Some(rest) => {
             let (protocols, rest) = read_protocols(alloc, rest)?;
             let (detail, rest) = read_detail(alloc, rest)?;
-            Ok((Some(ProtoPart { protocols, detail, span: span_to(tokens, rest) }), rest))
+            Ok((
+                Some(ProtoPart {
+                    protocols,
+                    detail,
+                    span: span_to(tokens, rest),
+                }),
+                rest,
+            ))
         }
         None => Ok((None, tokens)),
     }
 }
 
 #[tactic(auto, unfolding(crate::specs::Filters::addresses_of))]
-fn read_addresses<'a>(alloc: Global, tokens: &'a [Token]) -> Result<(Addresses, &'a [Token]), Refused>
+fn read_addresses<'a>(
+    alloc: Global,
+    tokens: &'a [Token],
+) -> Result<(Addresses, &'a [Token]), Refused>
     ensures read { Answers (addresses_of tokens.now) result }
     ensures left { Leaves tokens.now result }
 {
     if let Some(rest) = behind_word("any", tokens) {
-        return Ok((Addresses::Any { span: span_to(tokens, rest) }, rest));
+        return Ok((
+            Addresses::Any {
+                span: span_to(tokens, rest),
+            },
+            rest,
+        ));
     }
     match behind_sign(Sign::OpenBrace, tokens) {
         Some(_) => {
             let (list, rest) = read_value_list(alloc, Role::Address, tokens)?;
-            Ok((Addresses::List { list, span: span_to(tokens, rest) }, rest))
+            Ok((
+                Addresses::List {
+                    list,
+                    span: span_to(tokens, rest),
+                },
+                rest,
+            ))
         }
         None => {
             let (value, rest) = read_value(alloc, Role::Address, false, tokens)?;
-            Ok((Addresses::One { value, span: span_to(tokens, rest) }, rest))
+            Ok((
+                Addresses::One {
+                    value,
+                    span: span_to(tokens, rest),
+                },
+                rest,
+            ))
         }
     }
 }
 
-fn read_optional_ports<'a>(alloc: Global, tokens: &'a [Token]) -> Result<(Option<Values>, &'a [Token]), Refused>
+fn read_optional_ports<'a>(
+    alloc: Global,
+    tokens: &'a [Token],
+) -> Result<(Option<Values>, &'a [Token]), Refused>
     ensures read { Answers (optional (behind_word (codes "port") tokens.now) (values_of Role.Port) tokens.now) result }
     ensures left { Leaves tokens.now result }
 {
@@ -157,17 +224,33 @@ fn read_ends<'a>(alloc: Global, tokens: &'a [Token]) -> Result<(Ends, &'a [Token
     match behind_word("port", tokens) {
         Some(rest) => {
             let (ports, rest) = read_values(alloc, Role::Port, rest)?;
-            Ok((Ends::Ports { ports, span: span_to(tokens, rest) }, rest))
+            Ok((
+                Ends::Ports {
+                    ports,
+                    span: span_to(tokens, rest),
+                },
+                rest,
+            ))
         }
         None => {
             let (addresses, rest) = read_addresses(alloc, tokens)?;
             let (ports, rest) = read_optional_ports(alloc, rest)?;
-            Ok((Ends::Addresses { addresses, ports, span: span_to(tokens, rest) }, rest))
+            Ok((
+                Ends::Addresses {
+                    addresses,
+                    ports,
+                    span: span_to(tokens, rest),
+                },
+                rest,
+            ))
         }
     }
 }
 
-fn read_optional_to<'a>(alloc: Global, tokens: &'a [Token]) -> Result<(Option<Ends>, &'a [Token]), Refused>
+fn read_optional_to<'a>(
+    alloc: Global,
+    tokens: &'a [Token],
+) -> Result<(Option<Ends>, &'a [Token]), Refused>
     ensures read { Answers (optional (behind_word (codes "to") tokens.now) ends_of tokens.now) result }
     ensures left { Leaves tokens.now result }
 {
@@ -186,29 +269,58 @@ fn read_where<'a>(alloc: Global, tokens: &'a [Token]) -> Result<(Where, &'a [Tok
     ensures left { Leaves tokens.now result }
 {
     if let Some(rest) = behind_word("all", tokens) {
-        return Ok((Where::All { span: span_to(tokens, rest) }, rest));
+        return Ok((
+            Where::All {
+                span: span_to(tokens, rest),
+            },
+            rest,
+        ));
     }
     if let Some(rest) = behind_word("from", tokens) {
         let (from, rest) = read_ends(alloc, rest)?;
         let (to, rest) = read_optional_to(alloc, rest)?;
-        return Ok((Where::From { from, to, span: span_to(tokens, rest) }, rest));
+        return Ok((
+            Where::From {
+                from,
+                to,
+                span: span_to(tokens, rest),
+            },
+            rest,
+        ));
     }
     match behind_word("to", tokens) {
         Some(rest) => {
             let (to, rest) = read_ends(alloc, rest)?;
-            Ok((Where::To { to, span: span_to(tokens, rest) }, rest))
+            Ok((
+                Where::To {
+                    to,
+                    span: span_to(tokens, rest),
+                },
+                rest,
+            ))
         }
         None => Err(expected(tokens)),
     }
 }
 
 #[tactic(auto, unfolding(crate::specs::Filters::filter_of))]
-pub(crate) fn read_filter<'a>(alloc: Global, tokens: &'a [Token]) -> Result<(Filter, &'a [Token]), Refused>
+pub(crate) fn read_filter<'a>(
+    alloc: Global,
+    tokens: &'a [Token],
+) -> Result<(Filter, &'a [Token]), Refused>
     ensures read { Answers (filter_of tokens.now) result }
     ensures left { Leaves tokens.now result }
 {
     let (family, rest) = read_optional_family(tokens)?;
     let (proto, rest) = read_proto_part(alloc, rest)?;
     let (ends, rest) = read_where(alloc, rest)?;
-    Ok((Filter { family, proto, ends, span: span_to(tokens, rest) }, rest))
+    Ok((
+        Filter {
+            family,
+            proto,
+            ends,
+            span: span_to(tokens, rest),
+        },
+        rest,
+    ))
 }

@@ -4,7 +4,9 @@ ghost use Rattle.npf_parser.specs.Groups.{item_of, head_of, items_of, group_of};
 
 use crate::leaf::{read_name_string, read_string};
 use crate::rule::{direction_of, read_on, read_rule};
-use crate::tokens::{after_sign, behind_word, ends_item, expected, is_at_brace, skip_separators, span_to};
+use crate::tokens::{
+    after_sign, behind_word, ends_item, expected, is_at_brace, skip_separators, span_to,
+};
 use npf_lexer::{Refused, Sign, Token};
 use npf_syntax::{GroupHead, Item, Stmt};
 use npf_types::List;
@@ -20,11 +22,25 @@ fn read_item<'a>(alloc: Global, tokens: &'a [Token]) -> Result<(Item, &'a [Token
             let (name, rest) = read_name_string(alloc, rest)?;
             let (dir, rest) = direction_of(rest);
             let (on, rest) = read_on(alloc, rest)?;
-            Ok((Item::Ruleset { name, dir, on, span: span_to(tokens, rest) }, rest))
+            Ok((
+                Item::Ruleset {
+                    name,
+                    dir,
+                    on,
+                    span: span_to(tokens, rest),
+                },
+                rest,
+            ))
         }
         None => {
             let (rule, rest) = read_rule(alloc, tokens)?;
-            Ok((Item::Rule { rule, span: span_to(tokens, rest) }, rest))
+            Ok((
+                Item::Rule {
+                    rule,
+                    span: span_to(tokens, rest),
+                },
+                rest,
+            ))
         }
     }
 }
@@ -35,12 +51,25 @@ fn read_head<'a>(alloc: Global, tokens: &'a [Token]) -> Result<(GroupHead, &'a [
     ensures left { Leaves tokens.now result }
 {
     match behind_word("default", tokens) {
-        Some(rest) => Ok((GroupHead::Default { span: span_to(tokens, rest) }, rest)),
+        Some(rest) => Ok((
+            GroupHead::Default {
+                span: span_to(tokens, rest),
+            },
+            rest,
+        )),
         None => {
             let (name, rest) = read_string(alloc, tokens)?;
             let (dir, rest) = direction_of(rest);
             let (on, rest) = read_on(alloc, rest)?;
-            Ok((GroupHead::Named { name, dir, on, span: span_to(tokens, rest) }, rest))
+            Ok((
+                GroupHead::Named {
+                    name,
+                    dir,
+                    on,
+                    span: span_to(tokens, rest),
+                },
+                rest,
+            ))
         }
     }
 }
@@ -67,7 +96,11 @@ fn read_items<'a>(alloc: Global, tokens: &'a [Token]) -> Result<(List<Item>, &'a
 }
 
 #[tactic(auto, unfolding(crate::specs::Groups::group_of))]
-pub(crate) fn read_group<'a>(alloc: Global, tokens: &'a [Token], behind: &'a [Token]) -> Result<(Stmt, &'a [Token]), Refused>
+pub(crate) fn read_group<'a>(
+    alloc: Global,
+    tokens: &'a [Token],
+    behind: &'a [Token],
+) -> Result<(Stmt, &'a [Token]), Refused>
     ensures read { Answers (group_of tokens.now behind.now) result }
     ensures left { Leaves behind.now result }
 {
@@ -75,5 +108,12 @@ pub(crate) fn read_group<'a>(alloc: Global, tokens: &'a [Token], behind: &'a [To
     let rest = after_sign(Sign::OpenBrace, rest)?;
     let (items, rest) = read_items(alloc, rest)?;
     let rest = after_sign(Sign::CloseBrace, rest)?;
-    Ok((Stmt::Group { head, items, span: span_to(tokens, rest) }, rest))
+    Ok((
+        Stmt::Group {
+            head,
+            items,
+            span: span_to(tokens, rest),
+        },
+        rest,
+    ))
 }

@@ -13,12 +13,23 @@ use std::alloc::Global;
 use std::str;
 
 #[tactic(auto, unfolding(crate::specs::Leaves::string_of))]
-pub(crate) fn read_string<'a>(alloc: Global, tokens: &'a [Token]) -> Result<(Str, &'a [Token]), Refused>
+pub(crate) fn read_string<'a>(
+    alloc: Global,
+    tokens: &'a [Token],
+) -> Result<(Str, &'a [Token]), Refused>
     ensures read { Answers (string_of tokens.now) result }
     ensures left { Leaves tokens.now result }
 {
     match tokens.split_first() {
-        Some((Token { kind: TokenKind::Str(text), span }, rest)) => {
+        Some(
+            (
+                Token {
+                    kind: TokenKind::Str(text),
+                    span,
+                },
+                rest,
+            ),
+        ) => {
             let text = copied(alloc, text)?;
             Ok((Str { text, span: *span }, rest))
         }
@@ -27,12 +38,23 @@ pub(crate) fn read_string<'a>(alloc: Global, tokens: &'a [Token]) -> Result<(Str
 }
 
 #[tactic(auto, unfolding(crate::specs::Leaves::word_of))]
-pub(crate) fn read_word<'a>(alloc: Global, tokens: &'a [Token]) -> Result<(Word, &'a [Token]), Refused>
+pub(crate) fn read_word<'a>(
+    alloc: Global,
+    tokens: &'a [Token],
+) -> Result<(Word, &'a [Token]), Refused>
     ensures read { Answers (word_of tokens.now) result }
     ensures left { Leaves tokens.now result }
 {
     match tokens.split_first() {
-        Some((Token { kind: TokenKind::Word(text), span }, rest)) => {
+        Some(
+            (
+                Token {
+                    kind: TokenKind::Word(text),
+                    span,
+                },
+                rest,
+            ),
+        ) => {
             let text = copied(alloc, text)?;
             Ok((Word { text, span: *span }, rest))
         }
@@ -41,12 +63,23 @@ pub(crate) fn read_word<'a>(alloc: Global, tokens: &'a [Token]) -> Result<(Word,
 }
 
 #[tactic(auto, unfolding(crate::specs::Leaves::variable_of))]
-pub(crate) fn read_variable<'a>(alloc: Global, tokens: &'a [Token]) -> Result<(Var, &'a [Token]), Refused>
+pub(crate) fn read_variable<'a>(
+    alloc: Global,
+    tokens: &'a [Token],
+) -> Result<(Var, &'a [Token]), Refused>
     ensures read { Answers (variable_of tokens.now) result }
     ensures left { Leaves tokens.now result }
 {
     match tokens.split_first() {
-        Some((Token { kind: TokenKind::Var(text), span }, rest)) => {
+        Some(
+            (
+                Token {
+                    kind: TokenKind::Var(text),
+                    span,
+                },
+                rest,
+            ),
+        ) => {
             let name = copied(alloc, text)?;
             Ok((Var { name, span: *span }, rest))
         }
@@ -60,8 +93,22 @@ pub(crate) fn read_number(tokens: &[Token]) -> Result<(Number, &[Token]), Refuse
     ensures left { Leaves tokens.now result }
 {
     match tokens.split_first() {
-        Some((Token { kind: TokenKind::Number(value), span }, rest)) => {
-            Ok((Number { value: *value, span: *span }, rest))
+        Some(
+            (
+                Token {
+                    kind: TokenKind::Number(value),
+                    span,
+                },
+                rest,
+            ),
+        ) => {
+            Ok((
+                Number {
+                    value: *value,
+                    span: *span,
+                },
+                rest,
+            ))
         }
         _ => Err(expected(tokens)),
     }
@@ -73,8 +120,22 @@ pub(crate) fn read_address(tokens: &[Token]) -> Result<(Address, &[Token]), Refu
     ensures left { Leaves tokens.now result }
 {
     match tokens.split_first() {
-        Some((Token { kind: TokenKind::Address(addr), span }, rest)) => {
-            Ok((Address { addr: *addr, span: *span }, rest))
+        Some(
+            (
+                Token {
+                    kind: TokenKind::Address(addr),
+                    span,
+                },
+                rest,
+            ),
+        ) => {
+            Ok((
+                Address {
+                    addr: *addr,
+                    span: *span,
+                },
+                rest,
+            ))
         }
         _ => Err(expected(tokens)),
     }
@@ -99,7 +160,10 @@ pub(crate) fn is_name(text: &[u8]) -> bool
 }
 
 #[tactic(auto, unfolding(crate::specs::Leaves::name_word_of))]
-pub(crate) fn read_name_word<'a>(alloc: Global, tokens: &'a [Token]) -> Result<(Word, &'a [Token]), Refused>
+pub(crate) fn read_name_word<'a>(
+    alloc: Global,
+    tokens: &'a [Token],
+) -> Result<(Word, &'a [Token]), Refused>
     ensures read { Answers (name_word_of tokens.now) result }
     ensures left { Leaves tokens.now result }
 {
@@ -111,7 +175,10 @@ pub(crate) fn read_name_word<'a>(alloc: Global, tokens: &'a [Token]) -> Result<(
 }
 
 #[tactic(auto, unfolding(crate::specs::Leaves::name_string_of))]
-pub(crate) fn read_name_string<'a>(alloc: Global, tokens: &'a [Token]) -> Result<(Str, &'a [Token]), Refused>
+pub(crate) fn read_name_string<'a>(
+    alloc: Global,
+    tokens: &'a [Token],
+) -> Result<(Str, &'a [Token]), Refused>
     ensures read { Answers (name_string_of tokens.now) result }
     ensures left { Leaves tokens.now result }
 {
@@ -133,7 +200,10 @@ fn is_utf8(text: &[u8]) -> bool
 
 /// A string that is UTF-8.
 #[tactic(auto, unfolding(crate::specs::Leaves::text_string_of))]
-pub(crate) fn read_text_string<'a>(alloc: Global, tokens: &'a [Token]) -> Result<(Str, &'a [Token]), Refused>
+pub(crate) fn read_text_string<'a>(
+    alloc: Global,
+    tokens: &'a [Token],
+) -> Result<(Str, &'a [Token]), Refused>
     ensures read { Answers (text_string_of tokens.now) result }
     ensures left { Leaves tokens.now result }
 {
@@ -158,7 +228,10 @@ fn are_flags(text: &[u8]) -> bool
 
 /// A word of the letters of TCP's flags.
 #[tactic(auto, unfolding(crate::specs::Leaves::flags_of))]
-pub(crate) fn read_flags<'a>(alloc: Global, tokens: &'a [Token]) -> Result<(Word, &'a [Token]), Refused>
+pub(crate) fn read_flags<'a>(
+    alloc: Global,
+    tokens: &'a [Token],
+) -> Result<(Word, &'a [Token]), Refused>
     ensures read { Answers (flags_of tokens.now) result }
     ensures left { Leaves tokens.now result }
 {

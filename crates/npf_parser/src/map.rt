@@ -35,12 +35,23 @@ fn read_map_kind<'a>(alloc: Global, tokens: &'a [Token]) -> Result<(MapKind, &'a
     ensures left { Leaves tokens.now result }
 {
     if let Some(rest) = behind_word("dynamic", tokens) {
-        return Ok((MapKind::Dynamic { span: span_to(tokens, rest) }, rest));
+        return Ok((
+            MapKind::Dynamic {
+                span: span_to(tokens, rest),
+            },
+            rest,
+        ));
     }
     match behind_word("static", tokens) {
         Some(rest) => {
             let (algo, rest) = read_algo(alloc, rest)?;
-            Ok((MapKind::Static { algo, span: span_to(tokens, rest) }, rest))
+            Ok((
+                MapKind::Static {
+                    algo,
+                    span: span_to(tokens, rest),
+                },
+                rest,
+            ))
         }
         None => Err(expected(tokens)),
     }
@@ -52,18 +63,36 @@ fn read_arrow(tokens: &[Token]) -> Result<(Arrow, &[Token]), Refused>
     ensures left { Leaves tokens.now result }
 {
     if let Some(rest) = behind_sign(Sign::Right, tokens) {
-        return Ok((Arrow::Right { span: span_to(tokens, rest) }, rest));
+        return Ok((
+            Arrow::Right {
+                span: span_to(tokens, rest),
+            },
+            rest,
+        ));
     }
     if let Some(rest) = behind_sign(Sign::Left, tokens) {
-        return Ok((Arrow::Left { span: span_to(tokens, rest) }, rest));
+        return Ok((
+            Arrow::Left {
+                span: span_to(tokens, rest),
+            },
+            rest,
+        ));
     }
     match behind_sign(Sign::Both, tokens) {
-        Some(rest) => Ok((Arrow::Both { span: span_to(tokens, rest) }, rest)),
+        Some(rest) => Ok((
+            Arrow::Both {
+                span: span_to(tokens, rest),
+            },
+            rest,
+        )),
         None => Err(expected(tokens)),
     }
 }
 
-fn read_optional_port<'a>(alloc: Global, tokens: &'a [Token]) -> Result<(Option<Value>, &'a [Token]), Refused>
+fn read_optional_port<'a>(
+    alloc: Global,
+    tokens: &'a [Token],
+) -> Result<(Option<Value>, &'a [Token]), Refused>
     ensures read { Answers (optional (behind_word (codes "port") tokens.now) (value_of Role.Port false) tokens.now) result }
     ensures left { Leaves tokens.now result }
 {
@@ -83,10 +112,20 @@ fn read_side<'a>(alloc: Global, tokens: &'a [Token]) -> Result<(Side, &'a [Token
 {
     let (value, rest) = read_value(alloc, Role::Address, false, tokens)?;
     let (port, rest) = read_optional_port(alloc, rest)?;
-    Ok((Side { value, port, span: span_to(tokens, rest) }, rest))
+    Ok((
+        Side {
+            value,
+            port,
+            span: span_to(tokens, rest),
+        },
+        rest,
+    ))
 }
 
-fn read_optional_proto<'a>(alloc: Global, tokens: &'a [Token]) -> Result<(Option<One>, &'a [Token]), Refused>
+fn read_optional_proto<'a>(
+    alloc: Global,
+    tokens: &'a [Token],
+) -> Result<(Option<One>, &'a [Token]), Refused>
     ensures read { Answers (optional (behind_word (codes "proto") tokens.now) one_of tokens.now) result }
     ensures left { Leaves tokens.now result }
 {
@@ -99,7 +138,10 @@ fn read_optional_proto<'a>(alloc: Global, tokens: &'a [Token]) -> Result<(Option
     }
 }
 
-fn read_optional_pass<'a>(alloc: Global, tokens: &'a [Token]) -> Result<(Option<Filter>, &'a [Token]), Refused>
+fn read_optional_pass<'a>(
+    alloc: Global,
+    tokens: &'a [Token],
+) -> Result<(Option<Filter>, &'a [Token]), Refused>
     ensures read { Answers (optional (behind_word (codes "pass") tokens.now) filter_of tokens.now) result }
     ensures left { Leaves tokens.now result }
 {
@@ -113,7 +155,11 @@ fn read_optional_pass<'a>(alloc: Global, tokens: &'a [Token]) -> Result<(Option<
 }
 
 #[tactic(auto, unfolding(crate::specs::Maps::map_of))]
-pub(crate) fn read_map<'a>(alloc: Global, tokens: &'a [Token], behind: &'a [Token]) -> Result<(Stmt, &'a [Token]), Refused>
+pub(crate) fn read_map<'a>(
+    alloc: Global,
+    tokens: &'a [Token],
+    behind: &'a [Token],
+) -> Result<(Stmt, &'a [Token]), Refused>
     ensures read { Answers (map_of tokens.now behind.now) result }
     ensures left { Leaves behind.now result }
 {

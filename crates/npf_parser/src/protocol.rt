@@ -11,22 +11,53 @@ use npf_types::List;
 use std::alloc::Global;
 
 #[tactic(auto, unfolding(crate::specs::Values::one_of))]
-pub(crate) fn read_one<'a>(alloc: Global, tokens: &'a [Token]) -> Result<(One, &'a [Token]), Refused>
+pub(crate) fn read_one<'a>(
+    alloc: Global,
+    tokens: &'a [Token],
+) -> Result<(One, &'a [Token]), Refused>
     ensures read { Answers (one_of tokens.now) result }
     ensures left { Leaves tokens.now result }
 {
     match tokens.first() {
-        Some(Token { kind: TokenKind::Number(_), .. }) => {
+        Some(
+            Token {
+                kind: TokenKind::Number(_),
+                ..
+            },
+        ) => {
             let (number, rest) = read_number_to(255, tokens)?;
-            Ok((One::Number { number, span: span_to(tokens, rest) }, rest))
+            Ok((
+                One::Number {
+                    number,
+                    span: span_to(tokens, rest),
+                },
+                rest,
+            ))
         }
-        Some(Token { kind: TokenKind::Var(_), .. }) => {
+        Some(
+            Token {
+                kind: TokenKind::Var(_),
+                ..
+            },
+        ) => {
             let (var, rest) = read_variable(alloc, tokens)?;
-            Ok((One::Var { var, span: span_to(tokens, rest) }, rest))
+            Ok((
+                One::Var {
+                    var,
+                    span: span_to(tokens, rest),
+                },
+                rest,
+            ))
         }
         _ => {
             let (word, rest) = read_word(alloc, tokens)?;
-            Ok((One::Word { word, span: span_to(tokens, rest) }, rest))
+            Ok((
+                One::Word {
+                    word,
+                    span: span_to(tokens, rest),
+                },
+                rest,
+            ))
         }
     }
 }
@@ -56,22 +87,43 @@ fn read_one_list<'a>(alloc: Global, tokens: &'a [Token]) -> Result<(OneList, &'a
     let rest = after_sign(Sign::OpenBrace, tokens)?;
     let (ones, rest) = read_ones(alloc, rest)?;
     let rest = after_sign(Sign::CloseBrace, rest)?;
-    Ok((OneList { ones, span: span_to(tokens, rest) }, rest))
+    Ok((
+        OneList {
+            ones,
+            span: span_to(tokens, rest),
+        },
+        rest,
+    ))
 }
 
 #[tactic(auto, unfolding(crate::specs::Values::protocols_of))]
-pub(crate) fn read_protocols<'a>(alloc: Global, tokens: &'a [Token]) -> Result<(Protocols, &'a [Token]), Refused>
+pub(crate) fn read_protocols<'a>(
+    alloc: Global,
+    tokens: &'a [Token],
+) -> Result<(Protocols, &'a [Token]), Refused>
     ensures read { Answers (protocols_of tokens.now) result }
     ensures left { Leaves tokens.now result }
 {
     match behind_sign(Sign::OpenBrace, tokens) {
         Some(_) => {
             let (list, rest) = read_one_list(alloc, tokens)?;
-            Ok((Protocols::List { list, span: span_to(tokens, rest) }, rest))
+            Ok((
+                Protocols::List {
+                    list,
+                    span: span_to(tokens, rest),
+                },
+                rest,
+            ))
         }
         None => {
             let (one, rest) = read_one(alloc, tokens)?;
-            Ok((Protocols::One { one, span: span_to(tokens, rest) }, rest))
+            Ok((
+                Protocols::One {
+                    one,
+                    span: span_to(tokens, rest),
+                },
+                rest,
+            ))
         }
     }
 }

@@ -18,13 +18,28 @@ fn answer_of(tokens: &[Token]) -> (Option<Answer>, &[Token])
     ensures left { length result.1.now ≤ length tokens.now }
 {
     if let Some(rest) = behind_word("return", tokens) {
-        return (Some(Answer::Return { span: span_to(tokens, rest) }), rest);
+        return (
+            Some(Answer::Return {
+                span: span_to(tokens, rest),
+            }),
+            rest,
+        );
     }
     if let Some(rest) = behind_word("return-rst", tokens) {
-        return (Some(Answer::ReturnRst { span: span_to(tokens, rest) }), rest);
+        return (
+            Some(Answer::ReturnRst {
+                span: span_to(tokens, rest),
+            }),
+            rest,
+        );
     }
     if let Some(rest) = behind_word("return-icmp", tokens) {
-        return (Some(Answer::ReturnIcmp { span: span_to(tokens, rest) }), rest);
+        return (
+            Some(Answer::ReturnIcmp {
+                span: span_to(tokens, rest),
+            }),
+            rest,
+        );
     }
     (None, tokens)
 }
@@ -36,10 +51,21 @@ fn read_action(tokens: &[Token]) -> Result<(RuleAction, &[Token]), Refused>
 {
     if let Some(rest) = behind_word("block", tokens) {
         let (answer, rest) = answer_of(rest);
-        return Ok((RuleAction::Block { answer, span: span_to(tokens, rest) }, rest));
+        return Ok((
+            RuleAction::Block {
+                answer,
+                span: span_to(tokens, rest),
+            },
+            rest,
+        ));
     }
     match behind_word("pass", tokens) {
-        Some(rest) => Ok((RuleAction::Pass { span: span_to(tokens, rest) }, rest)),
+        Some(rest) => Ok((
+            RuleAction::Pass {
+                span: span_to(tokens, rest),
+            },
+            rest,
+        )),
         None => Err(expected(tokens)),
     }
 }
@@ -50,10 +76,20 @@ fn stateful_of(tokens: &[Token]) -> (Option<Stateful>, &[Token])
     ensures left { length result.1.now ≤ length tokens.now }
 {
     if let Some(rest) = behind_word("stateful", tokens) {
-        return (Some(Stateful::Stateful { span: span_to(tokens, rest) }), rest);
+        return (
+            Some(Stateful::Stateful {
+                span: span_to(tokens, rest),
+            }),
+            rest,
+        );
     }
     if let Some(rest) = behind_word("stateful-all", tokens) {
-        return (Some(Stateful::StatefulAll { span: span_to(tokens, rest) }), rest);
+        return (
+            Some(Stateful::StatefulAll {
+                span: span_to(tokens, rest),
+            }),
+            rest,
+        );
     }
     (None, tokens)
 }
@@ -64,10 +100,20 @@ pub(crate) fn direction_of(tokens: &[Token]) -> (Option<Direction>, &[Token])
     ensures left { length result.1.now ≤ length tokens.now }
 {
     if let Some(rest) = behind_word("in", tokens) {
-        return (Some(Direction::In { span: span_to(tokens, rest) }), rest);
+        return (
+            Some(Direction::In {
+                span: span_to(tokens, rest),
+            }),
+            rest,
+        );
     }
     if let Some(rest) = behind_word("out", tokens) {
-        return (Some(Direction::Out { span: span_to(tokens, rest) }), rest);
+        return (
+            Some(Direction::Out {
+                span: span_to(tokens, rest),
+            }),
+            rest,
+        );
     }
     (None, tokens)
 }
@@ -84,7 +130,10 @@ fn final_of(tokens: &[Token]) -> (bool, &[Token])
 }
 
 #[tactic(auto, unfolding(crate::specs::Rules::on_of))]
-pub(crate) fn read_on<'a>(alloc: Global, tokens: &'a [Token]) -> Result<(Option<Iface>, &'a [Token]), Refused>
+pub(crate) fn read_on<'a>(
+    alloc: Global,
+    tokens: &'a [Token],
+) -> Result<(Option<Iface>, &'a [Token]), Refused>
     ensures read { Answers (on_of tokens.now) result }
     ensures left { Leaves tokens.now result }
 {
@@ -111,7 +160,10 @@ fn read_apply<'a>(alloc: Global, tokens: &'a [Token]) -> Result<(Option<Str>, &'
 }
 
 #[tactic(auto, unfolding(crate::specs::Rules::rule_of))]
-pub(crate) fn read_rule<'a>(alloc: Global, tokens: &'a [Token]) -> Result<(RuleTree, &'a [Token]), Refused>
+pub(crate) fn read_rule<'a>(
+    alloc: Global,
+    tokens: &'a [Token],
+) -> Result<(RuleTree, &'a [Token]), Refused>
     ensures read { Answers (rule_of tokens.now) result }
     ensures left { Shortens tokens.now result }
 {

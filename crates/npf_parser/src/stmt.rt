@@ -5,11 +5,16 @@ ghost use Rattle.npf_parser.specs.Leaves.{text_string_of};
 ghost use Rattle.npf_parser.specs.Stmts.{define_of, setting_of, set_of, alg_of, table_type_of, table_of, stmt_of, stmts_of, tree_of, AnswersTree};
 
 use crate::group::read_group;
-use crate::leaf::{read_name_word, read_number, read_string, read_text_string, read_variable, read_word};
+use crate::leaf::{
+    read_name_word, read_number, read_string, read_text_string, read_variable, read_word,
+};
 use crate::map::read_map;
 use crate::procedure::read_procedure;
 use crate::role::Role;
-use crate::tokens::{after_sign, after_word, behind_word, ends_stmt, expected, is_at_end, place_of, skip_separators, span_to};
+use crate::tokens::{
+    after_sign, after_word, behind_word, ends_stmt, expected, is_at_end, place_of, skip_separators,
+    span_to,
+};
 use crate::value::read_values;
 use npf_lexer::{Refused, Sign, Token, TokenKind};
 use npf_syntax::{Setting, Stmt, Str, TableType, Tree};
@@ -24,7 +29,14 @@ fn read_define<'a>(alloc: Global, tokens: &'a [Token]) -> Result<(Stmt, &'a [Tok
     let (var, rest) = read_variable(alloc, tokens)?;
     let rest = after_sign(Sign::Equals, rest)?;
     let (values, rest) = read_values(alloc, Role::Any, rest)?;
-    Ok((Stmt::Define { var, values, span: span_to(tokens, rest) }, rest))
+    Ok((
+        Stmt::Define {
+            var,
+            values,
+            span: span_to(tokens, rest),
+        },
+        rest,
+    ))
 }
 
 #[tactic(auto, unfolding(crate::specs::Stmts::setting_of))]
@@ -33,34 +45,72 @@ fn read_setting<'a>(alloc: Global, tokens: &'a [Token]) -> Result<(Setting, &'a 
     ensures left { Leaves tokens.now result }
 {
     match tokens.first() {
-        Some(Token { kind: TokenKind::Number(_), .. }) => {
+        Some(
+            Token {
+                kind: TokenKind::Number(_),
+                ..
+            },
+        ) => {
             let (number, rest) = read_number(tokens)?;
-            Ok((Setting::Number { number, span: span_to(tokens, rest) }, rest))
+            Ok((
+                Setting::Number {
+                    number,
+                    span: span_to(tokens, rest),
+                },
+                rest,
+            ))
         }
         _ => {
             let (word, rest) = read_word(alloc, tokens)?;
-            Ok((Setting::Word { word, span: span_to(tokens, rest) }, rest))
+            Ok((
+                Setting::Word {
+                    word,
+                    span: span_to(tokens, rest),
+                },
+                rest,
+            ))
         }
     }
 }
 
 #[tactic(auto, unfolding(crate::specs::Stmts::set_of))]
-fn read_set<'a>(alloc: Global, tokens: &'a [Token], behind: &'a [Token]) -> Result<(Stmt, &'a [Token]), Refused>
+fn read_set<'a>(
+    alloc: Global,
+    tokens: &'a [Token],
+    behind: &'a [Token],
+) -> Result<(Stmt, &'a [Token]), Refused>
     ensures read { Answers (set_of tokens.now behind.now) result }
     ensures left { Leaves behind.now result }
 {
     let (name, rest) = read_word(alloc, behind)?;
     let (value, rest) = read_setting(alloc, rest)?;
-    Ok((Stmt::Set { name, value, span: span_to(tokens, rest) }, rest))
+    Ok((
+        Stmt::Set {
+            name,
+            value,
+            span: span_to(tokens, rest),
+        },
+        rest,
+    ))
 }
 
 #[tactic(auto, unfolding(crate::specs::Stmts::alg_of))]
-fn read_alg<'a>(alloc: Global, tokens: &'a [Token], behind: &'a [Token]) -> Result<(Stmt, &'a [Token]), Refused>
+fn read_alg<'a>(
+    alloc: Global,
+    tokens: &'a [Token],
+    behind: &'a [Token],
+) -> Result<(Stmt, &'a [Token]), Refused>
     ensures read { Answers (alg_of tokens.now behind.now) result }
     ensures left { Leaves behind.now result }
 {
     let (name, rest) = read_string(alloc, behind)?;
-    Ok((Stmt::Alg { name, span: span_to(tokens, rest) }, rest))
+    Ok((
+        Stmt::Alg {
+            name,
+            span: span_to(tokens, rest),
+        },
+        rest,
+    ))
 }
 
 #[tactic(auto, unfolding(crate::specs::Stmts::table_type_of))]
@@ -69,18 +119,36 @@ fn read_table_type(tokens: &[Token]) -> Result<(TableType, &[Token]), Refused>
     ensures left { Leaves tokens.now result }
 {
     if let Some(rest) = behind_word("ipset", tokens) {
-        return Ok((TableType::IpSet { span: span_to(tokens, rest) }, rest));
+        return Ok((
+            TableType::IpSet {
+                span: span_to(tokens, rest),
+            },
+            rest,
+        ));
     }
     if let Some(rest) = behind_word("lpm", tokens) {
-        return Ok((TableType::Lpm { span: span_to(tokens, rest) }, rest));
+        return Ok((
+            TableType::Lpm {
+                span: span_to(tokens, rest),
+            },
+            rest,
+        ));
     }
     match behind_word("const", tokens) {
-        Some(rest) => Ok((TableType::Const { span: span_to(tokens, rest) }, rest)),
+        Some(rest) => Ok((
+            TableType::Const {
+                span: span_to(tokens, rest),
+            },
+            rest,
+        )),
         None => Err(expected(tokens)),
     }
 }
 
-fn read_optional_file<'a>(alloc: Global, tokens: &'a [Token]) -> Result<(Option<Str>, &'a [Token]), Refused>
+fn read_optional_file<'a>(
+    alloc: Global,
+    tokens: &'a [Token],
+) -> Result<(Option<Str>, &'a [Token]), Refused>
     ensures read { Answers (optional (behind_word (codes "file") tokens.now) text_string_of tokens.now) result }
     ensures left { Leaves tokens.now result }
 {
@@ -94,7 +162,11 @@ fn read_optional_file<'a>(alloc: Global, tokens: &'a [Token]) -> Result<(Option<
 }
 
 #[tactic(auto, unfolding(crate::specs::Stmts::table_of))]
-fn read_table<'a>(alloc: Global, tokens: &'a [Token], behind: &'a [Token]) -> Result<(Stmt, &'a [Token]), Refused>
+fn read_table<'a>(
+    alloc: Global,
+    tokens: &'a [Token],
+    behind: &'a [Token],
+) -> Result<(Stmt, &'a [Token]), Refused>
     ensures read { Answers (table_of tokens.now behind.now) result }
     ensures left { Leaves behind.now result }
 {
@@ -104,7 +176,15 @@ fn read_table<'a>(alloc: Global, tokens: &'a [Token], behind: &'a [Token]) -> Re
     let rest = after_word("type", rest)?;
     let (kind, rest) = read_table_type(rest)?;
     let (file, rest) = read_optional_file(alloc, rest)?;
-    Ok((Stmt::Table { name, kind, file, span: span_to(tokens, rest) }, rest))
+    Ok((
+        Stmt::Table {
+            name,
+            kind,
+            file,
+            span: span_to(tokens, rest),
+        },
+        rest,
+    ))
 }
 
 #[tactic(auto, unfolding(crate::specs::Stmts::stmt_of))]

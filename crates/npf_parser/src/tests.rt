@@ -34,7 +34,10 @@ fn unexpected_at(alloc: Global, text: &[u8]) -> Option<(u32, u32)> {
     }
     match lex(alloc, text) {
         Ok(tokens) => match parse(alloc, tokens.as_slice()) {
-            Err(Refused::Fault(fault)) if fault.fault == Fault::Expected => Some((fault.span.line, fault.span.col)),
+            Err(Refused::Fault(fault)) if fault.fault == Fault::Expected => Some((
+                fault.span.line,
+                fault.span.col,
+            )),
             _ => None,
         },
         Err(_) => None,
@@ -75,9 +78,15 @@ const ACCEPTED: [(&[u8], usize); 7] = [
     (b"", 0),
     (b"\n;;\n# nothing\n", 0),
     (b"$a = { }", 1),
-    (b"$a = {\n\n 10.0.0.1\n /\n 8\n ,\n inet6\n (\n wm0\n )\n }", 1),
+    (
+        b"$a = {\n\n 10.0.0.1\n /\n 8\n ,\n inet6\n (\n wm0\n )\n }",
+        1,
+    ),
     (b"$a = inet4; $b = <t>; $c = 1-1; $d = ::/128", 4),
-    (b"group default { }\ngroup default { pass from any port 80 to port any }", 2),
+    (
+        b"group default { }\ngroup default { pass from any port 80 to port any }",
+        2,
+    ),
     (GATEWAY, 13),
 ];
 
@@ -125,13 +134,21 @@ const REFUSED: [(&[u8], u32, u32); 36] = [
     (b"group default { block to any port 1-70000 }", 1, 35),
     (b"group default { pass proto tcp flags S/SX all }", 1, 40),
     (b"group default { pass proto 256 all }", 1, 28),
-    (b"group default { pass proto icmp icmp-type 8 code 256 all }", 1, 50),
+    (
+        b"group default { pass proto icmp icmp-type 8 code 256 all }",
+        1,
+        50,
+    ),
 ];
 
 #[test]
 fn the_first_token_that_is_not_expected(rt: HostRuntime) {
     for (text, line, col) in REFUSED {
-        assert_eq!(rt; unexpected_at(rt.alloc(), text), Some((line, col)), "{text:?}");
+        assert_eq!(rt;
+            unexpected_at(rt.alloc(), text),
+            Some((line, col)),
+            "{text:?}"
+        );
     }
 }
 
@@ -143,11 +160,13 @@ fn a_definition_has_its_parts(rt: HostRuntime) {
     };
     assert_eq!(rt; (tree.end.line, tree.end.col, tree.end.at), (3, 5, 17));
     match tree.stmts.as_slice().first() {
-        Some(Stmt::Define {
-            var,
-            values: Values::List { list, .. },
-            span,
-        }) => {
+        Some(
+            Stmt::Define {
+                var,
+                values: Values::List { list, .. },
+                span,
+            },
+        ) => {
             assert!(rt; var.name.as_slice() == b"ab".as_slice());
             assert_eq!(rt; list.values.as_slice().len(), 2);
             assert_eq!(rt; (span.line, span.col, span.at, span.len), (2, 2, 2, 15));

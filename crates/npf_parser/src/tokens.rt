@@ -84,14 +84,20 @@ fn line_feeds(tokens: &[Token]) -> usize
     ensures len { result ≡ prefix_len is_line_feed tokens.now }
     ensures within { result ≤ length tokens.now }
 {
-    tokens.iter().take_while(|token| is_line_feed(token)).count()
+    tokens
+        .iter()
+        .take_while(|token| is_line_feed(token))
+        .count()
 }
 
 fn separators(tokens: &[Token]) -> usize
     ensures len { result ≡ prefix_len is_separator tokens.now }
     ensures within { result ≤ length tokens.now }
 {
-    tokens.iter().take_while(|token| is_separator(token)).count()
+    tokens
+        .iter()
+        .take_while(|token| is_separator(token))
+        .count()
 }
 
 /// The tokens behind line feeds, inside a value list, and else all of them.
@@ -122,7 +128,15 @@ pub(crate) fn behind_sign(sign: Sign, tokens: &[Token]) -> Option<&[Token]>
     ensures left { IfSome result (λ rest. length rest.now < length tokens.now) }
 {
     match tokens.split_first() {
-        Some((Token { kind: TokenKind::Sign(found), .. }, rest)) if found.text() == sign.text() => Some(rest),
+        Some(
+            (
+                Token {
+                    kind: TokenKind::Sign(found),
+                    ..
+                },
+                rest,
+            ),
+        ) if found.text() == sign.text() => Some(rest),
         _ => None,
     }
 }
@@ -134,7 +148,15 @@ pub(crate) fn behind_word<'a>(word: &str, tokens: &'a [Token]) -> Option<&'a [To
     ensures left { IfSome result (λ rest. length rest.now < length tokens.now) }
 {
     match tokens.split_first() {
-        Some((Token { kind: TokenKind::Word(text), .. }, rest)) if text.as_slice() == word.as_bytes() => Some(rest),
+        Some(
+            (
+                Token {
+                    kind: TokenKind::Word(text),
+                    ..
+                },
+                rest,
+            ),
+        ) if text.as_slice() == word.as_bytes() => Some(rest),
         _ => None,
     }
 }
@@ -146,7 +168,15 @@ pub(crate) fn behind_string<'a>(word: &str, tokens: &'a [Token]) -> Option<&'a [
     ensures left { IfSome result (λ rest. length rest.now < length tokens.now) }
 {
     match tokens.split_first() {
-        Some((Token { kind: TokenKind::Str(text), .. }, rest)) if text.as_slice() == word.as_bytes() => Some(rest),
+        Some(
+            (
+                Token {
+                    kind: TokenKind::Str(text),
+                    ..
+                },
+                rest,
+            ),
+        ) if text.as_slice() == word.as_bytes() => Some(rest),
         _ => None,
     }
 }

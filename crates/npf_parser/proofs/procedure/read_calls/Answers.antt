@@ -36,5 +36,5 @@ items-preserved c =
     let onward = block_goes_on call_of is_at_brace whole c.items.items.items (length c.args.tokens.now - length c.items.items.items) (length c.args.tokens.now - length c.push.new.self.items) c.items.rest.now c.skip_separators-next.result.now c.in_ok-call.call c.in_ok-call.behind.now c.items.invariant.so_far c.skip_separators-next.ensures.rest (sym c.if-is_at_brace.ensures) c.in_ok-call.ensures.read (sym c.if-not-ends_item.ensures) less in
     record {
       fits = omega (arith, c.skip_separators-next.ensures.left);
-      so_far = subst (λ items. whole ≡ all_onto items (block_list call_of is_at_brace (suc (length c.args.tokens.now - length c.push.new.self.items)) c.in_ok-call.behind.now)) (sym c.in_ok-push.ensures.items) onward
+      so_far = subst (λ items. whole ≡ all_onto items (block_list call_of is_at_brace (suc (length c.args.tokens.now - length c.push.new.self.items)) c.in_ok-call.behind.now)) (sym c.in_ok-push.ensures.items) onward;
     }

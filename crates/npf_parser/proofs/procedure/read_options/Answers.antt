@@ -25,7 +25,7 @@ items-preserved c =
     let onward = comma_goes_on opt_of false whole c.items.items.items (length c.args.tokens.now - length c.items.items.items) (length c.args.tokens.now - length c.push.new.self.items) c.items.rest.now c.in_ok-option.option c.in_ok-option.behind.now c.in-Some.next.now c.items.invariant.so_far c.in_ok-option.ensures.read comma less in
     record {
       fits = omega (arith, c.skip.ensures.left);
-      so_far = subst (λ items. whole ≡ all_onto items (comma_list opt_of false (suc (length c.args.tokens.now - length c.push.new.self.items)) c.in-Some.next.now)) (sym c.in_ok-push.ensures.items) onward
+      so_far = subst (λ items. whole ≡ all_onto items (comma_list opt_of false (suc (length c.args.tokens.now - length c.push.new.self.items)) c.in-Some.next.now)) (sym c.in_ok-push.ensures.items) onward;
     }
 
 pub returns-in-None-clause-read : goal.returns-in-None-clause-read

@@ -24,7 +24,7 @@ values-preserved c =
     let onward = comma_goes_on (listed_value_of c.args.role) true whole c.values.values.items (length c.args.tokens.now - length c.values.values.items) (length c.args.tokens.now - length c.push.new.self.items) c.values.rest.now c.in_ok-value.value c.in_ok-value.behind.now c.in-Some.next.now c.values.invariant.so_far c.in_ok-value.ensures.read comma less in
     record {
       fits = omega (arith, c.skip.ensures.left);
-      so_far = subst (λ items. whole ≡ all_onto items (comma_list (listed_value_of c.args.role) true (suc (length c.args.tokens.now - length c.push.new.self.items)) c.in-Some.next.now)) (sym c.in_ok-push.ensures.items) onward
+      so_far = subst (λ items. whole ≡ all_onto items (comma_list (listed_value_of c.args.role) true (suc (length c.args.tokens.now - length c.push.new.self.items)) c.in-Some.next.now)) (sym c.in_ok-push.ensures.items) onward;
     }
 
 pub returns-in-None-clause-read : goal.returns-in-None-clause-read

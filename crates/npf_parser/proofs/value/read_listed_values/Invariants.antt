@@ -7,7 +7,7 @@ use Rattle.npf_parser.proofs.value.read_listed_values.Given as goal
 abbrev pub invariant-values : goal.invariant-values
 invariant-values l = record {
   fits : length l.rest + length l.values.items ≤ length l.fn.tokens;
-  so_far : comma_list (listed_value_of l.role) true (suc (length l.fn.tokens)) l.fn.tokens ≡ all_onto l.values.items (comma_list (listed_value_of l.role) true (suc (length l.fn.tokens - length l.values.items)) l.rest)
+  so_far : comma_list (listed_value_of l.role) true (suc (length l.fn.tokens)) l.fn.tokens ≡ all_onto l.values.items (comma_list (listed_value_of l.role) true (suc (length l.fn.tokens - length l.values.items)) l.rest);
 }
 
 abbrev pub decreases-values : goal.decreases-values
