@@ -1,0 +1,4 @@
+pub mod Keys
+pub mod Laws
+pub mod Ports
+pub mod Translated
