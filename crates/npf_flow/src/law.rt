@@ -1,0 +1,28 @@
+ghost use Rattle.npf_flow.specs.Flows.{flow_law};
+
+use crate::flow::Flow;
+use crate::step::{FlowArg, FlowReply, flow_reply, next_flow};
+use crate::timeout;
+use npf_core::Law;
+use npf_types::Way;
+
+/// The law of the flows of connections.
+pub struct FlowLaw;
+
+impl Law for FlowLaw {
+    type State = Flow;
+
+    type Arg = FlowArg;
+
+    type Reply = FlowReply;
+
+    ghost meaning = { flow_law };
+
+    fn step(state: &Flow, way: Way, arg: &FlowArg) -> (Flow, FlowReply) {
+        (next_flow(state, way, *arg), flow_reply(state, way))
+    }
+
+    fn due(state: &Flow, now: u64) -> bool {
+        timeout::due(state, now)
+    }
+}
