@@ -1,0 +1,4 @@
+pub mod Connections
+pub mod RepresentLaw
+pub mod Represents
+pub mod Store

@@ -1,0 +1,8 @@
+use crate::phase::Phase;
+
+/// The last connection of a slot. Incarnations count from 1 per slot.
+#[derive(Clone, Copy, Debug, PartialEq, Eq)]
+pub struct Connection<S> {
+    pub inc: u64,
+    pub phase: Phase<S>,
+}
