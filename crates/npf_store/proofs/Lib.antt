@@ -1,0 +1,4 @@
+pub mod Keys
+pub mod NextClaim
+pub mod Pushed
+pub mod Representing

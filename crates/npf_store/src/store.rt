@@ -47,8 +47,8 @@ impl<S: Copy> Store<S> {
         ensures room { OnErr result (¬ IsFull self.old) }
         ensures same { OnErr result (IsSame self.old self.new) }
     {
-        let slot = self.connections.len() as u32;
-        if slot == self.slots {
+        let next = self.connections.len();
+        if next == self.slots as usize {
             return Ok(None);
         }
         let first = Connection {
@@ -56,7 +56,10 @@ impl<S: Copy> Store<S> {
             phase: Phase::Building,
         };
         self.connections.push(first)?;
-        Ok(Some(ConnId { slot, inc: 1 }))
+        Ok(Some(ConnId {
+            slot: next as u32,
+            inc: 1,
+        }))
     }
 
     /// Gives the connection the key, as its key of that way. Done, or Taken, with nothing changed, exactly where the key has a
