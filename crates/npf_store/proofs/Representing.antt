@@ -6,35 +6,35 @@ use Rattle.npf_store.specs.RepresentLaw.{OpensNew, StaysSame, ShowsPhases, Looks
 
 module _ (S : Type 0) where
   pub opens_new : OpensNew S
-  opens_new = first_of (search rules, grind (arith, common_steps))
+  opens_new = search rules
 
   pub stays_same : StaysSame S
-  stays_same = first_of (search rules, grind (arith, common_steps))
+  stays_same = search rules
 
   pub shows_phases : ShowsPhases S
-  shows_phases = first_of (search rules, grind (arith, common_steps))
+  shows_phases = search rules
 
   pub full_is_claimed : FullIsClaimed S
-  full_is_claimed = first_of (search rules, grind (arith, common_steps))
+  full_is_claimed = search rules
 
 module _ {S A R : Type 0} (m : Meaning S A R) where
   pub looks_up_each : LooksUpEach m
-  looks_up_each = first_of (search rules, grind (arith, common_steps))
+  looks_up_each = search rules
 
   pub claims_each : ClaimsEach m
-  claims_each = first_of (search rules, grind (arith, common_steps))
+  claims_each = search rules
 
   pub holds_each : HoldsEach m
-  holds_each = first_of (search rules, grind (arith, common_steps))
+  holds_each = search rules
 
   pub starts_each : StartsEach m
-  starts_each = first_of (search rules, grind (arith, common_steps))
+  starts_each = search rules
 
   pub steps_each : StepsEach m
-  steps_each = first_of (search rules, grind (arith, common_steps))
+  steps_each = search rules
 
   pub kills_each : KillsEach m
-  kills_each = first_of (search rules, grind (arith, common_steps))
+  kills_each = search rules
 
   pub unholds_each : UnholdsEach m
-  unholds_each = first_of (search rules, grind (arith, common_steps))
+  unholds_each = search rules
