@@ -1,5 +1,5 @@
 -- A claim of the slot behind all that were ever claimed.
-use Rattle.std.proofs.Common.{◌≡◌, ◌≢◌, ℕ, ◌+◌, ◌≤◌, ◌<◌, [], ◌∷◌, ◌++◌, length, vec_len, arith, refl, sym, ap, ◌∙◌}
+use Rattle.std.proofs.Common.{◌≡◌, ◌≢◌, ℕ, ◌+◌, [], ◌∷◌, ◌++◌, length, vec_len, arith, refl, sym, ap, ◌∙◌}
 use Rattle.npf_store.specs.declared.connection.Connection.{Connection}
 use Rattle.npf_store.specs.declared.phase.Phase.TheVariants.{Vacant, Building}
 use Rattle.npf_store.specs.declared.store.Store.{Store}

@@ -1,12 +1,11 @@
 -- A store that represents a state of the machine is answered as the machine is, and represents the state that the act leaves.
-use Rattle.std.proofs.Common.{◌≡◌, ℕ, ◌<◌, arith, rules}
-use Rattle.std.proofs.lemmas.Grind.{common_steps}
+use Rattle.std.proofs.Common.{rules}
 use Rattle.npf_core.specs.Meaning.{Meaning}
-use Rattle.npf_store.specs.RepresentLaw.{OpensNew, StaysSame, ShowsPhases, LooksUpEach, ClaimsEach, FullIsClaimed, HoldsEach, StartsEach, StepsEach, KillsEach, UnholdsEach}
+use Rattle.npf_store.specs.RepresentLaw.{NewIsOpening, StaysSame, ShowsPhases, ShowsBuilding, ShowsAlive, LookIsAct, ClaimIsAct, FullIsClaimed, HoldIsAct, StartIsAct, StepIsAct, KillIsAct, UnholdIsAct}
 
 module _ (S : Type 0) where
-  pub opens_new : OpensNew S
-  opens_new = search rules
+  pub new_is_opening : NewIsOpening S
+  new_is_opening = search rules
 
   pub stays_same : StaysSame S
   stays_same = search rules
@@ -14,27 +13,33 @@ module _ (S : Type 0) where
   pub shows_phases : ShowsPhases S
   shows_phases = search rules
 
+  pub shows_building : ShowsBuilding S
+  shows_building = search rules
+
+  pub shows_alive : ShowsAlive S
+  shows_alive = search rules
+
   pub full_is_claimed : FullIsClaimed S
   full_is_claimed = search rules
 
 module _ {S A R : Type 0} (m : Meaning S A R) where
-  pub looks_up_each : LooksUpEach m
-  looks_up_each = search rules
+  pub look_is_act : LookIsAct m
+  look_is_act = search rules
 
-  pub claims_each : ClaimsEach m
-  claims_each = search rules
+  pub claim_is_act : ClaimIsAct m
+  claim_is_act = search rules
 
-  pub holds_each : HoldsEach m
-  holds_each = search rules
+  pub hold_is_act : HoldIsAct m
+  hold_is_act = search rules
 
-  pub starts_each : StartsEach m
-  starts_each = search rules
+  pub start_is_act : StartIsAct m
+  start_is_act = search rules
 
-  pub steps_each : StepsEach m
-  steps_each = search rules
+  pub step_is_act : StepIsAct m
+  step_is_act = search rules
 
-  pub kills_each : KillsEach m
-  kills_each = search rules
+  pub kill_is_act : KillIsAct m
+  kill_is_act = search rules
 
-  pub unholds_each : UnholdsEach m
-  unholds_each = search rules
+  pub unhold_is_act : UnholdIsAct m
+  unhold_is_act = search rules

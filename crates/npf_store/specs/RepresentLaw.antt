@@ -1,6 +1,6 @@
 -- The calls of a store are the acts of the machine: where the store represents a state, it is answered as the machine is, and
 -- represents the state that the act leaves.
-use Rattle.std.specs.Prelude.{◌≡◌, ℕ, ◌<◌, Option}
+use Rattle.std.specs.Prelude.{◌≡◌, ℕ, ◌<◌}
 use Rattle.npf_types.specs.declared.connection.Key.{Key}
 use Rattle.npf_types.specs.declared.connection.Way.{Way}
 use Rattle.npf_core.specs.declared.act.Act.TheVariants.{Claim, Look, Hold, Start, Step, Kill, Unhold}
@@ -14,13 +14,15 @@ use Rattle.npf_core.specs.Machine.{Machine, opening, stage_of, IsClaimed, IsAliv
 use Rattle.npf_core.specs.Meaning.{Meaning}
 use Rattle.npf_core.specs.NextState.{after_act}
 use Rattle.npf_core.specs.Replies.{claimed_id, held_by, step_answer}
+use Rattle.npf_store.specs.declared.phase.Phase.{Phase}
 use Rattle.npf_store.specs.declared.store.Store.{Store}
 use Rattle.npf_store.specs.Represents.{Represents, phase_in}
+use Rattle.npf_store.specs.Store as calls
 use Rattle.npf_store.specs.Store.{holder_of, phase_of, IsNew, IsSame, Claims, IsFull, AnswersHold, Starts, AnswersStep, Kills, Unholds}
 
 -- a new store is in the opening state
-abbrev pub OpensNew : (S : Type 0) → Type 0
-OpensNew S = (slots : ℕ) (store : Store S) → IsNew slots store → Represents slots store opening
+abbrev pub NewIsOpening : (S : Type 0) → Type 0
+NewIsOpening S = (slots : ℕ) (store : Store S) → IsNew slots store → Represents slots store opening
 
 -- a store as it was represents what it did
 abbrev pub StaysSame : (S : Type 0) → Type 0
@@ -30,13 +32,26 @@ StaysSame S = (slots : ℕ) (old new : Store S) (k : Machine S) → Represents s
 abbrev pub ShowsPhases : (S : Type 0) → Type 0
 ShowsPhases S = (slots : ℕ) (store : Store S) (k : Machine S) (id : ConnId) → Represents slots store k → phase_of store id ≡ phase_in (stage_of k id)
 
+-- so a connection that is Building may be started, whichever seat builds it
+abbrev pub ShowsBuilding : (S : Type 0) → Type 0
+ShowsBuilding S =
+    (slots : ℕ) (store : Store S) (k : Machine S) (id : ConnId) (seat : ℕ) → Represents slots store k →
+    stage_of k id ≡ Building seat → phase_of store id ≡ Phase.Building
+
+-- and one that is Building or Live may be killed
+abbrev pub ShowsAlive : (S : Type 0) → Type 0
+ShowsAlive S =
+    (slots : ℕ) (store : Store S) (k : Machine S) (id : ConnId) → Represents slots store k →
+    IsAlive (stage_of k id) → calls.IsAlive (phase_of store id)
+
 -- a look-up finds the key's holder, and leaves the state
 pub record LooksUp {S A R : Type 0} (m : Meaning S A R) (slots : ℕ) (store : Store S) (k : Machine S) (key : Key) : Type 0 where
   pub found : holder_of store key ≡ k.holder key
   pub goes_on : (seat packet : ℕ) → Represents slots store (after_act m k seat (Look packet key))
 
-abbrev pub LooksUpEach : {S A R : Type 0} → Meaning S A R → Type 0
-LooksUpEach {S} m = (slots : ℕ) (store : Store S) (k : Machine S) (key : Key) → Represents slots store k → LooksUp m slots store k key
+-- so it is with each look-up
+abbrev pub LookIsAct : {S A R : Type 0} → Meaning S A R → Type 0
+LookIsAct {S} m = (slots : ℕ) (store : Store S) (k : Machine S) (key : Key) → Represents slots store k → LooksUp m slots store k key
 
 -- a claim is allowed, and gives the machine's identity in the lowest slot that may be claimed
 pub record IsClaim {S A R : Type 0} (m : Meaning S A R) (slots : ℕ) (k : Machine S) (id : ConnId) (new : Store S) : Type 0 where
@@ -45,8 +60,9 @@ pub record IsClaim {S A R : Type 0} (m : Meaning S A R) (slots : ℕ) (k : Machi
   pub lowest : (s : ℕ) → s < id.slot → IsClaimed (k.slot s).stage
   pub goes_on : (seat packet : ℕ) → Represents slots new (after_act m k seat (Claim packet id.slot))
 
-abbrev pub ClaimsEach : {S A R : Type 0} → Meaning S A R → Type 0
-ClaimsEach {S} m = (slots : ℕ) (old new : Store S) (k : Machine S) (id : ConnId) → Represents slots old k → Claims old new id → IsClaim m slots k id new
+-- so it is with each claim
+abbrev pub ClaimIsAct : {S A R : Type 0} → Meaning S A R → Type 0
+ClaimIsAct {S} m = (slots : ℕ) (old new : Store S) (k : Machine S) (id : ConnId) → Represents slots old k → Claims old new id → IsClaim m slots k id new
 
 -- where a store is full, each slot of the machine is claimed
 abbrev pub FullIsClaimed : (S : Type 0) → Type 0
@@ -57,30 +73,32 @@ pub record IsHold {S A R : Type 0} (m : Meaning S A R) (slots : ℕ) (k : Machin
   pub replied : held ≡ held_by (k.holder key)
   pub goes_on : (seat : ℕ) → Represents slots new (after_act m k seat (Hold id key way))
 
-abbrev pub HoldsEach : {S A R : Type 0} → Meaning S A R → Type 0
-HoldsEach {S} m =
+-- so it is with each hold
+abbrev pub HoldIsAct : {S A R : Type 0} → Meaning S A R → Type 0
+HoldIsAct {S} m =
     (slots : ℕ) (old new : Store S) (k : Machine S) (id : ConnId) (key : Key) (way : Way) (held : Held) →
     Represents slots old k → AnswersHold old new key (record { id = id; way = way }) held → IsHold m slots k id key way held new
 
--- a start of a connection that is Building
-abbrev pub StartsEach : {S A R : Type 0} → Meaning S A R → Type 0
-StartsEach {S} m =
+-- a start of a connection that is Building under the seat goes on as the machine does
+abbrev pub StartIsAct : {S A R : Type 0} → Meaning S A R → Type 0
+StartIsAct {S} m =
     (slots : ℕ) (old new : Store S) (k : Machine S) (id : ConnId) (init : S) (seat : ℕ) → Represents slots old k →
     stage_of k id ≡ Building seat → Starts old new id init → (packet : ℕ) → Represents slots new (after_act m k seat (Start id packet init))
 
--- a step of a claimed connection is answered by its stage
+-- a step is answered by the law where the connection is Live, and NotLive where it isn't
 pub record IsStep {S A R : Type 0} (m : Meaning S A R) (slots : ℕ) (k : Machine S) (id : ConnId) (way : Way) (arg : A) (reply : Stepped R) (new : Store S) : Type 0 where
   pub replied : reply ≡ step_answer m way arg (stage_of k id)
   pub goes_on : (seat packet : ℕ) → Represents slots new (after_act m k seat (Step packet id way arg))
 
-abbrev pub StepsEach : {S A R : Type 0} → Meaning S A R → Type 0
-StepsEach {S} {A} {R} m =
+-- so it is with each step of a claimed connection
+abbrev pub StepIsAct : {S A R : Type 0} → Meaning S A R → Type 0
+StepIsAct {S} {A} {R} m =
     (slots : ℕ) (old new : Store S) (k : Machine S) (id : ConnId) (way : Way) (arg : A) (reply : Stepped R) →
     Represents slots old k → IsClaimed (stage_of k id) → AnswersStep m old new id way arg reply → IsStep m slots k id way arg reply new
 
--- a kill of a connection that is Building or Live, whyever
-abbrev pub KillsEach : {S A R : Type 0} → Meaning S A R → Type 0
-KillsEach {S} m =
+-- a kill of a connection that is Building or Live does so, whatever the cause
+abbrev pub KillIsAct : {S A R : Type 0} → Meaning S A R → Type 0
+KillIsAct {S} m =
     (slots : ℕ) (old new : Store S) (k : Machine S) (id : ConnId) → Represents slots old k → IsAlive (stage_of k id) →
     Kills old new id → (seat : ℕ) (why : Why) → Represents slots new (after_act m k seat (Kill id why))
 
@@ -89,8 +107,8 @@ pub record HoldsOnly {S : Type 0} (k : Machine S) (id : ConnId) (way : Way) (key
   pub held : Holds k id way key
   pub only : (other : Key) → Holds k id way other → other ≡ key
 
--- an unhold of the one key that a connection holds that way
-abbrev pub UnholdsEach : {S A R : Type 0} → Meaning S A R → Type 0
-UnholdsEach {S} m =
+-- an unhold of the one key that a connection holds that way does so
+abbrev pub UnholdIsAct : {S A R : Type 0} → Meaning S A R → Type 0
+UnholdIsAct {S} m =
     (slots : ℕ) (old new : Store S) (k : Machine S) (id : ConnId) (way : Way) (key : Key) → Represents slots old k →
     HoldsOnly k id way key → Unholds old new key → (seat : ℕ) → Represents slots new (after_act m k seat (Unhold id way))

@@ -1,4 +1,3 @@
-ghost use Rattle.std.specs.Prelude.{◌≡◌};
 ghost use Rattle.npf_store.specs.Store.{AnswersStep};
 
 use crate::phase::Phase;

@@ -1,4 +1,4 @@
-ghost use Rattle.std.specs.Prelude.{◌≡◌, ◌≢◌, ◌<◌, ◌≤◌, vec_len, IfOk, OnErr};
+ghost use Rattle.std.specs.Prelude.{◌≡◌, ◌≢◌, ◌≤◌, vec_len, IfOk, OnErr};
 ghost use Rattle.npf_store.specs.Connections.{AreClaimed};
 
 use crate::connection::Connection;
@@ -20,7 +20,7 @@ pub struct Store<S> {
 }
 
 impl<S: Copy> Store<S> {
-    ghost use Rattle.npf_store.specs.Store.{slots_of, holder_of, phase_of, IsNew, IsSame, AnswersClaim, IsFull, AnswersHold, Starts, IsAlive, Kills, Unholds, Puts};
+    ghost use Rattle.npf_store.specs.Store.{holder_of, phase_of, IsNew, IsSame, AnswersClaim, IsFull, AnswersHold, Starts, IsAlive, Kills, Unholds, Puts};
 
     /// A store of so many slots of which none is claimed. It takes memory only as connections are claimed and keys are held.
     pub fn new(alloc: Global, slots: u32) -> Store<S>

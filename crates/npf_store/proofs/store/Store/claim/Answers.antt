@@ -1,4 +1,4 @@
-use Rattle.std.proofs.Common.{◌≡◌, ◌≢◌, vec_len, arith, sym, ◌∙◌, refl}
+use Rattle.std.proofs.Common.{arith, ◌∙◌, refl}
 use Rattle.std.proofs.lemmas.Result.{err_from_is_err_and}
 use Rattle.npf_store.specs.Store.{IsFull}
 use Rattle.npf_store.proofs.Pushed.{AreClaimed-either}
