@@ -51,6 +51,7 @@ impl<S: Copy> Store<S> {
         if next == self.slots as usize {
             return Ok(None);
         }
+        // No slot is freed, so the claimed ones are the first ones, and this is the first connection of the next.
         let first = Connection {
             inc: 1,
             phase: Phase::Building,
