@@ -6,10 +6,10 @@ use Rattle.npf_types.specs.declared.rule.Decision.TheVariants as Decides
 use Rattle.npf_types.specs.declared.rule.Return.TheVariants.{Nothing}
 use Rattle.npf_ctl.specs.declared.token.Token.{Token}
 use Rattle.npf_ctl.specs.declared.token.Token.TheVariants.{Separator, OpenBrace, CloseBrace, Slash, Number, Address, Word}
-use Rattle.npf_ctl.specs.declared.token.Word.TheVariants.{Group, Default, Pass, Block, Final, All, From, To, Any}
-use Rattle.npf_ctl.specs.Grammar.{IsEnds, any, host, prefix, IsFilter, all, from, between, to, IsMatch, final, plain, IsRule, passes, blocks, written, ends_item}
+use Rattle.npf_ctl.specs.declared.token.Word.TheVariants.{Group, Default, Pass, Block, Final, All, From, To, Any, Stateful, Proto, Udp}
+use Rattle.npf_ctl.specs.Grammar.{IsEnds, any, host, prefix, IsFilter, all, from, between, to, IsMatch, final, plain, IsUdpMatch, udp_final, udp_plain, IsRule, passes, blocks, keeps, written, written_udp, ends_item}
 use Rattle.npf_ctl.specs.Written.{Ends, Written, block_v4}
-use Rattle.npf_ctl.specs.Phrases.{Phrase, and_then, length_of, block_from, ends_of, destination_of, filter_of, decided, match_of, rule_of}
+use Rattle.npf_ctl.specs.Phrases.{Phrase, and_then, length_of, block_from, ends_of, destination_of, filter_of, decided, match_of, udp_of, stateful_of, pass_of, rule_of}
 
 -- two phrases that are the same say the same and leave the same
 pub same_phrase : {A : Type 0} (a : A) (us : List Token) (b : A) (vs : List Token) → ◌≡◌ {A = Phrase A} (Some (a, us)) (Some (b, vs)) → (a ≡ b) × (us ≡ vs)
@@ -83,10 +83,29 @@ match_sound decision ts rule us h =
     let p = decided_sound decision false ts rule us h in
     (false, p.0, p.1, p.2, plain ts p.0 p.1 us p.3)
 
-pub rule_sound : (ts : List Token) (rule : Written) (us : List Token) → rule_of ts ≡ Some (rule, us) → IsRule ts rule us
-rule_sound (Word Pass ∷ ts) rule us h =
+udp_sound : (last : Bool) (ts : List Token) (rule : Written) (us : List Token) → udp_of last ts ≡ Some (rule, us) → (vs : List Token) × (e : Ends) × (f : Ends) × (ts ≡ Word Proto ∷ Word Udp ∷ vs) × (rule ≡ written_udp last e f) × IsFilter vs e f us
+udp_sound last (Word Proto ∷ Word Udp ∷ ts) rule us h =
+    let p = and_then_some (filter_of ts) (λ ends ws. Some (written_udp last ends.0 ends.1, ws)) rule us h in
+    let same = same_phrase (written_udp last p.0.0 p.0.1) p.1 rule us p.3 in
+    (ts, p.0.0, p.0.1, refl, sym same.0, subst (IsFilter ts p.0.0 p.0.1) same.1 (filter_sound ts p.0 p.1 p.2))
+udp_sound last _ rule us h = cc
+
+stateful_sound : (ts : List Token) (rule : Written) (us : List Token) → stateful_of ts ≡ Some (rule, us) → IsRule (Word Pass ∷ Word Stateful ∷ ts) rule us
+stateful_sound (Word Final ∷ ts) rule us h =
+    let p = udp_sound true ts rule us h in
+    subst (λ r. IsRule (Word Pass ∷ Word Stateful ∷ Word Final ∷ ts) r us) (sym p.4) (subst (λ vs. IsRule (Word Pass ∷ Word Stateful ∷ Word Final ∷ vs) (written_udp true p.1 p.2) us) (sym p.3) (keeps (Word Final ∷ Word Proto ∷ Word Udp ∷ p.0) true p.1 p.2 us (udp_final p.0 p.1 p.2 us p.5)))
+stateful_sound ts rule us h =
+    let p = udp_sound false ts rule us h in
+    subst (λ r. IsRule (Word Pass ∷ Word Stateful ∷ ts) r us) (sym p.4) (subst (λ vs. IsRule (Word Pass ∷ Word Stateful ∷ vs) (written_udp false p.1 p.2) us) (sym p.3) (keeps (Word Proto ∷ Word Udp ∷ p.0) false p.1 p.2 us (udp_plain p.0 p.1 p.2 us p.5)))
+
+pass_sound : (ts : List Token) (rule : Written) (us : List Token) → pass_of ts ≡ Some (rule, us) → IsRule (Word Pass ∷ ts) rule us
+pass_sound (Word Stateful ∷ ts) rule us h = stateful_sound ts rule us h
+pass_sound ts rule us h =
     let p = match_sound Decides.Pass ts rule us h in
     subst (λ r. IsRule (Word Pass ∷ ts) r us) (sym p.3) (passes ts p.0 p.1 p.2 us p.4)
+
+pub rule_sound : (ts : List Token) (rule : Written) (us : List Token) → rule_of ts ≡ Some (rule, us) → IsRule ts rule us
+rule_sound (Word Pass ∷ ts) rule us h = pass_sound ts rule us h
 rule_sound (Word Block ∷ ts) rule us h =
     let p = match_sound (Decides.Block Nothing) ts rule us h in
     subst (λ r. IsRule (Word Block ∷ ts) r us) (sym p.3) (blocks ts p.0 p.1 p.2 us p.4)
@@ -154,9 +173,22 @@ match_complete : (decision : Decision) (ts : List Token) (last : Bool) (e f : En
 match_complete decision _ _ _ _ _ (final ts e f rest is) h = decided_complete decision true ts e f rest is h
 match_complete decision _ _ _ _ _ (plain ts e f rest is) h = plain_match decision ts e f rest is ∙ decided_complete decision false ts e f rest is h
 
+-- a match does not begin with `stateful`
+plain_pass : (ts : List Token) (last : Bool) (e f : Ends) (rest : List Token) → IsMatch ts last e f rest → pass_of ts ≡ match_of Decides.Pass ts
+plain_pass _ _ _ _ _ (final ts e f rest is) = refl
+plain_pass _ _ _ _ _ (plain _ _ _ _ (all rest)) = refl
+plain_pass _ _ _ _ _ (plain _ _ _ _ (from ts e rest is)) = refl
+plain_pass _ _ _ _ _ (plain _ _ _ _ (between ts e us f rest is then)) = refl
+plain_pass _ _ _ _ _ (plain _ _ _ _ (to ts f rest is)) = refl
+
+udp_complete : (ts : List Token) (last : Bool) (e f : Ends) (rest : List Token) → IsUdpMatch ts last e f rest → IsTrue (ends_item rest) → stateful_of ts ≡ Some (written_udp last e f, rest)
+udp_complete _ _ _ _ _ (udp_final ts e f rest is) h = ap (λ p. and_then p (λ ends ws. Some (written_udp true ends.0 ends.1, ws))) (filter_complete ts e f rest is h)
+udp_complete _ _ _ _ _ (udp_plain ts e f rest is) h = ap (λ p. and_then p (λ ends ws. Some (written_udp false ends.0 ends.1, ws))) (filter_complete ts e f rest is h)
+
 pub rule_complete : (ts : List Token) (rule : Written) (rest : List Token) → IsRule ts rule rest → IsTrue (ends_item rest) → rule_of ts ≡ Some (rule, rest)
-rule_complete _ _ _ (passes ts last e f rest is) h = match_complete Decides.Pass ts last e f rest is h
+rule_complete _ _ _ (passes ts last e f rest is) h = plain_pass ts last e f rest is ∙ match_complete Decides.Pass ts last e f rest is h
 rule_complete _ _ _ (blocks ts last e f rest is) h = match_complete (Decides.Block Nothing) ts last e f rest is h
+rule_complete _ _ _ (keeps ts last e f rest is) h = udp_complete ts last e f rest is h
 
 -- each phrase has a token at least
 ends_shorter : (ts : List Token) (e : Ends) (rest : List Token) → IsEnds ts e rest → length rest < length ts
@@ -174,6 +206,11 @@ match_shorter : (ts : List Token) (last : Bool) (e f : Ends) (rest : List Token)
 match_shorter _ _ _ _ _ (final ts e f rest is) = omega (arith, filter_shorter ts e f rest is)
 match_shorter _ _ _ _ _ (plain ts e f rest is) = filter_shorter ts e f rest is
 
+udp_shorter : (ts : List Token) (last : Bool) (e f : Ends) (rest : List Token) → IsUdpMatch ts last e f rest → length rest < length ts
+udp_shorter _ _ _ _ _ (udp_final ts e f rest is) = omega (arith, filter_shorter ts e f rest is)
+udp_shorter _ _ _ _ _ (udp_plain ts e f rest is) = omega (arith, filter_shorter ts e f rest is)
+
 pub rule_shorter : (ts : List Token) (rule : Written) (rest : List Token) → IsRule ts rule rest → length rest < length ts
 rule_shorter _ _ _ (passes ts last e f rest is) = omega (arith, match_shorter ts last e f rest is)
 rule_shorter _ _ _ (blocks ts last e f rest is) = omega (arith, match_shorter ts last e f rest is)
+rule_shorter _ _ _ (keeps ts last e f rest is) = omega (arith, udp_shorter ts last e f rest is)

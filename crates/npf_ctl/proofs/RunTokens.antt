@@ -48,13 +48,15 @@ spelled text =
     let second = slice_index text 1 in
     if first == 103 then Words.Group
     else (if first == 100 then Words.Default
-    else (if first == 112 then Words.Pass
+    else (if first == 115 then Words.Stateful
+    else (if first == 117 then Words.Udp
+    else (if first == 112 then (if second == 97 then Words.Pass else Words.Proto)
     else (if first == 98 then Words.Block
     else (if first == 116 then Words.To
     else (if second == 105 then Words.Final
     else (if second == 108 then Words.All
     else (if second == 114 then Words.From
-    else Words.Any)))))))
+    else Words.Any)))))))))
 
 spelled-word_text : (w : Word) → spelled (word_text w) ≡ w
 spelled-word_text Words.Group = refl
@@ -66,6 +68,9 @@ spelled-word_text Words.All = refl
 spelled-word_text Words.From = refl
 spelled-word_text Words.To = refl
 spelled-word_text Words.Any = refl
+spelled-word_text Words.Stateful = refl
+spelled-word_text Words.Proto = refl
+spelled-word_text Words.Udp = refl
 
 -- two words that are spelled alike are one
 pub word_text_injective : (v w : Word) → word_text v ≡ word_text w → v ≡ w

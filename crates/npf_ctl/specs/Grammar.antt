@@ -6,9 +6,10 @@ use Rattle.npf_types.specs.declared.rule.Decision.{Decision}
 use Rattle.npf_types.specs.declared.rule.Decision.TheVariants as Decides
 use Rattle.npf_types.specs.declared.rule.Return.TheVariants.{Nothing}
 use Rattle.npf_ctl.specs.declared.rule.Rule.{Rule}
+use Rattle.npf_ctl.specs.declared.rule.StateOpt.TheVariants.{Not, OnInterface}
 use Rattle.npf_ctl.specs.declared.token.Token.{Token}
 use Rattle.npf_ctl.specs.declared.token.Token.TheVariants.{Separator, OpenBrace, CloseBrace, Slash, Number, Address, Word}
-use Rattle.npf_ctl.specs.declared.token.Word.TheVariants.{Group, Default, Pass, Block, Final, All, From, To, Any}
+use Rattle.npf_ctl.specs.declared.token.Word.TheVariants.{Group, Default, Pass, Block, Final, All, From, To, Any, Stateful, Proto, Udp}
 use Rattle.npf_ctl.specs.Tokens.{Spells, behind}
 use Rattle.npf_ctl.specs.Written.{Ends, Written, block_v4, written_of}
 
@@ -26,17 +27,27 @@ pub data IsFilter : List Token → Ends → Ends → List Token → Type 0 where
   to : (ts : List Token) (f : Ends) (rest : List Token) → IsEnds ts f rest → IsFilter (Word To ∷ ts) None f rest
 
 abbrev pub written : Decision → Bool → Ends → Ends → Written
-written decision last e f = record { decision = decision; last = last; from = e; to = f }
+written decision last e f = record { decision = decision; state = Not; last = last; proto = None; from = e; to = f }
+
+-- a rule that passes UDP (protocol 17) and keeps it
+abbrev pub written_udp : Bool → Ends → Ends → Written
+written_udp last e f = record { decision = Decides.Pass; state = OnInterface; last = last; proto = Some 17; from = e; to = f }
 
 -- [ "final" ] filter
 pub data IsMatch : List Token → Bool → Ends → Ends → List Token → Type 0 where
   final : (ts : List Token) (e f : Ends) (rest : List Token) → IsFilter ts e f rest → IsMatch (Word Final ∷ ts) true e f rest
   plain : (ts : List Token) (e f : Ends) (rest : List Token) → IsFilter ts e f rest → IsMatch ts false e f rest
 
--- rule = ( "block" | "pass" ) [ "final" ] filter
+-- [ "final" ] "proto" "udp" filter
+pub data IsUdpMatch : List Token → Bool → Ends → Ends → List Token → Type 0 where
+  udp_final : (ts : List Token) (e f : Ends) (rest : List Token) → IsFilter ts e f rest → IsUdpMatch (Word Final ∷ Word Proto ∷ Word Udp ∷ ts) true e f rest
+  udp_plain : (ts : List Token) (e f : Ends) (rest : List Token) → IsFilter ts e f rest → IsUdpMatch (Word Proto ∷ Word Udp ∷ ts) false e f rest
+
+-- rule = ( "block" | "pass" ) [ "final" ] filter | "pass" "stateful" [ "final" ] "proto" "udp" filter
 pub data IsRule : List Token → Written → List Token → Type 0 where
   passes : (ts : List Token) (last : Bool) (e f : Ends) (rest : List Token) → IsMatch ts last e f rest → IsRule (Word Pass ∷ ts) (written Decides.Pass last e f) rest
   blocks : (ts : List Token) (last : Bool) (e f : Ends) (rest : List Token) → IsMatch ts last e f rest → IsRule (Word Block ∷ ts) (written (Decides.Block Nothing) last e f) rest
+  keeps : (ts : List Token) (last : Bool) (e f : Ends) (rest : List Token) → IsUdpMatch ts last e f rest → IsRule (Word Pass ∷ Word Stateful ∷ ts) (written_udp last e f) rest
 
 -- an item ends at a separator or at the closing brace
 abbrev pub ends_item : List Token → Bool

@@ -6,9 +6,9 @@ use Rattle.npf_types.specs.declared.rule.Decision.TheVariants as Decides
 use Rattle.npf_types.specs.declared.rule.Return.TheVariants.{Nothing}
 use Rattle.npf_ctl.specs.declared.token.Token.{Token}
 use Rattle.npf_ctl.specs.declared.token.Token.TheVariants.{Slash, Number, Address, Word}
-use Rattle.npf_ctl.specs.declared.token.Word.TheVariants.{Pass, Block, Final, All, From, To, Any}
+use Rattle.npf_ctl.specs.declared.token.Word.TheVariants.{Pass, Block, Final, All, From, To, Any, Stateful, Proto, Udp}
 use Rattle.npf_ctl.specs.Written.{Ends, Written, block_v4}
-use Rattle.npf_ctl.specs.Grammar.{written}
+use Rattle.npf_ctl.specs.Grammar.{written, written_udp}
 
 abbrev pub Phrase : Type 0 → Type 0
 Phrase A = Option (A × List Token)
@@ -47,7 +47,19 @@ abbrev pub match_of : Decision → List Token → Phrase Written
 match_of decision (Word Final ∷ ts) = decided decision true ts
 match_of decision ts = decided decision false ts
 
+abbrev pub udp_of : Bool → List Token → Phrase Written
+udp_of last (Word Proto ∷ Word Udp ∷ ts) = and_then (filter_of ts) (λ ends us. Some (written_udp last ends.0 ends.1, us))
+udp_of last _ = None
+
+abbrev pub stateful_of : List Token → Phrase Written
+stateful_of (Word Final ∷ ts) = udp_of true ts
+stateful_of ts = udp_of false ts
+
+abbrev pub pass_of : List Token → Phrase Written
+pass_of (Word Stateful ∷ ts) = stateful_of ts
+pass_of ts = match_of Decides.Pass ts
+
 abbrev pub rule_of : List Token → Phrase Written
-rule_of (Word Pass ∷ ts) = match_of Decides.Pass ts
+rule_of (Word Pass ∷ ts) = pass_of ts
 rule_of (Word Block ∷ ts) = match_of (Decides.Block Nothing) ts
 rule_of _ = None

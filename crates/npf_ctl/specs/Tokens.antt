@@ -35,6 +35,9 @@ word_text Word.All = codes "all"
 word_text Word.From = codes "from"
 word_text Word.To = codes "to"
 word_text Word.Any = codes "any"
+word_text Word.Stateful = codes "stateful"
+word_text Word.Proto = codes "proto"
+word_text Word.Udp = codes "udp"
 
 -- decimal digits whose number fits in 32 bits
 pub record IsNumber (run : List ℕ) (n : ℕ) : Type 0 where

@@ -1,5 +1,5 @@
 -- What the rules say of a packet.
-use Rattle.std.specs.Prelude.{ℕ, ◌+◌, Bool, true, ◌&&◌, if◌then◌else◌, Option, Some, None, unwrap_or, List, [], ◌∷◌}
+use Rattle.std.specs.Prelude.{ℕ, ◌+◌, Bool, true, ◌==◌, ◌&&◌, if◌then◌else◌, Option, Some, None, unwrap_or, List, [], ◌∷◌}
 use Rattle.npf_types.specs.declared.address.Addr.{Addr}
 use Rattle.npf_types.specs.declared.address.Prefix.{Prefix}
 use Rattle.npf_types.specs.declared.packet.Facts.{Facts}
@@ -11,9 +11,14 @@ abbrev pub lies_in : Option Prefix → Addr → Bool
 lies_in None addr = true
 lies_in (Some prefix) addr = shares_first prefix.len prefix.addr addr
 
--- the rule describes the packet: its source lies in `from` and its destination in `to`
+-- the packet has this protocol, or any protocol does
+abbrev pub has_proto : Option ℕ → ℕ → Bool
+has_proto None proto = true
+has_proto (Some number) proto = number == proto
+
+-- the rule describes the packet: it has the protocol, its source lies in `from` and its destination in `to`
 abbrev pub describes : Rule → Facts → Bool
-describes rule facts = lies_in rule.from facts.src && lies_in rule.to facts.dst
+describes rule facts = has_proto rule.proto facts.proto && lies_in rule.from facts.src && lies_in rule.to facts.dst
 
 -- Of rules numbered from `first` on, the one that decides: a match with `final` at once, and else the last match.
 abbrev pub verdict : ℕ → List Rule → Facts → Option ℕ

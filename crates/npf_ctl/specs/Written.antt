@@ -6,6 +6,7 @@ use Rattle.npf_types.specs.declared.address.Addr.TheVariants.{V4}
 use Rattle.npf_types.specs.declared.address.Prefix.{Prefix}
 use Rattle.npf_types.specs.declared.rule.Decision.{Decision}
 use Rattle.npf_types.specs.Address.{cleared}
+use Rattle.npf_ctl.specs.declared.rule.StateOpt.{StateOpt}
 use Rattle.npf_ctl.specs.declared.rule.Rule.{Rule}
 
 -- an address block, by its address with host bits cleared and the number of bits that count
@@ -23,7 +24,9 @@ Ends = Option Block
 
 pub record Written : Type 0 where
   pub decision : Decision
+  pub state : StateOpt
   pub last : Bool
+  pub proto : Option ℕ
   pub from : Ends
   pub to : Ends
 
@@ -34,7 +37,9 @@ block_of prefix = record { addr = prefix.addr; len = prefix.len }
 abbrev pub written_of : Rule → Written
 written_of rule = record {
   decision = rule.decision;
+  state = rule.state;
   last = rule.last;
+  proto = rule.proto;
   from = option_map block_of rule.from;
   to = option_map block_of rule.to;
 }

@@ -5,16 +5,19 @@ ghost use Rattle.std.specs.Option.{option_map};
 ghost use Rattle.std.specs.List.{list_all, prefix_len};
 ghost use Rattle.npf_ctl.specs.declared.token.Token.{Token as TokenType};
 ghost use Rattle.npf_ctl.specs.Grammar.{AreItems, IsFile, is_separator, ends_item};
-ghost use Rattle.npf_ctl.specs.Phrases.{ends_of, block_from, length_of, filter_of, destination_of, match_of, decided, rule_of};
+ghost use Rattle.npf_ctl.specs.Phrases.{ends_of, block_from, length_of, filter_of, destination_of, match_of, decided, rule_of, pass_of, stateful_of, udp_of};
 ghost use Rattle.npf_ctl.specs.PhraseViews.{ends_phrase, filter_phrase, rule_phrase, IsItem};
 ghost use Rattle.npf_ctl.specs.Reading.{IsReading};
 ghost use Rattle.npf_ctl.specs.Tokens.{behind};
 ghost use Rattle.npf_ctl.specs.Written.{written_of, block_of};
 
-use crate::rule::Rule;
+use crate::rule::{Rule, StateOpt};
 use crate::token::{Token, Word};
 use npf_types::{Addr, Decision, NoMemory, Prefix, Return};
 use std::alloc::Global;
+
+/// The protocol number of UDP (RFC 768).
+const UDP: u8 = 17;
 
 /// Where a rule's packets come from and go to, None for any.
 #[derive(Clone, Copy)]
@@ -105,11 +108,49 @@ fn read_rule(tokens: &[Token]) -> Option<(Rule, &[Token])>
     ensures { rule_phrase result ≡ rule_of tokens.now }
 {
     match tokens.split_first() {
-        Some((Token::Word(Word::Pass), rest)) => read_match(Decision::Pass, rest),
+        Some((Token::Word(Word::Pass), rest)) => read_pass(rest),
         Some((Token::Word(Word::Block), rest)) => read_match(
             Decision::Block(Return::Nothing),
             rest,
         ),
+        _ => None,
+    }
+}
+
+fn read_pass(tokens: &[Token]) -> Option<(Rule, &[Token])>
+    ensures { rule_phrase result ≡ pass_of tokens.now }
+{
+    match tokens.split_first() {
+        Some((Token::Word(Word::Stateful), rest)) => read_stateful(rest),
+        _ => read_match(Decision::Pass, tokens),
+    }
+}
+
+fn read_stateful(tokens: &[Token]) -> Option<(Rule, &[Token])>
+    ensures { rule_phrase result ≡ stateful_of tokens.now }
+{
+    match tokens.split_first() {
+        Some((Token::Word(Word::Final), rest)) => read_udp(true, rest),
+        _ => read_udp(false, tokens),
+    }
+}
+
+fn read_udp(last: bool, tokens: &[Token]) -> Option<(Rule, &[Token])>
+    ensures { rule_phrase result ≡ udp_of last tokens.now }
+{
+    match tokens {
+        [Token::Word(Word::Proto), Token::Word(Word::Udp), rest @ ..] => {
+            let (filter, rest) = read_filter(rest)?;
+            let rule = Rule {
+                decision: Decision::Pass,
+                state: StateOpt::OnInterface,
+                last,
+                proto: Some(UDP),
+                from: filter.from,
+                to: filter.to,
+            };
+            Some((rule, rest))
+        }
         _ => None,
     }
 }
@@ -129,7 +170,9 @@ fn decide(decision: Decision, last: bool, tokens: &[Token]) -> Option<(Rule, &[T
     let (filter, rest) = read_filter(tokens)?;
     let rule = Rule {
         decision,
+        state: StateOpt::Not,
         last,
+        proto: None,
         from: filter.from,
         to: filter.to,
     };

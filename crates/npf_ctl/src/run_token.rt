@@ -75,6 +75,9 @@ fn word_of(run: &[u8]) -> Option<Word>
         b"from" => Some(Word::From),
         b"to" => Some(Word::To),
         b"any" => Some(Word::Any),
+        b"stateful" => Some(Word::Stateful),
+        b"proto" => Some(Word::Proto),
+        b"udp" => Some(Word::Udp),
         _ => None,
     }
 }

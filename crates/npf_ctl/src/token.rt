@@ -10,6 +10,9 @@ pub enum Word {
     From,
     To,
     Any,
+    Stateful,
+    Proto,
+    Udp,
 }
 
 /// A token of npf.conf(5) that this project knows so far. A line feed and `;` are separators.

@@ -1,6 +1,6 @@
 // Rules are inspected in order: the last match decides, and a match with `final` decides at once (npf.conf(5), "Rules").
 ghost use Rattle.std.specs.Prelude.{◌≡◌, ◌<◌, ◌≤◌, length, IfSome};
-ghost use Rattle.npf_ctl.specs.Verdict.{verdict, describes, lies_in};
+ghost use Rattle.npf_ctl.specs.Verdict.{verdict, describes, has_proto, lies_in};
 
 use crate::rule::Rule;
 use npf_types::{Addr, Facts, Prefix};
@@ -26,7 +26,16 @@ pub(crate) fn verdict(rules: &[Rule], facts: &Facts) -> Option<u32>
 fn describes(rule: &Rule, facts: &Facts) -> bool
     ensures { result ≡ describes rule.now facts.now }
 {
-    lies_in(rule.from, facts.src) && lies_in(rule.to, facts.dst)
+    has_proto(rule.proto, facts.proto) && lies_in(rule.from, facts.src) && lies_in(rule.to, facts.dst)
+}
+
+fn has_proto(number: Option<u8>, proto: u8) -> bool
+    ensures { result ≡ has_proto number proto }
+{
+    match number {
+        Some(number) => number == proto,
+        None => true,
+    }
 }
 
 fn lies_in(prefix: Option<Prefix>, addr: Addr) -> bool

@@ -1,4 +1,4 @@
-use Rattle.std.proofs.Common.{◌≡◌, ℕ, ◌≤◌, Result, Ok, Err, IfOk, Vec, Global, List, length, All}
+use Rattle.std.proofs.Common.{ℕ, ◌≤◌, Result, Ok, Err, IfOk, Vec, Global, List, length, All}
 use Rattle.npf_pcap.specs.declared.capture.Record.{Record}
 use Rattle.npf_ctl.specs.declared.fault.Fault.{Fault}
 use Rattle.npf_ctl.specs.Explained.{AreInOrder}

@@ -1,6 +1,6 @@
-use Rattle.std.proofs.Common.{◌≡◌, Bool, true, false, Some, None, sym, ap, ◌∙◌}
+use Rattle.std.proofs.Common.{◌≡◌, true, false, Some, None, sym, ap, ◌∙◌}
 use Rattle.npf_ctl.specs.Grammar.{ends_item}
-use Rattle.npf_ctl.specs.Phrases.{Phrase, rule_of}
+use Rattle.npf_ctl.specs.Phrases.{Phrase}
 use Rattle.npf_ctl.specs.Written.{Written, written_of}
 use Rattle.npf_ctl.proofs.Phrasing.{same_phrase}
 use Rattle.npf_ctl.proofs.Items.{step_item, refuse_item}
