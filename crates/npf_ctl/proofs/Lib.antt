@@ -6,7 +6,15 @@ pub mod RunTokens
 pub mod TokenSteps
 pub mod RawCaptures
 pub mod Exactness
+pub mod Walking
+pub mod PacketWalks
+pub mod Scanning
+pub mod OtherPackets
+pub mod OwnEntries
+pub mod Handling
+pub mod Doing
 pub mod Explaining
+pub mod Taking
 pub mod Told
 pub mod ShortPackets
 pub mod Lines

@@ -9,6 +9,11 @@ pub mod Phrases
 pub mod PhraseViews
 pub mod Verdict
 pub mod RawCapture
+pub mod Histories
+pub mod Packets
+pub mod Work
+pub mod OneLine
+pub mod Doing
 pub mod Explained
 pub mod ReportText
 pub mod Message

@@ -1,5 +1,5 @@
 -- The text of a report: a line for each packet, in order, and then the total line.
-use Rattle.std.specs.Prelude.{ℕ, ◌+◌, Bool, true, false, Option, Some, None, List, [], ◌∷◌, ◌++◌, length, count_by, codes}
+use Rattle.std.specs.Prelude.{ℕ, ◌+◌, Bool, true, false, not, Option, Some, None, List, [], ◌∷◌, ◌++◌, length, count_by, codes}
 use Rattle.std.specs.Fmt.{decimal}
 use Rattle.npf_types.specs.declared.rule.Decision.{Decision}
 use Rattle.npf_types.specs.declared.rule.Decision.TheVariants.{Pass, Block}
@@ -10,7 +10,10 @@ use Rattle.npf_types.specs.declared.rule.Return.TheVariants.{Nothing, Any, Rst, 
 use Rattle.npf_packet.specs.declared.decoded.BadPacket.{BadPacket}
 use Rattle.npf_packet.specs.declared.decoded.BadPacket.TheVariants.{Cut, Bad}
 use Rattle.npf_ctl.specs.declared.outcome.Outcome.{Outcome}
-use Rattle.npf_ctl.specs.declared.outcome.Outcome.TheVariants.{Skip, Malformed, ByRule}
+use Rattle.npf_ctl.specs.declared.outcome.Outcome.TheVariants.{Skip, Malformed, ByConn, ByRule}
+use Rattle.npf_ctl.specs.declared.outcome.Unkept.{Unkept}
+use Rattle.npf_ctl.specs.declared.outcome.Unkept.TheVariants.{Kept, Full, NoNode, Taken}
+use Rattle.npf_core.specs.declared.conn_id.ConnId.{ConnId}
 
 abbrev pub dir_text : Dir → List ℕ
 dir_text In = codes " in "
@@ -37,21 +40,37 @@ abbrev pub rule_text : ℕ → Option ℕ → Decision → List ℕ
 rule_text config None decision = codes "block config " ++ (decimal config ++ codes " none")
 rule_text config (Some place) decision = decision_text config (place + 1) decision
 
+-- the packet opened a connection, or isn't kept
+abbrev pub kept_text : Option ConnId → Unkept → List ℕ
+kept_text (Some id) why = codes " new"
+kept_text None Kept = []
+kept_text None Full = codes " unkept full"
+kept_text None NoNode = codes " unkept nonode"
+kept_text None (Taken holder) = codes " unkept taken"
+
+-- the connection that the packet of this number opened passed the packet or not, as its step of this place
+abbrev pub conn_text : ℕ → ℕ → Bool → List ℕ
+conn_text opener place true = codes "pass conn " ++ (decimal opener ++ (codes " step " ++ decimal place))
+conn_text opener place false = codes "block conn " ++ (decimal opener ++ (codes " step " ++ (decimal place ++ codes " state")))
+
 abbrev pub outcome_text : Outcome → List ℕ
 outcome_text Skip = codes "skip"
 outcome_text (Malformed why at) = malformed_text why at
-outcome_text (ByRule config rule decision) = rule_text config rule decision
+outcome_text (ByConn id opener place pass) = conn_text opener place pass
+outcome_text (ByRule config rule decision opened why) = rule_text config rule decision ++ kept_text opened why
 
 -- the line of the packet of this number
 unfoldable pub line_text : ℕ → List ℕ → Dir → Outcome → List ℕ
 line_text n interface dir outcome = decimal n ++ codes " " ++ interface ++ dir_text dir ++ outcome_text outcome ++ codes "\n"
 
 abbrev pub is_passed : Outcome → Bool
-is_passed (ByRule _ _ Pass) = true
+is_passed (ByConn _ _ _ pass) = pass
+is_passed (ByRule _ _ Pass _ _) = true
 is_passed _ = false
 
 abbrev pub is_blocked : Outcome → Bool
-is_blocked (ByRule _ _ (Block _)) = true
+is_blocked (ByConn _ _ _ pass) = not pass
+is_blocked (ByRule _ _ (Block _) _ _) = true
 is_blocked _ = false
 
 abbrev pub is_skipped : Outcome → Bool

@@ -12,7 +12,7 @@ use Rattle.npf_ctl.specs.declared.fault.Input.{Input}
 use Rattle.npf_ctl.specs.declared.fault.Input.TheVariants.{Conf, Capture}
 use Rattle.npf_ctl.specs.declared.outcome.Outcome.{Outcome}
 use Rattle.npf_ctl.specs.declared.rule.Rule.{Rule}
-use Rattle.npf_ctl.specs.Explained.{ExplainsEach, AreInOrder}
+use Rattle.npf_ctl.specs.Explained.{AreExplained, AreInOrder}
 use Rattle.npf_ctl.specs.Grammar.{IsConfig}
 use Rattle.npf_ctl.specs.Message.{most_bytes}
 use Rattle.npf_ctl.specs.RawCapture.{IsRawCapture, HasRawFault}
@@ -60,7 +60,7 @@ pub record IsReport (conf capture text : List ℕ) : Type 0 where
   pub outcomes : List Outcome
   pub configured : Accepts conf rules
   pub captured : HasPackets capture packets
-  pub explained : ExplainsEach rules packets outcomes
+  pub explained : AreExplained rules packets outcomes
   pub said : text ≡ report_text outcomes
 
 -- What the outside shows at a moment: the files, how many reads failed, how many bytes reads took, how many puts on

@@ -1,19 +1,24 @@
 // What happens to each packet under the one configuration.
-ghost use Rattle.std.specs.Prelude.{◌≡◌, ◌≤◌, List as Seq, ◌<◌, IfSome, length, IfOk, All};
-ghost use Rattle.npf_ctl.specs.Explained.{Explains, ExplainsEach, DecidesAs};
+ghost use Rattle.std.specs.Prelude.{◌≡◌, ◌≤◌, length, IfOk, All};
+ghost use Rattle.npf_ctl.specs.Doing.{Arrives};
+ghost use Rattle.npf_ctl.specs.Explained.{AreExplained};
+ghost use Rattle.npf_ctl.specs.OneLine.{most_connections};
 
+use crate::connections::handle;
 use crate::outcome::Outcome;
+use crate::packet::Packet;
 use crate::rule::Rule;
-use crate::verdicts::verdict;
+use npf_flow::Flow;
 use npf_packet::{Decoded, decode};
 use npf_pcap::Record;
-use npf_types::{Decision, Link, NoMemory, Return};
+use npf_store::Store;
+use npf_types::{Link, NoMemory};
 use std::alloc::Global;
 
-/// The number of the one configuration.
-const CONFIG: u64 = 0;
+/// How many connections there can be at a time.
+const MOST_CONNECTIONS: u32 = 65_536;
 
-/// The outcome of each packet, in order.
+/// The outcome of each packet, in order: the packets are numbered from 1.
 pub(crate) fn explain(
     alloc: Global,
     rules: &[Rule],
@@ -21,41 +26,37 @@ pub(crate) fn explain(
 ) -> Result<Vec<Outcome>, NoMemory>
     requires few { length rules.now ≤ 4096 }
     requires short { All (λ packet. length packet.bytes ≤ 262144) packets.now }
-    ensures { IfOk result (λ outcomes. ExplainsEach rules.now packets.now outcomes.items) }
+    ensures { IfOk result (λ outcomes. AreExplained rules.now packets.now outcomes.items) }
 {
+    let mut store = Store::new(alloc, MOST_CONNECTIONS);
     let mut outcomes = Vec::with_capacity(alloc, packets.len())?;
-    for packet in packets {
-        outcomes.push(outcome_of(rules, packet.bytes.as_slice()))?;
+    for (place, packet) in packets.iter().enumerate() {
+        let outcome = outcome_of(rules, place as u64 + 1, packet, &mut store)?;
+        outcomes.push(outcome)?;
     }
     Ok(outcomes)
 }
 
-fn outcome_of(rules: &[Rule], bytes: &[u8]) -> Outcome
+fn outcome_of(
+    rules: &[Rule],
+    number: u64,
+    packet: &Record,
+    store: &mut Store<Flow>,
+) -> Result<Outcome, NoMemory>
     requires few { length rules.now ≤ 4096 }
-    requires short { length bytes.now ≤ 262144 }
-    ensures { Explains rules.now bytes.now result }
+    requires short { length packet.now.bytes ≤ 262144 }
+    ensures { IfOk result (λ outcome. Arrives rules.now number packet.now store.old store.new outcome) }
 {
-    match decode(Link::Raw, bytes) {
-        Decoded::Skip => Outcome::Skip,
-        Decoded::Malformed { why, at } => Outcome::Malformed { why, at },
+    match decode(Link::Raw, packet.bytes.as_slice()) {
+        Decoded::Skip => Ok(Outcome::Skip),
+        Decoded::Malformed { why, at } => Ok(Outcome::Malformed { why, at }),
         Decoded::Ip(facts) => {
-            let rule = verdict(rules, &facts);
-            Outcome::ByRule {
-                config: CONFIG,
-                rule,
-                decision: decision_of(rules, rule),
-            }
+            let packet = Packet {
+                number,
+                time: packet.time,
+                facts,
+            };
+            handle(rules, &packet, store)
         }
-    }
-}
-
-/// What the rule at this place decides; without a rule the packet is blocked.
-fn decision_of(rules: &[Rule], rule: Option<u32>) -> Decision
-    requires { IfSome rule (λ place. place < length rules.now) }
-    ensures { DecidesAs rules.now rule result }
-{
-    match rule {
-        Some(place) => rules[place as usize].decision,
-        None => Decision::Block(Return::Nothing),
     }
 }

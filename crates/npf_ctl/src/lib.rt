@@ -14,6 +14,7 @@
 mod capture;
 mod class;
 mod config;
+mod connections;
 mod engine;
 mod fault;
 mod input;
@@ -21,6 +22,7 @@ mod lexer;
 mod messages;
 mod outcome;
 mod output;
+mod packet;
 mod parser;
 mod report;
 mod rule;

@@ -2,9 +2,10 @@
 ghost use Rattle.std.specs.Prelude.{◌≡◌, ◌+◌, ◌<◌, ◌^◌, length, IfOk, count_by, codes, string_bytes};
 ghost use Rattle.std.specs.Fmt.{decimal};
 ghost use Rattle.npf_types.specs.Name.{name_bytes};
-ghost use Rattle.npf_ctl.specs.ReportText.{line_text, total_text, outcome_text, rule_text, decision_text, malformed_text, return_text, dir_text, passed_text, refused_text, is_passed, is_blocked, is_skipped, is_malformed};
+ghost use Rattle.npf_ctl.specs.ReportText.{line_text, total_text, outcome_text, conn_text, kept_text, rule_text, decision_text, malformed_text, return_text, dir_text, passed_text, refused_text, is_passed, is_blocked, is_skipped, is_malformed};
 
-use crate::outcome::Outcome;
+use crate::outcome::{Outcome, Unkept};
+use npf_core::ConnId;
 use npf_packet::BadPacket;
 use npf_types::{Decision, Dir, Name, NoMemory, Return};
 use std::alloc::{AllocError, Global};
@@ -44,11 +45,47 @@ fn outcome_text(alloc: Global, outcome: &Outcome) -> Result<String, AllocError>
     match outcome {
         Outcome::Skip => String::from_str(alloc, "skip"),
         Outcome::Malformed { why, at } => malformed_text(alloc, *why, *at),
+        Outcome::ByConn {
+            opener,
+            place,
+            pass,
+            ..
+        } => conn_text(alloc, *opener, *place, *pass),
         Outcome::ByRule {
             config,
             rule,
             decision,
-        } => rule_text(alloc, *config, *rule, *decision),
+            opened,
+            unkept,
+        } => {
+            let mut text = rule_text(alloc, *config, *rule, *decision)?;
+            text.push_str(kept_text(*opened, *unkept))?;
+            Ok(text)
+        }
+    }
+}
+
+fn conn_text(alloc: Global, opener: u64, place: u64, pass: bool) -> Result<String, AllocError>
+    ensures { IfOk result (λ text. string_bytes text ≡ conn_text opener place pass) }
+{
+    if pass {
+        format!(in alloc; "pass conn {opener} step {place}")
+    } else {
+        format!(in alloc; "block conn {opener} step {place} state")
+    }
+}
+
+fn kept_text(opened: Option<ConnId>, unkept: Unkept) -> &'static str
+    ensures { result.now ≡ kept_text opened unkept }
+{
+    if opened.is_some() {
+        return " new";
+    }
+    match unkept {
+        Unkept::Kept => "",
+        Unkept::Full => " unkept full",
+        Unkept::NoNode => " unkept nonode",
+        Unkept::Taken(_) => " unkept taken",
     }
 }
 
@@ -171,6 +208,7 @@ fn is_passed(outcome: Outcome) -> bool
     ensures { result ≡ is_passed outcome }
 {
     match outcome {
+        Outcome::ByConn { pass, .. } => pass,
         Outcome::ByRule { decision, .. } => decision == Decision::Pass,
         _ => false,
     }
@@ -180,6 +218,7 @@ fn is_blocked(outcome: Outcome) -> bool
     ensures { result ≡ is_blocked outcome }
 {
     match outcome {
+        Outcome::ByConn { pass, .. } => !pass,
         Outcome::ByRule { decision, .. } => decision != Decision::Pass,
         _ => false,
     }

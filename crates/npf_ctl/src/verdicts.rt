@@ -26,7 +26,9 @@ pub(crate) fn verdict(rules: &[Rule], facts: &Facts) -> Option<u32>
 fn describes(rule: &Rule, facts: &Facts) -> bool
     ensures { result ≡ describes rule.now facts.now }
 {
-    has_proto(rule.proto, facts.proto) && lies_in(rule.from, facts.src) && lies_in(rule.to, facts.dst)
+    has_proto(rule.proto, facts.proto)
+        && lies_in(rule.from, facts.src)
+        && lies_in(rule.to, facts.dst)
 }
 
 fn has_proto(number: Option<u8>, proto: u8) -> bool
