@@ -1,0 +1,9 @@
+pub mod Filters
+pub mod Groups
+pub mod Leaves
+pub mod Maps
+pub mod Procedures
+pub mod Readings
+pub mod Rules
+pub mod Stmts
+pub mod Values
