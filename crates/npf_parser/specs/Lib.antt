@@ -1,5 +1,14 @@
 pub mod Filters
+pub mod GrammarFilters
+pub mod GrammarLists
+pub mod GrammarMaps
+pub mod GrammarProcedures
+pub mod GrammarRules
+pub mod GrammarStatements
+pub mod GrammarValues
+pub mod GrammarWords
 pub mod Groups
+pub mod Laws
 pub mod Leaves
 pub mod Maps
 pub mod Procedures

@@ -1,0 +1,23 @@
+-- What follows of the grammar, whatever the tokens.
+use Rattle.std.specs.Prelude.{◌≡◌, ◌⊎◌, Ok, Err, List}
+use Rattle.npf_types.specs.declared.place.Span.{Span}
+use Rattle.npf_lexer.specs.declared.token.Token.{Token}
+use Rattle.npf_syntax.specs.declared.stmt.Tree.{Tree}
+use Rattle.npf_parser.specs.GrammarStatements.{Parses}
+use Rattle.npf_parser.specs.Stmts.{tree_of}
+
+-- the grammar is unambiguous
+abbrev pub OneTree : Type 0
+OneTree = (tokens : List Token) (one other : Tree) → Parses tokens one → Parses tokens other → one ≡ other
+
+-- the tokens are a configuration
+abbrev pub HasTree : List Token → Type 0
+HasTree tokens = (tree : Tree) × Parses tokens tree
+
+-- the tokens cannot go on at some place
+abbrev pub HasFault : List Token → Type 0
+HasFault tokens = (span : Span) × (tree_of tokens ≡ Err span)
+
+-- tokens have a tree or a fault, and never both
+abbrev pub Decided : Type 0
+Decided = (tokens : List Token) → (HasTree tokens ⊎ HasFault tokens) × ¬ (HasTree tokens × HasFault tokens)
