@@ -21,7 +21,7 @@ all_onto_one done a (Ok r) = ap (λ items. Ok (items, r.1)) (sym (append_assoc d
 all_onto_one done a (Err span) = refl
 
 module _ {A : Type 0} (read : List Token → Reading A) (inside : Bool) where
-  comma_turn : (n : ℕ) (ts : List Token) → comma_list read inside (suc n) ts ≡ (read ts >>= (λ a. if_behind (behind_sign Comma (skip inside a.1)) (λ rest. onto a.0 (comma_list read inside n rest)) (Ok (a.0 ∷ [], a.1))))
+  pub comma_turn : (n : ℕ) (ts : List Token) → comma_list read inside (suc n) ts ≡ (read ts >>= (λ a. if_behind (behind_sign Comma (skip inside a.1)) (λ rest. onto a.0 (comma_list read inside n rest)) (Ok (a.0 ∷ [], a.1))))
   unfolding comma_list
   comma_turn n ts = refl
 
@@ -53,14 +53,14 @@ module _ {A : Type 0} (read : List Token → Reading A) (inside : Bool) where
 
 module _ {A : Type 0} (read : List Token → Reading A) (closes : List Token → Bool) where
   -- what follows an item
-  abbrev after : ℕ → A × List Token → Reading (List A)
+  abbrev pub after : ℕ → A × List Token → Reading (List A)
   after n a = if closes a.1 || is_at_separator a.1 then onto a.0 (block_list read closes n a.1) else Err (place_of a.1)
 
   -- what follows separators
-  abbrev turn : ℕ → List Token → Reading (List A)
+  abbrev pub turn : ℕ → List Token → Reading (List A)
   turn n us = if closes us then Ok ([], us) else (read us >>= after n)
 
-  block_turn : (n : ℕ) (ts us : List Token) → us ≡ skip_separators ts → block_list read closes (suc n) ts ≡ turn n us
+  pub block_turn : (n : ℕ) (ts us : List Token) → us ≡ skip_separators ts → block_list read closes (suc n) ts ≡ turn n us
   unfolding block_list
   block_turn n ts us us_is = ap (turn n) (sym us_is)
 
