@@ -185,3 +185,28 @@ no_word {word} {ts} lacks = lacked (behind_word word ts) (sees_word word ts) lac
 
 pub no_sign : {sign : Sign} {ts : List Token} → LacksSign sign ts → behind_sign sign ts ≡ None
 no_sign {sign} {ts} lacks = lacked (behind_sign sign ts) (sees_sign sign ts) lacks
+
+module _ {B : Type 0} {IsWhole : B → List Token → Type 0} {least : ℕ} {whole : List Token} where
+  -- a sign, or a quoted word, that has to stand first
+  pub says_sign : (sign : Sign) (ts : List Token) (f : List Token → Reading B) →
+      ((us : List Token) → HasSign sign ts us → 1 + length us ≤ length ts → Says IsWhole least whole (f us)) → Says IsWhole least whole (after_sign sign ts >>= f)
+  unfolding after_sign
+  says_sign sign ts f next = says_required (behind_sign sign ts) ts f (sees_sign sign ts) next
+
+  pub says_quoted : (word : List ℕ) (ts : List Token) (f : List Token → Reading B) →
+      ((us : List Token) → HasWord word ts us → 1 + length us ≤ length ts → Says IsWhole least whole (f us)) → Says IsWhole least whole (after_word word ts >>= f)
+  unfolding after_word
+  says_quoted word ts f next = says_required (behind_word word ts) ts f (sees_word word ts) next
+
+  -- one choice where a quoted word or a sign stands first, and another where it doesn't
+  pub says_if_word : (word : List ℕ) (ts : List Token) (one : List Token → Reading B) (other : Reading B) →
+      ((us : List Token) → HasWord word ts us → 1 + length us ≤ length ts → Says IsWhole least whole (one us)) → (LacksWord word ts → Says IsWhole least whole other) → Says IsWhole least whole (if_behind (behind_word word ts) one other)
+  says_if_word word ts one other there elsewhere = says_if (behind_word word ts) one other (sees_word word ts) there elsewhere
+
+  pub says_if_sign : (sign : Sign) (ts : List Token) (one : List Token → Reading B) (other : Reading B) →
+      ((us : List Token) → HasSign sign ts us → 1 + length us ≤ length ts → Says IsWhole least whole (one us)) → (LacksSign sign ts → Says IsWhole least whole other) → Says IsWhole least whole (if_behind (behind_sign sign ts) one other)
+  says_if_sign sign ts one other there elsewhere = says_if (behind_sign sign ts) one other (sees_sign sign ts) there elsewhere
+
+  pub says_if_string : (word : List ℕ) (ts : List Token) (one : List Token → Reading B) (other : Reading B) →
+      ((us : List Token) → HasName word ts us → 1 + length us ≤ length ts → Says IsWhole least whole (one us)) → (Lacks (Kind.Str word) ts → Says IsWhole least whole other) → Says IsWhole least whole (if_behind (behind_string word ts) one other)
+  says_if_string word ts one other there elsewhere = says_if (behind_string word ts) one other (sees_string word ts) there elsewhere

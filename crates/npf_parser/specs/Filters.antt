@@ -19,28 +19,28 @@ use Rattle.npf_parser.specs.Readings.{Reading, ◌>>=◌, span_to, place_of, beh
 use Rattle.npf_parser.specs.Leaves.{flags_of, number_to}
 use Rattle.npf_parser.specs.Values.{protocols_of, value_of, value_list_of, values_of}
 
--- "inet4" | "inet6"
+-- a family, by its word
 unfoldable pub family_of : List Token → Reading Family
 family_of ts =
     if_behind (behind_word (codes "inet4") ts) (λ rest. Ok (Family.Inet4 (span_to ts rest), rest))
     (if_behind (behind_word (codes "inet6") ts) (λ rest. Ok (Family.Inet6 (span_to ts rest), rest))
     (Err (place_of ts)))
 
--- "flags" WORD [ "/" WORD ]
+-- behind its word: flags, and the mask behind a slash
 unfoldable pub flags_detail_of : List Token → List Token → Reading (Option Detail)
 flags_detail_of ts us = do
   flags ← flags_of us
   mask ← optional (behind_sign Slash flags.1) flags_of flags.1
   Ok (Some (Flags flags.0 mask.0 (span_to ts mask.1)), mask.1)
 
--- "icmp-type" NUMBER [ "code" NUMBER ]
+-- behind its word: a type, and the code behind another
 unfoldable pub icmp_detail_of : List Token → List Token → Reading (Option Detail)
 icmp_detail_of ts us = do
   number ← number_to 255 us
   code ← optional (behind_word (codes "code") number.1) (number_to 255) number.1
   Ok (Some (IcmpType number.0 code.0 (span_to ts code.1)), code.1)
 
--- [ "flags" .. | "icmp-type" .. ]
+-- flags or a type of ICMP, where one of their words stands
 unfoldable pub detail_of : List Token → Reading (Option Detail)
 detail_of ts =
     if_behind (behind_word (codes "flags") ts) (λ us. flags_detail_of ts us)
@@ -53,11 +53,11 @@ proto_part_behind ts us = do
   detail ← detail_of protocols.1
   Ok (Some (record { protocols = protocols.0; detail = detail.0; span = span_to ts detail.1 }), detail.1)
 
--- [ "proto" ( one | list ) [ detail ] ]
+-- protocols and their detail, where their word stands
 unfoldable pub proto_part_of : List Token → Reading (Option ProtoPart)
 proto_part_of ts = if_behind (behind_word (codes "proto") ts) (λ us. proto_part_behind ts us) (Ok (None, ts))
 
--- "any" | value | vlist
+-- all addresses, one value, or values in braces
 unfoldable pub addresses_of : List Token → Reading Addresses
 addresses_of ts =
     if_behind (behind_word (codes "any") ts) (λ rest. Ok (Addresses.Any (span_to ts rest), rest))
@@ -76,7 +76,7 @@ addresses_and_ports ts = do
   ports ← optional (behind_word (codes "port") addresses.1) (values_of Role.Port) addresses.1
   Ok (Ends.Addresses addresses.0 ports.0 (span_to ts ports.1), ports.1)
 
--- ends = addresses [ "port" ( value | vlist ) ] | "port" ( value | vlist )
+-- ports alone where their word stands, and else addresses with ports behind them
 unfoldable pub ends_of : List Token → Reading Ends
 ends_of ts = if_behind (behind_word (codes "port") ts) (λ us. ports_behind ts us) (addresses_and_ports ts)
 
@@ -91,7 +91,7 @@ to_behind ts us = do
   to ← ends_of us
   Ok (To to.0 (span_to ts to.1), to.1)
 
--- "all" | "from" ends [ "to" ends ] | "to" ends
+-- the ends, by the first of the three words that stands there
 unfoldable pub where_of : List Token → Reading Where
 where_of ts =
     if_behind (behind_word (codes "all") ts) (λ rest. Ok (All (span_to ts rest), rest))
@@ -99,7 +99,7 @@ where_of ts =
     (if_behind (behind_word (codes "to") ts) (λ us. to_behind ts us)
     (Err (place_of ts))))
 
--- filter = [ "family" family ] [ "proto" .. ] ( "all" | "from" .. | "to" .. )
+-- a filter: its family, its protocols and its ends
 unfoldable pub filter_of : List Token → Reading Filter
 filter_of ts = do
   family ← optional (behind_word (codes "family") ts) family_of ts

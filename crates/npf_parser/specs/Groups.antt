@@ -19,7 +19,7 @@ ruleset_behind ts us = do
   on ← on_of dir.1
   Ok (Ruleset name.0 dir.0 on.0 (span_to ts on.1), on.1)
 
--- item = rule | "ruleset" STRING [ dir ] [ "on" iface ]
+-- an item: a ruleset where its word stands, and else a rule
 unfoldable pub item_of : List Token → Reading Item
 item_of ts =
     if_behind (behind_word (codes "ruleset") ts) (λ us. ruleset_behind ts us)
@@ -32,15 +32,15 @@ named_head ts = do
   on ← on_of dir.1
   Ok (Named name.0 dir.0 on.0 (span_to ts on.1), on.1)
 
--- STRING [ dir ] [ "on" iface ] | "default"
+-- a group's head: the default group where its word stands, and else a string
 unfoldable pub head_of : List Token → Reading GroupHead
 head_of ts = if_behind (behind_word (codes "default") ts) (λ rest. Ok (Default (span_to ts rest), rest)) (named_head ts)
 
--- { [ item ] sep }*
+-- the items up to the closing brace
 unfoldable pub items_of : List Token → Reading (List Item)
 items_of ts = block_list item_of is_at_brace (suc (length ts)) ts
 
--- "group" ( STRING [ dir ] [ "on" iface ] | "default" ) "{" { [ item ] sep }* "}"
+-- behind its word: a head, and items in braces
 unfoldable pub group_of : List Token → List Token → Reading Stmt
 group_of ts us = do
   head ← head_of us

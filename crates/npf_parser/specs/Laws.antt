@@ -3,16 +3,13 @@ use Rattle.std.specs.Prelude.{◌≡◌, ◌⊎◌, Ok, Err, List}
 use Rattle.npf_types.specs.declared.place.Span.{Span}
 use Rattle.npf_lexer.specs.declared.token.Token.{Token}
 use Rattle.npf_syntax.specs.declared.stmt.Tree.{Tree}
+use Rattle.npf_parser.specs.Answering.{HasTree}
 use Rattle.npf_parser.specs.GrammarStatements.{Parses}
 use Rattle.npf_parser.specs.Stmts.{tree_of}
 
 -- the grammar is unambiguous
 abbrev pub OneTree : Type 0
 OneTree = (tokens : List Token) (one other : Tree) → Parses tokens one → Parses tokens other → one ≡ other
-
--- the tokens are a configuration
-abbrev pub HasTree : List Token → Type 0
-HasTree tokens = (tree : Tree) × Parses tokens tree
 
 -- the tokens cannot go on at some place
 abbrev pub HasFault : List Token → Type 0

@@ -1,3 +1,4 @@
+pub mod Answering
 pub mod Filters
 pub mod GrammarFilters
 pub mod GrammarLists

@@ -20,14 +20,14 @@ static_behind ts us = do
   algo ← optional (behind_word (codes "algo") us) word_of us
   Ok (Static algo.0 (span_to ts algo.1), algo.1)
 
--- "dynamic" | "static" [ "algo" WORD ]
+-- a kind of map, by its word
 unfoldable pub map_kind_of : List Token → Reading MapKind
 map_kind_of ts =
     if_behind (behind_word (codes "dynamic") ts) (λ rest. Ok (Dynamic (span_to ts rest), rest))
     (if_behind (behind_word (codes "static") ts) (λ us. static_behind ts us)
     (Err (place_of ts)))
 
--- "->" | "<-" | "<->"
+-- an arrow, by its sign
 unfoldable pub arrow_of : List Token → Reading Arrow
 arrow_of ts =
     if_behind (behind_sign Sign.Right ts) (λ rest. Ok (Arrow.Right (span_to ts rest), rest))
@@ -35,14 +35,14 @@ arrow_of ts =
     (if_behind (behind_sign Sign.Both ts) (λ rest. Ok (Arrow.Both (span_to ts rest), rest))
     (Err (place_of ts))))
 
--- side = value [ "port" value ]
+-- a side: an address, and a port where its word stands
 unfoldable pub side_of : List Token → Reading Side
 side_of ts = do
   value ← value_of Role.Address false ts
   port ← optional (behind_word (codes "port") value.1) (value_of Role.Port false) value.1
   Ok (record { value = value.0; port = port.0; span = span_to ts port.1 }, port.1)
 
--- "map" iface kind [ "proto" one ] side arrow side [ "pass" filter ]
+-- behind its word: an interface and the parts of a map in their one order
 unfoldable pub map_of : List Token → List Token → Reading Stmt
 map_of ts us = do
   iface ← iface_of us

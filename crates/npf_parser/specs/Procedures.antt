@@ -23,11 +23,11 @@ log_name_by _ ts = do
   word ← name_word_of ts
   Ok (LogName.Word word.0 (span_to ts word.1), word.1)
 
--- WORD | STRING
+-- the interface of a log, by the kind of its token
 unfoldable pub log_name_of : List Token → Reading LogName
 log_name_of ts = log_name_by (kind_of ts) ts
 
--- opt = "min-ttl" NUMBER | "max-mss" NUMBER | "no-df", the names written as strings
+-- an option, by its name, which is a string
 unfoldable pub opt_of : List Token → Reading Opt
 opt_of ts =
     if_behind (behind_string (codes "min-ttl") ts) (λ us. number_to 255 us >>= (λ number. Ok (MinTtl number.0 (span_to ts number.1), number.1)))
@@ -35,7 +35,7 @@ opt_of ts =
     (if_behind (behind_string (codes "no-df") ts) (λ rest. Ok (NoDf (span_to ts rest), rest))
     (Err (place_of ts))))
 
--- opt { "," opt }*
+-- options with commas between them
 unfoldable pub options_of : List Token → Reading (List Opt)
 options_of ts = comma_list opt_of false (suc (length ts)) ts
 
@@ -51,18 +51,18 @@ normalize_behind ts us = do
   options ← options_of vs
   Ok (Normalize options.0 (span_to ts options.1), options.1)
 
--- call = "log" ":" ( WORD | STRING ) | "normalize" ":" opt { "," opt }*
+-- a call, by its word
 unfoldable pub call_of : List Token → Reading Call
 call_of ts =
     if_behind (behind_word (codes "log") ts) (λ us. log_behind ts us)
     (if_behind (behind_word (codes "normalize") ts) (λ us. normalize_behind ts us)
     (Err (place_of ts)))
 
--- { [ call ] sep }*
+-- the calls up to the closing brace
 unfoldable pub calls_of : List Token → Reading (List Call)
 calls_of ts = block_list call_of is_at_brace (suc (length ts)) ts
 
--- "procedure" STRING "{" { [ call ] sep }* "}"
+-- behind its word: a string, and calls in braces
 unfoldable pub procedure_of : List Token → List Token → Reading Stmt
 procedure_of ts us = do
   name ← string_of us

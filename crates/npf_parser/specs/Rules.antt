@@ -16,7 +16,7 @@ use Rattle.npf_parser.specs.Leaves.{string_of}
 use Rattle.npf_parser.specs.Values.{iface_of}
 use Rattle.npf_parser.specs.Filters.{filter_of}
 
--- [ "return" | "return-rst" | "return-icmp" ]
+-- the answer to a sender, where one of its words stands
 unfoldable pub answer_of : List Token → Option Answer × List Token
 answer_of ts =
     if_behind (behind_word (codes "return") ts) (λ rest. (Some (Return (span_to ts rest)), rest))
@@ -24,36 +24,36 @@ answer_of ts =
     (if_behind (behind_word (codes "return-icmp") ts) (λ rest. (Some (ReturnIcmp (span_to ts rest)), rest))
     (None, ts)))
 
--- "block" [ answer ] | "pass"
+-- an action, by its word
 unfoldable pub action_of : List Token → Reading RuleAction
 action_of ts =
     if_behind (behind_word (codes "block") ts) (λ us. Ok (Block (answer_of us).0 (span_to ts (answer_of us).1), (answer_of us).1))
     (if_behind (behind_word (codes "pass") ts) (λ rest. Ok (Pass (span_to ts rest), rest))
     (Err (place_of ts)))
 
--- [ "stateful" | "stateful-all" ]
+-- the state that is kept, where one of its words stands
 unfoldable pub stateful_of : List Token → Option StatefulTree × List Token
 stateful_of ts =
     if_behind (behind_word (codes "stateful") ts) (λ rest. (Some (Stateful (span_to ts rest)), rest))
     (if_behind (behind_word (codes "stateful-all") ts) (λ rest. (Some (StatefulAll (span_to ts rest)), rest))
     (None, ts))
 
--- [ dir ], dir = "in" | "out"
+-- a direction, where one of its words stands
 unfoldable pub direction_of : List Token → Option Direction × List Token
 direction_of ts =
     if_behind (behind_word (codes "in") ts) (λ rest. (Some (In (span_to ts rest)), rest))
     (if_behind (behind_word (codes "out") ts) (λ rest. (Some (Out (span_to ts rest)), rest))
     (None, ts))
 
--- [ "final" ]
+-- whether the word of a final rule stands there
 unfoldable pub final_of : List Token → Bool × List Token
 final_of ts = if_behind (behind_word (codes "final") ts) (λ rest. (true, rest)) (false, ts)
 
--- [ "on" iface ]
+-- an interface, where its word stands
 unfoldable pub on_of : List Token → Reading (Option Iface)
 on_of ts = optional (behind_word (codes "on") ts) iface_of ts
 
--- rule = action [ stateful ] [ dir ] [ "final" ] [ "on" iface ] filter [ "apply" STRING ]
+-- a rule: its parts in their one order
 unfoldable pub rule_of : List Token → Reading RuleTree
 rule_of ts = do
   action ← action_of ts

@@ -23,7 +23,7 @@ use Rattle.npf_parser.specs.Groups.{group_of}
 use Rattle.npf_parser.specs.Maps.{map_of}
 use Rattle.npf_parser.specs.Procedures.{procedure_of}
 
--- VAR "=" ( value | vlist )
+-- a definition: a variable and its values
 unfoldable pub define_of : List Token → Reading Stmt
 define_of ts = do
   var ← variable_of ts
@@ -39,24 +39,24 @@ setting_by _ ts = do
   word ← word_of ts
   Ok (Setting.Word word.0 (span_to ts word.1), word.1)
 
--- WORD | NUMBER
+-- what a parameter is set to, by the kind of its token
 unfoldable pub setting_of : List Token → Reading Setting
 setting_of ts = setting_by (kind_of ts) ts
 
--- "set" WORD ( WORD | NUMBER )
+-- behind its word: a parameter and its value
 unfoldable pub set_of : List Token → List Token → Reading Stmt
 set_of ts us = do
   name ← word_of us
   value ← setting_of name.1
   Ok (Set name.0 value.0 (span_to ts value.1), value.1)
 
--- "alg" STRING
+-- behind its word: a string
 unfoldable pub alg_of : List Token → List Token → Reading Stmt
 alg_of ts us = do
   name ← string_of us
   Ok (Alg name.0 (span_to ts name.1), name.1)
 
--- "ipset" | "lpm" | "const"
+-- a type of table, by its word
 unfoldable pub table_type_of : List Token → Reading TableType
 table_type_of ts =
     if_behind (behind_word (codes "ipset") ts) (λ rest. Ok (IpSet (span_to ts rest), rest))
@@ -64,7 +64,7 @@ table_type_of ts =
     (if_behind (behind_word (codes "const") ts) (λ rest. Ok (Const (span_to ts rest), rest))
     (Err (place_of ts))))
 
--- "table" "<" WORD ">" "type" ( "ipset" | "lpm" | "const" ) [ "file" STRING ]
+-- behind its word: a table's name, its type, and its file where that word stands
 unfoldable pub table_of : List Token → List Token → Reading Stmt
 table_of ts us = do
   vs ← after_sign Less us
@@ -75,7 +75,7 @@ table_of ts us = do
   file ← optional (behind_word (codes "file") kind.1) text_string_of kind.1
   Ok (Table name.0 kind.0 file.0 (span_to ts file.1), file.1)
 
--- stmt, by its first word
+-- a statement, by its first word
 unfoldable pub stmt_of : List Token → Reading Stmt
 stmt_of ts =
     if_behind (behind_word (codes "set") ts) (λ us. set_of ts us)
@@ -86,11 +86,11 @@ stmt_of ts =
     (if_behind (behind_word (codes "procedure") ts) (λ us. procedure_of ts us)
     (define_of ts))))))
 
--- { [ stmt ] sep }*
+-- the statements up to the text's end
 unfoldable pub stmts_of : List Token → Reading (List Stmt)
 stmts_of ts = block_list stmt_of is_at_end (suc (length ts)) ts
 
--- file = { [ stmt ] sep }*
+-- the tree of a configuration
 unfoldable pub tree_of : List Token → Result Tree Span
 tree_of ts = do
   stmts ← stmts_of ts

@@ -39,7 +39,7 @@ iface_by _ ts = do
   word ← name_word_of ts
   Ok (Iface.Word word.0 (span_to ts word.1), word.1)
 
--- iface = WORD | STRING | VAR
+-- an interface, by the kind of its token
 unfoldable pub iface_of : List Token → Reading Iface
 iface_of ts = iface_by (kind_of ts) ts
 
@@ -54,11 +54,11 @@ one_by _ ts = do
   word ← word_of ts
   Ok (One.Word word.0 (span_to ts word.1), word.1)
 
--- one = WORD | NUMBER | VAR
+-- a protocol, by the kind of its token
 unfoldable pub one_of : List Token → Reading One
 one_of ts = one_by (kind_of ts) ts
 
--- list = "{" one { "," one }* "}"
+-- protocols in braces
 unfoldable pub one_list_of : List Token → Reading OneList
 one_list_of ts = do
   inside ← after_sign OpenBrace ts
@@ -66,7 +66,7 @@ one_list_of ts = do
   rest ← after_sign CloseBrace ones.1
   Ok (record { ones = ones.0; span = span_to ts rest }, rest)
 
--- one | list
+-- one protocol, or protocols in braces
 unfoldable pub protocols_of : List Token → Reading Protocols
 protocols_of ts =
     if_behind (behind_sign OpenBrace ts)
@@ -90,7 +90,7 @@ word_value_by None inside ts = do
   word ← word_of ts
   Ok (Value.Word word.0 (span_to ts word.1), word.1)
 
--- WORD | ( "inet4" | "inet6" | "ifaddrs" ) "(" iface ")"
+-- a function of an interface, or a word
 unfoldable pub word_value_of : Bool → List Token → Reading Value
 word_value_of inside ts = word_value_by (function_of inside ts) inside ts
 
@@ -102,7 +102,7 @@ is_range first None = true
 abbrev pub number_behind : Sign → Bool → List Token → Reading (Option Number)
 number_behind sign inside ts = optional (behind_sign sign (skip inside ts)) (λ us. number_of (skip inside us)) ts
 
--- NUMBER [ "-" NUMBER ], the first no greater than the last
+-- a number or a range, the first no greater than the last
 unfoldable pub number_value_of : Bool → List Token → Reading Value
 number_value_of inside ts = do
   first ← number_of ts
@@ -113,14 +113,14 @@ abbrev pub is_prefix : Addr → Option Number → Bool
 is_prefix addr (Some len) = nat_le len.value (width addr)
 is_prefix addr None = true
 
--- ADDRESS [ "/" NUMBER ], the number at most the family's width
+-- an address or a prefix, no longer than the family's width
 unfoldable pub address_value_of : Bool → List Token → Reading Value
 address_value_of inside ts = do
   address ← address_of ts
   len ← number_behind Slash inside address.1
   where_it_can (is_prefix address.0.addr len.0) (Value.Address address.0 len.0 (span_to ts len.1)) len.1 ts
 
--- "<" WORD ">", the word a name
+-- a table, by a word that is a name
 unfoldable pub table_value_of : Bool → List Token → Reading Value
 table_value_of inside ts = do
   us ← after_sign Less ts
@@ -168,7 +168,7 @@ can_stand Port (Value.Word _ _) = true
 can_stand Port (Value.Var _ _) = true
 can_stand _ _ = false
 
--- value, where it can stand
+-- a value, where it can stand
 unfoldable pub value_of : Role → Bool → List Token → Reading Value
 value_of role inside ts = do
   value ← value_by (kind_of ts) inside ts
@@ -178,7 +178,7 @@ value_of role inside ts = do
 unfoldable pub listed_value_of : Role → List Token → Reading Value
 listed_value_of role ts = value_of role true (skip true ts)
 
--- vlist = "{" [ value { "," value }* ] "}"
+-- values in braces, or none
 unfoldable pub value_list_of : Role → List Token → Reading ValueList
 value_list_of role ts = do
   inside ← after_sign OpenBrace ts
@@ -187,7 +187,7 @@ value_list_of role ts = do
       (comma_list (listed_value_of role) true (suc (length inside)) inside >>= (λ values.
       after_sign CloseBrace (skip true values.1) >>= (λ rest. Ok (record { values = values.0; span = span_to ts rest }, rest))))
 
--- value | vlist
+-- one value, or values in braces
 unfoldable pub values_of : Role → List Token → Reading Values
 values_of role ts =
     if_behind (behind_sign OpenBrace ts)

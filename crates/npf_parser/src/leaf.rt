@@ -1,9 +1,10 @@
 // The tokens that carry something, and those that have to be of some form where they stand.
 ghost use Rattle.std.specs.Prelude.{◌≡◌};
 ghost use Rattle.std.specs.List.{list_all};
+ghost use Rattle.std.specs.Str.{is_utf8};
 ghost use Rattle.npf_types.specs.NameText.{is_name};
 ghost use Rattle.npf_parser.specs.Readings.{Answers, Leaves};
-ghost use Rattle.npf_parser.specs.Leaves.{string_of, word_of, variable_of, number_of, address_of, number_to, name_word_of, name_string_of, text_string_of, flags_of, is_utf8, is_flag};
+ghost use Rattle.npf_parser.specs.Leaves.{string_of, word_of, variable_of, number_of, address_of, number_to, name_word_of, name_string_of, text_string_of, flags_of, is_flag};
 
 use crate::tokens::{copied, expected};
 use npf_lexer::{Refused, Token, TokenKind};

@@ -11,6 +11,7 @@
 
 mod filter;
 mod group;
+pub mod laws;
 mod leaf;
 mod map;
 mod procedure;

@@ -1,5 +1,9 @@
 // Statements and files: a function for each line of the grammar.
-ghost use Rattle.std.specs.Prelude.{codes};
+ghost use Rattle.std.specs.Prelude.{◌≡◌, codes, IfOk, Err};
+ghost use Rattle.npf_lexer.specs.declared.fault.Fault.TheVariants.{Expected};
+ghost use Rattle.npf_syntax.specs.declared.stmt.Tree.{Tree};
+ghost use Rattle.npf_parser.specs.Answering.{OnFault, HasTree, AnswersUnlessMemory};
+ghost use Rattle.npf_parser.specs.GrammarStatements.{Parses};
 ghost use Rattle.npf_parser.specs.Readings.{Answers, Leaves, Shortens, optional, behind_word};
 ghost use Rattle.npf_parser.specs.Leaves.{text_string_of};
 ghost use Rattle.npf_parser.specs.Stmts.{define_of, setting_of, set_of, alg_of, table_type_of, table_of, stmt_of, stmts_of, tree_of, AnswersTree};
@@ -234,10 +238,9 @@ fn read_stmts<'a>(alloc: Global, tokens: &'a [Token]) -> Result<(List<Stmt>, &'a
     }
 }
 
-/// The tree of a configuration's tokens, which `lex` gave; or the place of the first token at which no statement goes on,
-/// or of a written value that can't stand in its place (20).
+/// The tree of the tokens as the descent reads them.
 #[tactic(auto, unfolding(crate::specs::Stmts::tree_of))]
-pub fn parse(alloc: Global, tokens: &[Token]) -> Result<Tree, Refused>
+fn read_tree(alloc: Global, tokens: &[Token]) -> Result<Tree, Refused>
     ensures { AnswersTree (tree_of tokens.now) result }
 {
     let (stmts, rest) = read_stmts(alloc, tokens)?;
@@ -245,4 +248,17 @@ pub fn parse(alloc: Global, tokens: &[Token]) -> Result<Tree, Refused>
         stmts,
         end: place_of(rest),
     })
+}
+
+/// The tree of a configuration's tokens, which `lex` gave; or the place of the first token at which no statement goes on,
+/// or of a written value that can't stand in its place (20). It refuses no tokens that are a configuration, unless memory
+/// runs out.
+pub fn parse(alloc: Global, tokens: &[Token]) -> Result<Tree, Refused>
+    ensures tree { IfOk result (λ tree. Parses tokens.now tree) }
+    ensures refused { OnFault result (λ fault. ¬ HasTree tokens.now) }
+    ensures fault { OnFault result (λ fault. fault.fault ≡ Expected) }
+    ensures place { OnFault result (λ fault. tree_of tokens.now ≡ Err fault.span) }
+    ensures complete { (tree : Tree) → Parses tokens.now tree → AnswersUnlessMemory tree result }
+{
+    read_tree(alloc, tokens)
 }

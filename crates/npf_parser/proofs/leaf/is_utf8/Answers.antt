@@ -5,4 +5,4 @@ pub returns-in-Ok : goal.returns-in-Ok
 returns-in-Ok c = is_utf8_true c.args.text.now c.in-Ok.ensures.cases.1
 
 pub returns-in-Err : goal.returns-in-Err
-returns-in-Err c = is_utf8_false c.args.text.now _ c.in-Err.ensures.cases.0 c.in-Err.ensures.cases.1
+returns-in-Err c = is_utf8_false c.args.text.now c.in-Err.ensures.cases.0
