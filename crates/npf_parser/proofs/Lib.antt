@@ -2,6 +2,9 @@ pub mod Gaps
 pub mod Lists
 pub mod Phrases
 pub mod Says
+pub mod SoundFilters
+pub mod SoundRules
+pub mod SoundStatements
 pub mod SoundValues
 pub mod SoundWords
 pub mod Texts
