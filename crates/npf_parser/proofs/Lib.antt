@@ -1,3 +1,8 @@
+pub mod CompleteFilters
+pub mod CompleteRules
+pub mod CompleteStatements
+pub mod CompleteValues
+pub mod CompleteWords
 pub mod Gaps
 pub mod Lists
 pub mod Phrases
