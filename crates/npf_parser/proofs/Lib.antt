@@ -13,3 +13,4 @@ pub mod SoundStatements
 pub mod SoundValues
 pub mod SoundWords
 pub mod Texts
+pub mod Trees

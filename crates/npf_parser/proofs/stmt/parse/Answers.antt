@@ -1,0 +1,11 @@
+use Rattle.npf_parser.proofs.Trees.{answers_tree, answers_fault, answers_each_tree}
+use Rattle.npf_parser.proofs.stmt.parse.Goals as goal
+
+pub returns-clause-tree : goal.returns-clause-tree
+returns-clause-tree c = answers_tree c.args.tokens.now c.read_tree.result c.read_tree.ensures
+
+pub returns-clause-refused : goal.returns-clause-refused
+returns-clause-refused c = answers_fault c.args.tokens.now c.read_tree.result c.read_tree.ensures
+
+pub returns-clause-complete : goal.returns-clause-complete
+returns-clause-complete c = answers_each_tree c.args.tokens.now c.read_tree.result c.read_tree.ensures
