@@ -1,12 +1,11 @@
 -- What the grammar says of filters is read of them.
-use Rattle.std.proofs.Common.{◌≡◌, ℕ, ◌||◌, Bool, true, false, Option, Some, None, Ok, Err, List, length, codes, bytes_eq, refl, sym, ap, ◌∙◌, arith}
+use Rattle.std.proofs.Common.{◌≡◌, ℕ, ◌||◌, Bool, true, false, Option, None, Ok, List, codes, bytes_eq, refl, sym, ap, ◌∙◌}
 use Rattle.npf_lexer.specs.declared.token.Sign.{Sign}
-use Rattle.npf_lexer.specs.declared.token.Sign.TheVariants.{OpenBrace, Slash, Less}
+use Rattle.npf_lexer.specs.declared.token.Sign.TheVariants.{Slash, Less}
 use Rattle.npf_lexer.specs.declared.token.Token.{Token}
 use Rattle.npf_lexer.specs.declared.token.TokenKind.{TokenKind}
 use Rattle.npf_lexer.specs.declared.token.TokenKind.TheVariants as Kind
 use Rattle.npf_syntax.specs.declared.filter.Addresses.{Addresses}
-use Rattle.npf_syntax.specs.declared.filter.Addresses.TheVariants as Addresses
 use Rattle.npf_syntax.specs.declared.value.Function.{Function}
 use Rattle.npf_syntax.specs.declared.value.ValueList.{ValueList}
 use Rattle.npf_syntax.specs.declared.value.Value.{Value}
@@ -14,9 +13,9 @@ use Rattle.npf_syntax.specs.declared.word.Word.{Word}
 use Rattle.npf_parser.specs.declared.role.Role.TheVariants as Role
 use Rattle.npf_parser.specs.GrammarFilters.{IsFamily, family4, family6, IsMask, masked, unmasked, IsDetail, flags_detail, icmp_detail, no_detail, IsProtoPart, protos, no_protos, IsAddresses, any_address, one_address, many_addresses, IsEnds, at_addresses, at_ports, IsWhere, everywhere, from_there, to_there, IsFilter, filter}
 use Rattle.npf_parser.specs.GrammarValues.{IsValueList, IsWritten, a_number, a_word, a_string, a_variable, an_address, a_table, a_function, CanStand, IsFunction, inet4, inet6, ifaddrs, IsValue}
-use Rattle.npf_parser.specs.GrammarWords.{Opens, opens, HasSign, HasWord, LacksWord}
+use Rattle.npf_parser.specs.GrammarWords.{opens, HasSign, HasWord, LacksWord}
 use Rattle.npf_parser.specs.Leaves.{flags_of, number_to}
-use Rattle.npf_parser.specs.Readings.{◌>>=◌, kind_of, span_to, behind_sign, behind_word, if_behind, optional}
+use Rattle.npf_parser.specs.Readings.{kind_of, span_to, behind_sign, behind_word, optional}
 use Rattle.npf_parser.specs.Values.{values_of}
 use Rattle.npf_parser.specs.Filters.{family_of, flags_detail_of, icmp_detail_of, detail_of, proto_part_of, addresses_of, ends_of, where_of, filter_of}
 use Rattle.npf_parser.proofs.CompleteValues.{finds_protocols, finds_value, finds_value_list, finds_values, value_list_opens, list_open, no_open}

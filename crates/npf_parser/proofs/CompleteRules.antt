@@ -1,5 +1,5 @@
 -- What the grammar says of rules, items and groups' heads is read of them.
-use Rattle.std.proofs.Common.{◌≡◌, ℕ, Bool, true, false, Option, Some, None, Ok, Err, List, [], ◌∷◌, length, codes, refl, sym, ap, ◌∙◌}
+use Rattle.std.proofs.Common.{◌≡◌, ℕ, Bool, false, Option, None, List, codes, refl}
 use Rattle.npf_lexer.specs.declared.token.Token.{Token}
 use Rattle.npf_syntax.specs.declared.group.Item.{Item}
 use Rattle.npf_syntax.specs.declared.rule.Answer.{Answer}
@@ -8,11 +8,10 @@ use Rattle.npf_syntax.specs.declared.rule.RuleTree.{RuleTree}
 use Rattle.npf_syntax.specs.declared.rule.Stateful.{Stateful as StatefulTree}
 use Rattle.npf_syntax.specs.declared.word.Str.{Str}
 use Rattle.npf_parser.specs.GrammarRules.{IsAnswer, answers, answers_rst, answers_icmp, silent, IsAction, blocks, passes, IsStateful, keeps_state, keeps_all, keeps_none, IsDirection, inward, outward, either_way, IsFinal, last_word, not_last, IsOn, IsRule, rule, IsItem, rule_item, ruleset_item, IsHead, named_head, default_head}
-use Rattle.npf_parser.specs.GrammarWords.{opens, HasWord, LacksWord, IsString, string}
+use Rattle.npf_parser.specs.GrammarWords.{opens, LacksWord, IsString, string}
 use Rattle.npf_parser.specs.Leaves.{string_of}
-use Rattle.npf_parser.specs.Readings.{◌>>=◌, behind_sign, behind_word, if_behind, is_at_brace, is_at_separator, span_to}
+use Rattle.npf_parser.specs.Readings.{behind_sign, behind_word, is_at_brace, is_at_separator}
 use Rattle.npf_parser.specs.Values.{iface_of}
-use Rattle.npf_parser.specs.Filters.{filter_of}
 use Rattle.npf_parser.specs.Groups.{item_of, head_of}
 use Rattle.npf_parser.specs.Rules.{answer_of, action_of, stateful_of, direction_of, final_of, on_of, rule_of}
 use Rattle.npf_parser.proofs.CompleteFilters.{finds_filter}

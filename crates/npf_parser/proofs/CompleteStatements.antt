@@ -1,6 +1,5 @@
 -- What the grammar says of maps, procedures, statements and whole configurations is read of them.
-use Rattle.std.proofs.Common.{◌≡◌, ℕ, suc, ◌<◌, Bool, true, false, Option, Some, None, Ok, Err, List, [], ◌∷◌, length, codes, refl, sym, ap, ◌∙◌, arith}
-use Rattle.npf_lexer.specs.declared.token.Sign.TheVariants as Sign
+use Rattle.std.proofs.Common.{◌≡◌, ℕ, suc, false, None, Ok, List, length, codes, refl, ap, ◌∙◌, arith}
 use Rattle.npf_lexer.specs.declared.token.Token.{Token}
 use Rattle.npf_syntax.specs.declared.group.Item.{Item}
 use Rattle.npf_syntax.specs.declared.procedure.Call.{Call}
@@ -8,14 +7,14 @@ use Rattle.npf_syntax.specs.declared.stmt.Stmt.{Stmt}
 use Rattle.npf_syntax.specs.declared.stmt.Tree.{Tree}
 use Rattle.npf_syntax.specs.declared.word.Var.{Var}
 use Rattle.npf_parser.specs.declared.role.Role.TheVariants.{Any, Address, Port}
-use Rattle.npf_parser.specs.GrammarLists.{IsBlock, AtBrace, AtEnd}
+use Rattle.npf_parser.specs.GrammarLists.{IsBlock, AtEnd}
 use Rattle.npf_parser.specs.GrammarMaps.{IsMapKind, dynamic_map, static_map, IsArrow, rightward, leftward, both_ways, IsSide, side}
 use Rattle.npf_parser.specs.GrammarProcedures.{IsLogName, log_word, log_string, IsOpt, min_ttl, max_mss, no_df, IsCall, logs, normalizes}
 use Rattle.npf_parser.specs.GrammarRules.{IsItem}
 use Rattle.npf_parser.specs.GrammarStatements.{IsSetting, to_word, to_number, IsTableType, ipset, lpm, const, IsBraced, IsStmt, define, set, alg, table, map, group, procedure, Parses, file}
 use Rattle.npf_parser.specs.GrammarWords.{opens, IsVar, var}
-use Rattle.npf_parser.specs.Leaves.{string_of, word_of, text_string_of}
-use Rattle.npf_parser.specs.Readings.{◌>>=◌, behind_sign, behind_word, behind_string, if_behind, is_at_brace, is_at_end, is_at_separator, span_to, place_of}
+use Rattle.npf_parser.specs.Leaves.{word_of, text_string_of}
+use Rattle.npf_parser.specs.Readings.{behind_sign, behind_word, behind_string, is_at_brace, is_at_end, is_at_separator}
 use Rattle.npf_parser.specs.Values.{one_of, value_of}
 use Rattle.npf_parser.specs.Filters.{filter_of}
 use Rattle.npf_parser.specs.Groups.{item_of, items_of, group_of}
@@ -26,7 +25,7 @@ use Rattle.npf_parser.proofs.CompleteFilters.{finds_filter}
 use Rattle.npf_parser.proofs.CompleteRules.{finds_item, finds_head, item_begins}
 use Rattle.npf_parser.proofs.CompleteValues.{finds_iface, finds_one, finds_value, finds_values}
 use Rattle.npf_parser.proofs.CompleteWords.{then, sign_goes, word_goes, finds_string, finds_word, finds_variable, finds_number, finds_number_to, finds_name_word, finds_name_string, finds_text_string, string_kind, word_kind, number_kind}
-use Rattle.npf_parser.proofs.Phrases.{finds_optional, finds_commas, finds_block, Begins}
+use Rattle.npf_parser.proofs.Phrases.{finds_optional, finds_commas, finds_block}
 use Rattle.npf_parser.proofs.Says.{Finds}
 use Rattle.npf_parser.proofs.SoundRules.{says_item}
 use Rattle.npf_parser.proofs.SoundStatements.{says_opt, says_call, says_stmt, closing_brace, closing_end}

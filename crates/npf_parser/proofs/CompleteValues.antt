@@ -1,32 +1,25 @@
 -- What the grammar says of interfaces, protocols, values and lists of these is read of them.
-use Rattle.std.proofs.Common.{◌≡◌, ℕ, zero, suc, ◌+◌, ◌<◌, ◌≤◌, ◌&&◌, Bool, true, false, nat_le, Option, Some, None, Ok, Err, List, [], ◌∷◌, length, codes, refl, sym, ap, subst, ◌∙◌, arith}
+use Rattle.std.proofs.Common.{◌≡◌, ℕ, suc, ◌≤◌, ◌&&◌, Bool, true, false, Option, Some, None, Ok, List, length, codes, refl, sym, ap, ◌∙◌, arith}
 use Rattle.std.proofs.lemmas.Bool.Decides.{nat_tests}
 use Rattle.npf_types.specs.declared.address.Addr.{Addr}
-use Rattle.npf_types.specs.declared.place.Span.{Span}
-use Rattle.npf_types.specs.Address.{width}
-use Rattle.npf_types.specs.NameText.{is_name}
 use Rattle.npf_lexer.specs.declared.token.Sign.{Sign}
-use Rattle.npf_lexer.specs.declared.token.Sign.TheVariants.{OpenBrace, CloseBrace, OpenParen, CloseParen, Slash, Dash, Less, Greater}
+use Rattle.npf_lexer.specs.declared.token.Sign.TheVariants.{OpenBrace, CloseBrace, CloseParen, Slash, Dash, Less, Greater}
 use Rattle.npf_lexer.specs.declared.token.Token.{Token}
 use Rattle.npf_lexer.specs.declared.token.TokenKind.{TokenKind}
 use Rattle.npf_lexer.specs.declared.token.TokenKind.TheVariants as Kind
 use Rattle.npf_syntax.specs.declared.word.Number.{Number}
-use Rattle.npf_syntax.specs.declared.filter.Protocols.{Protocols}
 use Rattle.npf_syntax.specs.declared.value.Function.{Function}
 use Rattle.npf_syntax.specs.declared.value.One.{One}
 use Rattle.npf_syntax.specs.declared.value.OneList.{OneList}
 use Rattle.npf_syntax.specs.declared.value.Value.{Value}
-use Rattle.npf_syntax.specs.declared.value.Value.TheVariants as Value
 use Rattle.npf_syntax.specs.declared.value.ValueList.{ValueList}
-use Rattle.npf_syntax.specs.declared.value.Values.{Values}
 use Rattle.npf_parser.specs.declared.role.Role.{Role}
-use Rattle.npf_parser.specs.declared.role.Role.TheVariants.{Any, Address as Addresses, Port}
 use Rattle.npf_parser.specs.GrammarLists.{IsCommaList, last, more}
-use Rattle.npf_parser.specs.GrammarWords.{Opens, opens, HasSign, LacksSign, Lacks, Gap, IsNameWord}
+use Rattle.npf_parser.specs.GrammarWords.{HasSign}
 use Rattle.npf_parser.specs.GrammarValues.{IsIface, by_word, by_string, by_variable, IsOne, one_word, one_number, one_variable, IsOneList, braced, IsProtocols, single, listed, IsFunction, inet4, inet6, ifaddrs, LacksFunction, IsJoined, joined, alone, IsOrdered, one_end, two_ends, FitsFamily, no_length, fitting, IsWritten, a_number, a_word, a_string, a_variable, an_address, a_table, a_function, CanStand, anywhere, address_stands, table_stands, function_stands, addresses_stand, port_stands, range_stands, service_stands, ports_stand, IsValue, IsListed, behind_lines, IsValueList, no_values, some_values, IsValues, one_value, many_values}
-use Rattle.npf_parser.specs.Leaves.{string_of, word_of, variable_of, number_of, address_of, number_to, name_word_of, name_string_of}
-use Rattle.npf_parser.specs.Readings.{Reading, ◌>>=◌, skip, span_to, place_of, kind_of, behind_sign, behind_word, after_sign, if_behind, optional, where_it_can, comma_list}
-use Rattle.npf_parser.specs.Values.{iface_by, iface_of, one_by, one_of, one_list_of, protocols_of, function_of, word_value_by, word_value_of, is_range, number_behind, number_value_of, is_prefix, address_value_of, table_value_of, variable_value_of, string_value_of, value_by, is_port, is_port_end, can_stand, value_of, listed_value_of, value_list_of, values_of}
+use Rattle.npf_parser.specs.Leaves.{word_of, number_of}
+use Rattle.npf_parser.specs.Readings.{skip, span_to, kind_of, behind_sign, after_sign, optional, where_it_can}
+use Rattle.npf_parser.specs.Values.{iface_by, iface_of, one_by, one_of, one_list_of, protocols_of, function_of, word_value_by, word_value_of, is_range, number_behind, number_value_of, is_prefix, address_value_of, table_value_of, variable_value_of, string_value_of, value_by, is_port, can_stand, value_of, listed_value_of, value_list_of, values_of}
 use Rattle.npf_parser.proofs.CompleteWords.{then, sign_goes, finds_string, finds_word, finds_variable, finds_number, finds_address, finds_number_to, finds_name_word, finds_name_string, string_kind, word_kind, variable_kind, number_kind, address_kind}
 use Rattle.npf_parser.proofs.Gaps.{opens_kind, gap_found}
 use Rattle.npf_parser.proofs.Phrases.{finds_commas}

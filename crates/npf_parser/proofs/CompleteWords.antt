@@ -1,7 +1,6 @@
 -- What the grammar says of single tokens is read of them.
-use Rattle.std.proofs.Common.{◌≡◌, ℕ, zero, suc, ◌+◌, ◌<◌, ◌≤◌, Bool, true, false, nat_le, Result, Ok, Err, List, [], ◌∷◌, length, slice_index_or, refl, sym, ap, subst, ◌∙◌, arith, All, Contains}
-use Rattle.std.specs.List.{list_all, AllPass}
-use Rattle.std.specs.Str.{is_utf8}
+use Rattle.std.proofs.Common.{◌≡◌, ℕ, zero, suc, ◌<◌, true, nat_le, Result, Ok, List, slice_index_or, refl, ap, subst, ◌∙◌, arith, All, Contains}
+use Rattle.std.specs.List.{AllPass}
 use Rattle.std.proofs.lemmas.Bool.Decides.{nat_tests}
 use Rattle.std.proofs.lemmas.List.Sums.{list_all-from_AllPass}
 use Rattle.std.proofs.lemmas.Str.{is_utf8-from_IsUtf8}
@@ -16,7 +15,7 @@ use Rattle.npf_syntax.specs.declared.word.Var.{Var}
 use Rattle.npf_syntax.specs.declared.word.Word.{Word}
 use Rattle.npf_parser.specs.GrammarWords.{HasSign, HasWord, flag_letters, IsString, string, IsWord, word, IsVar, var, IsNumber, number, IsAddress, address, IsNumberTo, IsNameWord, IsNameString, IsTextString, IsFlags}
 use Rattle.npf_parser.specs.Leaves.{string_of, word_of, variable_of, number_of, address_of, number_to, name_word_of, name_string_of, text_string_of, flags_of, is_flag}
-use Rattle.npf_parser.specs.Readings.{Reading, ◌>>=◌, kind_of, where_it_can, required, after_sign, after_word}
+use Rattle.npf_parser.specs.Readings.{◌>>=◌, kind_of, where_it_can, required, after_sign, after_word}
 use Rattle.npf_parser.proofs.Says.{Finds, sign_found, word_found}
 
 -- a phrase that is read, and what follows it

@@ -1,8 +1,7 @@
 -- Lists that a loop reads, an item a turn.
-use Rattle.std.proofs.Common.{◌≡◌, ℕ, suc, ◌-◌, ◌+◌, Bool, true, false, ◌||◌, if◌then◌else◌, Option, Some, None, Ok, Err, List, [], ◌∷◌, ◌++◌, length, refl, sym, ap, subst, ◌∙◌, append_assoc, append-nil, arith}
+use Rattle.std.proofs.Common.{◌≡◌, ℕ, suc, Bool, true, false, ◌||◌, if◌then◌else◌, Some, None, Ok, Err, List, [], ◌∷◌, ◌++◌, refl, sym, ap, ◌∙◌, append_assoc, append-nil}
 use Rattle.npf_types.specs.declared.place.Span.{Span}
 use Rattle.npf_lexer.specs.declared.fault.Refused.{Refused}
-use Rattle.npf_lexer.specs.declared.fault.Refused.TheVariants as Refused
 use Rattle.npf_lexer.specs.declared.token.Sign.TheVariants.{Comma}
 use Rattle.npf_lexer.specs.declared.token.Token.{Token}
 use Rattle.npf_parser.specs.Readings.{Reading, Answers, ◌>>=◌, if_behind, onto, comma_list, block_list, skip, skip_separators, behind_sign, place_of, is_at_separator}

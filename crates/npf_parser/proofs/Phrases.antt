@@ -1,13 +1,11 @@
 -- Parts that may be left out, lists with commas and blocks, each of any phrase: what is read is what the grammar says,
 -- and what the grammar says is read.
-use Rattle.std.proofs.Common.{◌≡◌, ℕ, zero, suc, ◌+◌, ◌<◌, ◌≤◌, Bool, true, false, ◌||◌, if◌then◌else◌, Option, Some, None, Ok, Err, List, [], ◌∷◌, length, inl, inr, ◌⊎◌, refl, sym, ap, subst, ◌∙◌, arith}
-use Rattle.npf_types.specs.declared.place.Span.{Span}
-use Rattle.npf_lexer.specs.declared.token.Sign.TheVariants.{Comma, CloseBrace}
+use Rattle.std.proofs.Common.{◌≡◌, ℕ, zero, suc, ◌+◌, ◌<◌, ◌≤◌, Bool, true, false, ◌||◌, if◌then◌else◌, Option, Some, None, Ok, Err, List, [], ◌∷◌, length, inl, inr, ◌⊎◌, refl, sym, ap, ◌∙◌, arith}
+use Rattle.npf_lexer.specs.declared.token.Sign.TheVariants.{Comma}
 use Rattle.npf_lexer.specs.declared.token.Token.{Token}
 use Rattle.npf_lexer.specs.declared.token.TokenKind.{TokenKind}
-use Rattle.npf_lexer.specs.declared.token.TokenKind.TheVariants as Kind
-use Rattle.npf_parser.specs.GrammarLists.{IsOptional, present, absent, IsCommaList, last, more, HasSeparator, MayEnd, at_separator, at_close, IsBlock, close, empty, item}
-use Rattle.npf_parser.specs.GrammarWords.{Opens, opens, Lacks, Gap}
+use Rattle.npf_parser.specs.GrammarLists.{IsOptional, present, absent, IsCommaList, last, more, MayEnd, at_separator, at_close, IsBlock, close, empty, item}
+use Rattle.npf_parser.specs.GrammarWords.{Opens, Lacks}
 use Rattle.npf_parser.specs.Readings.{Reading, ◌>>=◌, if_behind, optional, onto, comma_list, block_list, behind_sign, behind_word, skip, skip_separators, place_of, is_at_separator}
 use Rattle.npf_parser.proofs.Gaps.{gap_skips, gap_found, gap_takes, separator_skipped, separator_takes, separator_stands, none_skipped, separator_seen, block_skipped, separators_take}
 use Rattle.npf_parser.proofs.Lists.{comma_turn, after, turn, block_turn}
@@ -31,8 +29,8 @@ module _ {A : Type 0} {IsPhrase : List Token → A → List Token → Type 0} (w
   pub says_optional : Reads IsPhrase 1 read → (ts : List Token) → Says (IsOptional word IsPhrase ts) 0 ts (optional (behind_word word ts) read ts)
   says_optional reads ts =
       says_part (behind_word word ts) read ts (sees_word word ts) (omega arith)
-          (λ us opened. record { holds = λ a vs is. present opened ((reads us).holds a vs is); takes = λ a vs is. omega (arith, (reads us).takes a vs is) })
-          absent
+      (λ us opened. record { holds = λ a vs is. present opened ((reads us).holds a vs is); takes = λ a vs is. omega (arith, (reads us).takes a vs is) })
+      absent
 
   pub finds_optional : Finds IsPhrase read → (ts : List Token) (a : Option A) (rest : List Token) → IsOptional word IsPhrase ts a rest → optional (behind_word word ts) read ts ≡ Ok (a, rest)
   finds_optional finds _ _ _ (present {ts} {us} {rest} {a} opened is) =
@@ -58,9 +56,9 @@ module _ {A : Type 0} {IsPhrase : List Token → A → List Token → Type 0} (i
   says_commas (suc n) ts =
       says_then (read ts) (behind_item n) (reads ts) (λ a us is takes.
       says_if (behind_sign Comma (skip inside us)) (λ rest. onto a (comma_list read inside n rest)) (Ok (a ∷ [], us)) (sees_sign Comma (skip inside us))
-          (λ vs comma fewer. says_onto a (comma_list read inside n vs) (says_commas n vs) (λ behind ws are left.
-              (more is (gap_skips inside us) comma are, omega (arith, takes, fewer, left, gap_takes (gap_skips inside us)))))
-          (λ lacks. says (a ∷ []) us (last is (gap_skips inside us) lacks) takes))
+      (λ vs comma fewer. says_onto a (comma_list read inside n vs) (says_commas n vs) (λ behind ws are left.
+      (more is (gap_skips inside us) comma are, omega (arith, takes, fewer, left, gap_takes (gap_skips inside us)))))
+      (λ lacks. says (a ∷ []) us (last is (gap_skips inside us) lacks) takes))
 
   pub finds_commas : Finds IsPhrase read → (ts : List Token) (all : List A) (rest : List Token) → IsCommaList inside IsPhrase ts all rest → (n : ℕ) → length ts < n → comma_list read inside n ts ≡ Ok (all, rest)
   finds_commas finds _ _ _ (last {ts} {us} {vs} {a} is gap lacks) n less =

@@ -1,17 +1,14 @@
 -- From what is read to what the grammar says of the tokens, and back: how the parts of a phrase are put together.
-use Rattle.std.proofs.Common.{◌≡◌, ℕ, zero, suc, ◌+◌, ◌-◌, ◌<◌, ◌≤◌, Bool, true, false, cond, if◌then◌else◌, codes, Option, Some, None, Result, Ok, Err, List, [], ◌∷◌, length, drop, refl, sym, ap, subst, ◌∙◌, arith, Decides, bytes_eq}
-use Rattle.std.specs.List.{prefix_len}
+use Rattle.std.proofs.Common.{◌≡◌, ℕ, ◌+◌, ◌≤◌, Bool, true, false, if◌then◌else◌, codes, Option, Some, None, Ok, Err, List, [], ◌∷◌, length, refl, sym, ap, subst, ◌∙◌, arith, bytes_eq}
 use Rattle.std.proofs.lemmas.Slice.Eq.{bytes_eq-Decides}
 use Rattle.npf_types.specs.declared.place.Span.{Span}
 use Rattle.npf_lexer.specs.Signs.{sign_text}
 use Rattle.npf_lexer.specs.declared.token.Sign.{Sign}
-use Rattle.npf_lexer.specs.declared.token.Sign.TheVariants as Sign
 use Rattle.npf_lexer.specs.declared.token.Token.{Token}
 use Rattle.npf_lexer.specs.declared.token.TokenKind.{TokenKind}
 use Rattle.npf_lexer.specs.declared.token.TokenKind.TheVariants as Kind
-use Rattle.npf_parser.specs.GrammarLists.{IsOptional, present, absent}
-use Rattle.npf_parser.specs.GrammarWords.{Opens, opens, Lacks, HasWord, LacksWord, HasName, HasSign, LacksSign, Gap, outside, ended, line, token}
-use Rattle.npf_parser.specs.Readings.{Reading, ◌>>=◌, if_behind, optional, behind_sign, behind_word, behind_string, after_sign, after_word, required, skip, is_line_feed, place_of, sign_behind, word_behind, string_behind}
+use Rattle.npf_parser.specs.GrammarWords.{Opens, opens, Lacks, HasWord, LacksWord, HasName, HasSign, LacksSign, token}
+use Rattle.npf_parser.specs.Readings.{Reading, ◌>>=◌, if_behind, behind_sign, behind_word, behind_string, after_sign, after_word, required, place_of, sign_behind, word_behind, string_behind}
 
 -- what is read is what the grammar says, and takes so many tokens at least
 pub record Says {A : Type 0} (IsPhrase : A → List Token → Type 0) (least : ℕ) (ts : List Token) (reading : Reading A) : Type 0 where

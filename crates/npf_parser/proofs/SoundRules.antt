@@ -1,26 +1,19 @@
 -- What is read of rules, items and groups' heads is what the grammar says of them.
-use Rattle.std.proofs.Common.{◌≡◌, ℕ, ◌+◌, ◌≤◌, Bool, true, false, Option, Some, None, Ok, Err, List, length, codes, refl, arith}
+use Rattle.std.proofs.Common.{ℕ, ◌≤◌, Option, Some, None, List, length, codes, refl, arith}
 use Rattle.npf_lexer.specs.declared.token.Token.{Token}
 use Rattle.npf_lexer.specs.declared.token.TokenKind.TheVariants as Kind
 use Rattle.npf_syntax.specs.declared.group.GroupHead.TheVariants.{Named, Default}
 use Rattle.npf_syntax.specs.declared.group.Item.TheVariants.{Rule, Ruleset}
-use Rattle.npf_syntax.specs.declared.rule.Answer.{Answer}
-use Rattle.npf_syntax.specs.declared.rule.Answer.TheVariants.{Return, ReturnRst, ReturnIcmp}
-use Rattle.npf_syntax.specs.declared.rule.Direction.{Direction}
-use Rattle.npf_syntax.specs.declared.rule.Direction.TheVariants.{In, Out}
 use Rattle.npf_syntax.specs.declared.rule.RuleAction.TheVariants.{Block, Pass}
-use Rattle.npf_syntax.specs.declared.rule.Stateful.{Stateful as StatefulTree}
-use Rattle.npf_syntax.specs.declared.rule.Stateful.TheVariants.{Stateful, StatefulAll}
 use Rattle.npf_parser.specs.GrammarRules.{IsAnswer, answers, answers_rst, answers_icmp, silent, IsAction, blocks, passes, IsStateful, keeps_state, keeps_all, keeps_none, IsDirection, inward, outward, either_way, IsFinal, last_word, not_last, IsOn, IsRule, rule, IsItem, rule_item, ruleset_item, IsHead, named_head, default_head}
-use Rattle.npf_parser.specs.GrammarWords.{Opens, Lacks, HasWord, LacksWord}
-use Rattle.npf_parser.specs.Leaves.{string_of, name_string_of}
-use Rattle.npf_parser.specs.Readings.{Reading, ◌>>=◌, span_to, place_of, behind_word, if_behind, optional}
+use Rattle.npf_parser.specs.GrammarWords.{HasWord, LacksWord}
+use Rattle.npf_parser.specs.Leaves.{string_of}
+use Rattle.npf_parser.specs.Readings.{span_to, place_of, behind_word, if_behind}
 use Rattle.npf_parser.specs.Values.{iface_of}
-use Rattle.npf_parser.specs.Filters.{filter_of}
-use Rattle.npf_parser.specs.Groups.{item_of, head_of, ruleset_behind}
+use Rattle.npf_parser.specs.Groups.{item_of, head_of}
 use Rattle.npf_parser.specs.Rules.{answer_of, action_of, stateful_of, direction_of, final_of, on_of, rule_of}
 use Rattle.npf_parser.proofs.Phrases.{says_optional}
-use Rattle.npf_parser.proofs.Says.{Says, Reads, Sees, says, says_none, says_then, says_if_word, sees_word, opens_takes}
+use Rattle.npf_parser.proofs.Says.{Reads, Sees, says, says_none, says_then, says_if_word, sees_word, opens_takes}
 use Rattle.npf_parser.proofs.SoundFilters.{says_filter}
 use Rattle.npf_parser.proofs.SoundValues.{says_iface}
 use Rattle.npf_parser.proofs.SoundWords.{says_string, says_name_string}
@@ -70,8 +63,8 @@ pub says_action : Reads IsAction 1 action_of
 unfolding action_of
 says_action ts =
     says_if_word (codes "block") ts _ _
-        (λ us has shorter. let part = part_answer us in says (Block (answer_of us).0 (span_to ts (answer_of us).1)) (answer_of us).1 (blocks has part.0) (omega (arith, shorter, part.1)))
-        (λ lacks.
+    (λ us has shorter. let part = part_answer us in says (Block (answer_of us).0 (span_to ts (answer_of us).1)) (answer_of us).1 (blocks has part.0) (omega (arith, shorter, part.1)))
+    (λ lacks.
     says_if_word (codes "pass") ts _ _ (λ rest has takes. says (Pass (span_to ts rest)) rest (passes has) takes) (λ lacks'. says_none (place_of ts)))
 
 pub says_on : Reads IsOn 0 on_of
@@ -89,24 +82,24 @@ says_rule ts =
     says_then _ _ (says_filter vs) (λ filter ws filtered less.
     says_then _ _ (says_optional (codes "apply") string_of says_string ws) (λ apply rest applied left.
     says (record { action = action; stateful = (stateful_of us).0; dir = (direction_of (stateful_of us).1).0; last = (final_of (direction_of (stateful_of us).1).1).0; on = on; filter = filter; apply = apply; span = span_to ts rest }) rest
-        (rule is stateful.0 dir.0 final.0 bound filtered applied) (omega (arith, takes, stateful.1, dir.1, final.1, fewer, less, left))))))
+    (rule is stateful.0 dir.0 final.0 bound filtered applied) (omega (arith, takes, stateful.1, dir.1, final.1, fewer, less, left))))))
 
 pub says_item : Reads IsItem 1 item_of
 unfolding item_of
 says_item ts =
     says_if_word (codes "ruleset") ts _ _
-        (λ us has shorter.
-        says_then _ _ (says_name_string us) (λ name vs is takes.
-        let dir = part_direction vs in
-        says_then _ _ (says_on (direction_of vs).1) (λ on rest bound fewer.
-        says (Ruleset name (direction_of vs).0 on (span_to ts rest)) rest (ruleset_item has is dir.0 bound) (omega (arith, shorter, takes, dir.1, fewer)))))
-        (λ lacks. says_then _ _ (says_rule ts) (λ tree rest is takes. says (Rule tree (span_to ts rest)) rest (rule_item is) takes))
+    (λ us has shorter.
+    says_then _ _ (says_name_string us) (λ name vs is takes.
+    let dir = part_direction vs in
+    says_then _ _ (says_on (direction_of vs).1) (λ on rest bound fewer.
+    says (Ruleset name (direction_of vs).0 on (span_to ts rest)) rest (ruleset_item has is dir.0 bound) (omega (arith, shorter, takes, dir.1, fewer)))))
+    (λ lacks. says_then _ _ (says_rule ts) (λ tree rest is takes. says (Rule tree (span_to ts rest)) rest (rule_item is) takes))
 
 pub says_head : Reads IsHead 1 head_of
 unfolding head_of
 says_head ts =
     says_if_word (codes "default") ts _ _ (λ rest has takes. says (Default (span_to ts rest)) rest (default_head has) takes) (λ lacks.
-        says_then _ _ (says_string ts) (λ name us is takes.
-        let dir = part_direction us in
-        says_then _ _ (says_on (direction_of us).1) (λ on rest bound fewer.
-        says (Named name (direction_of us).0 on (span_to ts rest)) rest (named_head is dir.0 bound) (omega (arith, takes, dir.1, fewer)))))
+    says_then _ _ (says_string ts) (λ name us is takes.
+    let dir = part_direction us in
+    says_then _ _ (says_on (direction_of us).1) (λ on rest bound fewer.
+    says (Named name (direction_of us).0 on (span_to ts rest)) rest (named_head is dir.0 bound) (omega (arith, takes, dir.1, fewer)))))

@@ -1,5 +1,5 @@
 -- What is read of maps, procedures, statements and whole configurations is what the grammar says of them.
-use Rattle.std.proofs.Common.{◌≡◌, ℕ, suc, ◌+◌, ◌≤◌, Bool, true, false, is_some, Option, Some, None, Ok, Err, List, [], ◌∷◌, length, codes, refl, sym, ap, subst, ◌∙◌, arith}
+use Rattle.std.proofs.Common.{◌≡◌, suc, ◌+◌, ◌≤◌, true, false, is_some, Option, Some, None, Ok, Err, List, [], ◌∷◌, length, codes, refl, ap, subst, arith}
 use Rattle.npf_types.specs.declared.place.Span.{Span}
 use Rattle.npf_lexer.specs.declared.token.Sign.TheVariants as Sign
 use Rattle.npf_lexer.specs.declared.token.Token.{Token}
@@ -7,11 +7,9 @@ use Rattle.npf_lexer.specs.declared.token.TokenKind.{TokenKind}
 use Rattle.npf_lexer.specs.declared.token.TokenKind.TheVariants as Kind
 use Rattle.npf_syntax.specs.declared.map.Arrow.TheVariants as Arrow
 use Rattle.npf_syntax.specs.declared.map.MapKind.TheVariants.{Dynamic, Static}
-use Rattle.npf_syntax.specs.declared.procedure.Call.{Call}
 use Rattle.npf_syntax.specs.declared.procedure.Call.TheVariants.{Log, Normalize}
 use Rattle.npf_syntax.specs.declared.procedure.LogName.TheVariants as LogName
 use Rattle.npf_syntax.specs.declared.procedure.Opt.TheVariants.{MinTtl, MaxMss, NoDf}
-use Rattle.npf_syntax.specs.declared.group.Item.{Item}
 use Rattle.npf_syntax.specs.declared.stmt.Setting.TheVariants as Setting
 use Rattle.npf_syntax.specs.declared.stmt.Stmt.{Stmt}
 use Rattle.npf_syntax.specs.declared.stmt.Stmt.TheVariants.{Define, Set, Alg, Table, Map, Group, Procedure}
@@ -23,16 +21,15 @@ use Rattle.npf_parser.specs.GrammarMaps.{IsMapKind, dynamic_map, static_map, IsA
 use Rattle.npf_parser.specs.GrammarProcedures.{IsLogName, log_word, log_string, IsOpt, min_ttl, max_mss, no_df, IsCall, logs, normalizes}
 use Rattle.npf_parser.specs.GrammarRules.{IsItem}
 use Rattle.npf_parser.specs.GrammarStatements.{IsSetting, to_word, to_number, IsTableType, ipset, lpm, const, IsBraced, IsStmt, define, set, alg, table, map, group, procedure, Parses, file}
-use Rattle.npf_parser.specs.GrammarWords.{Opens, opens, HasWord, token}
-use Rattle.npf_parser.specs.Leaves.{string_of, word_of, text_string_of}
-use Rattle.npf_parser.specs.Readings.{Reading, ◌>>=◌, span_to, place_of, kind_of, behind_sign, behind_word, after_sign, after_word, if_behind, optional, comma_list, block_list, is_at_brace, is_at_end, is_at_separator}
+use Rattle.npf_parser.specs.GrammarWords.{opens, HasWord, token}
+use Rattle.npf_parser.specs.Leaves.{word_of, text_string_of}
+use Rattle.npf_parser.specs.Readings.{Reading, ◌>>=◌, span_to, place_of, kind_of, behind_sign, is_at_brace, is_at_end, is_at_separator}
 use Rattle.npf_parser.specs.Values.{one_of, value_of}
 use Rattle.npf_parser.specs.Filters.{filter_of}
 use Rattle.npf_parser.specs.Groups.{item_of, items_of, group_of}
-use Rattle.npf_parser.specs.Maps.{map_kind_of, arrow_of, side_of, map_of, static_behind}
-use Rattle.npf_parser.specs.Procedures.{log_name_by, log_name_of, opt_of, options_of, call_of, calls_of, procedure_of, log_behind, normalize_behind}
+use Rattle.npf_parser.specs.Maps.{map_kind_of, arrow_of, side_of, map_of}
+use Rattle.npf_parser.specs.Procedures.{log_name_by, log_name_of, opt_of, options_of, call_of, calls_of, procedure_of}
 use Rattle.npf_parser.specs.Stmts.{define_of, setting_by, setting_of, set_of, alg_of, table_type_of, table_of, stmt_of, stmts_of, tree_of}
-use Rattle.npf_parser.proofs.Gaps.{opens_kind}
 use Rattle.npf_parser.proofs.Phrases.{says_optional, says_commas, says_block, Closing}
 use Rattle.npf_parser.proofs.Says.{Says, Reads, says, says_none, says_then, says_sign, says_quoted, says_if_word, says_if_sign, says_if_string, sees_sign, sign_found}
 use Rattle.npf_parser.proofs.SoundFilters.{says_filter}
@@ -45,10 +42,10 @@ unfolding map_kind_of
 says_map_kind ts =
     says_if_word (codes "dynamic") ts _ _ (λ rest has takes. says (Dynamic (span_to ts rest)) rest (dynamic_map has) takes) (λ lacks.
     says_if_word (codes "static") ts _ _
-        (λ us has shorter.
-        says_then _ _ (says_optional (codes "algo") word_of says_word us) (λ algo rest is takes.
-        says (Static algo (span_to ts rest)) rest (static_map has is) (omega (arith, shorter, takes))))
-        (λ lacks'. says_none (place_of ts)))
+    (λ us has shorter.
+    says_then _ _ (says_optional (codes "algo") word_of says_word us) (λ algo rest is takes.
+    says (Static algo (span_to ts rest)) rest (static_map has is) (omega (arith, shorter, takes))))
+    (λ lacks'. says_none (place_of ts)))
 
 pub says_arrow : Reads IsArrow 1 arrow_of
 unfolding arrow_of
@@ -76,24 +73,24 @@ pub says_opt : Reads IsOpt 1 opt_of
 unfolding opt_of
 says_opt ts =
     says_if_string (codes "min-ttl") ts _ _
-        (λ us has shorter. says_then _ _ (says_number_to 255 us) (λ n rest is takes. says (MinTtl n (span_to ts rest)) rest (min_ttl has is) (omega (arith, shorter, takes)))) (λ lacks.
+    (λ us has shorter. says_then _ _ (says_number_to 255 us) (λ n rest is takes. says (MinTtl n (span_to ts rest)) rest (min_ttl has is) (omega (arith, shorter, takes)))) (λ lacks.
     says_if_string (codes "max-mss") ts _ _
-        (λ us has shorter. says_then _ _ (says_number_to 65535 us) (λ n rest is takes. says (MaxMss n (span_to ts rest)) rest (max_mss has is) (omega (arith, shorter, takes)))) (λ lacks'.
+    (λ us has shorter. says_then _ _ (says_number_to 65535 us) (λ n rest is takes. says (MaxMss n (span_to ts rest)) rest (max_mss has is) (omega (arith, shorter, takes)))) (λ lacks'.
     says_if_string (codes "no-df") ts _ _ (λ rest has takes. says (NoDf (span_to ts rest)) rest (no_df has) takes) (λ lacks''. says_none (place_of ts))))
 
 pub says_call : Reads IsCall 1 call_of
 unfolding call_of options_of
 says_call ts =
     says_if_word (codes "log") ts _ _
-        (λ us has shorter.
-        says_sign Sign.Colon us _ (λ vs colon fewer.
-        says_then _ _ (says_log_name vs) (λ name rest is takes. says (Log name (span_to ts rest)) rest (logs has colon is) (omega (arith, shorter, fewer, takes)))))
-        (λ lacks.
+    (λ us has shorter.
+    says_sign Sign.Colon us _ (λ vs colon fewer.
+    says_then _ _ (says_log_name vs) (λ name rest is takes. says (Log name (span_to ts rest)) rest (logs has colon is) (omega (arith, shorter, fewer, takes)))))
+    (λ lacks.
     says_if_word (codes "normalize") ts _ _
-        (λ us has shorter.
-        says_sign Sign.Colon us _ (λ vs colon fewer.
-        says_then _ _ (says_commas false opt_of says_opt (suc (length vs)) vs) (λ options rest are takes. says (Normalize options (span_to ts rest)) rest (normalizes has colon are) (omega (arith, shorter, fewer, takes)))))
-        (λ lacks'. says_none (place_of ts)))
+    (λ us has shorter.
+    says_sign Sign.Colon us _ (λ vs colon fewer.
+    says_then _ _ (says_commas false opt_of says_opt (suc (length vs)) vs) (λ options rest are takes. says (Normalize options (span_to ts rest)) rest (normalizes has colon are) (omega (arith, shorter, fewer, takes)))))
+    (λ lacks'. says_none (place_of ts)))
 
 said_setting : (kind : TokenKind) (ts : List Token) → Says (IsSetting ts) 1 ts (setting_by kind ts)
 said_setting (Kind.Number _) ts = says_then _ _ (says_number ts) (λ n rest is takes. says (Setting.Number n (span_to ts rest)) rest (to_number is) takes)

@@ -1,9 +1,7 @@
 -- What is read of interfaces, protocols, values and lists of these is what the grammar says of them.
-use Rattle.std.proofs.Common.{◌≡◌, ℕ, zero, suc, ◌+◌, ◌≤◌, ◌&&◌, Bool, true, false, nat_le, Option, Some, None, Ok, Err, List, [], ◌∷◌, length, codes, refl, sym, ap, subst, ◌∙◌, arith}
+use Rattle.std.proofs.Common.{◌≡◌, suc, ◌+◌, ◌≤◌, ◌&&◌, Bool, true, false, Option, Some, None, List, [], length, codes, refl, sym, ap, subst, ◌∙◌, arith}
 use Rattle.std.proofs.lemmas.Bool.Decides.{nat_tests}
 use Rattle.npf_types.specs.declared.address.Addr.{Addr}
-use Rattle.npf_types.specs.declared.place.Span.{Span}
-use Rattle.npf_types.specs.Address.{width}
 use Rattle.npf_types.specs.NameText.{is_name}
 use Rattle.npf_lexer.specs.declared.token.Sign.{Sign}
 use Rattle.npf_lexer.specs.declared.token.Sign.TheVariants.{OpenBrace, CloseBrace, OpenParen, CloseParen, Slash, Dash, Less, Greater}
@@ -17,18 +15,17 @@ use Rattle.npf_syntax.specs.declared.value.Function.TheVariants.{Inet4, Inet6, I
 use Rattle.npf_syntax.specs.declared.value.Iface.TheVariants as Iface
 use Rattle.npf_syntax.specs.declared.value.One.TheVariants as One
 use Rattle.npf_syntax.specs.declared.value.Value.{Value}
-use Rattle.npf_syntax.specs.declared.value.Value.TheVariants as Value
 use Rattle.npf_syntax.specs.declared.value.Values.TheVariants as Values
 use Rattle.npf_parser.specs.declared.role.Role.{Role}
 use Rattle.npf_parser.specs.declared.role.Role.TheVariants.{Any, Address as Addresses, Port}
-use Rattle.npf_parser.specs.GrammarWords.{opens, HasSign, LacksSign, Gap, IsNameWord}
+use Rattle.npf_parser.specs.GrammarWords.{opens, HasSign, Gap}
 use Rattle.npf_parser.specs.GrammarValues.{IsIface, by_word, by_string, by_variable, IsOne, one_word, one_number, one_variable, IsOneList, braced, IsProtocols, single, listed, IsFunction, inet4, inet6, ifaddrs, LacksFunction, IsJoined, joined, alone, IsOrdered, one_end, two_ends, FitsFamily, no_length, fitting, IsWritten, a_number, a_word, a_string, a_variable, an_address, a_table, a_function, CanStand, anywhere, address_stands, table_stands, function_stands, addresses_stand, port_stands, range_stands, service_stands, ports_stand, IsValue, IsListed, behind_lines, IsValueList, no_values, some_values, IsValues, one_value, many_values}
-use Rattle.npf_parser.specs.Leaves.{string_of, word_of, variable_of, number_of, address_of, number_to, name_word_of, name_string_of}
-use Rattle.npf_parser.specs.Readings.{Reading, ◌>>=◌, skip, span_to, place_of, kind_of, behind_sign, behind_word, after_sign, if_behind, optional, where_it_can, comma_list}
-use Rattle.npf_parser.specs.Values.{iface_by, iface_of, one_by, one_of, one_list_of, protocols_of, function_of, word_value_by, word_value_of, is_range, number_behind, number_value_of, is_prefix, address_value_of, table_value_of, variable_value_of, string_value_of, value_by, is_port, is_port_end, can_stand, value_of, listed_value_of, value_list_of, values_of}
+use Rattle.npf_parser.specs.Leaves.{number_of}
+use Rattle.npf_parser.specs.Readings.{skip, span_to, kind_of, behind_sign, behind_word, if_behind}
+use Rattle.npf_parser.specs.Values.{iface_by, iface_of, one_by, one_of, one_list_of, protocols_of, function_of, word_value_by, word_value_of, is_range, number_behind, number_value_of, is_prefix, address_value_of, table_value_of, variable_value_of, string_value_of, value_by, is_port, can_stand, value_of, listed_value_of, value_list_of, values_of}
 use Rattle.npf_parser.proofs.Gaps.{gap_skips, gap_found, gap_takes}
 use Rattle.npf_parser.proofs.Phrases.{says_commas, says_part}
-use Rattle.npf_parser.proofs.Says.{Says, Reads, Sees, says, says_none, says_then, says_sign, says_if_word, says_if_sign, sees_word, sees_sign, sign_found, opens_takes}
+use Rattle.npf_parser.proofs.Says.{Says, Reads, says, says_then, says_sign, says_if_sign, sees_word, sees_sign, sign_found, opens_takes}
 use Rattle.npf_parser.proofs.SoundWords.{says_string, says_word, says_variable, says_number, says_address, says_number_to, says_name_word, says_name_string, says_where}
 
 said_iface : (kind : TokenKind) (ts : List Token) → Says (IsIface ts) 1 ts (iface_by kind ts)
@@ -60,8 +57,8 @@ pub says_protocols : Reads IsProtocols 1 protocols_of
 unfolding protocols_of
 says_protocols ts =
     says_if_sign OpenBrace ts _ _
-        (λ us opens shorter. says_then _ _ (says_one_list ts) (λ list rest is takes. says (Protocols.List list (span_to ts rest)) rest (listed is) takes))
-        (λ lacks. says_then _ _ (says_one ts) (λ one rest is takes. says (Protocols.One one (span_to ts rest)) rest (single is) takes))
+    (λ us opens shorter. says_then _ _ (says_one_list ts) (λ list rest is takes. says (Protocols.List list (span_to ts rest)) rest (listed is) takes))
+    (λ lacks. says_then _ _ (says_one ts) (λ one rest is takes. says (Protocols.One one (span_to ts rest)) rest (single is) takes))
 
 -- which choice was taken
 choices : {A C : Type 0} (found : Option (List Token)) (one : List Token → A) (other a : A) → if_behind found one other ≡ a → ((us : List Token) → found ≡ Some us → one us ≡ a → C) → (found ≡ None → other ≡ a → C) → C
@@ -82,21 +79,21 @@ called : (inside : Bool) (ts us : List Token) (f g : Function) (rest : List Toke
     call_of f (behind_sign OpenParen (skip inside us)) ≡ Some (g, rest) → IsFunction inside ts g rest
 called inside ts us f g rest is found =
     choices (behind_sign OpenParen (skip inside us)) (λ vs. Some (f, vs)) None (Some (g, rest)) found
-        (λ vs paren same. let p = same_call f vs g rest same in subst (λ h. IsFunction inside ts h rest) p.0 (subst (IsFunction inside ts f) p.1 (is vs ((sees_sign OpenParen (skip inside us)).some vs paren))))
-        (λ none same. cc)
+    (λ vs paren same. let p = same_call f vs g rest same in subst (λ h. IsFunction inside ts h rest) p.0 (subst (IsFunction inside ts f) p.1 (is vs ((sees_sign OpenParen (skip inside us)).some vs paren))))
+    (λ none same. cc)
 
 pub function_seen : (inside : Bool) (ts : List Token) (f : Function) (rest : List Token) → function_of inside ts ≡ Some (f, rest) → IsFunction inside ts f rest
 unfolding function_of
 function_seen inside ts f rest found =
     choices (behind_word (codes "inet4") ts) _ _ _ found
-        (λ us has is. called inside ts us (Inet4 (span_to ts us)) f rest (λ vs paren. inet4 ((sees_word (codes "inet4") ts).some us has) (gap_skips inside us) paren) is)
-        (λ none is.
+    (λ us has is. called inside ts us (Inet4 (span_to ts us)) f rest (λ vs paren. inet4 ((sees_word (codes "inet4") ts).some us has) (gap_skips inside us) paren) is)
+    (λ none is.
     choices (behind_word (codes "inet6") ts) _ _ _ is
-        (λ us has is. called inside ts us (Inet6 (span_to ts us)) f rest (λ vs paren. inet6 ((sees_word (codes "inet6") ts).some us has) (gap_skips inside us) paren) is)
-        (λ none is.
+    (λ us has is. called inside ts us (Inet6 (span_to ts us)) f rest (λ vs paren. inet6 ((sees_word (codes "inet6") ts).some us has) (gap_skips inside us) paren) is)
+    (λ none is.
     choices (behind_word (codes "ifaddrs") ts) _ _ _ is
-        (λ us has is. called inside ts us (IfAddrs (span_to ts us)) f rest (λ vs paren. ifaddrs ((sees_word (codes "ifaddrs") ts).some us has) (gap_skips inside us) paren) is)
-        (λ none is. cc)))
+    (λ us has is. called inside ts us (IfAddrs (span_to ts us)) f rest (λ vs paren. ifaddrs ((sees_word (codes "ifaddrs") ts).some us has) (gap_skips inside us) paren) is)
+    (λ none is. cc)))
 
 paren_found : (inside : Bool) (f : Function) (us vs rest : List Token) → Gap inside us vs → HasSign OpenParen vs rest → call_of f (behind_sign OpenParen (skip inside us)) ≡ Some (f, rest)
 paren_found inside f us vs rest gap paren =
@@ -119,11 +116,11 @@ function_takes (ifaddrs has gap paren) = omega (arith, opens_takes has, gap_take
 says_joined : (sign : Sign) (inside : Bool) (ts : List Token) → Says (IsJoined sign inside ts) 0 ts (number_behind sign inside ts)
 says_joined sign inside ts =
     says_part (behind_sign sign (skip inside ts)) (λ us. number_of (skip inside us)) ts (sees_sign sign (skip inside ts)) (gap_takes (gap_skips inside ts))
-        (λ us opened. record {
-          holds = λ n ws is. joined (gap_skips inside ts) opened (gap_skips inside us) ((says_number (skip inside us)).holds n ws is);
-          takes = λ n ws is. omega (arith, (says_number (skip inside us)).takes n ws is, gap_takes (gap_skips inside us));
-        })
-        (λ lacks. alone (gap_skips inside ts) lacks)
+    (λ us opened. record {
+      holds = λ n ws is. joined (gap_skips inside ts) opened (gap_skips inside us) ((says_number (skip inside us)).holds n ws is);
+      takes = λ n ws is. omega (arith, (says_number (skip inside us)).takes n ws is, gap_takes (gap_skips inside us));
+    })
+    (λ lacks. alone (gap_skips inside ts) lacks)
 
 ordered : (first : Number) (last : Option Number) → is_range first last ≡ true → IsOrdered first last
 ordered first (Some last) is = two_ends (grind (arith, nat_tests, is))
@@ -154,8 +151,8 @@ says_table_value inside ts =
     says_then _ _ (says_word (skip inside us)) (λ name vs is takes.
     says_sign Greater (skip inside vs) _ (λ rest closed fewer.
     says_where (is_name name.text) (Value.Table name (span_to ts rest)) rest ts
-        (λ can. a_table opened (gap_skips inside us) (record { written = is; named = can }) (gap_skips inside vs) closed)
-        (omega (arith, shorter, takes, fewer, gap_takes (gap_skips inside us), gap_takes (gap_skips inside vs))))))
+    (λ can. a_table opened (gap_skips inside us) (record { written = is; named = can }) (gap_skips inside vs) closed)
+    (omega (arith, shorter, takes, fewer, gap_takes (gap_skips inside us), gap_takes (gap_skips inside vs))))))
 
 said_word_value : (inside : Bool) (ts : List Token) (found : Option (Function × List Token)) → function_of inside ts ≡ found → Says (IsWritten inside ts) 1 ts (word_value_by found inside ts)
 said_word_value inside ts (Some (f, us)) found =
@@ -163,7 +160,7 @@ said_word_value inside ts (Some (f, us)) found =
     says_then _ _ (says_iface (skip inside us)) (λ iface vs is takes.
     says_sign CloseParen (skip inside vs) _ (λ rest closed fewer.
     says (Value.Function f iface (span_to ts rest)) rest (a_function call (gap_skips inside us) is (gap_skips inside vs) closed)
-        (omega (arith, function_takes call, takes, fewer, gap_takes (gap_skips inside us), gap_takes (gap_skips inside vs)))))
+    (omega (arith, function_takes call, takes, fewer, gap_takes (gap_skips inside us), gap_takes (gap_skips inside vs)))))
 said_word_value inside ts None found =
     says_then _ _ (says_word ts) (λ w rest is takes. says (Value.Word w (span_to ts rest)) rest (a_word is (no_function inside ts found)) takes)
 
@@ -229,8 +226,8 @@ unfolding value_list_of
 says_value_list role ts =
     says_sign OpenBrace ts _ (λ us opened shorter.
     says_if_sign CloseBrace (skip true us) _ _
-        (λ rest closed fewer. says (record { values = []; span = span_to ts rest }) rest (no_values opened (gap_skips true us) closed) (omega (arith, shorter, fewer, gap_takes (gap_skips true us))))
-        (λ lacks.
+    (λ rest closed fewer. says (record { values = []; span = span_to ts rest }) rest (no_values opened (gap_skips true us) closed) (omega (arith, shorter, fewer, gap_takes (gap_skips true us))))
+    (λ lacks.
     says_then _ _ (says_commas true (listed_value_of role) (says_listed role) (suc (length us)) us) (λ values vs are takes.
     says_sign CloseBrace (skip true vs) _ (λ rest closed fewer.
     says (record { values = values; span = span_to ts rest }) rest (some_values opened are (gap_skips true vs) closed) (omega (arith, shorter, takes, fewer, gap_takes (gap_skips true vs)))))))
@@ -239,5 +236,5 @@ pub says_values : (role : Role) → Reads (IsValues role) 1 (values_of role)
 unfolding values_of
 says_values role ts =
     says_if_sign OpenBrace ts _ _
-        (λ us opened shorter. says_then _ _ (says_value_list role ts) (λ list rest is takes. says (Values.List list (span_to ts rest)) rest (many_values is) takes))
-        (λ lacks. says_then _ _ (says_value role false ts) (λ v rest is takes. says (Values.One v (span_to ts rest)) rest (one_value is) takes))
+    (λ us opened shorter. says_then _ _ (says_value_list role ts) (λ list rest is takes. says (Values.List list (span_to ts rest)) rest (many_values is) takes))
+    (λ lacks. says_then _ _ (says_value role false ts) (λ v rest is takes. says (Values.One v (span_to ts rest)) rest (one_value is) takes))

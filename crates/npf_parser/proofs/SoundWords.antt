@@ -1,5 +1,5 @@
 -- What is read of single tokens is what the grammar says of them.
-use Rattle.std.proofs.Common.{◌≡◌, ℕ, zero, suc, ◌+◌, ◌<◌, ◌≤◌, ◌==◌, ◌||◌, Bool, true, false, nat_le, Ok, Err, List, [], ◌∷◌, length, slice_index_or, refl, sym, ap, subst, ◌∙◌, arith, inl, inr, ◌⊎◌, All, Contains, codes}
+use Rattle.std.proofs.Common.{◌≡◌, ℕ, ◌+◌, ◌≤◌, Bool, true, false, nat_le, List, [], ◌∷◌, length, slice_index_or, refl, sym, arith, inl, inr, ◌⊎◌, All, Contains}
 use Rattle.std.specs.List.{list_all, AllPass}
 use Rattle.std.specs.Str.{is_utf8}
 use Rattle.std.proofs.lemmas.Bool.Decides.{nat_tests}
@@ -10,14 +10,9 @@ use Rattle.npf_types.specs.NameText.{is_name}
 use Rattle.npf_lexer.specs.declared.token.Token.{Token}
 use Rattle.npf_lexer.specs.declared.token.TokenKind.{TokenKind}
 use Rattle.npf_lexer.specs.declared.token.TokenKind.TheVariants as Kind
-use Rattle.npf_syntax.specs.declared.word.Address.{Address}
-use Rattle.npf_syntax.specs.declared.word.Number.{Number}
-use Rattle.npf_syntax.specs.declared.word.Str.{Str}
-use Rattle.npf_syntax.specs.declared.word.Var.{Var}
-use Rattle.npf_syntax.specs.declared.word.Word.{Word}
 use Rattle.npf_parser.specs.GrammarWords.{token, flag_letters, IsString, string, IsWord, word, IsVar, var, IsNumber, number, IsAddress, address, IsNumberTo, IsNameWord, IsNameString, IsTextString, IsFlags}
 use Rattle.npf_parser.specs.Leaves.{string_by, string_of, word_by, word_of, variable_by, variable_of, number_by, number_of, address_by, address_of, number_to, name_word_of, name_string_of, text_string_of, flags_of, is_flag}
-use Rattle.npf_parser.specs.Readings.{Reading, ◌>>=◌, nowhere, place_of, where_it_can}
+use Rattle.npf_parser.specs.Readings.{nowhere, place_of, where_it_can}
 use Rattle.npf_parser.proofs.Says.{Says, Reads, says, says_none, says_then}
 
 said_string : (kind : TokenKind) (span : Span) (ts : List Token) → Says (IsString (token kind span ∷ ts)) 1 (token kind span ∷ ts) (string_by kind span ts)

@@ -3,13 +3,10 @@ use Rattle.std.specs.Prelude.{false, Option, Some, None, List, codes}
 use Rattle.npf_lexer.specs.declared.token.Sign.TheVariants.{Slash}
 use Rattle.npf_lexer.specs.declared.token.Token.{Token}
 use Rattle.npf_syntax.specs.declared.filter.Addresses.{Addresses}
-use Rattle.npf_syntax.specs.declared.filter.Addresses.TheVariants as Addresses
 use Rattle.npf_syntax.specs.declared.filter.Detail.{Detail}
 use Rattle.npf_syntax.specs.declared.filter.Detail.TheVariants.{Flags, IcmpType}
 use Rattle.npf_syntax.specs.declared.filter.Ends.{Ends}
-use Rattle.npf_syntax.specs.declared.filter.Ends.TheVariants as Ends
 use Rattle.npf_syntax.specs.declared.filter.Family.{Family}
-use Rattle.npf_syntax.specs.declared.filter.Family.TheVariants as Family
 use Rattle.npf_syntax.specs.declared.filter.Filter.{Filter}
 use Rattle.npf_syntax.specs.declared.filter.Protocols.{Protocols}
 use Rattle.npf_syntax.specs.declared.filter.ProtoPart.{ProtoPart}

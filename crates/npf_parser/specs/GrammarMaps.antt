@@ -3,7 +3,6 @@ use Rattle.std.specs.Prelude.{false, Option, List, codes}
 use Rattle.npf_lexer.specs.declared.token.Sign.TheVariants as Sign
 use Rattle.npf_lexer.specs.declared.token.Token.{Token}
 use Rattle.npf_syntax.specs.declared.map.Arrow.{Arrow}
-use Rattle.npf_syntax.specs.declared.map.Arrow.TheVariants as Arrow
 use Rattle.npf_syntax.specs.declared.map.MapKind.{MapKind}
 use Rattle.npf_syntax.specs.declared.map.MapKind.TheVariants.{Dynamic, Static}
 use Rattle.npf_syntax.specs.declared.map.Side.{Side}

@@ -5,7 +5,6 @@ use Rattle.npf_lexer.specs.declared.token.Token.{Token}
 use Rattle.npf_syntax.specs.declared.procedure.Call.{Call}
 use Rattle.npf_syntax.specs.declared.procedure.Call.TheVariants.{Log, Normalize}
 use Rattle.npf_syntax.specs.declared.procedure.LogName.{LogName}
-use Rattle.npf_syntax.specs.declared.procedure.LogName.TheVariants as LogName
 use Rattle.npf_syntax.specs.declared.procedure.Opt.{Opt}
 use Rattle.npf_syntax.specs.declared.procedure.Opt.TheVariants.{MinTtl, MaxMss, NoDf}
 use Rattle.npf_syntax.specs.declared.word.Number.{Number}

@@ -1,6 +1,5 @@
 -- The grammar of npf.conf(5) for statements, and for a whole configuration.
-use Rattle.std.specs.Prelude.{Option, List, [], ◌∷◌, codes}
-use Rattle.npf_types.specs.declared.place.Span.{Span}
+use Rattle.std.specs.Prelude.{Option, List, codes}
 use Rattle.npf_lexer.specs.declared.token.Sign.TheVariants.{Less, Greater, Equals, OpenBrace, CloseBrace}
 use Rattle.npf_lexer.specs.declared.token.Token.{Token}
 use Rattle.npf_syntax.specs.declared.filter.Filter.{Filter}
@@ -11,7 +10,6 @@ use Rattle.npf_syntax.specs.declared.map.MapKind.{MapKind}
 use Rattle.npf_syntax.specs.declared.map.Side.{Side}
 use Rattle.npf_syntax.specs.declared.procedure.Call.{Call}
 use Rattle.npf_syntax.specs.declared.stmt.Setting.{Setting}
-use Rattle.npf_syntax.specs.declared.stmt.Setting.TheVariants as Setting
 use Rattle.npf_syntax.specs.declared.stmt.Stmt.{Stmt}
 use Rattle.npf_syntax.specs.declared.stmt.Stmt.TheVariants.{Define, Set, Alg, Table, Map, Group, Procedure}
 use Rattle.npf_syntax.specs.declared.stmt.TableType.{TableType}

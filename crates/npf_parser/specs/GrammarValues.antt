@@ -1,5 +1,5 @@
 -- The grammar of npf.conf(5) for interfaces, protocols, values and lists of these.
-use Rattle.std.specs.Prelude.{ℕ, ◌≤◌, Bool, true, false, Option, Some, None, List, [], codes}
+use Rattle.std.specs.Prelude.{◌≤◌, Bool, true, false, Option, Some, None, List, [], codes}
 use Rattle.npf_types.specs.declared.address.Addr.{Addr}
 use Rattle.npf_types.specs.declared.place.Span.{Span}
 use Rattle.npf_types.specs.Address.{width}
@@ -12,19 +12,14 @@ use Rattle.npf_syntax.specs.declared.word.Str.{Str}
 use Rattle.npf_syntax.specs.declared.word.Var.{Var}
 use Rattle.npf_syntax.specs.declared.word.Word.{Word}
 use Rattle.npf_syntax.specs.declared.filter.Protocols.{Protocols}
-use Rattle.npf_syntax.specs.declared.filter.Protocols.TheVariants as Protocols
 use Rattle.npf_syntax.specs.declared.value.Function.{Function}
 use Rattle.npf_syntax.specs.declared.value.Function.TheVariants.{Inet4, Inet6, IfAddrs}
 use Rattle.npf_syntax.specs.declared.value.Iface.{Iface}
-use Rattle.npf_syntax.specs.declared.value.Iface.TheVariants as Iface
 use Rattle.npf_syntax.specs.declared.value.One.{One}
-use Rattle.npf_syntax.specs.declared.value.One.TheVariants as One
 use Rattle.npf_syntax.specs.declared.value.OneList.{OneList}
 use Rattle.npf_syntax.specs.declared.value.Value.{Value}
-use Rattle.npf_syntax.specs.declared.value.Value.TheVariants as Value
 use Rattle.npf_syntax.specs.declared.value.ValueList.{ValueList}
 use Rattle.npf_syntax.specs.declared.value.Values.{Values}
-use Rattle.npf_syntax.specs.declared.value.Values.TheVariants as Values
 use Rattle.npf_parser.specs.declared.role.Role.{Role}
 use Rattle.npf_parser.specs.declared.role.Role.TheVariants.{Any, Address as Addresses, Port}
 use Rattle.npf_parser.specs.GrammarLists.{IsCommaList}

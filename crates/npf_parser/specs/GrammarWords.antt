@@ -1,7 +1,7 @@
 -- What the grammar of npf.conf(5) says of single tokens: which one stands first, which one doesn't, and the tokens that
 -- carry a text, a number or an address. All relations of the grammar are between the tokens from a place on, what they
 -- say, and the tokens behind them.
-use Rattle.std.specs.Prelude.{ℕ, ◌≤◌, Bool, true, false, IsTrue, List, [], ◌∷◌, codes}
+use Rattle.std.specs.Prelude.{ℕ, ◌≤◌, Bool, true, false, IsTrue, List, ◌∷◌, codes}
 use Rattle.std.specs.List.{All, Contains}
 use Rattle.std.specs.Str.{IsUtf8}
 use Rattle.npf_types.specs.declared.address.Addr.{Addr}

@@ -1,5 +1,5 @@
 -- What follows of the grammar, whatever the tokens.
-use Rattle.std.specs.Prelude.{◌≡◌, ◌⊎◌, Ok, Err, List}
+use Rattle.std.specs.Prelude.{◌≡◌, ◌⊎◌, Err, List}
 use Rattle.npf_types.specs.declared.place.Span.{Span}
 use Rattle.npf_lexer.specs.declared.token.Token.{Token}
 use Rattle.npf_syntax.specs.declared.stmt.Tree.{Tree}

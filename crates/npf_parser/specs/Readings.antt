@@ -9,7 +9,6 @@ use Rattle.npf_types.specs.declared.place.Span.{Span}
 use Rattle.npf_lexer.specs.Signs.{sign_text}
 use Rattle.npf_lexer.specs.declared.fault.Fault.TheVariants.{Expected}
 use Rattle.npf_lexer.specs.declared.fault.Refused.{Refused}
-use Rattle.npf_lexer.specs.declared.fault.Refused.TheVariants as Refused
 use Rattle.npf_lexer.specs.declared.token.Sign.{Sign}
 use Rattle.npf_lexer.specs.declared.token.Sign.TheVariants.{Comma, CloseBrace}
 use Rattle.npf_lexer.specs.declared.token.Token.{Token}

@@ -3,13 +3,11 @@ use Rattle.std.specs.Prelude.{◌≡◌, ⊤, suc, length, Result, Ok, Err, List
 use Rattle.npf_types.specs.declared.place.Span.{Span}
 use Rattle.npf_lexer.specs.declared.fault.Fault.TheVariants.{Expected}
 use Rattle.npf_lexer.specs.declared.fault.Refused.{Refused}
-use Rattle.npf_lexer.specs.declared.fault.Refused.TheVariants as Refused
 use Rattle.npf_lexer.specs.declared.token.Sign.TheVariants.{Less, Greater, Equals}
 use Rattle.npf_lexer.specs.declared.token.Token.{Token}
 use Rattle.npf_lexer.specs.declared.token.TokenKind.{TokenKind}
 use Rattle.npf_lexer.specs.declared.token.TokenKind.TheVariants as Kind
 use Rattle.npf_syntax.specs.declared.stmt.Setting.{Setting}
-use Rattle.npf_syntax.specs.declared.stmt.Setting.TheVariants as Setting
 use Rattle.npf_syntax.specs.declared.stmt.Stmt.{Stmt}
 use Rattle.npf_syntax.specs.declared.stmt.Stmt.TheVariants.{Define, Set, Alg, Table}
 use Rattle.npf_syntax.specs.declared.stmt.TableType.{TableType}

@@ -1,5 +1,5 @@
 -- The grammar of values, of lists of values, and of protocols: a definition for each line.
-use Rattle.std.specs.Prelude.{ℕ, suc, Bool, true, false, nat_le, ◌&&◌, Option, Some, None, Ok, Err, List, [], ◌∷◌, length, codes}
+use Rattle.std.specs.Prelude.{suc, Bool, true, false, nat_le, ◌&&◌, Option, Some, None, Ok, List, [], length, codes}
 use Rattle.npf_types.specs.declared.address.Addr.{Addr}
 use Rattle.npf_types.specs.Address.{width}
 use Rattle.npf_types.specs.NameText.{is_name}
@@ -12,20 +12,15 @@ use Rattle.npf_syntax.specs.declared.word.Number.{Number}
 use Rattle.npf_syntax.specs.declared.value.Function.{Function}
 use Rattle.npf_syntax.specs.declared.value.Function.TheVariants.{Inet4, Inet6, IfAddrs}
 use Rattle.npf_syntax.specs.declared.value.Iface.{Iface}
-use Rattle.npf_syntax.specs.declared.value.Iface.TheVariants as Iface
 use Rattle.npf_syntax.specs.declared.value.One.{One}
-use Rattle.npf_syntax.specs.declared.value.One.TheVariants as One
 use Rattle.npf_syntax.specs.declared.value.OneList.{OneList}
 use Rattle.npf_syntax.specs.declared.value.Value.{Value}
-use Rattle.npf_syntax.specs.declared.value.Value.TheVariants as Value
 use Rattle.npf_syntax.specs.declared.value.ValueList.{ValueList}
 use Rattle.npf_syntax.specs.declared.value.Values.{Values}
-use Rattle.npf_syntax.specs.declared.value.Values.TheVariants as Values
 use Rattle.npf_syntax.specs.declared.filter.Protocols.{Protocols}
-use Rattle.npf_syntax.specs.declared.filter.Protocols.TheVariants as Protocols
 use Rattle.npf_parser.specs.declared.role.Role.{Role}
 use Rattle.npf_parser.specs.declared.role.Role.TheVariants.{Any, Address as Addresses, Port}
-use Rattle.npf_parser.specs.Readings.{Reading, ◌>>=◌, skip, span_to, place_of, kind_of, behind_sign, behind_word, after_sign, if_behind, optional, where_it_can, comma_list}
+use Rattle.npf_parser.specs.Readings.{Reading, ◌>>=◌, skip, span_to, kind_of, behind_sign, behind_word, after_sign, if_behind, optional, where_it_can, comma_list}
 use Rattle.npf_parser.specs.Leaves.{string_of, word_of, variable_of, number_of, address_of, number_to, name_word_of, name_string_of}
 
 abbrev pub iface_by : TokenKind → List Token → Reading Iface

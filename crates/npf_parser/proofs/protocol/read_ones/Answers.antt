@@ -1,6 +1,6 @@
 use Rattle.std.proofs.Common.{◌≡◌, ◌<◌, ◌≤◌, ◌+◌, ◌-◌, suc, false, None, Some, Err, length, sym, subst, ◌∙◌, ap, rules, arith}
 use Rattle.npf_lexer.specs.declared.token.Sign.TheVariants.{Comma}
-use Rattle.npf_parser.specs.Readings.{Answers, behind_sign, skip, comma_list, behind_view}
+use Rattle.npf_parser.specs.Readings.{Answers, behind_sign, skip, comma_list}
 use Rattle.npf_parser.specs.Values.{one_of}
 use Rattle.npf_parser.proofs.Lists.{all_onto, comma_goes_on, comma_ends, comma_refused}
 use Rattle.std.proofs.lemmas.List.{length_push}

@@ -1,4 +1,4 @@
-use Rattle.std.proofs.Common.{◌≡◌, ◌<◌, ◌≤◌, ◌+◌, ◌-◌, suc, Err, length, refl, sym, subst, ◌∙◌, ap, rules, arith}
+use Rattle.std.proofs.Common.{◌≡◌, ◌<◌, ◌+◌, ◌-◌, suc, Err, length, refl, sym, subst, ◌∙◌, ap, rules, arith}
 use Rattle.std.proofs.lemmas.List.{length_push}
 use Rattle.npf_parser.specs.Readings.{Answers, block_list, is_at_end}
 use Rattle.npf_parser.specs.Stmts.{stmt_of, stmts_of}
