@@ -5,6 +5,12 @@ pub mod CompleteValues
 pub mod CompleteWords
 pub mod Gaps
 pub mod Lists
+pub mod Local
+pub mod LocalLists
+pub mod LocalRules
+pub mod LocalStatements
+pub mod LocalValues
+pub mod LocalWords
 pub mod Phrases
 pub mod Says
 pub mod SoundFilters
@@ -12,5 +18,6 @@ pub mod SoundRules
 pub mod SoundStatements
 pub mod SoundValues
 pub mod SoundWords
+pub mod Stopping
 pub mod Texts
 pub mod Trees

@@ -128,7 +128,7 @@ sign_kind (Kind.Sign other) sign us vs found =
     (ap Kind.Sign (sym (unsign_text other) ∙ ap unsign same ∙ unsign_text sign), p.1)
 sign_kind _ sign us vs found = cc
 
-opened : (kind : TokenKind) (t : Token) (us vs : List Token) → (t.kind ≡ kind) × (us ≡ vs) → Opens kind (t ∷ us) vs
+pub opened : (kind : TokenKind) (t : Token) (us vs : List Token) → (t.kind ≡ kind) × (us ≡ vs) → Opens kind (t ∷ us) vs
 opened kind t us vs is = subst (λ k. Opens kind (token k t.span ∷ us) vs) (sym is.0) (subst (Opens kind (token kind t.span ∷ us)) is.1 (opens t.span us))
 
 pub word_found : {word : List ℕ} {ts us : List Token} → HasWord word ts us → behind_word word ts ≡ Some us

@@ -113,7 +113,7 @@ function_takes (inet4 has gap paren) = omega (arith, opens_takes has, gap_takes 
 function_takes (inet6 has gap paren) = omega (arith, opens_takes has, gap_takes gap, opens_takes paren)
 function_takes (ifaddrs has gap paren) = omega (arith, opens_takes has, gap_takes gap, opens_takes paren)
 
-says_joined : (sign : Sign) (inside : Bool) (ts : List Token) → Says (IsJoined sign inside ts) 0 ts (number_behind sign inside ts)
+pub says_joined : (sign : Sign) (inside : Bool) (ts : List Token) → Says (IsJoined sign inside ts) 0 ts (number_behind sign inside ts)
 says_joined sign inside ts =
     says_part (behind_sign sign (skip inside ts)) (λ us. number_of (skip inside us)) ts (sees_sign sign (skip inside ts)) (gap_takes (gap_skips inside ts))
     (λ us opened. record {
@@ -176,7 +176,7 @@ says_string_value : (inside : Bool) (ts : List Token) → Says (IsWritten inside
 unfolding string_value_of
 says_string_value inside ts = says_then _ _ (says_string ts) (λ s rest is takes. says (Value.Str s (span_to ts rest)) rest (a_string is) takes)
 
-says_written : (kind : TokenKind) (inside : Bool) (ts : List Token) → Says (IsWritten inside ts) 1 ts (value_by kind inside ts)
+pub says_written : (kind : TokenKind) (inside : Bool) (ts : List Token) → Says (IsWritten inside ts) 1 ts (value_by kind inside ts)
 says_written (Kind.Number _) inside ts = says_number_value inside ts
 says_written (Kind.Address _) inside ts = says_address_value inside ts
 says_written (Kind.Word _) inside ts = says_word_value inside ts

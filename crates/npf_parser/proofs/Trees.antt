@@ -15,7 +15,7 @@ use Rattle.npf_parser.proofs.SoundStatements.{tree_sound}
 same_tree : (one other : Tree) → ◌≡◌ {A = Result Tree Span} (Ok one) (Ok other) → one ≡ other
 same_tree one other same = cc
 
-no_tree : (ts : List Token) (span : Span) → tree_of ts ≡ Err span → ¬ HasTree ts
+pub no_tree : (ts : List Token) (span : Span) → tree_of ts ≡ Err span → ¬ HasTree ts
 no_tree ts span fails = λ has. let both : ◌≡◌ {A = Result Tree Span} (Err span) (Ok has.0) = sym fails ∙ tree_complete ts has.0 has.1 in cc
 
 pub one_tree : (ts : List Token) (one other : Tree) → Parses ts one → Parses ts other → one ≡ other

@@ -5,6 +5,7 @@ use Rattle.npf_lexer.specs.declared.token.Token.{Token}
 use Rattle.npf_syntax.specs.declared.stmt.Tree.{Tree}
 use Rattle.npf_parser.specs.Answering.{HasTree}
 use Rattle.npf_parser.specs.GrammarStatements.{Parses}
+use Rattle.npf_parser.specs.Places.{StopsAt}
 use Rattle.npf_parser.specs.Stmts.{tree_of}
 
 -- the grammar is unambiguous
@@ -18,3 +19,7 @@ HasFault tokens = (span : Span) × (tree_of tokens ≡ Err span)
 -- tokens have a tree or a fault, and never both
 abbrev pub Decided : Type 0
 Decided = (tokens : List Token) → (HasTree tokens ⊎ HasFault tokens) × ¬ (HasTree tokens × HasFault tokens)
+
+-- where tokens are no configuration they stop going on at the place of their fault
+abbrev pub Hopeless : Type 0
+Hopeless = (tokens : List Token) (span : Span) → tree_of tokens ≡ Err span → StopsAt tokens span

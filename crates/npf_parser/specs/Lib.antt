@@ -12,6 +12,7 @@ pub mod Groups
 pub mod Laws
 pub mod Leaves
 pub mod Maps
+pub mod Places
 pub mod Procedures
 pub mod Readings
 pub mod Rules

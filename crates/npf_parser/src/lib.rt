@@ -1,12 +1,12 @@
 // The grammar of npf.conf(5): the tree that a configuration's tokens are, or where they are none.
 //
-// A recursive descent with one token of sight. Each line of the grammar has a definition in specs/ that says what stands
-// at the front of tokens, what it says and which tokens are behind it, or the token at which it can't go on; and a
-// function here that answers it. Quoted words win over WORD: an optional part stands where its first word does.
+// specs/ says the grammar twice. The files Grammar* are relations between the tokens from a place on, what they say, and
+// the tokens behind them, a case for each alternative. The others follow a recursive descent with one token of sight, a
+// definition for each function here; proofs/ shows that they say the same.
 //
-// The contract: `parse` answers the tree that the tokens are by those definitions, and where they are none the place of
-// the first token at which no statement goes on, or of a written value that can't stand in its place, as fault 20;
-// unless memory runs out.
+// The contract: `parse` answers a tree that the grammar gives; tokens have one at most, and where they have one it is
+// answered, unless memory runs out. Where they have none the fault is 20, at the token at which they stop going on or at
+// a written value that is unfit for its place: whatever stands behind the next token, no configuration begins so.
 #![tactic(auto)]
 
 mod filter;

@@ -4,6 +4,7 @@ ghost use Rattle.npf_lexer.specs.declared.fault.Fault.TheVariants.{Expected};
 ghost use Rattle.npf_syntax.specs.declared.stmt.Tree.{Tree};
 ghost use Rattle.npf_parser.specs.Answering.{OnFault, HasTree, AnswersUnlessMemory};
 ghost use Rattle.npf_parser.specs.GrammarStatements.{Parses};
+ghost use Rattle.npf_parser.specs.Places.{StopsAt};
 ghost use Rattle.npf_parser.specs.Readings.{Answers, Leaves, Shortens, optional, behind_word};
 ghost use Rattle.npf_parser.specs.Leaves.{text_string_of};
 ghost use Rattle.npf_parser.specs.Stmts.{define_of, setting_of, set_of, alg_of, table_type_of, table_of, stmt_of, stmts_of, tree_of, AnswersTree};
@@ -258,6 +259,7 @@ pub fn parse(alloc: Global, tokens: &[Token]) -> Result<Tree, Refused>
     ensures refused { OnFault result (λ fault. ¬ HasTree tokens.now) }
     ensures fault { OnFault result (λ fault. fault.fault ≡ Expected) }
     ensures place { OnFault result (λ fault. tree_of tokens.now ≡ Err fault.span) }
+    ensures stops { OnFault result (λ fault. StopsAt tokens.now fault.span) }
     ensures complete { (tree : Tree) → Parses tokens.now tree → AnswersUnlessMemory tree result }
 {
     read_tree(alloc, tokens)

@@ -1,3 +1,4 @@
+use Rattle.npf_parser.proofs.Stopping.{answers_stop}
 use Rattle.npf_parser.proofs.Trees.{answers_tree, answers_fault, answers_each_tree}
 use Rattle.npf_parser.proofs.stmt.parse.Goals as goal
 
@@ -9,3 +10,6 @@ returns-clause-refused c = answers_fault c.args.tokens.now c.read_tree.result c.
 
 pub returns-clause-complete : goal.returns-clause-complete
 returns-clause-complete c = answers_each_tree c.args.tokens.now c.read_tree.result c.read_tree.ensures
+
+pub returns-clause-stops : goal.returns-clause-stops
+returns-clause-stops c = answers_stop c.args.tokens.now c.read_tree.result c.read_tree.ensures
