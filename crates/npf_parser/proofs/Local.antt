@@ -1,11 +1,10 @@
 -- What is read, and where reading stops, hangs on no token but those that were read and the next: how this passes from
 -- the parts of a phrase to the whole.
-use Rattle.std.proofs.Common.{◌≡◌, ◌⊎◌, inl, inr, ℕ, zero, suc, ◌+◌, ◌-◌, ◌<◌, ◌≤◌, Bool, true, false, if◌then◌else◌, Option, Some, None, Result, Ok, Err, List, [], ◌∷◌, ◌++◌, length, slice_get, refl, sym, ap, subst, ◌∙◌, append_assoc, length-append, arith}
+use Rattle.std.proofs.Common.{◌≡◌, ◌⊎◌, inl, inr, ℕ, ◌+◌, ◌-◌, Bool, true, false, Option, Some, None, Ok, Err, List, [], ◌∷◌, ◌++◌, length, slice_get, refl, sym, ap, subst, ◌∙◌, append_assoc, length-append, arith}
 use Rattle.npf_types.specs.declared.place.Span.{Span}
 use Rattle.npf_lexer.specs.declared.token.Sign.{Sign}
 use Rattle.npf_lexer.specs.declared.token.Token.{Token}
 use Rattle.npf_lexer.specs.declared.token.TokenKind.{TokenKind}
-use Rattle.npf_lexer.specs.declared.token.TokenKind.TheVariants as Kind
 use Rattle.npf_parser.specs.GrammarWords.{Opens, opens, Lacks, token}
 use Rattle.npf_parser.specs.Places.{LooksLike, both_end, same_line, same_token, IsUnfit}
 use Rattle.npf_parser.specs.Readings.{Reading, ◌>>=◌, kind_of, place_of, nowhere, is_line_feed, span_to, joined_at, if_behind, required, optional, where_it_can, behind_sign, behind_word, behind_string}
@@ -105,7 +104,12 @@ pub local_same : {A : Type 0} {us : List Token} (read other : List Token → Rea
 local_same {us = us} read other same is = record {
   goes = λ a ws e. let g = is.goes a ws (sym (same us) ∙ e) in record { front = g.front; parts = g.parts; again = λ vs alike. same (g.front.run vs) ∙ g.again vs alike };
   stops = λ span e. let s = is.stops span (sym (same us) ∙ e) in record {
-    front = s.front; unfit = s.unfit; rest = s.rest; parts = s.parts; place = s.place; fault = s.fault;
+    front = s.front;
+    unfit = s.unfit;
+    rest = s.rest;
+    parts = s.parts;
+    place = s.place;
+    fault = s.fault;
     again = λ vs alike. let f = s.again vs alike in (f.0, same (s.front.run (s.unfit.run vs)) ∙ f.1);
   };
 }
@@ -129,7 +133,13 @@ pub local_none : {A : Type 0} {us : List Token} → Local {A = A} (λ ts. Err (p
 local_none {A} {us} = record {
   goes = λ a ws e. cc;
   stops = λ span e. let same : place_of us ≡ span = same_place (place_of us) span e in record {
-    front = start; unfit = start; rest = us; parts = refl; place = sym same; fault = inl refl; again = λ vs alike. (place_of vs, refl);
+    front = start;
+    unfit = start;
+    rest = us;
+    parts = refl;
+    place = sym same;
+    fault = inl refl;
+    again = λ vs alike. (place_of vs, refl);
   };
 }
 
@@ -166,7 +176,12 @@ module _ {A B : Type 0} {us : List Token} (read : List Token → Reading A) (nex
   then_stops (Err place) found span e =
       let s = is.stops span (found ∙ ap Err (same_place place span e)) in
       record {
-        front = s.front; unfit = s.unfit; rest = s.rest; parts = s.parts; place = s.place; fault = s.fault;
+        front = s.front;
+        unfit = s.unfit;
+        rest = s.rest;
+        parts = s.parts;
+        place = s.place;
+        fault = s.fault;
         again = λ vs alike. let f = s.again vs alike in (f.0, ap (λ r. r >>= next (s.front.run (s.unfit.run vs))) f.1);
       }
 
@@ -182,7 +197,12 @@ local_choice {us = us} key respects by is = record {
     again = λ vs alike. ap (λ k. by k (g.front.run vs)) (sym (respects us (g.front.run vs) (subst (λ xs. LooksLike xs (g.front.run vs)) (sym g.parts) (alike_behind g.front alike)))) ∙ g.again vs alike;
   };
   stops = λ span e. let s = is.stops span e in record {
-    front = s.front; unfit = s.unfit; rest = s.rest; parts = s.parts; place = s.place; fault = s.fault;
+    front = s.front;
+    unfit = s.unfit;
+    rest = s.rest;
+    parts = s.parts;
+    place = s.place;
+    fault = s.fault;
     again = λ vs alike.
         let all = s.front.run (s.unfit.run vs) in
         let f = s.again vs alike in
@@ -267,9 +287,11 @@ module _ {A : Type 0} {us : List Token} (test : List Token → Option (List Toke
       let s = (there ws f.front f.parts).stops span (ap (λ ts. one ts ws) (sym f.parts) ∙ e) in
       record {
         front = joint f.front s.front;
-        unfit = s.unfit; rest = s.rest;
+        unfit = s.unfit;
+        rest = s.rest;
         parts = f.parts ∙ ap f.front.run s.parts;
-        place = s.place; fault = s.fault;
+        place = s.place;
+        fault = s.fault;
         again = λ vs alike.
             let behind = s.front.run (s.unfit.run vs) in
             let e' = s.again vs alike in
@@ -278,7 +300,12 @@ module _ {A : Type 0} {us : List Token} (test : List Token → Option (List Toke
   if_stops None is span e =
       let s = (elsewhere is).stops span e in
       record {
-        front = s.front; unfit = s.unfit; rest = s.rest; parts = s.parts; place = s.place; fault = s.fault;
+        front = s.front;
+        unfit = s.unfit;
+        rest = s.rest;
+        parts = s.parts;
+        place = s.place;
+        fault = s.fault;
         again = λ vs alike.
             let all = s.front.run (s.unfit.run vs) in
             let e' = s.again vs alike in
@@ -297,7 +324,7 @@ pub local_required : {B : Type 0} {us : List Token} (test : List Token → Optio
     ((ws : List Token) (f : Front) → us ≡ f.run ws → Local (λ ts. next (f.run ts) ts) ws) → Local (λ ts. required (test ts) ts >>= next ts) us
 local_required test tests next there =
     local_same (λ ts. if_behind (test ts) (next ts) (Err (place_of ts))) (λ ts. required (test ts) ts >>= next ts) (λ ts. wanted (test ts) ts (next ts))
-        (local_if test tests next (λ ts. Err (place_of ts)) there (λ none. local_none))
+    (local_if test tests next (λ ts. Err (place_of ts)) there (λ none. local_none))
 
 -- what was read, in another form
 pub local_map : {A B : Type 0} {us : List Token} (read : List Token → Reading A) (form : A → B) → Local read us → Local (λ ts. read ts >>= (λ r. Ok (form r.0, r.1))) us
@@ -311,7 +338,7 @@ left_out None read ts = refl
 pub local_optional : {A : Type 0} {us : List Token} (test : List Token → Option (List Token)) → Test test → (read : List Token → Reading A) → ((ws : List Token) → Local read ws) → Local (λ ts. optional (test ts) read ts) us
 local_optional test tests read is =
     local_same (λ ts. if_behind (test ts) (λ us. read us >>= (λ a. Ok (Some a.0, a.1))) (Ok (None, ts))) (λ ts. optional (test ts) read ts) (λ ts. left_out (test ts) read ts)
-        (local_if test tests (λ _ us. read us >>= (λ a. Ok (Some a.0, a.1))) (λ ts. Ok (None, ts)) (λ ws f parts. local_map read Some (is ws)) (λ none. local_made start (λ _. None)))
+    (local_if test tests (λ _ us. read us >>= (λ a. Ok (Some a.0, a.1))) (λ ts. Ok (None, ts)) (λ ws f parts. local_map read Some (is ws)) (λ none. local_made start (λ _. None)))
 
 -- what was read stands only where it can, and is unfit where it can't
 module _ {A B : Type 0} {us : List Token} (read : List Token → Reading A) (can : A → Bool) (make : A → Span → B) (is : Local read us) (unfit : (a : A) (ws : List Token) → read us ≡ Ok (a, ws) → IsUnfit us ws) where
@@ -357,7 +384,12 @@ module _ {A B : Type 0} {us : List Token} (read : List Token → Reading A) (can
   where_stops (Err place) found span e =
       let s = is.stops span (found ∙ ap Err (same_place place span e)) in
       record {
-        front = s.front; unfit = s.unfit; rest = s.rest; parts = s.parts; place = s.place; fault = s.fault;
+        front = s.front;
+        unfit = s.unfit;
+        rest = s.rest;
+        parts = s.parts;
+        place = s.place;
+        fault = s.fault;
         again = λ vs alike. let f = s.again vs alike in (f.0, ap (λ r. r >>= placed (s.front.run (s.unfit.run vs))) f.1);
       }
 

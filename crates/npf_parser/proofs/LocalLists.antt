@@ -1,5 +1,5 @@
 -- Tokens that are skipped, lists with commas, and blocks: they hang on no token but those that are read and the next.
-use Rattle.std.proofs.Common.{◌≡◌, ◌⊎◌, inl, inr, ℕ, zero, suc, ◌+◌, ◌-◌, ◌<◌, ◌≤◌, Bool, true, false, ◌||◌, cond, if◌then◌else◌, is_some, Option, Some, None, Result, Ok, Err, List, [], ◌∷◌, ◌++◌, length, length-append, drop, refl, sym, ap, subst, ◌∙◌, one-add, arith}
+use Rattle.std.proofs.Common.{◌≡◌, ℕ, zero, suc, ◌+◌, ◌<◌, ◌≤◌, Bool, true, false, ◌||◌, cond, if◌then◌else◌, is_some, Option, Some, None, Ok, Err, List, [], ◌∷◌, ◌++◌, length, length-append, drop, refl, sym, ap, subst, ◌∙◌, one-add, arith}
 use Rattle.std.specs.List.{prefix_len}
 use Rattle.npf_types.specs.declared.place.Span.{Span}
 use Rattle.npf_lexer.specs.declared.token.Sign.{Sign}
@@ -9,11 +9,11 @@ use Rattle.npf_lexer.specs.declared.token.TokenKind.{TokenKind}
 use Rattle.npf_lexer.specs.declared.token.TokenKind.TheVariants as Kind
 use Rattle.npf_parser.specs.GrammarWords.{token}
 use Rattle.npf_parser.specs.Places.{LooksLike, both_end, same_line, same_token}
-use Rattle.npf_parser.specs.Readings.{Reading, ◌>>=◌, place_of, nowhere, is_line_feed, is_separator, is_separator_kind, kind_of, if_behind, required, optional, onto, comma_list, block_list, behind_sign, skip, skip_separators, is_at_separator, after_sign, after_word, behind_word, span_to}
-use Rattle.npf_parser.proofs.Gaps.{none_skipped, separators_take, gap_skips, gap_takes}
-use Rattle.npf_parser.proofs.Lists.{comma_turn, after, turn, block_turn}
-use Rattle.npf_parser.proofs.Local.{Front, start, after_token, joint, Fails, Goes, Stops, Local, Found, Test, alike_kind, alike_behind, local_same, local_made, local_none, local_then, local_choice, local_if, local_required, local_map, test_sign, test_word}
-use Rattle.npf_parser.proofs.Says.{Says, Reads, same_reading, sees_sign, opens_takes}
+use Rattle.npf_parser.specs.Readings.{Reading, ◌>>=◌, place_of, is_line_feed, is_separator, is_separator_kind, if_behind, onto, comma_list, block_list, behind_sign, skip, skip_separators, is_at_separator, after_sign, after_word, behind_word, span_to}
+use Rattle.npf_parser.proofs.Gaps.{separators_take, gap_skips, gap_takes}
+use Rattle.npf_parser.proofs.Lists.{comma_turn, after, block_turn}
+use Rattle.npf_parser.proofs.Local.{Front, start, after_token, joint, Local, Test, alike_kind, alike_behind, local_same, local_made, local_none, local_then, local_choice, local_if, local_required, local_map, test_sign, test_word}
+use Rattle.npf_parser.proofs.Says.{Reads, sees_sign, opens_takes}
 
 -- the tokens that are skipped before others
 pub record Skipping (skipper : List Token → List Token) (us : List Token) : Type 0 where
@@ -91,9 +91,11 @@ local_skip {us = us} skipper skips next is =
           let s = local.stops span (ap (λ ts. next ts (skipper us)) (sym skips.parts) ∙ e) in
           record {
             front = joint f s.front;
-            unfit = s.unfit; rest = s.rest;
+            unfit = s.unfit;
+            rest = s.rest;
             parts = skips.parts ∙ ap f.run s.parts;
-            place = s.place; fault = s.fault;
+            place = s.place;
+            fault = s.fault;
             again = λ vs alike.
                 let behind = s.front.run (s.unfit.run vs) in
                 let e' = s.again vs alike in
@@ -106,10 +108,10 @@ alike_lines : {us vs : List Token} → LooksLike us vs → LooksLike (drop (pref
 alike_lines both_end = both_end
 alike_lines (same_line {us} {vs} t is alike) =
     subst (λ xs. LooksLike xs (drop (prefix_len is_line_feed (t ∷ vs)) (t ∷ vs))) (sym (passed is_line_feed (λ s e. e) t us is))
-        (subst (LooksLike (drop (prefix_len is_line_feed us) us)) (sym (passed is_line_feed (λ s e. e) t vs is)) (alike_lines alike))
+    (subst (LooksLike (drop (prefix_len is_line_feed us) us)) (sym (passed is_line_feed (λ s e. e) t vs is)) (alike_lines alike))
 alike_lines (same_token {us} {vs} t is) =
     subst (λ xs. LooksLike xs (drop (prefix_len is_line_feed (t ∷ vs)) (t ∷ vs))) (sym (stayed is_line_feed (λ s e. e) t us is))
-        (subst (LooksLike (t ∷ us)) (sym (stayed is_line_feed (λ s e. e) t vs is)) (same_token t is))
+    (subst (LooksLike (t ∷ us)) (sym (stayed is_line_feed (λ s e. e) t vs is)) (same_token t is))
 
 pub alike_skipped : {us vs : List Token} (inside : Bool) → LooksLike us vs → LooksLike (skip inside us) (skip inside vs)
 unfolding skip
@@ -176,9 +178,9 @@ module _ {A : Type 0} {IsPhrase : List Token → A → List Token → Type 0} (i
   enough (suc n) (suc m) ts less less' =
       comma_turn read inside n ts
       ∙ same_turn n m ts (read ts) (λ a us is. same_rest n m a us (behind_sign Comma (skip inside us)) refl (λ ws found.
-          let fewer = (reads ts).takes a us is in
-          let shorter = comma_shorter us ws found in
-          enough n m ws (omega (arith, fewer, shorter, less)) (omega (arith, fewer, shorter, less'))))
+      let fewer = (reads ts).takes a us is in
+      let shorter = comma_shorter us ws found in
+      enough n m ws (omega (arith, fewer, shorter, less)) (omega (arith, fewer, shorter, less'))))
       ∙ sym (comma_turn read inside m ts)
 
   -- the list with room enough
@@ -205,11 +207,11 @@ module _ {A : Type 0} {IsPhrase : List Token → A → List Token → Type 0} (i
   local_all is (suc n) us less =
       local_same (λ ts. read ts >>= next_of) all_of all_turn (local_then read (λ _. next_of) (is us) (λ a ws f parts found.
       local_if (λ ts. behind_sign Comma (skip inside ts)) (test_behind_gap inside (behind_sign Comma) (test_sign Comma)) (λ _ rest. onto a (all_of rest)) (λ ts. Ok (a ∷ [], ts))
-          (λ xs g comma.
-              let fewer = (reads us).takes a ws found in
-              let shorter = (let e : length ws ≡ length (g.run xs) = ap length comma in front_takes g ws xs e) in
-              local_onto a all_of (local_all is n xs (omega (arith, fewer, shorter, less))))
-          (λ none. local_made start (λ _. a ∷ []))))
+      (λ xs g comma.
+      let fewer = (reads us).takes a ws found in
+      let shorter = (let e : length ws ≡ length (g.run xs) = ap length comma in front_takes g ws xs e) in
+      local_onto a all_of (local_all is n xs (omega (arith, fewer, shorter, less))))
+      (λ none. local_made start (λ _. a ∷ []))))
 
   pub local_commas : (is : (us : List Token) → Local read us) (us : List Token) → Local all_of us
   local_commas is us = local_all is (suc (length us)) us (omega arith)
@@ -242,7 +244,7 @@ peeked None one other = refl
 pub local_peek : {A : Type 0} {us : List Token} (test : List Token → Option (List Token)) → Test test → (one other : List Token → Reading A) → Local one us → Local other us → Local (λ ts. if_behind (test ts) (λ _. one ts) (other ts)) us
 local_peek {us = us} test tests one other is is' =
     local_same (λ ts. if is_some (test ts) then one ts else other ts) (λ ts. if_behind (test ts) (λ _. one ts) (other ts)) (λ ts. peeked (test ts) (one ts) (other ts))
-        (local_choice (λ ts. is_some (test ts)) (test_respects test tests) (λ b ts. if b then one ts else other ts) (local_pick (is_some (test us)) one other is is'))
+    (local_choice (λ ts. is_some (test ts)) (test_respects test tests) (λ b ts. if b then one ts else other ts) (local_pick (is_some (test us)) one other is is'))
 
 module _ {A : Type 0} {IsItem : List Token → A → List Token → Type 0} (closes : List Token → Bool) (read : List Token → Reading A) (reads : Reads IsItem 1 read)
     (respects : (xs ys : List Token) → LooksLike xs ys → closes xs ≡ closes ys) where
@@ -265,8 +267,8 @@ module _ {A : Type 0} {IsItem : List Token → A → List Token → Type 0} (clo
       let us = skip_separators ts in
       block_turn read closes n ts us refl
       ∙ same_items n m us (closes us) (read us) (λ a ws is.
-          let fewer = (reads us).takes a ws is in
-          same_after n m a ws (closes ws || is_at_separator ws) (enough_room n m ws (omega (arith, fewer, separators_take ts, less)) (omega (arith, fewer, separators_take ts, less'))))
+      let fewer = (reads us).takes a ws is in
+      same_after n m a ws (closes ws || is_at_separator ws) (enough_room n m ws (omega (arith, fewer, separators_take ts, less)) (omega (arith, fewer, separators_take ts, less'))))
       ∙ sym (block_turn read closes m ts us refl)
 
   -- the block with room enough
@@ -302,9 +304,9 @@ module _ {A : Type 0} {IsItem : List Token → A → List Token → Type 0} (clo
       let behind = skip_separators us in
       local_same (λ ts. items_behind (skip_separators ts)) items_of items_turn (local_skip skip_separators (skipping_separators us) (λ _. items_behind) (λ f parts.
       local_choice closes respects (λ b ts. if b then Ok ([], ts) else (read ts >>= next_item)) (local_pick (closes behind) (λ ts. Ok ([], ts)) (λ ts. read ts >>= next_item) (local_made start (λ _. [])) (local_then read (λ _. next_item) (is behind) (λ a ws g parts' found.
-          let fewer = (reads behind).takes a ws found in
-          local_choice (λ ts. closes ts || is_at_separator ts) ends_alike (λ b ts. if b then onto a (items_of ts) else Err (place_of ts))
-              (local_pick (closes ws || is_at_separator ws) (λ ts. onto a (items_of ts)) (λ ts. Err (place_of ts)) (local_onto a items_of (local_items is n ws (omega (arith, fewer, separators_take us, less)))) local_none))))))
+      let fewer = (reads behind).takes a ws found in
+      local_choice (λ ts. closes ts || is_at_separator ts) ends_alike (λ b ts. if b then onto a (items_of ts) else Err (place_of ts))
+      (local_pick (closes ws || is_at_separator ws) (λ ts. onto a (items_of ts)) (λ ts. Err (place_of ts)) (local_onto a items_of (local_items is n ws (omega (arith, fewer, separators_take us, less)))) local_none))))))
 
   pub local_block : (is : (us : List Token) → Local read us) (us : List Token) → Local items_of us
   local_block is us = local_items is (suc (length us)) us (omega arith)
@@ -321,7 +323,7 @@ module _ {A : Type 0} {us : List Token} (test : List Token → Option (List Toke
   pub local_part : (other : List Token → A × List Token) → Local (λ ts. Ok (other ts)) us → Local (λ ts. Ok (if_behind (test ts) (λ rest. (make (span_to ts rest), rest)) (other ts))) us
   local_part other is =
       local_same (λ ts. if_behind (test ts) (λ rest. Ok (make (span_to ts rest), rest)) (Ok (other ts))) (λ ts. Ok (if_behind (test ts) (λ rest. (make (span_to ts rest), rest)) (other ts)))
-          (λ ts. made_if (test ts) (λ rest. (make (span_to ts rest), rest)) (other ts)) (local_shown (λ ts. Ok (other ts)) is)
+      (λ ts. made_if (test ts) (λ rest. (make (span_to ts rest), rest)) (other ts)) (local_shown (λ ts. Ok (other ts)) is)
 
 -- a quoted word that has to stand first
 pub local_quoted : {B : Type 0} {us : List Token} (word : List ℕ) (next : List Token → List Token → Reading B) → ((ws : List Token) (f : Front) → us ≡ f.run ws → Local (λ ts. next (f.run ts) ts) ws) → Local (λ ts. after_word word ts >>= next ts) us

@@ -1,5 +1,5 @@
 -- Filters, rules, items and groups' heads: what is read of them hangs on no token but those that are read and the next.
-use Rattle.std.proofs.Common.{◌≡◌, ℕ, suc, Bool, true, false, Option, Some, None, Ok, Err, List, length, codes}
+use Rattle.std.proofs.Common.{Bool, true, false, Option, Some, None, Ok, List, codes}
 use Rattle.npf_types.specs.declared.place.Span.{Span}
 use Rattle.npf_lexer.specs.declared.token.Sign.TheVariants.{OpenBrace, Slash}
 use Rattle.npf_lexer.specs.declared.token.Token.{Token}
@@ -22,10 +22,10 @@ use Rattle.npf_parser.specs.declared.role.Role.TheVariants as Role
 use Rattle.npf_parser.specs.Filters.{family_of, flags_detail_of, icmp_detail_of, detail_of, proto_part_of, addresses_of, ends_of, where_of, filter_of}
 use Rattle.npf_parser.specs.Groups.{item_of, head_of}
 use Rattle.npf_parser.specs.Leaves.{string_of, flags_of, number_to, name_string_of}
-use Rattle.npf_parser.specs.Readings.{Reading, ◌>>=◌, span_to, place_of, behind_sign, behind_word, if_behind, optional}
+use Rattle.npf_parser.specs.Readings.{Reading, ◌>>=◌, span_to, behind_sign, behind_word, optional}
 use Rattle.npf_parser.specs.Rules.{answer_of, action_of, stateful_of, direction_of, final_of, on_of, rule_of}
 use Rattle.npf_parser.specs.Values.{iface_of, protocols_of, value_of, value_list_of, values_of}
-use Rattle.npf_parser.proofs.Local.{Front, start, joint, Local, local_made, local_none, local_then, local_if, local_optional, test_word, test_sign}
+use Rattle.npf_parser.proofs.Local.{start, joint, Local, local_made, local_none, local_then, local_if, local_optional, test_word, test_sign}
 use Rattle.npf_parser.proofs.LocalLists.{local_peek, local_shown, local_part}
 use Rattle.npf_parser.proofs.LocalValues.{local_iface, local_protocols, local_value, local_value_list, local_values}
 use Rattle.npf_parser.proofs.LocalWords.{local_string, local_flags, local_number_to, local_name_string}
@@ -40,59 +40,59 @@ local_detail : (us : List Token) → Local detail_of us
 unfolding detail_of flags_detail_of icmp_detail_of
 local_detail us =
     local_if (behind_word (codes "flags")) (test_word (codes "flags")) _ _
-        (λ ws f p1.
-        local_then flags_of _ (local_flags ws) (λ flags xs g p2 found.
-        local_then (λ ts. optional (behind_sign Slash ts) flags_of ts) _ (local_optional (behind_sign Slash) (test_sign Slash) flags_of local_flags) (λ mask ys h p3 found'.
-        local_made (joint f (joint g h)) (λ span. Some (Flags flags mask span)))))
-        (λ none.
+    (λ ws f p1.
+    local_then flags_of _ (local_flags ws) (λ flags xs g p2 found.
+    local_then (λ ts. optional (behind_sign Slash ts) flags_of ts) _ (local_optional (behind_sign Slash) (test_sign Slash) flags_of local_flags) (λ mask ys h p3 found'.
+    local_made (joint f (joint g h)) (λ span. Some (Flags flags mask span)))))
+    (λ none.
     local_if (behind_word (codes "icmp-type")) (test_word (codes "icmp-type")) _ _
-        (λ ws f p1.
-        local_then (number_to 255) _ (local_number_to 255 ws) (λ number xs g p2 found.
-        local_then (λ ts. optional (behind_word (codes "code") ts) (number_to 255) ts) _ (local_optional (behind_word (codes "code")) (test_word (codes "code")) (number_to 255) (local_number_to 255)) (λ code ys h p3 found'.
-        local_made (joint f (joint g h)) (λ span. Some (IcmpType number code span)))))
-        (λ none'. local_made start (λ _. None)))
+    (λ ws f p1.
+    local_then (number_to 255) _ (local_number_to 255 ws) (λ number xs g p2 found.
+    local_then (λ ts. optional (behind_word (codes "code") ts) (number_to 255) ts) _ (local_optional (behind_word (codes "code")) (test_word (codes "code")) (number_to 255) (local_number_to 255)) (λ code ys h p3 found'.
+    local_made (joint f (joint g h)) (λ span. Some (IcmpType number code span)))))
+    (λ none'. local_made start (λ _. None)))
 
 local_proto_part : (us : List Token) → Local proto_part_of us
 unfolding proto_part_of
 local_proto_part us =
     local_if (behind_word (codes "proto")) (test_word (codes "proto")) _ _
-        (λ ws f p1.
-        local_then protocols_of _ (local_protocols ws) (λ protocols xs g p2 found.
-        local_then detail_of _ (local_detail xs) (λ detail ys h p3 found'.
-        local_made (joint f (joint g h)) (λ span. Some (record { protocols = protocols; detail = detail; span = span })))))
-        (λ none. local_made start (λ _. None))
+    (λ ws f p1.
+    local_then protocols_of _ (local_protocols ws) (λ protocols xs g p2 found.
+    local_then detail_of _ (local_detail xs) (λ detail ys h p3 found'.
+    local_made (joint f (joint g h)) (λ span. Some (record { protocols = protocols; detail = detail; span = span })))))
+    (λ none. local_made start (λ _. None))
 
 local_addresses : (us : List Token) → Local addresses_of us
 unfolding addresses_of
 local_addresses us =
     local_shown (behind_word (codes "any")) (test_word (codes "any")) Addresses.Any _
     (local_peek (behind_sign OpenBrace) (test_sign OpenBrace) _ _
-        (local_then (value_list_of Role.Address) _ (local_value_list Role.Address us) (λ list ws f parts found. local_made f (Addresses.List list)))
-        (local_then (value_of Role.Address false) _ (local_value Role.Address false us) (λ v ws f parts found. local_made f (Addresses.One v))))
+    (local_then (value_list_of Role.Address) _ (local_value_list Role.Address us) (λ list ws f parts found. local_made f (Addresses.List list)))
+    (local_then (value_of Role.Address false) _ (local_value Role.Address false us) (λ v ws f parts found. local_made f (Addresses.One v))))
 
 local_ends : (us : List Token) → Local ends_of us
 unfolding ends_of
 local_ends us =
     local_if (behind_word (codes "port")) (test_word (codes "port")) _ _
-        (λ ws f p1. local_then (values_of Role.Port) _ (local_values Role.Port ws) (λ ports xs g p2 found. local_made (joint f g) (Ends.Ports ports)))
-        (λ none.
-        local_then addresses_of _ (local_addresses us) (λ addresses ws f p1 found.
-        local_then (λ ts. optional (behind_word (codes "port") ts) (values_of Role.Port) ts) _ (local_optional (behind_word (codes "port")) (test_word (codes "port")) (values_of Role.Port) (local_values Role.Port)) (λ ports xs g p2 found'.
-        local_made (joint f g) (Ends.Addresses addresses ports))))
+    (λ ws f p1. local_then (values_of Role.Port) _ (local_values Role.Port ws) (λ ports xs g p2 found. local_made (joint f g) (Ends.Ports ports)))
+    (λ none.
+    local_then addresses_of _ (local_addresses us) (λ addresses ws f p1 found.
+    local_then (λ ts. optional (behind_word (codes "port") ts) (values_of Role.Port) ts) _ (local_optional (behind_word (codes "port")) (test_word (codes "port")) (values_of Role.Port) (local_values Role.Port)) (λ ports xs g p2 found'.
+    local_made (joint f g) (Ends.Addresses addresses ports))))
 
 local_where_ends : (us : List Token) → Local where_of us
 unfolding where_of
 local_where_ends us =
     local_shown (behind_word (codes "all")) (test_word (codes "all")) All _
     (local_if (behind_word (codes "from")) (test_word (codes "from")) _ _
-        (λ ws f p1.
-        local_then ends_of _ (local_ends ws) (λ from xs g p2 found.
-        local_then (λ ts. optional (behind_word (codes "to") ts) ends_of ts) _ (local_optional (behind_word (codes "to")) (test_word (codes "to")) ends_of local_ends) (λ to ys h p3 found'.
-        local_made (joint f (joint g h)) (From from to))))
-        (λ none.
+    (λ ws f p1.
+    local_then ends_of _ (local_ends ws) (λ from xs g p2 found.
+    local_then (λ ts. optional (behind_word (codes "to") ts) ends_of ts) _ (local_optional (behind_word (codes "to")) (test_word (codes "to")) ends_of local_ends) (λ to ys h p3 found'.
+    local_made (joint f (joint g h)) (From from to))))
+    (λ none.
     local_if (behind_word (codes "to")) (test_word (codes "to")) _ _
-        (λ ws f p1. local_then ends_of _ (local_ends ws) (λ to xs g p2 found. local_made (joint f g) (To to)))
-        (λ none'. local_none)))
+    (λ ws f p1. local_then ends_of _ (local_ends ws) (λ to xs g p2 found. local_made (joint f g) (To to)))
+    (λ none'. local_none)))
 
 pub local_filter : (us : List Token) → Local filter_of us
 unfolding filter_of
@@ -129,8 +129,8 @@ local_action : (us : List Token) → Local action_of us
 unfolding action_of
 local_action us =
     local_if (behind_word (codes "block")) (test_word (codes "block")) _ _
-        (λ ws f p1. local_then (λ ts. Ok (answer_of ts)) (λ ts r. Ok (Block r.0 (span_to (f.run ts) r.1), r.1)) (part_answer ws) (λ answer xs g p2 found. local_made (joint f g) (Block answer)))
-        (λ none. local_shown (behind_word (codes "pass")) (test_word (codes "pass")) Pass _ local_none)
+    (λ ws f p1. local_then (λ ts. Ok (answer_of ts)) (λ ts r. Ok (Block r.0 (span_to (f.run ts) r.1), r.1)) (part_answer ws) (λ answer xs g p2 found. local_made (joint f g) (Block answer)))
+    (λ none. local_shown (behind_word (codes "pass")) (test_word (codes "pass")) Pass _ local_none)
 
 local_on : (us : List Token) → Local on_of us
 unfolding on_of
@@ -158,11 +158,11 @@ pub local_item : (us : List Token) → Local item_of us
 unfolding item_of
 local_item us =
     local_if (behind_word (codes "ruleset")) (test_word (codes "ruleset")) _ _
-        (λ ws f p1.
-        local_then name_string_of _ (local_name_string ws) (λ name xs g p2 found.
-        local_then (λ ts. Ok (direction_of ts)) (λ whole d. on_of d.1 >>= (λ on. Ok (Ruleset name d.0 on.0 (span_to (f.run (g.run whole)) on.1), on.1))) (part_direction xs) (λ dir ys h p3 found'.
-        local_then on_of _ (local_on ys) (λ on zs k p4 found''. local_made (joint f (joint g (joint h k))) (Ruleset name dir on)))))
-        (λ none. local_then rule_of _ (local_rule us) (λ tree ws f p1 found. local_made f (Rule tree)))
+    (λ ws f p1.
+    local_then name_string_of _ (local_name_string ws) (λ name xs g p2 found.
+    local_then (λ ts. Ok (direction_of ts)) (λ whole d. on_of d.1 >>= (λ on. Ok (Ruleset name d.0 on.0 (span_to (f.run (g.run whole)) on.1), on.1))) (part_direction xs) (λ dir ys h p3 found'.
+    local_then on_of _ (local_on ys) (λ on zs k p4 found''. local_made (joint f (joint g (joint h k))) (Ruleset name dir on)))))
+    (λ none. local_then rule_of _ (local_rule us) (λ tree ws f p1 found. local_made f (Rule tree)))
 
 pub local_head : (us : List Token) → Local head_of us
 unfolding head_of

@@ -1,7 +1,6 @@
 -- Maps, procedures, statements and whole configurations: where reading stops hangs on no token but those that were read
 -- and the next.
-use Rattle.std.proofs.Common.{◌≡◌, ◌⊎◌, inl, inr, ℕ, suc, Bool, true, false, is_some, Option, Some, None, Result, Ok, Err, List, [], ◌∷◌, ◌++◌, length, codes, refl, sym, ap, subst, ◌∙◌}
-use Rattle.npf_types.specs.declared.place.Span.{Span}
+use Rattle.std.proofs.Common.{◌≡◌, suc, false, List, length, codes, ap}
 use Rattle.npf_lexer.specs.declared.token.Sign.TheVariants as Sign
 use Rattle.npf_lexer.specs.declared.token.Token.{Token}
 use Rattle.npf_lexer.specs.declared.token.TokenKind.{TokenKind}
@@ -14,18 +13,17 @@ use Rattle.npf_syntax.specs.declared.procedure.Opt.TheVariants.{MinTtl, MaxMss, 
 use Rattle.npf_syntax.specs.declared.stmt.Setting.TheVariants as Setting
 use Rattle.npf_syntax.specs.declared.stmt.Stmt.TheVariants.{Define, Set, Alg, Table, Map, Group, Procedure}
 use Rattle.npf_syntax.specs.declared.stmt.TableType.TheVariants.{IpSet, Lpm, Const}
-use Rattle.npf_syntax.specs.declared.stmt.Tree.{Tree}
 use Rattle.npf_parser.specs.declared.role.Role.TheVariants.{Any, Address, Port}
 use Rattle.npf_parser.specs.Filters.{filter_of}
 use Rattle.npf_parser.specs.Groups.{item_of, head_of, items_of, group_of}
 use Rattle.npf_parser.specs.Leaves.{string_of, word_of, variable_of, number_of, number_to, name_word_of, name_string_of, text_string_of}
 use Rattle.npf_parser.specs.Maps.{map_kind_of, arrow_of, side_of, map_of}
-use Rattle.npf_parser.specs.Places.{LooksLike, StopsAt}
+use Rattle.npf_parser.specs.Places.{LooksLike}
 use Rattle.npf_parser.specs.Procedures.{log_name_by, log_name_of, opt_of, options_of, call_of, calls_of, procedure_of}
-use Rattle.npf_parser.specs.Readings.{Reading, ◌>>=◌, span_to, place_of, kind_of, behind_sign, behind_word, behind_string, if_behind, optional, comma_list, block_list, is_at_brace, is_at_end, is_end_kind}
-use Rattle.npf_parser.specs.Stmts.{define_of, setting_by, setting_of, set_of, alg_of, table_type_of, table_of, stmt_of, stmts_of, tree_of}
+use Rattle.npf_parser.specs.Readings.{kind_of, behind_sign, behind_word, behind_string, optional, comma_list, is_at_brace, is_at_end, is_end_kind}
+use Rattle.npf_parser.specs.Stmts.{define_of, setting_by, setting_of, set_of, alg_of, table_type_of, table_of, stmt_of, stmts_of}
 use Rattle.npf_parser.specs.Values.{iface_of, one_of, value_of, values_of}
-use Rattle.npf_parser.proofs.Local.{Front, start, joint, Fails, Stops, Local, alike_kind, local_made, local_none, local_then, local_kind, local_if, local_optional, test_word, test_sign, test_string}
+use Rattle.npf_parser.proofs.Local.{Front, joint, Local, alike_kind, local_made, local_none, local_then, local_kind, local_if, local_optional, test_word, test_sign, test_string}
 use Rattle.npf_parser.proofs.LocalLists.{local_shown, local_sign, local_quoted, local_commas, local_block, test_respects}
 use Rattle.npf_parser.proofs.LocalRules.{local_filter, local_item, local_head}
 use Rattle.npf_parser.proofs.LocalValues.{local_iface, local_one, local_value, local_values}
@@ -38,9 +36,9 @@ unfolding map_kind_of
 local_map_kind us =
     local_shown (behind_word (codes "dynamic")) (test_word (codes "dynamic")) Dynamic _
     (local_if (behind_word (codes "static")) (test_word (codes "static")) _ _
-        (λ ws f p1.
-        local_then (λ ts. optional (behind_word (codes "algo") ts) word_of ts) _ (local_optional (behind_word (codes "algo")) (test_word (codes "algo")) word_of local_word) (λ algo xs g p2 found. local_made (joint f g) (Static algo)))
-        (λ none. local_none))
+    (λ ws f p1.
+    local_then (λ ts. optional (behind_word (codes "algo") ts) word_of ts) _ (local_optional (behind_word (codes "algo")) (test_word (codes "algo")) word_of local_word) (λ algo xs g p2 found. local_made (joint f g) (Static algo)))
+    (λ none. local_none))
 
 local_arrow : (us : List Token) → Local arrow_of us
 unfolding arrow_of
@@ -68,24 +66,24 @@ local_opt : (us : List Token) → Local opt_of us
 unfolding opt_of
 local_opt us =
     local_if (behind_string (codes "min-ttl")) (test_string (codes "min-ttl")) _ _
-        (λ ws f p1. local_then (number_to 255) _ (local_number_to 255 ws) (λ n xs g p2 found. local_made (joint f g) (MinTtl n))) (λ none.
+    (λ ws f p1. local_then (number_to 255) _ (local_number_to 255 ws) (λ n xs g p2 found. local_made (joint f g) (MinTtl n))) (λ none.
     local_if (behind_string (codes "max-mss")) (test_string (codes "max-mss")) _ _
-        (λ ws f p1. local_then (number_to 65535) _ (local_number_to 65535 ws) (λ n xs g p2 found. local_made (joint f g) (MaxMss n))) (λ none'.
+    (λ ws f p1. local_then (number_to 65535) _ (local_number_to 65535 ws) (λ n xs g p2 found. local_made (joint f g) (MaxMss n))) (λ none'.
     local_shown (behind_string (codes "no-df")) (test_string (codes "no-df")) NoDf _ local_none))
 
 local_call : (us : List Token) → Local call_of us
 unfolding call_of options_of
 local_call us =
     local_if (behind_word (codes "log")) (test_word (codes "log")) _ _
-        (λ ws f p1.
-        local_sign Sign.Colon _ (λ xs g p2.
-        local_then log_name_of _ (local_log_name xs) (λ name ys h p3 found. local_made (joint f (joint g h)) (Log name))))
-        (λ none.
+    (λ ws f p1.
+    local_sign Sign.Colon _ (λ xs g p2.
+    local_then log_name_of _ (local_log_name xs) (λ name ys h p3 found. local_made (joint f (joint g h)) (Log name))))
+    (λ none.
     local_if (behind_word (codes "normalize")) (test_word (codes "normalize")) _ _
-        (λ ws f p1.
-        local_sign Sign.Colon _ (λ xs g p2.
-        local_then (λ ts. comma_list opt_of false (suc (length ts)) ts) _ (local_commas false opt_of says_opt local_opt xs) (λ options ys h p3 found. local_made (joint f (joint g h)) (Normalize options))))
-        (λ none'. local_none))
+    (λ ws f p1.
+    local_sign Sign.Colon _ (λ xs g p2.
+    local_then (λ ts. comma_list opt_of false (suc (length ts)) ts) _ (local_commas false opt_of says_opt local_opt xs) (λ options ys h p3 found. local_made (joint f (joint g h)) (Normalize options))))
+    (λ none'. local_none))
 
 setting_by_kind : (kind : TokenKind) (us : List Token) → Local (setting_by kind) us
 setting_by_kind (Kind.Number _) us = local_then number_of _ (local_number us) (λ n ws f p1 found. local_made f (Setting.Number n))

@@ -1,6 +1,6 @@
 -- Interfaces, protocols, values and lists of these: what is read of them hangs on no token but those that are read and
 -- the next.
-use Rattle.std.proofs.Common.{◌≡◌, ◌⊎◌, inl, inr, ℕ, suc, Bool, true, false, Option, Some, None, Result, Ok, Err, List, [], ◌∷◌, length, codes, refl, sym, ap, subst, ◌∙◌, arith, drop}
+use Rattle.std.proofs.Common.{◌≡◌, ℕ, suc, Bool, true, false, Option, Some, None, Result, Ok, Err, List, [], ◌∷◌, length, codes, refl, sym, ap, subst, ◌∙◌, arith}
 use Rattle.npf_types.specs.declared.place.Span.{Span}
 use Rattle.npf_types.specs.NameText.{is_name}
 use Rattle.npf_lexer.specs.declared.token.Sign.{Sign}
@@ -17,17 +17,16 @@ use Rattle.npf_syntax.specs.declared.value.Function.TheVariants.{Inet4, Inet6, I
 use Rattle.npf_syntax.specs.declared.value.Iface.TheVariants as Iface
 use Rattle.npf_syntax.specs.declared.value.One.TheVariants as One
 use Rattle.npf_syntax.specs.declared.value.Value.{Value}
-use Rattle.npf_syntax.specs.declared.value.Value.TheVariants as Value
 use Rattle.npf_syntax.specs.declared.value.Values.TheVariants as Values
 use Rattle.npf_parser.specs.declared.role.Role.{Role}
-use Rattle.npf_parser.specs.GrammarValues.{IsFunction, LacksFunction, inet4, inet6, ifaddrs}
+use Rattle.npf_parser.specs.GrammarValues.{IsFunction, inet4, inet6, ifaddrs}
 use Rattle.npf_parser.specs.GrammarWords.{Opens, opens, Gap, HasWord, HasSign, token}
 use Rattle.npf_parser.specs.Leaves.{string_of, word_of, variable_of, number_of, address_of, number_to, name_word_of, name_string_of}
 use Rattle.npf_parser.specs.Places.{LooksLike, both_end, same_line, same_token, IsUnfit, unfit_range, unfit_prefix, unfit_table, unfit_value}
-use Rattle.npf_parser.specs.Readings.{Reading, ◌>>=◌, skip, span_to, place_of, kind_of, behind_sign, behind_word, after_sign, if_behind, optional, where_it_can, comma_list}
+use Rattle.npf_parser.specs.Readings.{Reading, ◌>>=◌, skip, span_to, kind_of, behind_sign, after_sign, where_it_can, comma_list}
 use Rattle.npf_parser.specs.Values.{iface_by, iface_of, one_by, one_of, one_list_of, protocols_of, function_of, word_value_by, word_value_of, is_range, number_behind, number_value_of, is_prefix, address_value_of, table_value_of, variable_value_of, string_value_of, value_by, can_stand, value_of, listed_value_of, value_list_of, values_of}
 use Rattle.npf_parser.proofs.Gaps.{gap_skips, gap_takes, gap_found, opens_kind}
-use Rattle.npf_parser.proofs.Local.{Front, start, after_token, joint, Fails, Goes, Stops, Local, Found, Test, alike_kind, alike_behind, text_read, same_span, local_same, local_made, local_none, local_then, local_kind, local_map, local_if, local_optional, local_where, test_word, test_sign}
+use Rattle.npf_parser.proofs.Local.{Front, start, after_token, joint, Local, text_read, local_same, local_made, local_then, local_kind, local_map, local_if, local_optional, local_where, test_sign}
 use Rattle.npf_parser.proofs.LocalLists.{alike_back, alike_skipped, skipping_gap, local_skip, local_peek, test_behind_gap, local_sign, local_commas}
 use Rattle.npf_parser.proofs.LocalWords.{local_string, local_word, local_variable, local_number, local_address, local_number_to, local_name_word, local_name_string}
 use Rattle.npf_parser.proofs.Says.{Says, says, says_then, says_sign, opened, same_reading}
@@ -63,13 +62,13 @@ pub local_protocols : (us : List Token) → Local protocols_of us
 unfolding protocols_of
 local_protocols us =
     local_peek (behind_sign OpenBrace) (test_sign OpenBrace) _ _
-        (local_then one_list_of _ (local_one_list us) (λ list ws f parts found. local_made f (Protocols.List list)))
-        (local_then one_of _ (local_one us) (λ one ws f parts found. local_made f (Protocols.One one)))
+    (local_then one_list_of _ (local_one_list us) (λ list ws f parts found. local_made f (Protocols.List list)))
+    (local_then one_of _ (local_one us) (λ one ws f parts found. local_made f (Protocols.One one)))
 
 local_joined : (sign : Sign) (inside : Bool) (us : List Token) → Local (number_behind sign inside) us
 local_joined sign inside us =
     local_optional (λ ts. behind_sign sign (skip inside ts)) (test_behind_gap inside (behind_sign sign) (test_sign sign)) (λ ts. number_of (skip inside ts))
-        (λ ws. local_skip (skip inside) (skipping_gap inside ws) (λ _. number_of) (λ f parts. local_number (skip inside ws)))
+    (λ ws. local_skip (skip inside) (skipping_gap inside ws) (λ _. number_of) (λ f parts. local_number (skip inside ws)))
 
 -- phrases in a row, taken together
 bound : {A B C : Type 0} (reading : Result A Span) (f : A → Result B Span) (g : B → Result C Span) → ((reading >>= f) >>= g) ≡ (reading >>= (λ a. f a >>= g))
@@ -126,19 +125,19 @@ local_number_value : (inside : Bool) (us : List Token) → Local (number_value_o
 unfolding number_value_of
 local_number_value inside us =
     local_same _ (number_value_of inside) (λ ts. sym (two (number_of ts) (λ first. number_behind Dash inside first.1) (λ first last. Ok ((first.0, last.0), last.1)) (λ p. where_it_can (is_range p.0.0 p.0.1) (Value.Number p.0.0 p.0.1 (span_to ts p.1)) p.1 ts)))
-        (local_where (range_read inside) (λ p. is_range p.0 p.1) (λ p. Value.Number p.0 p.1) (local_range inside us) (range_unfit inside us).holds)
+    (local_where (range_read inside) (λ p. is_range p.0 p.1) (λ p. Value.Number p.0 p.1) (local_range inside us) (range_unfit inside us).holds)
 
 local_address_value : (inside : Bool) (us : List Token) → Local (address_value_of inside) us
 unfolding address_value_of
 local_address_value inside us =
     local_same _ (address_value_of inside) (λ ts. sym (two (address_of ts) (λ a. number_behind Slash inside a.1) (λ a len. Ok ((a.0, len.0), len.1)) (λ p. where_it_can (is_prefix p.0.0.addr p.0.1) (Value.Address p.0.0 p.0.1 (span_to ts p.1)) p.1 ts)))
-        (local_where (prefix_read inside) (λ p. is_prefix p.0.addr p.1) (λ p. Value.Address p.0 p.1) (local_prefix inside us) (prefix_unfit inside us).holds)
+    (local_where (prefix_read inside) (λ p. is_prefix p.0.addr p.1) (λ p. Value.Address p.0 p.1) (local_prefix inside us) (prefix_unfit inside us).holds)
 
 local_table_value : (inside : Bool) (us : List Token) → Local (table_value_of inside) us
 unfolding table_value_of
 local_table_value inside us =
     local_same _ (table_value_of inside) (λ ts. sym (three (after_sign Less ts) (λ vs. word_of (skip inside vs)) (λ _ name. after_sign Greater (skip inside name.1)) (λ _ name rest. Ok (name.0, rest)) (λ p. where_it_can (is_name p.0.text) (Value.Table p.0 (span_to ts p.1)) p.1 ts)))
-        (local_where (table_read inside) (λ name. is_name name.text) Value.Table (local_table inside us) (table_unfit inside us).holds)
+    (local_where (table_read inside) (λ name. is_name name.text) Value.Table (local_table inside us) (table_unfit inside us).holds)
 
 local_variable_value : (us : List Token) → Local variable_value_of us
 unfolding variable_value_of
@@ -250,9 +249,11 @@ word_by inside text span us (Some p) is =
           let s = local.stops place (call_read inside all p.0 p.1 c.front (Err place) c.parts is e) in
           record {
             front = joint c.front s.front;
-            unfit = s.unfit; rest = s.rest;
+            unfit = s.unfit;
+            rest = s.rest;
             parts = c.parts ∙ ap c.front.run s.parts;
-            place = s.place; fault = s.fault;
+            place = s.place;
+            fault = s.fault;
             again = λ vs alike. let behind = s.front.run (s.unfit.run vs) in let e' = s.again vs alike in (e'.0, called_value inside (c.front.run behind) p.0 behind (c.again behind) ∙ e'.1);
           };
     }
@@ -292,7 +293,7 @@ pub local_value : (role : Role) (inside : Bool) (us : List Token) → Local (val
 unfolding value_of
 local_value role inside us =
     local_where (λ ts. value_by (kind_of ts) inside ts) (can_stand role) (λ v _. v) (local_kind (λ kind. value_by kind inside) (value_by_kind (kind_of us) inside us refl))
-        (λ v ws is. unfit_value ((says_written (kind_of us) inside us).holds v ws is))
+    (λ v ws is. unfit_value ((says_written (kind_of us) inside us).holds v ws is))
 
 local_listed : (role : Role) (us : List Token) → Local (listed_value_of role) us
 unfolding listed_value_of
@@ -303,9 +304,9 @@ unfolding value_list_of
 local_value_list role us =
     local_sign OpenBrace _ (λ ws f p1.
     local_if (λ ts. behind_sign CloseBrace (skip true ts)) (test_behind_gap true (behind_sign CloseBrace) (test_sign CloseBrace))
-        (λ whole rest. Ok (record { values = []; span = span_to (f.run whole) rest }, rest)) _
-        (λ xs g p2. local_made (joint f g) (λ span. record { values = []; span = span }))
-        (λ none.
+    (λ whole rest. Ok (record { values = []; span = span_to (f.run whole) rest }, rest)) _
+    (λ xs g p2. local_made (joint f g) (λ span. record { values = []; span = span }))
+    (λ none.
     local_then (λ ts. comma_list (listed_value_of role) true (suc (length ts)) ts) _ (local_commas true (listed_value_of role) (says_listed role) (local_listed role) ws) (λ values xs g p2 found.
     local_skip (skip true) (skipping_gap true xs) (λ whole ts. after_sign CloseBrace ts >>= (λ end. Ok (record { values = values; span = span_to (f.run (g.run whole)) end }, end))) (λ h p3.
     local_sign CloseBrace _ (λ ys k p4. local_made (joint f (joint g (joint h k))) (λ span. record { values = values; span = span }))))))
@@ -314,5 +315,5 @@ pub local_values : (role : Role) (us : List Token) → Local (values_of role) us
 unfolding values_of
 local_values role us =
     local_peek (behind_sign OpenBrace) (test_sign OpenBrace) _ _
-        (local_then (value_list_of role) _ (local_value_list role us) (λ list ws f parts found. local_made f (Values.List list)))
-        (local_then (value_of role false) _ (local_value role false us) (λ v ws f parts found. local_made f (Values.One v)))
+    (local_then (value_list_of role) _ (local_value_list role us) (λ list ws f parts found. local_made f (Values.List list)))
+    (local_then (value_of role false) _ (local_value role false us) (λ v ws f parts found. local_made f (Values.One v)))

@@ -1,5 +1,5 @@
 -- Single tokens: what is read of them hangs on no other.
-use Rattle.std.proofs.Common.{◌≡◌, ◌⊎◌, inl, inr, ℕ, Bool, true, false, nat_le, Result, Ok, Err, List, [], ◌∷◌, refl, sym, ap, subst, ◌∙◌}
+use Rattle.std.proofs.Common.{◌≡◌, ◌⊎◌, inl, inr, ℕ, nat_le, Ok, Err, List, [], ◌∷◌, refl, sym, ap, ◌∙◌}
 use Rattle.std.specs.List.{list_all}
 use Rattle.std.specs.Str.{is_utf8}
 use Rattle.npf_types.specs.declared.place.Span.{Span}
@@ -7,16 +7,14 @@ use Rattle.npf_types.specs.NameText.{is_name}
 use Rattle.npf_lexer.specs.declared.token.Token.{Token}
 use Rattle.npf_lexer.specs.declared.token.TokenKind.{TokenKind}
 use Rattle.npf_lexer.specs.declared.token.TokenKind.TheVariants as Kind
-use Rattle.npf_syntax.specs.declared.word.Address.{Address}
 use Rattle.npf_syntax.specs.declared.word.Number.{Number}
 use Rattle.npf_syntax.specs.declared.word.Str.{Str}
-use Rattle.npf_syntax.specs.declared.word.Var.{Var}
 use Rattle.npf_syntax.specs.declared.word.Word.{Word}
 use Rattle.npf_parser.specs.GrammarWords.{IsString, string, IsWord, word, IsNumber, number}
 use Rattle.npf_parser.specs.Leaves.{string_by, string_of, word_by, word_of, variable_by, variable_of, number_by, number_of, address_by, address_of, number_to, name_word_of, name_string_of, text_string_of, flags_of, is_flag}
 use Rattle.npf_parser.specs.Places.{LooksLike, both_end, same_line, same_token, IsUnfit, unfit_token}
-use Rattle.npf_parser.specs.Readings.{Reading, nowhere, place_of}
-use Rattle.npf_parser.proofs.Local.{Front, start, after_token, Fails, Goes, Stops, Local, local_where}
+use Rattle.npf_parser.specs.Readings.{Reading, nowhere}
+use Rattle.npf_parser.proofs.Local.{start, after_token, Local, local_where}
 use Rattle.npf_parser.proofs.Says.{same_reading}
 use Rattle.npf_parser.proofs.SoundWords.{says_string, says_word, says_number}
 
@@ -39,7 +37,10 @@ module _ {A : Type 0} (read : List Token → Reading A) (by : TokenKind → Span
   leaf_end = record {
     goes = λ a ws e. let both : ◌≡◌ {A = Reading A} (Err nowhere) (Ok (a, ws)) = sym empty ∙ e in cc;
     stops = λ span e. record {
-      front = start; unfit = start; rest = []; parts = refl;
+      front = start;
+      unfit = start;
+      rest = [];
+      parts = refl;
       place = sym (same_place {A = A} nowhere span (sym empty ∙ e));
       fault = inl refl;
       again = λ vs alike. (nowhere, ap read (end_alike alike) ∙ empty);
@@ -58,7 +59,10 @@ module _ {A : Type 0} (read : List Token → Reading A) (by : TokenKind → Span
   leaf_token t ts (inr says) = record {
     goes = λ a ws e. let both : ◌≡◌ {A = Reading A} (Err t.span) (Ok (a, ws)) = sym (says t.span ts) ∙ sym (reads t ts) ∙ e in cc;
     stops = λ span e. record {
-      front = start; unfit = start; rest = t ∷ ts; parts = refl;
+      front = start;
+      unfit = start;
+      rest = t ∷ ts;
+      parts = refl;
       place = sym (same_place {A = A} t.span span (sym (says t.span ts) ∙ sym (reads t ts) ∙ e));
       fault = inl refl;
       again = λ vs alike. let p = head_alike alike in (t.span, ap read p.1 ∙ reads t p.0 ∙ says t.span p.0);

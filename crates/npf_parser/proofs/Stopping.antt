@@ -1,16 +1,16 @@
 -- Where the tokens of no configuration stop going on.
-use Rattle.std.proofs.Common.{◌≡◌, ◌⊎◌, inl, inr, Result, Ok, Err, List, [], ◌++◌, refl, sym, ap, subst, ◌∙◌}
+use Rattle.std.proofs.Common.{◌≡◌, ◌⊎◌, inl, inr, Result, Ok, Err, List, [], ◌++◌, sym, ap, subst, ◌∙◌}
 use Rattle.npf_types.specs.declared.place.Span.{Span}
 use Rattle.npf_lexer.specs.declared.fault.Refused.{Refused}
 use Rattle.npf_lexer.specs.declared.fault.Refused.TheVariants.{Fault, NoMemory}
 use Rattle.npf_lexer.specs.declared.token.Token.{Token}
 use Rattle.npf_syntax.specs.declared.stmt.Stmt.{Stmt}
 use Rattle.npf_syntax.specs.declared.stmt.Tree.{Tree}
-use Rattle.npf_parser.specs.Answering.{HasTree, OnFault}
-use Rattle.npf_parser.specs.Places.{LooksLike, IsUnfit, StopsAt}
+use Rattle.npf_parser.specs.Answering.{OnFault}
+use Rattle.npf_parser.specs.Places.{IsUnfit, StopsAt}
 use Rattle.npf_parser.specs.Readings.{Reading, ◌>>=◌, place_of}
 use Rattle.npf_parser.specs.Stmts.{stmts_of, tree_of, AnswersTree}
-use Rattle.npf_parser.proofs.Local.{Front, Fails, Stops}
+use Rattle.npf_parser.proofs.Local.{Front, Stops}
 use Rattle.npf_parser.proofs.LocalStatements.{local_stmts}
 use Rattle.npf_parser.proofs.Trees.{no_tree}
 
