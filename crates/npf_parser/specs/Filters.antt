@@ -1,4 +1,4 @@
--- The grammar of filters: a definition for each line.
+-- What the descent reads of filters: a definition for each of its functions.
 use Rattle.std.specs.Prelude.{false, Option, Some, None, Ok, Err, List, codes}
 use Rattle.npf_lexer.specs.declared.token.Sign.TheVariants.{OpenBrace, Slash}
 use Rattle.npf_lexer.specs.declared.token.Token.{Token}

@@ -6,14 +6,14 @@ use Rattle.npf_lexer.specs.declared.token.Token.{Token}
 use Rattle.npf_lexer.specs.declared.token.TokenKind.TheVariants as Kind
 use Rattle.npf_parser.specs.GrammarWords.{Opens, HasWord, LacksWord, HasSign, LacksSign, Gap}
 
--- A part that a quoted word begins. It is left out only where that word doesn't stand: this loses nothing, since no line
--- of the grammar lets the word stand behind the part that it would begin, but as that part.
+-- A part that a quoted word begins. It is left out only where that word doesn't stand: this loses nothing, since in no
+-- line of the grammar can that word be anything else where the part may be left out.
 pub data IsOptional {A : Type 0} (word : List ℕ) (IsPhrase : List Token → A → List Token → Type 0) : List Token → Option A → List Token → Type 0 where
   present : {ts us rest : List Token} {a : A} → HasWord word ts us → IsPhrase us a rest → IsOptional word IsPhrase ts (Some a) rest
   absent : {ts : List Token} → LacksWord word ts → IsOptional word IsPhrase ts None ts
 
--- Phrases with commas between them, one at least. It ends only where no comma follows: nothing that comes behind such a
--- list begins with one. Inside a value list line feeds may stand before a comma.
+-- Phrases with commas between them, one at least. It ends only where no comma follows: what comes behind such a list begins
+-- with none. Inside a value list line feeds may stand before a comma.
 pub data IsCommaList {A : Type 0} (inside : Bool) (IsPhrase : List Token → A → List Token → Type 0) : List Token → List A → List Token → Type 0 where
   last : {ts us vs : List Token} {a : A} → IsPhrase ts a us → Gap inside us vs → LacksSign Comma vs → IsCommaList inside IsPhrase ts (a ∷ []) us
   more : {ts us vs ws rest : List Token} {a : A} {behind : List A} → IsPhrase ts a us → Gap inside us vs → HasSign Comma vs ws → IsCommaList inside IsPhrase ws behind rest → IsCommaList inside IsPhrase ts (a ∷ behind) rest

@@ -1,4 +1,4 @@
--- The grammar of groups: a definition for each line.
+-- What the descent reads of groups: a definition for each of its functions.
 use Rattle.std.specs.Prelude.{suc, length, Ok, List, codes}
 use Rattle.npf_lexer.specs.declared.token.Sign.TheVariants.{OpenBrace, CloseBrace}
 use Rattle.npf_lexer.specs.declared.token.Token.{Token}

@@ -1,4 +1,4 @@
--- The grammar of maps: a definition for each line.
+-- What the descent reads of maps: a definition for each of its functions.
 use Rattle.std.specs.Prelude.{false, Ok, Err, List, codes}
 use Rattle.npf_lexer.specs.declared.token.Sign.TheVariants as Sign
 use Rattle.npf_lexer.specs.declared.token.Token.{Token}

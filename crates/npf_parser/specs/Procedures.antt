@@ -1,4 +1,4 @@
--- The grammar of procedures: a definition for each line.
+-- What the descent reads of procedures: a definition for each of its functions.
 use Rattle.std.specs.Prelude.{false, suc, length, Ok, Err, List, codes}
 use Rattle.npf_lexer.specs.declared.token.Sign.TheVariants.{OpenBrace, CloseBrace, Colon}
 use Rattle.npf_lexer.specs.declared.token.Token.{Token}

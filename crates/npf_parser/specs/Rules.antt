@@ -1,4 +1,4 @@
--- The grammar of rules: a definition for each line.
+-- What the descent reads of rules: a definition for each of its functions.
 use Rattle.std.specs.Prelude.{Bool, true, false, Option, Some, None, Ok, Err, List, codes}
 use Rattle.npf_lexer.specs.declared.token.Token.{Token}
 use Rattle.npf_syntax.specs.declared.rule.Answer.{Answer}

@@ -1,4 +1,4 @@
--- The grammar of statements and of files: a definition for each line.
+-- What the descent reads of statements and whole configurations: a definition for each of its functions.
 use Rattle.std.specs.Prelude.{◌≡◌, ⊤, suc, length, Result, Ok, Err, List, codes}
 use Rattle.npf_types.specs.declared.place.Span.{Span}
 use Rattle.npf_lexer.specs.declared.fault.Fault.TheVariants.{Expected}

@@ -1,4 +1,4 @@
--- The grammar of values, of lists of values, and of protocols: a definition for each line.
+-- What the descent reads of values, lists of values and protocols: a definition for each of its functions.
 use Rattle.std.specs.Prelude.{suc, Bool, true, false, nat_le, ◌&&◌, Option, Some, None, Ok, List, [], length, codes}
 use Rattle.npf_types.specs.declared.address.Addr.{Addr}
 use Rattle.npf_types.specs.Address.{width}
