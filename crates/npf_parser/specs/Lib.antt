@@ -9,6 +9,13 @@ pub mod GrammarStatements
 pub mod GrammarValues
 pub mod GrammarWords
 pub mod Groups
+pub mod HaltsFilters
+pub mod HaltsLists
+pub mod HaltsMaps
+pub mod HaltsProcedures
+pub mod HaltsRules
+pub mod HaltsStatements
+pub mod HaltsValues
 pub mod Laws
 pub mod Leaves
 pub mod Maps
