@@ -29,7 +29,7 @@ unfolding family_of behind_word
 finds_family _ _ _ (family4 (opens span rest)) = refl
 finds_family _ _ _ (family6 (opens span rest)) = refl
 
-finds_mask : (ts : List Token) (mask : Option Word) (rest : List Token) → IsMask ts mask rest → optional (behind_sign Slash ts) flags_of ts ≡ Ok (mask, rest)
+pub finds_mask : (ts : List Token) (mask : Option Word) (rest : List Token) → IsMask ts mask rest → optional (behind_sign Slash ts) flags_of ts ≡ Ok (mask, rest)
 finds_mask _ _ _ (masked {ts} {us} {rest} {w} has is) = ap (λ o. optional o flags_of ts) (sign_found has) ∙ then _ _ _ (finds_flags us w rest is) refl
 finds_mask _ _ _ (unmasked {ts} lacks) = ap (λ o. optional o flags_of ts) (no_sign lacks)
 
@@ -38,7 +38,7 @@ without : (ts : List Token) → LacksWord (codes "flags") ts → LacksWord (code
 unfolding detail_of
 without ts lacks lacks' = rw (no_word {word = codes "flags"} {ts = ts} lacks) (rw (no_word {word = codes "icmp-type"} {ts = ts} lacks') refl)
 
-finds_detail : Finds IsDetail detail_of
+pub finds_detail : Finds IsDetail detail_of
 unfolding detail_of flags_detail_of icmp_detail_of behind_word
 finds_detail _ _ _ (flags_detail {vs = vs} {rest = rest} {flags = flags} {mask = mask} (opens span us) is then_is) =
     then _ _ _ (finds_flags us flags vs is) (then _ _ _ (finds_mask vs mask rest then_is) refl)
@@ -104,7 +104,7 @@ reads_many : (ts rest : List Token) (list : ValueList) → IsValueList Role.Addr
 unfolding addresses_of
 reads_many ts rest list is = rw (sign_no_word (codes "any") (value_list_opens is).1) (rw (list_open is).1 (then _ _ _ (finds_value_list Role.Address ts list rest is) refl))
 
-finds_addresses : Finds IsAddresses addresses_of
+pub finds_addresses : Finds IsAddresses addresses_of
 unfolding addresses_of behind_word
 finds_addresses _ _ _ (any_address (opens span rest)) = refl
 finds_addresses _ _ _ (one_address {ts} {rest} {v} is) = reads_one ts rest v is
@@ -114,18 +114,18 @@ any_not_port : {ts rest : List Token} → HasWord (codes "any") ts rest → behi
 unfolding behind_word
 any_not_port (opens span rest) = refl
 
-no_port : {ts : List Token} {addresses : Addresses} {rest : List Token} → IsAddresses ts addresses rest → behind_word (codes "port") ts ≡ None
+pub no_port : {ts : List Token} {addresses : Addresses} {rest : List Token} → IsAddresses ts addresses rest → behind_word (codes "port") ts ≡ None
 no_port (any_address has) = any_not_port has
 no_port (one_address is) = address_not_port is
 no_port (many_addresses is) = sign_no_word (codes "port") (value_list_opens is).1
 
-finds_ends : Finds IsEnds ends_of
+pub finds_ends : Finds IsEnds ends_of
 unfolding ends_of
 finds_ends _ _ _ (at_addresses {ts} {us} {rest} {addresses} {ports} is then_is) =
     rw (no_port is) (then _ _ _ (finds_addresses ts addresses us is) (then _ _ _ (finds_optional (codes "port") (values_of Role.Port) (finds_values Role.Port) us ports rest then_is) refl))
 finds_ends _ _ _ (at_ports {ts} {us} {rest} {ports} has is) = rw (word_found has) (then _ _ _ (finds_values Role.Port us ports rest is) refl)
 
-finds_where : Finds IsWhere where_of
+pub finds_where : Finds IsWhere where_of
 unfolding where_of behind_word
 finds_where _ _ _ (everywhere (opens span rest)) = refl
 finds_where _ _ _ (from_there {vs = vs} {rest = rest} {from = from} {to = to} (opens span us) is then_is) =

@@ -44,33 +44,33 @@ finds_answer _ _ _ (answers_rst (opens span rest)) = refl
 finds_answer _ _ _ (answers_icmp (opens span rest)) = refl
 finds_answer _ _ _ (silent {ts} l1 l2 l3) = no_answer ts l1 l2 l3
 
-finds_action : Finds IsAction action_of
+pub finds_action : Finds IsAction action_of
 unfolding action_of behind_word
 finds_action _ _ _ (blocks {rest = rest} {answer = answer} (opens span us) is) = rw (finds_answer us answer rest is) refl
 finds_action _ _ _ (passes (opens span rest)) = refl
 
-finds_stateful : (ts : List Token) (stateful : Option StatefulTree) (rest : List Token) → IsStateful ts stateful rest → stateful_of ts ≡ (stateful, rest)
+pub finds_stateful : (ts : List Token) (stateful : Option StatefulTree) (rest : List Token) → IsStateful ts stateful rest → stateful_of ts ≡ (stateful, rest)
 unfolding stateful_of behind_word
 finds_stateful _ _ _ (keeps_state (opens span rest)) = refl
 finds_stateful _ _ _ (keeps_all (opens span rest)) = refl
 finds_stateful _ _ _ (keeps_none {ts} l1 l2) = no_state ts l1 l2
 
-finds_direction : (ts : List Token) (dir : Option Direction) (rest : List Token) → IsDirection ts dir rest → direction_of ts ≡ (dir, rest)
+pub finds_direction : (ts : List Token) (dir : Option Direction) (rest : List Token) → IsDirection ts dir rest → direction_of ts ≡ (dir, rest)
 unfolding direction_of behind_word
 finds_direction _ _ _ (inward (opens span rest)) = refl
 finds_direction _ _ _ (outward (opens span rest)) = refl
 finds_direction _ _ _ (either_way {ts} l1 l2) = no_direction ts l1 l2
 
-finds_final : (ts : List Token) (last : Bool) (rest : List Token) → IsFinal ts last rest → final_of ts ≡ (last, rest)
+pub finds_final : (ts : List Token) (last : Bool) (rest : List Token) → IsFinal ts last rest → final_of ts ≡ (last, rest)
 unfolding final_of behind_word
 finds_final _ _ _ (last_word (opens span rest)) = refl
 finds_final _ _ _ (not_last {ts} l1) = no_final ts l1
 
-finds_on : Finds IsOn on_of
+pub finds_on : Finds IsOn on_of
 unfolding on_of
 finds_on ts on rest is = finds_optional (codes "on") iface_of finds_iface ts on rest is
 
-finds_rule : Finds IsRule rule_of
+pub finds_rule : Finds IsRule rule_of
 unfolding rule_of
 finds_rule _ _ _ (rule {ts} {us} {vs} {ws} {xs} {ys} {zs} {rest} {action} {stateful} {dir} {last} {on} {filter} {apply} acts keeps goes ends bound filtered applied) =
     then _ _ _ (finds_action ts action us acts)
@@ -89,7 +89,7 @@ finds_item _ _ _ (rule_item {ts} {rest} {tree} is) = rw (rule_no_ruleset is) (th
 finds_item _ _ _ (ruleset_item {ts} {us} {vs} {ws} {rest} {name} {dir} {on} has is goes bound) =
     rw (word_found has) (then _ _ _ (finds_name_string us name vs is) (rw (finds_direction vs dir ws goes) (then _ _ _ (finds_on ws on rest bound) refl)))
 
-string_no_word : {ts : List Token} {s : Str} {rest : List Token} (word : List ℕ) → IsString ts s rest → behind_word word ts ≡ None
+pub string_no_word : {ts : List Token} {s : Str} {rest : List Token} (word : List ℕ) → IsString ts s rest → behind_word word ts ≡ None
 unfolding behind_word
 string_no_word word (string text span rest) = refl
 

@@ -30,64 +30,64 @@ use Rattle.npf_parser.proofs.Says.{Finds}
 use Rattle.npf_parser.proofs.SoundRules.{says_item}
 use Rattle.npf_parser.proofs.SoundStatements.{says_opt, says_call, says_stmt, closing_brace, closing_end}
 
-finds_map_kind : Finds IsMapKind map_kind_of
+pub finds_map_kind : Finds IsMapKind map_kind_of
 unfolding map_kind_of behind_word
 finds_map_kind _ _ _ (dynamic_map (opens span rest)) = refl
 finds_map_kind _ _ _ (static_map {rest = rest} {algo = algo} (opens span us) is) = then _ _ _ (finds_optional (codes "algo") word_of finds_word us algo rest is) refl
 
-finds_arrow : Finds IsArrow arrow_of
+pub finds_arrow : Finds IsArrow arrow_of
 unfolding arrow_of behind_sign
 finds_arrow _ _ _ (rightward (opens span rest)) = refl
 finds_arrow _ _ _ (leftward (opens span rest)) = refl
 finds_arrow _ _ _ (both_ways (opens span rest)) = refl
 
-finds_side : Finds IsSide side_of
+pub finds_side : Finds IsSide side_of
 unfolding side_of
 finds_side _ _ _ (side {ts} {us} {rest} {value} {port} is then_is) =
     then _ _ _ (finds_value Address false ts value us is) (then _ _ _ (finds_optional (codes "port") (value_of Port false) (finds_value Port false) us port rest then_is) refl)
 
-finds_log_name : Finds IsLogName log_name_of
+pub finds_log_name : Finds IsLogName log_name_of
 unfolding log_name_of
 finds_log_name _ _ _ (log_word {ts} {rest} {w} is) = ap (λ k. log_name_by k ts) (word_kind is.written) ∙ then _ _ _ (finds_name_word ts w rest is) refl
 finds_log_name _ _ _ (log_string {ts} {rest} {s} is) = ap (λ k. log_name_by k ts) (string_kind is.written) ∙ then _ _ _ (finds_name_string ts s rest is) refl
 
-finds_opt : Finds IsOpt opt_of
+pub finds_opt : Finds IsOpt opt_of
 unfolding opt_of behind_string
 finds_opt _ _ _ (min_ttl {rest = rest} {n = n} (opens span us) is) = then _ _ _ (finds_number_to 255 us n rest is) refl
 finds_opt _ _ _ (max_mss {rest = rest} {n = n} (opens span us) is) = then _ _ _ (finds_number_to 65535 us n rest is) refl
 finds_opt _ _ _ (no_df (opens span rest)) = refl
 
-finds_call : Finds IsCall call_of
+pub finds_call : Finds IsCall call_of
 unfolding call_of options_of behind_word
 finds_call _ _ _ (logs {vs = vs} {rest = rest} {name = name} (opens span us) colon is) = then _ _ _ (sign_goes colon) (then _ _ _ (finds_log_name vs name rest is) refl)
 finds_call _ _ _ (normalizes {vs = vs} {rest = rest} {options = options} (opens span us) colon are) =
     then _ _ _ (sign_goes colon) (then _ _ _ (finds_commas false opt_of says_opt finds_opt vs options rest are (suc (length vs)) (omega arith)) refl)
 
-finds_setting : Finds IsSetting setting_of
+pub finds_setting : Finds IsSetting setting_of
 unfolding setting_of
 finds_setting _ _ _ (to_word {ts} {rest} {w} is) = ap (λ k. setting_by k ts) (word_kind is) ∙ then _ _ _ (finds_word ts w rest is) refl
 finds_setting _ _ _ (to_number {ts} {rest} {n} is) = ap (λ k. setting_by k ts) (number_kind is) ∙ then _ _ _ (finds_number ts n rest is) refl
 
-finds_table_type : Finds IsTableType table_type_of
+pub finds_table_type : Finds IsTableType table_type_of
 unfolding table_type_of behind_word
 finds_table_type _ _ _ (ipset (opens span rest)) = refl
 finds_table_type _ _ _ (lpm (opens span rest)) = refl
 finds_table_type _ _ _ (const (opens span rest)) = refl
 
-call_apart : (ts : List Token) (call : Call) (rest : List Token) → IsCall ts call rest → is_at_separator ts ≡ false
+pub call_apart : (ts : List Token) (call : Call) (rest : List Token) → IsCall ts call rest → is_at_separator ts ≡ false
 call_apart _ _ _ (logs (opens span us) _ _) = refl
 call_apart _ _ _ (normalizes (opens span us) _ _) = refl
 
-call_within : (ts : List Token) (call : Call) (rest : List Token) → IsCall ts call rest → is_at_brace ts ≡ false
+pub call_within : (ts : List Token) (call : Call) (rest : List Token) → IsCall ts call rest → is_at_brace ts ≡ false
 unfolding behind_sign
 call_within _ _ _ (logs (opens span us) _ _) = refl
 call_within _ _ _ (normalizes (opens span us) _ _) = refl
 
-finds_items : (ts : List Token) (items : List Item) (rest : List Token) → IsBraced IsItem ts items rest → items_of ts ≡ Ok (items, rest)
+pub finds_items : (ts : List Token) (items : List Item) (rest : List Token) → IsBraced IsItem ts items rest → items_of ts ≡ Ok (items, rest)
 unfolding items_of
 finds_items ts items rest are = finds_block is_at_brace item_of closing_brace says_item finds_item item_begins ts items rest are (suc (length ts)) (omega arith)
 
-finds_calls : (ts : List Token) (calls : List Call) (rest : List Token) → IsBraced IsCall ts calls rest → calls_of ts ≡ Ok (calls, rest)
+pub finds_calls : (ts : List Token) (calls : List Call) (rest : List Token) → IsBraced IsCall ts calls rest → calls_of ts ≡ Ok (calls, rest)
 unfolding calls_of
 finds_calls ts calls rest are =
     finds_block is_at_brace call_of closing_brace says_call finds_call (record { apart = call_apart; within = call_within }) ts calls rest are (suc (length ts)) (omega arith)
@@ -98,13 +98,13 @@ unfolding behind_word
 var_no_word word (var name span rest) = refl
 
 -- a definition begins with no word
-stmt_defines : (ts : List Token) (v : Var) (us : List Token) → IsVar ts v us → stmt_of ts ≡ define_of ts
+pub stmt_defines : (ts : List Token) (v : Var) (us : List Token) → IsVar ts v us → stmt_of ts ≡ define_of ts
 unfolding stmt_of
 stmt_defines ts v us is =
     rw (var_no_word (codes "set") is) (rw (var_no_word (codes "alg") is) (rw (var_no_word (codes "table") is)
     (rw (var_no_word (codes "map") is) (rw (var_no_word (codes "group") is) (rw (var_no_word (codes "procedure") is) refl)))))
 
-finds_stmt : Finds IsStmt stmt_of
+pub finds_stmt : Finds IsStmt stmt_of
 unfolding stmt_of define_of set_of alg_of table_of map_of group_of procedure_of behind_word
 finds_stmt _ _ _ (define {ts} {us} {vs} {rest} {v} {values} is equals are) =
     stmt_defines ts v us is ∙ then _ _ _ (finds_variable ts v us is) (then _ _ _ (sign_goes equals) (then _ _ _ (finds_values Any vs values rest are) refl))
@@ -123,7 +123,7 @@ finds_stmt _ _ _ (group {vs = vs} {ws = ws} {xs = xs} {head = head} {items = ite
 finds_stmt _ _ _ (procedure {vs = vs} {ws = ws} {xs = xs} {name = name} {calls = calls} (opens span us) named opened are closed) =
     then _ _ _ (finds_string us name vs named) (then _ _ _ (sign_goes opened) (then _ _ _ (finds_calls ws calls xs are) (then _ _ _ (sign_goes closed) refl)))
 
-stmt_apart : (ts : List Token) (stmt : Stmt) (rest : List Token) → IsStmt ts stmt rest → is_at_separator ts ≡ false
+pub stmt_apart : (ts : List Token) (stmt : Stmt) (rest : List Token) → IsStmt ts stmt rest → is_at_separator ts ≡ false
 stmt_apart _ _ _ (define (var name span us) _ _) = refl
 stmt_apart _ _ _ (set (opens span us) _ _) = refl
 stmt_apart _ _ _ (alg (opens span us) _) = refl
@@ -132,7 +132,7 @@ stmt_apart _ _ _ (map (opens span us) _ _ _ _ _ _ _) = refl
 stmt_apart _ _ _ (group (opens span us) _ _ _ _) = refl
 stmt_apart _ _ _ (procedure (opens span us) _ _ _ _) = refl
 
-stmt_within : (ts : List Token) (stmt : Stmt) (rest : List Token) → IsStmt ts stmt rest → is_at_end ts ≡ false
+pub stmt_within : (ts : List Token) (stmt : Stmt) (rest : List Token) → IsStmt ts stmt rest → is_at_end ts ≡ false
 stmt_within _ _ _ (define (var name span us) _ _) = refl
 stmt_within _ _ _ (set (opens span us) _ _) = refl
 stmt_within _ _ _ (alg (opens span us) _) = refl

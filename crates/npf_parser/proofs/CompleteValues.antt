@@ -64,7 +64,7 @@ unfolding one_list_of
 finds_one_list _ _ _ (braced {ts} {us} {vs} {rest} {ones} opened are closed) =
     then _ _ _ (sign_goes opened) (then _ _ _ (finds_commas false one_of says_one finds_one us ones vs are (suc (length us)) (omega arith)) (then _ _ _ (sign_goes closed) refl))
 
-one_list_opens : {ts : List Token} {list : OneList} {rest : List Token} → IsOneList ts list rest → (us : List Token) × HasSign OpenBrace ts us
+pub one_list_opens : {ts : List Token} {list : OneList} {rest : List Token} → IsOneList ts list rest → (us : List Token) × HasSign OpenBrace ts us
 one_list_opens (braced {us = us} opened are closed) = (us, opened)
 
 pub finds_protocols : Finds IsProtocols protocols_of
@@ -72,18 +72,18 @@ unfolding protocols_of
 finds_protocols _ _ _ (single {ts} {rest} {one} is) = rw (no_one_list is) (then _ _ _ (finds_one ts one rest is) refl)
 finds_protocols _ _ _ (listed {ts} {rest} {list} is) = rw (sign_found (one_list_opens is).1) (then _ _ _ (finds_one_list ts list rest is) refl)
 
-finds_joined : (sign : Sign) (inside : Bool) (ts : List Token) (n : Option Number) (rest : List Token) → IsJoined sign inside ts n rest → number_behind sign inside ts ≡ Ok (n, rest)
+pub finds_joined : (sign : Sign) (inside : Bool) (ts : List Token) (n : Option Number) (rest : List Token) → IsJoined sign inside ts n rest → number_behind sign inside ts ≡ Ok (n, rest)
 finds_joined sign inside _ _ _ (joined {ts} {us} {vs} {ws} {rest} {n} gap has gap' is) =
     ap (λ xs. optional (behind_sign sign xs) (λ ys. number_of (skip inside ys)) ts) (gap_found gap) ∙ ap (λ o. optional o (λ ys. number_of (skip inside ys)) ts) (sign_found has)
     ∙ then _ _ _ (ap number_of (gap_found gap') ∙ finds_number ws n rest is) refl
 finds_joined sign inside _ _ _ (alone {ts} {us} gap lacks) =
     ap (λ xs. optional (behind_sign sign xs) (λ ys. number_of (skip inside ys)) ts) (gap_found gap) ∙ ap (λ o. optional o (λ ys. number_of (skip inside ys)) ts) (no_sign lacks)
 
-in_order : {first : Number} {last : Option Number} → IsOrdered first last → is_range first last ≡ true
+pub in_order : {first : Number} {last : Option Number} → IsOrdered first last → is_range first last ≡ true
 in_order one_end = refl
 in_order (two_ends is) = grind (arith, nat_tests, is)
 
-in_family : {addr : Addr} {len : Option Number} → FitsFamily addr len → is_prefix addr len ≡ true
+pub in_family : {addr : Addr} {len : Option Number} → FitsFamily addr len → is_prefix addr len ≡ true
 in_family no_length = refl
 in_family (fitting is) = grind (arith, nat_tests, is)
 
@@ -91,12 +91,12 @@ not_called : (inside : Bool) (ts : List Token) (found : Option (Function × List
 not_called inside ts (Some f) is lacks = absurd (lacks f.0 f.1 (function_seen inside ts f.0 f.1 is))
 not_called inside ts None is lacks = refl
 
-call_kind : {inside : Bool} {ts : List Token} {f : Function} {rest : List Token} → IsFunction inside ts f rest → (word : List ℕ) × (kind_of ts ≡ Kind.Word word)
+pub call_kind : {inside : Bool} {ts : List Token} {f : Function} {rest : List Token} → IsFunction inside ts f rest → (word : List ℕ) × (kind_of ts ≡ Kind.Word word)
 call_kind (inet4 has gap paren) = (codes "inet4", opens_kind has)
 call_kind (inet6 has gap paren) = (codes "inet6", opens_kind has)
 call_kind (ifaddrs has gap paren) = (codes "ifaddrs", opens_kind has)
 
-finds_written : (inside : Bool) (ts : List Token) (v : Value) (rest : List Token) → IsWritten inside ts v rest → value_by (kind_of ts) inside ts ≡ Ok (v, rest)
+pub finds_written : (inside : Bool) (ts : List Token) (v : Value) (rest : List Token) → IsWritten inside ts v rest → value_by (kind_of ts) inside ts ≡ Ok (v, rest)
 unfolding number_value_of address_value_of word_value_of variable_value_of string_value_of table_value_of
 finds_written inside _ _ _ (a_number {ts} {us} {rest} {first} {last} is then_is ordered) =
     ap (λ k. value_by k inside ts) (number_kind is) ∙ then _ _ _ (finds_number ts first us is) (then _ _ _ (finds_joined Dash inside us last rest then_is)
@@ -149,7 +149,7 @@ both_tests : (b c : Bool) → b ≡ true → c ≡ true → (b && c) ≡ true
 both_tests true c b_is c_is = c_is
 both_tests false c b_is c_is = cc
 
-can_stand_there : {role : Role} {v : Value} → CanStand role v → can_stand role v ≡ true
+pub can_stand_there : {role : Role} {v : Value} → CanStand role v → can_stand role v ≡ true
 can_stand_there anywhere = refl
 can_stand_there address_stands = refl
 can_stand_there table_stands = refl
@@ -164,14 +164,14 @@ pub finds_value : (role : Role) (inside : Bool) → Finds (IsValue role inside) 
 unfolding value_of
 finds_value role inside ts v rest is = then _ _ _ (finds_written inside ts v rest is.written) (ap (λ b. where_it_can b v rest ts) (can_stand_there is.stands))
 
-finds_listed : (role : Role) → Finds (IsListed role) (listed_value_of role)
+pub finds_listed : (role : Role) → Finds (IsListed role) (listed_value_of role)
 unfolding listed_value_of
 finds_listed role _ _ _ (behind_lines {ts} {us} {rest} {v} gap is) = ap (value_of role true) (gap_found gap) ∙ finds_value role true us v rest is
 
-listed_not_closed : {role : Role} {ts : List Token} {v : Value} {rest : List Token} → IsListed role ts v rest → behind_sign CloseBrace (skip true ts) ≡ None
+pub listed_not_closed : {role : Role} {ts : List Token} {v : Value} {rest : List Token} → IsListed role ts v rest → behind_sign CloseBrace (skip true ts) ≡ None
 listed_not_closed (behind_lines gap is) = ap (behind_sign CloseBrace) (gap_found gap) ∙ no_close is.written
 
-list_not_closed : {role : Role} {ts : List Token} {values : List Value} {rest : List Token} → IsCommaList true (IsListed role) ts values rest → behind_sign CloseBrace (skip true ts) ≡ None
+pub list_not_closed : {role : Role} {ts : List Token} {values : List Value} {rest : List Token} → IsCommaList true (IsListed role) ts values rest → behind_sign CloseBrace (skip true ts) ≡ None
 list_not_closed (last is _ _) = listed_not_closed is
 list_not_closed (more is _ _ _) = listed_not_closed is
 

@@ -4,6 +4,13 @@ pub mod CompleteStatements
 pub mod CompleteValues
 pub mod CompleteWords
 pub mod Gaps
+pub mod Halting
+pub mod HaltingFilters
+pub mod HaltingLists
+pub mod HaltingRules
+pub mod HaltingStatements
+pub mod HaltingValues
+pub mod HaltingWords
 pub mod Lists
 pub mod Local
 pub mod LocalLists

@@ -12,7 +12,7 @@ use Rattle.npf_parser.proofs.Lists.{comma_turn, after, turn, block_turn}
 use Rattle.npf_parser.proofs.Says.{Says, Reads, Finds, Sees, says, says_none, says_then, says_if, opens_takes, sees_word, sees_sign, word_found, sign_found, no_word, no_sign}
 
 -- some number is greater than another
-fuel : (least n : ℕ) → least < n → (m : ℕ) × (n ≡ suc m) × (least ≤ m)
+pub fuel : (least n : ℕ) → least < n → (m : ℕ) × (n ≡ suc m) × (least ≤ m)
 fuel least zero less = absurd (let none : ⊥ = omega (arith, less) in none)
 fuel least (suc m) less = (m, refl, omega (arith, less))
 

@@ -24,7 +24,7 @@ says_family ts =
     says_if_word (codes "inet4") ts _ _ (λ rest has takes. says (Family.Inet4 (span_to ts rest)) rest (family4 has) takes) (λ lacks.
     says_if_word (codes "inet6") ts _ _ (λ rest has takes. says (Family.Inet6 (span_to ts rest)) rest (family6 has) takes) (λ lacks'. says_none (place_of ts)))
 
-says_mask : (ts : List Token) → Says (IsMask ts) 0 ts (optional (behind_sign Slash ts) flags_of ts)
+pub says_mask : (ts : List Token) → Says (IsMask ts) 0 ts (optional (behind_sign Slash ts) flags_of ts)
 says_mask ts =
     says_part (behind_sign Slash ts) flags_of ts (sees_sign Slash ts) (omega arith)
     (λ us has. record { holds = λ w rest is. masked has ((says_flags us).holds w rest is); takes = λ w rest is. omega (arith, (says_flags us).takes w rest is) })

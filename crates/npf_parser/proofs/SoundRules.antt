@@ -19,7 +19,7 @@ use Rattle.npf_parser.proofs.SoundValues.{says_iface}
 use Rattle.npf_parser.proofs.SoundWords.{says_string, says_name_string}
 
 -- a part that is never refused: what it says, and that it takes no token that isn't there
-abbrev Part : {A : Type 0} → (List Token → A → List Token → Type 0) → List Token → A × List Token → Type 0
+abbrev pub Part : {A : Type 0} → (List Token → A → List Token → Type 0) → List Token → A × List Token → Type 0
 Part IsPart ts read = IsPart ts read.0 read.1 × (length read.1 ≤ length ts)
 
 -- one choice where a quoted word stands first, and another where it doesn't
@@ -32,7 +32,7 @@ module _ {A : Type 0} (IsPart : List Token → A → List Token → Type 0) (ts 
 taken : {word : List ℕ} {ts us : List Token} → HasWord word ts us → length us ≤ length ts
 taken has = omega (arith, opens_takes has)
 
-part_answer : (ts : List Token) → Part IsAnswer ts (answer_of ts)
+pub part_answer : (ts : List Token) → Part IsAnswer ts (answer_of ts)
 unfolding answer_of
 part_answer ts =
     choice IsAnswer ts (behind_word (codes "return") ts) _ _ (sees_word (codes "return") ts) (λ us has. (answers has, taken has)) (λ lacks.
@@ -40,21 +40,21 @@ part_answer ts =
     choice IsAnswer ts (behind_word (codes "return-icmp") ts) _ _ (sees_word (codes "return-icmp") ts) (λ us has. (answers_icmp has, taken has)) (λ lacks''.
     (silent lacks lacks' lacks'', omega arith))))
 
-part_stateful : (ts : List Token) → Part IsStateful ts (stateful_of ts)
+pub part_stateful : (ts : List Token) → Part IsStateful ts (stateful_of ts)
 unfolding stateful_of
 part_stateful ts =
     choice IsStateful ts (behind_word (codes "stateful") ts) _ _ (sees_word (codes "stateful") ts) (λ us has. (keeps_state has, taken has)) (λ lacks.
     choice IsStateful ts (behind_word (codes "stateful-all") ts) _ _ (sees_word (codes "stateful-all") ts) (λ us has. (keeps_all has, taken has)) (λ lacks'.
     (keeps_none lacks lacks', omega arith)))
 
-part_direction : (ts : List Token) → Part IsDirection ts (direction_of ts)
+pub part_direction : (ts : List Token) → Part IsDirection ts (direction_of ts)
 unfolding direction_of
 part_direction ts =
     choice IsDirection ts (behind_word (codes "in") ts) _ _ (sees_word (codes "in") ts) (λ us has. (inward has, taken has)) (λ lacks.
     choice IsDirection ts (behind_word (codes "out") ts) _ _ (sees_word (codes "out") ts) (λ us has. (outward has, taken has)) (λ lacks'.
     (either_way lacks lacks', omega arith)))
 
-part_final : (ts : List Token) → Part IsFinal ts (final_of ts)
+pub part_final : (ts : List Token) → Part IsFinal ts (final_of ts)
 unfolding final_of
 part_final ts =
     choice IsFinal ts (behind_word (codes "final") ts) _ _ (sees_word (codes "final") ts) (λ us has. (last_word has, taken has)) (λ lacks. (not_last lacks, omega arith))
