@@ -5,6 +5,8 @@ pub mod CompleteValues
 pub mod CompleteWords
 pub mod Gaps
 pub mod Halting
+pub mod HaltingBack
+pub mod HaltingBackValues
 pub mod HaltingFilters
 pub mod HaltingLists
 pub mod HaltingRules

@@ -173,7 +173,7 @@ sees_string word ts = seen (behind_string word ts) (string_opens word ts) (λ us
 pub sees_sign : (sign : Sign) (ts : List Token) → Sees (Kind.Sign sign) ts (behind_sign sign ts)
 sees_sign sign ts = seen (behind_sign sign ts) (sign_opens sign ts) (λ us. sign_found)
 
-lacked : {kind : TokenKind} {ts : List Token} (found : Option (List Token)) → Sees kind ts found → Lacks kind ts → found ≡ None
+pub lacked : {kind : TokenKind} {ts : List Token} (found : Option (List Token)) → Sees kind ts found → Lacks kind ts → found ≡ None
 lacked (Some us) sees lacks = absurd (lacks us (sees.some us refl))
 lacked None sees lacks = refl
 

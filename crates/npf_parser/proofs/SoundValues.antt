@@ -122,11 +122,11 @@ says_joined sign inside ts =
     })
     (λ lacks. alone (gap_skips inside ts) lacks)
 
-ordered : (first : Number) (last : Option Number) → is_range first last ≡ true → IsOrdered first last
+pub ordered : (first : Number) (last : Option Number) → is_range first last ≡ true → IsOrdered first last
 ordered first (Some last) is = two_ends (grind (arith, nat_tests, is))
 ordered first None is = one_end
 
-fits : (addr : Addr) (len : Option Number) → is_prefix addr len ≡ true → FitsFamily addr len
+pub fits : (addr : Addr) (len : Option Number) → is_prefix addr len ≡ true → FitsFamily addr len
 fits addr (Some len) is = fitting (grind (arith, nat_tests, is))
 fits addr None is = no_length
 
@@ -192,7 +192,7 @@ both_true false c is = cc
 port : (n : Number) → is_port n ≡ true → n.value ≤ 65535
 port n is = grind (arith, nat_tests, is)
 
-stands : (role : Role) (v : Value) → can_stand role v ≡ true → CanStand role v
+pub stands : (role : Role) (v : Value) → can_stand role v ≡ true → CanStand role v
 stands Any v is = anywhere
 stands Addresses (Value.Address _ _ _) is = address_stands
 stands Addresses (Value.Table _ _) is = table_stands
