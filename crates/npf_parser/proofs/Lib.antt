@@ -6,6 +6,9 @@ pub mod CompleteWords
 pub mod Gaps
 pub mod Halting
 pub mod HaltingBack
+pub mod HaltingBackFilters
+pub mod HaltingBackRules
+pub mod HaltingBackStatements
 pub mod HaltingBackValues
 pub mod HaltingFilters
 pub mod HaltingLists
