@@ -14,6 +14,7 @@ pub mod HaltingFilters
 pub mod HaltingLists
 pub mod HaltingRules
 pub mod HaltingStatements
+pub mod HaltingTrees
 pub mod HaltingValues
 pub mod HaltingWords
 pub mod Lists

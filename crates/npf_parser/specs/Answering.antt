@@ -1,5 +1,6 @@
 -- How `parse` answers to the grammar.
 use Rattle.std.specs.Prelude.{◌≡◌, ⊤, Result, Ok, Err, List}
+use Rattle.npf_types.specs.declared.place.Span.{Span}
 use Rattle.npf_lexer.specs.declared.fault.ConfFault.{ConfFault}
 use Rattle.npf_lexer.specs.declared.fault.Refused.{Refused}
 use Rattle.npf_lexer.specs.declared.fault.Refused.TheVariants.{Fault, NoMemory}
@@ -22,3 +23,9 @@ abbrev pub AnswersUnlessMemory : Tree → Result Tree Refused → Type 0
 AnswersUnlessMemory tree (Ok read) = read ≡ tree
 AnswersUnlessMemory tree (Err (Fault _)) = ⊥
 AnswersUnlessMemory tree (Err NoMemory) = ⊤
+
+-- the answer is a fault at this place, unless memory ran out
+abbrev pub FaultsUnlessMemory : Span → Result Tree Refused → Type 0
+FaultsUnlessMemory span (Ok _) = ⊥
+FaultsUnlessMemory span (Err (Fault fault)) = fault.span ≡ span
+FaultsUnlessMemory span (Err NoMemory) = ⊤

@@ -1,9 +1,11 @@
 // Statements and files: a function for each line of the grammar.
 ghost use Rattle.std.specs.Prelude.{◌≡◌, codes, IfOk, Err};
+ghost use Rattle.npf_types.specs.declared.place.Span.{Span};
 ghost use Rattle.npf_lexer.specs.declared.fault.Fault.TheVariants.{Expected};
 ghost use Rattle.npf_syntax.specs.declared.stmt.Tree.{Tree};
-ghost use Rattle.npf_parser.specs.Answering.{OnFault, HasTree, AnswersUnlessMemory};
+ghost use Rattle.npf_parser.specs.Answering.{OnFault, HasTree, AnswersUnlessMemory, FaultsUnlessMemory};
 ghost use Rattle.npf_parser.specs.GrammarStatements.{Parses};
+ghost use Rattle.npf_parser.specs.HaltsStatements.{HaltsAt};
 ghost use Rattle.npf_parser.specs.Places.{StopsAt};
 ghost use Rattle.npf_parser.specs.Readings.{Answers, Leaves, Shortens, optional, behind_word};
 ghost use Rattle.npf_parser.specs.Leaves.{text_string_of};
@@ -260,7 +262,9 @@ pub fn parse(alloc: Global, tokens: &[Token]) -> Result<Tree, Refused>
     ensures fault { OnFault result (λ fault. fault.fault ≡ Expected) }
     ensures place { OnFault result (λ fault. tree_of tokens.now ≡ Err fault.span) }
     ensures stops { OnFault result (λ fault. StopsAt tokens.now fault.span) }
+    ensures halts { OnFault result (λ fault. HaltsAt tokens.now fault.span) }
     ensures complete { (tree : Tree) → Parses tokens.now tree → AnswersUnlessMemory tree result }
+    ensures exactly { (span : Span) → HaltsAt tokens.now span → FaultsUnlessMemory span result }
 {
     read_tree(alloc, tokens)
 }
