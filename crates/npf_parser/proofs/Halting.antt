@@ -1,14 +1,14 @@
 -- Where reading fails, the grammar's phrase halts at that place: how this passes from the parts of a phrase to the whole.
-use Rattle.std.proofs.Common.{◌≡◌, ℕ, ◌+◌, ◌≤◌, Bool, true, false, if◌then◌else◌, Option, Some, None, Result, Ok, Err, List, length, refl, sym, ap, ◌∙◌}
+use Rattle.std.proofs.Common.{◌≡◌, ℕ, ◌+◌, ◌≤◌, Bool, true, false, Option, Some, None, Ok, Err, List, length, refl, sym, ◌∙◌}
 use Rattle.npf_types.specs.declared.place.Span.{Span}
 use Rattle.npf_lexer.specs.declared.token.Sign.{Sign}
 use Rattle.npf_lexer.specs.declared.token.Token.{Token}
 use Rattle.npf_lexer.specs.declared.token.TokenKind.{TokenKind}
 use Rattle.npf_lexer.specs.declared.token.TokenKind.TheVariants as Kind
 use Rattle.npf_parser.specs.GrammarWords.{Opens, Lacks, HasWord, LacksWord, HasName, HasSign, LacksSign}
-use Rattle.npf_parser.specs.HaltsLists.{LacksPhrase, HaltsToken, amiss, HaltsOptional, behind_its_word}
+use Rattle.npf_parser.specs.HaltsLists.{HaltsToken, amiss, HaltsOptional, behind_its_word}
 use Rattle.npf_parser.specs.Readings.{Reading, ◌>>=◌, if_behind, optional, onto, where_it_can, required, behind_sign, behind_word, behind_string, after_sign, after_word, place_of}
-use Rattle.npf_parser.proofs.Says.{Says, Reads, Finds, Sees, opens_takes, sees_word, sees_string, sees_sign}
+use Rattle.npf_parser.proofs.Says.{Says, Finds, Sees, opens_takes, sees_word, sees_string, sees_sign}
 
 -- where reading fails, the phrase halts before tokens at that place
 pub record Halting {A : Type 0} (Halts : List Token → Type 0) (reading : Reading A) : Type 0 where
@@ -95,9 +95,9 @@ pub halts_part : {A : Type 0} {Halts : List Token → Type 0} {kind : TokenKind}
     ((us : List Token) → Opens kind ts us → Halting Halts (read us)) → Halting Halts (optional found read whole)
 halts_part {A} {Halts} (Some us) read whole sees there = halts_present (read us) (there us (sees.some us refl))
   where
-  halts_present : (reading : Reading A) → Halting Halts reading → Halting Halts (reading >>= (λ a. Ok (Some a.0, a.1)))
-  halts_present (Ok r) stops = record { place = λ span is. cc }
-  halts_present (Err span) stops = record { place = λ other same. let p = stops.place span refl in (p.0, p.1, failed {A = Option A} other span (sym same) ∙ p.2) }
+    halts_present : (reading : Reading A) → Halting Halts reading → Halting Halts (reading >>= (λ a. Ok (Some a.0, a.1)))
+    halts_present (Ok r) stops = record { place = λ span is. cc }
+    halts_present (Err span) stops = record { place = λ other same. let p = stops.place span refl in (p.0, p.1, failed {A = Option A} other span (sym same) ∙ p.2) }
 halts_part None read whole sees there = record { place = λ span is. cc }
 
 pub halts_optional : {A : Type 0} {HaltsPhrase : List Token → List Token → Type 0} (word : List ℕ) (read : List Token → Reading A) → Haltings HaltsPhrase read → (ts : List Token) →

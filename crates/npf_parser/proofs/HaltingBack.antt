@@ -1,6 +1,6 @@
 -- Where the grammar's phrase halts, reading fails at that place: single tokens, parts that may be left out, lists with
 -- commas and blocks, each of any phrase.
-use Rattle.std.proofs.Common.{◌≡◌, ℕ, suc, ◌<◌, Bool, true, false, ◌||◌, if◌then◌else◌, Option, None, Result, Ok, Err, List, [], ◌∷◌, length, refl, sym, ap, ◌∙◌, arith}
+use Rattle.std.proofs.Common.{◌≡◌, ℕ, suc, ◌<◌, Bool, true, false, ◌||◌, if◌then◌else◌, None, Result, Ok, Err, List, [], ◌∷◌, length, refl, sym, ap, ◌∙◌, arith}
 use Rattle.npf_types.specs.declared.place.Span.{Span}
 use Rattle.npf_lexer.specs.declared.token.Sign.{Sign}
 use Rattle.npf_lexer.specs.declared.token.Sign.TheVariants.{Comma}
@@ -8,7 +8,7 @@ use Rattle.npf_lexer.specs.declared.token.Token.{Token}
 use Rattle.npf_lexer.specs.declared.token.TokenKind.TheVariants as Kind
 use Rattle.npf_parser.specs.GrammarLists.{MayEnd, at_separator, at_close}
 use Rattle.npf_parser.specs.GrammarWords.{Lacks, LacksWord, LacksSign}
-use Rattle.npf_parser.specs.HaltsLists.{LacksPhrase, HaltsToken, amiss, HaltsOptional, behind_its_word, HaltsCommaList, in_phrase, behind_comma, LacksSeparator, HaltsBlock, in_item, not_ended, behind_empty, behind_item}
+use Rattle.npf_parser.specs.HaltsLists.{HaltsToken, amiss, HaltsOptional, behind_its_word, HaltsCommaList, in_phrase, behind_comma, LacksSeparator, HaltsBlock, in_item, not_ended, behind_empty, behind_item}
 use Rattle.npf_parser.specs.Readings.{Reading, ◌>>=◌, if_behind, optional, onto, required, comma_list, block_list, behind_sign, behind_word, behind_string, after_sign, after_word, skip, skip_separators, place_of, is_at_separator}
 use Rattle.npf_parser.proofs.Gaps.{gap_found, gap_takes, separator_skipped, separator_takes, separator_stands, separator_seen, none_skipped}
 use Rattle.npf_parser.proofs.Halting.{Placed}
@@ -87,9 +87,9 @@ module _ {A : Type 0} {Closes : List Token → Type 0} {IsItem : List Token → 
   ends_so : (us : List Token) → MayEnd Closes us → (closes us || is_at_separator us) ≡ true
   ends_so _ (at_separator {ts} has) = some_of (closes ts) (is_at_separator ts) (separator_stands has)
     where
-    some_of : (b c : Bool) → c ≡ true → (b || c) ≡ true
-    some_of true c is = refl
-    some_of false c is = is
+      some_of : (b c : Bool) → c ≡ true → (b || c) ≡ true
+      some_of true c is = refl
+      some_of false c is = is
   ends_so _ (at_close {ts} closed) = ap (λ b. b || is_at_separator ts) (closing.found ts closed)
 
   pub refuses_block : (ts at : List Token) → HaltsBlock Closes IsItem HaltsItem ts at → (n : ℕ) → length ts < n → block_list read closes n ts ≡ Err (place_of at)

@@ -4,10 +4,9 @@ use Rattle.npf_lexer.specs.declared.token.Sign.TheVariants.{OpenBrace, Slash}
 use Rattle.npf_lexer.specs.declared.token.Token.{Token}
 use Rattle.npf_parser.specs.declared.role.Role.TheVariants as Role
 use Rattle.npf_parser.specs.GrammarFilters.{IsFamily}
-use Rattle.npf_parser.specs.GrammarWords.{opens, LacksWord, LacksSign, IsFlags, IsNumberTo}
+use Rattle.npf_parser.specs.GrammarWords.{opens, LacksWord, IsFlags, IsNumberTo}
 use Rattle.npf_parser.specs.HaltsFilters.{HaltsMask, behind_slash, HaltsDetail, in_flags, in_mask, in_type, in_code, HaltsProtoPart, in_protocols, in_detail, HaltsAddresses, in_address_list, in_one_address, HaltsEnds, in_ports, in_addresses, in_their_ports, HaltsWhere, no_ends, in_source, behind_source, in_destination, HaltsFilter, in_family, in_proto, in_ends}
 use Rattle.npf_parser.specs.HaltsLists.{HaltsToken}
-use Rattle.npf_parser.specs.HaltsValues.{HaltsValue, HaltsValueList}
 use Rattle.npf_parser.specs.Leaves.{flags_of, number_to}
 use Rattle.npf_parser.specs.Readings.{place_of, behind_sign, behind_word, optional}
 use Rattle.npf_parser.specs.Values.{values_of}

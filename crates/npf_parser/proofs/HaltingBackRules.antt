@@ -1,6 +1,5 @@
 -- Where rules, items and groups' heads halt, reading fails.
-use Rattle.std.proofs.Common.{◌≡◌, Err, List, codes, refl}
-use Rattle.npf_lexer.specs.declared.token.Token.{Token}
+use Rattle.std.proofs.Common.{codes, refl}
 use Rattle.npf_parser.specs.GrammarWords.{IsNameString}
 use Rattle.npf_parser.specs.HaltsLists.{HaltsToken}
 use Rattle.npf_parser.specs.HaltsRules.{HaltsAction, no_action, HaltsOn, HaltsRule, in_action, in_iface, in_filter, in_applied, HaltsItem, in_rule, in_ruleset, in_its_iface, HaltsHead, in_name, in_its_on}

@@ -1,10 +1,8 @@
 -- Where maps, procedures, statements and whole configurations halt, reading fails.
-use Rattle.std.proofs.Common.{◌≡◌, suc, ◌<◌, false, Result, Ok, Err, List, length, codes, refl, sym, ap, ◌∙◌, arith}
+use Rattle.std.proofs.Common.{◌≡◌, suc, false, Err, List, length, codes, refl, sym, ap, ◌∙◌, arith}
 use Rattle.npf_types.specs.declared.place.Span.{Span}
 use Rattle.npf_lexer.specs.declared.token.Token.{Token}
 use Rattle.npf_lexer.specs.declared.token.TokenKind.TheVariants as Kind
-use Rattle.npf_syntax.specs.declared.stmt.Stmt.{Stmt}
-use Rattle.npf_syntax.specs.declared.stmt.Tree.{Tree}
 use Rattle.npf_parser.specs.declared.role.Role.TheVariants.{Any, Address, Port}
 use Rattle.npf_parser.specs.GrammarLists.{AtBrace}
 use Rattle.npf_parser.specs.GrammarMaps.{IsArrow}
@@ -16,9 +14,9 @@ use Rattle.npf_parser.specs.HaltsLists.{LacksPhrase, HaltsToken, amiss, HaltsBlo
 use Rattle.npf_parser.specs.HaltsMaps.{HaltsMapKind, no_kind, in_algo, HaltsSide, in_address, in_port}
 use Rattle.npf_parser.specs.HaltsProcedures.{HaltsOpt, no_option, in_ttl, in_mss, HaltsCall, no_call, log_no_colon, in_log_name, normalize_no_colon, in_options}
 use Rattle.npf_parser.specs.HaltsRules.{HaltsItem}
-use Rattle.npf_parser.specs.HaltsStatements.{HaltsDefine, no_equals, in_defined, HaltsSet, in_parameter, in_setting, HaltsTable, no_less, in_table_name, no_greater, no_type, in_table_type, in_file, HaltsMap, in_map_iface, in_map_kind, in_map_proto, in_left, in_arrow, in_right, in_passed, HaltsBraced, no_open, in_block, HaltsGroup, in_head, in_items, HaltsProcedure, in_procedure_name, in_calls, HaltsStmt, no_stmt, in_define, in_set, in_alg, in_table, in_map, in_group, in_procedure, Halts, HaltsAt}
+use Rattle.npf_parser.specs.HaltsStatements.{HaltsDefine, no_equals, in_defined, HaltsSet, in_parameter, in_setting, HaltsTable, no_less, in_table_name, no_greater, no_type, in_table_type, in_file, HaltsMap, in_map_iface, in_map_kind, in_map_proto, in_left, in_arrow, in_right, in_passed, no_open, in_block, HaltsGroup, in_head, in_items, HaltsProcedure, in_procedure_name, in_calls, HaltsStmt, no_stmt, in_define, in_set, in_alg, in_table, in_map, in_group, in_procedure, Halts, HaltsAt}
 use Rattle.npf_parser.specs.Leaves.{word_of, name_word_of, text_string_of}
-use Rattle.npf_parser.specs.Readings.{◌>>=◌, behind_sign, behind_word, behind_string, place_of, is_at_brace, is_at_end}
+use Rattle.npf_parser.specs.Readings.{behind_word, behind_string, place_of, is_at_brace, is_at_end}
 use Rattle.npf_parser.specs.Values.{one_of, value_of}
 use Rattle.npf_parser.specs.Filters.{filter_of}
 use Rattle.npf_parser.specs.Groups.{item_of, items_of, group_of}

@@ -15,7 +15,7 @@ use Rattle.npf_parser.specs.HaltsLists.{LacksPhrase, HaltsToken}
 use Rattle.npf_parser.specs.HaltsValues.{HaltsOneList, in_ones, ones_open, HaltsProtocols, in_one_list, in_single, HaltsJoined, unjoined, HaltsWritten, no_value_there, in_range, backwards, in_prefix, too_long, table_unnamed, table_open, table_misnamed, in_function, function_open, HaltsValue, in_value, out_of_place, HaltsListed, in_listed, HaltsValueList, in_values, values_open, HaltsValues, in_value_list, in_one_value}
 use Rattle.npf_parser.specs.Leaves.{string_of, word_of, variable_of, number_of}
 use Rattle.npf_parser.specs.Readings.{skip, span_to, kind_of, place_of, behind_sign, after_sign, optional, where_it_can}
-use Rattle.npf_parser.specs.Values.{iface_of, one_of, one_list_of, protocols_of, word_value_by, word_value_of, is_range, number_behind, number_value_of, is_prefix, address_value_of, table_value_of, variable_value_of, string_value_of, value_by, can_stand, value_of, listed_value_of, value_list_of, values_of}
+use Rattle.npf_parser.specs.Values.{iface_of, one_of, one_list_of, protocols_of, word_value_by, word_value_of, is_range, number_behind, number_value_of, is_prefix, address_value_of, table_value_of, value_by, can_stand, value_of, listed_value_of, value_list_of, values_of}
 use Rattle.npf_parser.proofs.CompleteValues.{finds_iface, finds_one, finds_joined, finds_written, finds_listed, call_kind, list_not_closed}
 use Rattle.npf_parser.proofs.CompleteWords.{then, sign_goes, finds_word, finds_number, finds_address, number_kind, address_kind}
 use Rattle.npf_parser.proofs.Gaps.{opens_kind, gap_found}

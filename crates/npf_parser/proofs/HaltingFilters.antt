@@ -1,5 +1,5 @@
 -- Where filters fail they halt.
-use Rattle.std.proofs.Common.{ℕ, false, Some, List, codes}
+use Rattle.std.proofs.Common.{ℕ, false, List, codes}
 use Rattle.npf_lexer.specs.declared.token.Sign.TheVariants.{OpenBrace, Slash}
 use Rattle.npf_lexer.specs.declared.token.Token.{Token}
 use Rattle.npf_parser.specs.declared.role.Role.TheVariants as Role

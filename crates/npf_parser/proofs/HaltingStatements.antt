@@ -1,5 +1,5 @@
 -- Where maps, procedures, statements and whole configurations fail they halt.
-use Rattle.std.proofs.Common.{◌≡◌, suc, ◌<◌, false, Option, Some, None, Result, Ok, Err, List, length, codes, refl, sym, ◌∙◌, arith}
+use Rattle.std.proofs.Common.{◌≡◌, suc, false, Result, Ok, Err, List, length, codes, arith}
 use Rattle.npf_types.specs.declared.place.Span.{Span}
 use Rattle.npf_lexer.specs.declared.token.Sign.TheVariants as Sign
 use Rattle.npf_lexer.specs.declared.token.Token.{Token}
@@ -10,13 +10,13 @@ use Rattle.npf_parser.specs.GrammarLists.{IsBlock, close, empty, item, AtBrace, 
 use Rattle.npf_parser.specs.GrammarMaps.{IsArrow}
 use Rattle.npf_parser.specs.GrammarProcedures.{IsLogName, IsCall}
 use Rattle.npf_parser.specs.GrammarRules.{IsItem}
-use Rattle.npf_parser.specs.GrammarStatements.{IsSetting, IsTableType, IsBraced}
-use Rattle.npf_parser.specs.GrammarWords.{HasWord, LacksWord, LacksSign, IsString, IsNameWord, IsTextString, IsVar}
+use Rattle.npf_parser.specs.GrammarStatements.{IsSetting, IsTableType}
+use Rattle.npf_parser.specs.GrammarWords.{LacksWord, LacksSign, IsString, IsNameWord, IsTextString, IsVar}
 use Rattle.npf_parser.specs.HaltsLists.{HaltsToken, amiss, HaltsBlock}
 use Rattle.npf_parser.specs.HaltsMaps.{HaltsMapKind, no_kind, in_algo, HaltsSide, in_address, in_port}
 use Rattle.npf_parser.specs.HaltsProcedures.{HaltsOpt, no_option, in_ttl, in_mss, HaltsCall, no_call, log_no_colon, in_log_name, normalize_no_colon, in_options}
 use Rattle.npf_parser.specs.HaltsRules.{HaltsItem}
-use Rattle.npf_parser.specs.HaltsStatements.{HaltsDefine, no_equals, in_defined, HaltsSet, in_parameter, in_setting, HaltsTable, no_less, in_table_name, no_greater, no_type, in_table_type, in_file, HaltsMap, in_map_iface, in_map_kind, in_map_proto, in_left, in_arrow, in_right, in_passed, HaltsBraced, no_open, in_block, HaltsGroup, in_head, in_items, HaltsProcedure, in_procedure_name, in_calls, HaltsStmt, no_stmt, in_define, in_set, in_alg, in_table, in_map, in_group, in_procedure, Halts, HaltsAt}
+use Rattle.npf_parser.specs.HaltsStatements.{no_equals, in_defined, HaltsSet, in_parameter, in_setting, HaltsTable, no_less, in_table_name, no_greater, no_type, in_table_type, in_file, HaltsMap, in_map_iface, in_map_kind, in_map_proto, in_left, in_arrow, in_right, in_passed, no_open, in_block, HaltsGroup, in_head, in_items, HaltsProcedure, in_procedure_name, in_calls, HaltsStmt, no_stmt, in_define, in_set, in_alg, in_table, in_map, in_group, in_procedure, Halts, HaltsAt}
 use Rattle.npf_parser.specs.Leaves.{word_of, name_word_of, text_string_of}
 use Rattle.npf_parser.specs.Readings.{Reading, ◌>>=◌, place_of, is_at_brace, is_at_end}
 use Rattle.npf_parser.specs.Values.{one_of, value_of}
@@ -27,7 +27,7 @@ use Rattle.npf_parser.specs.Procedures.{log_name_of, opt_of, options_of, call_of
 use Rattle.npf_parser.specs.Stmts.{define_of, setting_of, set_of, alg_of, table_type_of, table_of, stmt_of, stmts_of, tree_of}
 use Rattle.npf_parser.proofs.CompleteStatements.{finds_arrow, finds_log_name, finds_setting, finds_table_type}
 use Rattle.npf_parser.proofs.CompleteWords.{finds_name_word, finds_text_string}
-use Rattle.npf_parser.proofs.Halting.{Halting, Haltings, goes, halts, halts_then, halts_sign, halts_quoted, halts_if_word, halts_if_sign, halts_if_string, halts_in, halts_optional, halts_token}
+use Rattle.npf_parser.proofs.Halting.{Halting, Haltings, goes, halts, halts_then, halts_sign, halts_quoted, halts_if_word, halts_if_string, halts_in, halts_optional, halts_token}
 use Rattle.npf_parser.proofs.HaltingFilters.{halts_number_to, halts_filter}
 use Rattle.npf_parser.proofs.HaltingLists.{halts_commas, halts_block}
 use Rattle.npf_parser.proofs.HaltingRules.{halts_item, halts_head}

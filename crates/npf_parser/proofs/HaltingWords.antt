@@ -1,5 +1,5 @@
 -- Where single tokens are read amiss they halt.
-use Rattle.std.proofs.Common.{ℕ, Bool, nat_le, List, [], ◌∷◌, codes}
+use Rattle.std.proofs.Common.{ℕ, nat_le, List, [], ◌∷◌, codes}
 use Rattle.std.specs.List.{list_all}
 use Rattle.std.specs.Str.{is_utf8}
 use Rattle.npf_types.specs.declared.place.Span.{Span}

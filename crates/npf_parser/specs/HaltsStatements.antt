@@ -1,14 +1,12 @@
 -- Where statements halt, and a whole configuration: the place of its fault.
 use Rattle.std.specs.Prelude.{◌≡◌, Option, List, codes}
 use Rattle.npf_types.specs.declared.place.Span.{Span}
-use Rattle.npf_lexer.specs.declared.token.Sign.TheVariants.{Less, Greater, Equals, OpenBrace, CloseBrace}
+use Rattle.npf_lexer.specs.declared.token.Sign.TheVariants.{Less, Greater, Equals, OpenBrace}
 use Rattle.npf_lexer.specs.declared.token.Token.{Token}
 use Rattle.npf_syntax.specs.declared.group.GroupHead.{GroupHead}
-use Rattle.npf_syntax.specs.declared.group.Item.{Item}
 use Rattle.npf_syntax.specs.declared.map.Arrow.{Arrow}
 use Rattle.npf_syntax.specs.declared.map.MapKind.{MapKind}
 use Rattle.npf_syntax.specs.declared.map.Side.{Side}
-use Rattle.npf_syntax.specs.declared.procedure.Call.{Call}
 use Rattle.npf_syntax.specs.declared.stmt.TableType.{TableType}
 use Rattle.npf_syntax.specs.declared.value.Iface.{Iface}
 use Rattle.npf_syntax.specs.declared.value.One.{One}
@@ -20,7 +18,7 @@ use Rattle.npf_parser.specs.GrammarLists.{IsOptional, AtBrace, AtEnd}
 use Rattle.npf_parser.specs.GrammarMaps.{IsMapKind, IsArrow, IsSide}
 use Rattle.npf_parser.specs.GrammarProcedures.{IsCall}
 use Rattle.npf_parser.specs.GrammarRules.{IsHead, IsItem}
-use Rattle.npf_parser.specs.GrammarStatements.{IsSetting, IsTableType, IsBraced, IsStmt}
+use Rattle.npf_parser.specs.GrammarStatements.{IsSetting, IsTableType, IsStmt}
 use Rattle.npf_parser.specs.GrammarValues.{IsIface, IsOne}
 use Rattle.npf_parser.specs.GrammarWords.{HasWord, LacksWord, HasSign, LacksSign, IsString, IsWord, IsVar, IsNameWord, IsTextString}
 use Rattle.npf_parser.specs.HaltsFilters.{HaltsFilter}
