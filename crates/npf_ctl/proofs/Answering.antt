@@ -1,12 +1,12 @@
 -- What the program answers, from what a run did and what was said of it.
-use Rattle.std.proofs.Common.{◌≡◌, ℕ, ◌⊎◌, inl, inr, List, [], arith}
+use Rattle.std.proofs.Common.{◌≡◌, ℕ, inl, inr, List, arith}
 use Rattle.npf_outside.specs.Counts.{Rose}
 use Rattle.npf_ctl.specs.declared.fault.Fault.{Fault}
 use Rattle.npf_ctl.specs.declared.fault.Fault.TheVariants.{Usage, Unread, Long, Unbuilt, BadCapture, Unwritten, NoMemory}
 use Rattle.npf_ctl.specs.declared.fault.Input.TheVariants.{Conf, Capture}
-use Rattle.npf_ctl.specs.Message.{message, status_of}
+use Rattle.npf_ctl.specs.Message.{status_of}
 use Rattle.npf_ctl.specs.Run.{Outside, HasFault}
-use Rattle.npf_ctl.specs.Top.{Words, Errors, HasCause, IsFaulted, IsAnswered, SaysFault, RefusesCapture, FrontOfReport}
+use Rattle.npf_ctl.specs.Top.{Words, Errors, HasCause, IsAnswered, SaysFault, RefusesCapture, FrontOfReport}
 use Rattle.npf_ctl.specs.Words.{IsRun}
 
 module _ (words : Words) (before after : Outside) (old new : Errors) where

@@ -1,9 +1,8 @@
 -- The clauses of the top call, from its answer.
-use Rattle.std.proofs.Common.{◌≡◌, ℕ, ◌⊎◌, inl, inr, List, sym, ◌∙◌, subst, arith}
+use Rattle.std.proofs.Common.{◌≡◌, ℕ, inl, inr, sym, ◌∙◌, subst, arith}
 use Rattle.npf_outside.specs.Counts.{StoodStill}
-use Rattle.npf_ctl.specs.Message.{status_of}
 use Rattle.npf_ctl.specs.Run.{Outside}
-use Rattle.npf_ctl.specs.Top.{Words, Errors, IsAnswered, IsDone, Answers, FrontOfReport, RefusesCapture, CanRun, MustRefuseConf, MustRefuseCapture, MustRefuseLength}
+use Rattle.npf_ctl.specs.Top.{Words, Errors, IsAnswered, Answers, FrontOfReport, RefusesCapture, CanRun, MustRefuseConf, MustRefuseCapture, MustRefuseLength}
 use Rattle.npf_ctl.proofs.Answering.{write_cause, capture_cause}
 use Rattle.npf_ctl.proofs.Exactness.{only_conf, only_capture, only_length, only_done, refused_not_reported, bad_not_reported, long_not_reported}
 

@@ -1,5 +1,5 @@
 -- Three words and what they spell.
-use Rattle.std.proofs.Common.{◌≡◌, ℕ, ◌+◌, ◌<◌, ◌≤◌, List, [], ◌∷◌, String, Global, length, get_or, map, refl, sym, ap, ◌∙◌, arith, codes}
+use Rattle.std.proofs.Common.{◌≡◌, ℕ, List, [], ◌∷◌, String, Global, length, get_or, map, refl, sym, ap, ◌∙◌, arith, codes}
 use Rattle.std.proofs.Common.{Bool, true, false, not}
 use Rattle.std.specs.String.{string_bytes}
 use Rattle.std.specs.Str.{bytes_eq}

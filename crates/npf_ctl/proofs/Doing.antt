@@ -1,22 +1,17 @@
 -- What the calls of a store do is the work that one thread is to do.
-use Rattle.std.proofs.Common.{◌≡◌, ℕ, ◌+◌, ◌<◌, ◌≤◌, Bool, true, false, Option, Some, None, List, [], ◌∷◌, ◌++◌, slice_get, Result, Ok, Err, IfOk, refl, sym, ap, subst, ◌∙◌, arith}
+use Rattle.std.proofs.Common.{◌≡◌, ℕ, true, false, Option, Some, None, List, slice_get, Result, Ok, Err, IfOk, refl, sym, ap, subst, ◌∙◌}
 use Rattle.npf_types.specs.declared.connection.Key.{Key}
 use Rattle.npf_types.specs.declared.connection.Way.{Way}
-use Rattle.npf_types.specs.declared.connection.Way.TheVariants.{Forward, Backward}
 use Rattle.npf_types.specs.declared.rule.Decision.TheVariants.{Pass, Block}
 use Rattle.npf_types.specs.declared.rule.Return.TheVariants.{Nothing}
-use Rattle.npf_core.specs.declared.act.Act.TheVariants.{Claim, Look, Hold, Start, Step, Kill}
 use Rattle.npf_core.specs.declared.act.Why.TheVariants.{Abandoned}
 use Rattle.npf_core.specs.declared.conn_id.ConnId.{ConnId}
 use Rattle.npf_core.specs.declared.found.Found.{Found}
 use Rattle.npf_core.specs.declared.held.Held.{Held}
 use Rattle.npf_core.specs.declared.stage.Stage.TheVariants.{Building}
 use Rattle.npf_core.specs.declared.stepped.Stepped.{Stepped}
-use Rattle.npf_core.specs.Machine.{stage_of, IsClaimed, IsAlive, is_key}
-use Rattle.npf_core.specs.NextState.{after_act}
-use Rattle.npf_core.specs.Replies.{claimed_id}
+use Rattle.npf_core.specs.Machine.{stage_of, IsClaimed, IsAlive}
 use Rattle.npf_flow.specs.declared.flow.Flow.{Flow}
-use Rattle.npf_flow.specs.declared.step.FlowArg.{FlowArg}
 use Rattle.npf_flow.specs.declared.step.FlowReply.{FlowReply}
 use Rattle.npf_flow.specs.Flows.{flow_law}
 use Rattle.npf_store.specs.declared.store.Store.{Store}

@@ -1,8 +1,7 @@
 -- What must be refused is refused for its own cause, and what can run runs: what is told of the files rules out every
 -- other answer.
-use Rattle.std.proofs.Common.{◌≡◌, ℕ, ◌<◌, ◌≤◌, ◌⊎◌, inl, inr, List, [], ◌∷◌, length, IsSomeAnd, Option, Some, None, map, refl, sym, ap, ◌∙◌, subst, arith, codes, string_bytes}
-use Rattle.npf_outside.specs.Counts.{Rose, StoodStill, count_after, last_count}
-use Rattle.npf_outside.specs.Put.{Appends, AppendsFront}
+use Rattle.std.proofs.Common.{◌≡◌, ℕ, ◌<◌, ◌≤◌, ◌⊎◌, inl, inr, List, [], ◌∷◌, length, IsSomeAnd, Option, Some, None, refl, sym, ap, ◌∙◌, subst, arith, codes}
+use Rattle.npf_outside.specs.Counts.{Rose, StoodStill}
 use Rattle.npf_outside.specs.Tree.{Tree, IsLonger}
 use Rattle.npf_pcap.specs.declared.capture.Record.{Record}
 use Rattle.npf_pcap.specs.declared.fault.CaptureFault.{CaptureFault}
@@ -10,11 +9,10 @@ use Rattle.npf_ctl.specs.declared.fault.Fault.{Fault}
 use Rattle.npf_ctl.specs.declared.fault.Fault.TheVariants.{Usage, Unread, Long, Unbuilt, BadCapture, Unwritten, NoMemory}
 use Rattle.npf_ctl.specs.declared.fault.Input.TheVariants.{Conf, Capture}
 use Rattle.npf_ctl.specs.Message.{status_of, most_bytes}
-use Rattle.npf_ctl.specs.Run.{OfFile, Accepts, IsAccepted, IsRefused, IsBadCapture, Holds, HasPackets, IsReport, Outside, PutsReport, PutsFront, HasConf, HasFault}
+use Rattle.npf_ctl.specs.Run.{OfFile, IsAccepted, IsRefused, IsBadCapture, Holds, IsReport, Outside}
 use Rattle.npf_ctl.specs.Top.{Words, IsNoCommand, HasCause, Answers, Told, CanRun, MustRefuseConf, MustRefuseCapture, MustRefuseLength}
 use Rattle.npf_ctl.specs.Words.{IsRun}
 use Rattle.npf_ctl.proofs.RawCaptures.{raw_has_no_fault}
-use Rattle.npf_ctl.proofs.Told.{OfFile-map}
 
 -- the words name one configuration and one capture
 one_run : (words : Words) (conf capture conf' capture' : List ℕ) → IsRun words conf capture → IsRun words conf' capture' → (conf' ≡ conf) × (capture' ≡ capture)

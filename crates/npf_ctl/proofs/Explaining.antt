@@ -1,12 +1,12 @@
 -- The history of one thread explains the outcome of each packet.
-use Rattle.std.proofs.Common.{◌≡◌, ◌≢◌, ℕ, ◌+◌, ◌<◌, ◌≤◌, ◌==◌, Bool, true, false, Option, Some, None, List, [], ◌∷◌, ◌++◌, refl, sym, ap, subst, ◌∙◌, append-nil, append_assoc, arith}
-use Rattle.std.proofs.lemmas.Bool.Decides.{nat_tests, Decides-eqb}
+use Rattle.std.proofs.Common.{◌≡◌, ◌≢◌, ℕ, ◌+◌, ◌<◌, ◌≤◌, ◌==◌, Bool, true, false, List, [], ◌∷◌, ◌++◌, refl, sym, ap, subst, ◌∙◌, append-nil, append_assoc, arith}
+use Rattle.std.proofs.lemmas.Bool.Decides.{Decides-eqb}
 use Rattle.npf_types.specs.declared.packet.Facts.{Facts}
 use Rattle.npf_types.specs.declared.packet.Link.TheVariants.{Raw}
 use Rattle.npf_core.specs.declared.conn_id.ConnId.{ConnId}
-use Rattle.npf_core.specs.History.{Legal, IsPrefix, state_of, state_from}
+use Rattle.npf_core.specs.History.{IsPrefix, state_of, state_from}
 use Rattle.npf_core.specs.Machine.{IsClaimed, opening}
-use Rattle.npf_core.proofs.Histories.{state_from-append, LegalFrom-append}
+use Rattle.npf_core.proofs.Histories.{state_from-append}
 use Rattle.npf_flow.specs.Flows.{flow_law}
 use Rattle.npf_packet.specs.declared.decoded.Decoded.{Decoded}
 use Rattle.npf_packet.specs.declared.decoded.Decoded.TheVariants as Says
@@ -14,19 +14,17 @@ use Rattle.npf_packet.specs.Decoding.{Decodes}
 use Rattle.npf_pcap.specs.declared.capture.Record.{Record}
 use Rattle.npf_ctl.specs.declared.outcome.Outcome.{Outcome}
 use Rattle.npf_ctl.specs.declared.outcome.Outcome.TheVariants.{Skip, Malformed, ByConn, ByRule}
-use Rattle.npf_ctl.specs.declared.packet.Packet.{Packet}
 use Rattle.npf_ctl.specs.declared.rule.Rule.{Rule}
-use Rattle.npf_ctl.specs.Explained.{WasFull, WasClaimed, Explains, ExplainsFrom, packet_of}
-use Rattle.npf_ctl.specs.Histories.{FlowEntry, FlowMachine, History, entries_after, entries_of}
-use Rattle.npf_ctl.specs.OneLine.{most_connections, handle, arrive, arrive_as, arrive_each, one_line, outcomes_of}
+use Rattle.npf_ctl.specs.Explained.{Explains, ExplainsFrom, packet_of}
+use Rattle.npf_ctl.specs.Histories.{FlowMachine, History, entries_after, entries_of}
+use Rattle.npf_ctl.specs.OneLine.{most_connections, handle, arrive, arrive_as, arrive_each}
 use Rattle.npf_ctl.specs.Packets.{Arrival, ArriveAs}
-use Rattle.npf_ctl.specs.Work.{Work, finds, ◌>>=◌}
-use Rattle.npf_ctl.proofs.Handling.{Tale, ToldBy, ShowsFull, handle_tale}
+use Rattle.npf_ctl.proofs.Handling.{ToldBy, ShowsFull, handle_tale}
 use Rattle.npf_ctl.proofs.OtherPackets.{handle_foreign}
 use Rattle.npf_ctl.proofs.PacketWalks.{arrive_walks}
 use Rattle.npf_ctl.proofs.Scanning.{Scans, scans_none, scans_append, AreOlder, none_older, older_from}
 use Rattle.npf_ctl.specs.Doing.{IsReached}
-use Rattle.npf_ctl.proofs.Walking.{Walks, walks_on}
+use Rattle.npf_ctl.proofs.Walking.{walks_on}
 
 -- another number
 apart_numbers : (m n : ℕ) → m ≢ n → (m == n) ≡ false

@@ -1,8 +1,7 @@
 -- The whole work on a packet of IP explains its outcome.
-use Rattle.std.proofs.Common.{◌≡◌, ◌≢◌, ◌⊎◌, inl, inr, ℕ, zero, suc, ◌+◌, ◌<◌, ◌≤◌, ◌==◌, Bool, true, false, cond, Option, Some, None, List, [], ◌∷◌, ◌++◌, length, slice_get, get_or, unwrap_or, refl, sym, ap, subst, ◌∙◌, append-nil, append_assoc, arith}
+use Rattle.std.proofs.Common.{◌≡◌, ◌≢◌, ◌⊎◌, inl, inr, ℕ, suc, ◌+◌, ◌<◌, ◌≤◌, Bool, true, false, cond, Option, Some, None, List, [], ◌∷◌, ◌++◌, length, slice_get, get_or, unwrap_or, refl, sym, ap, subst, ◌∙◌, append-nil, arith}
 use Rattle.std.proofs.lemmas.Option.{slice_get_cases}
 use Rattle.npf_types.specs.declared.packet.Facts.{Facts}
-use Rattle.npf_types.specs.declared.connection.Key.{Key}
 use Rattle.npf_types.specs.declared.rule.Decision.{Decision}
 use Rattle.npf_types.specs.declared.rule.Decision.TheVariants.{Pass, Block}
 use Rattle.npf_types.specs.declared.rule.Return.TheVariants.{Nothing}
@@ -22,7 +21,7 @@ use Rattle.npf_ctl.specs.OneLine.{most_connections, by_rule, or_else, keeps, loo
 use Rattle.npf_ctl.specs.Packets.{own_key, any_key, arg_of}
 use Rattle.npf_ctl.specs.Verdict.{verdict, describes}
 use Rattle.npf_ctl.specs.Work.{Work, finds, ◌>>=◌}
-use Rattle.npf_ctl.proofs.OwnEntries.{IsLooked, missed, met, Looked, look_for_own, IsTried, tried_open, tried_full, tried_late, tried_taken, Tried, try_open_own}
+use Rattle.npf_ctl.proofs.OwnEntries.{IsLooked, missed, met, look_for_own, IsTried, tried_open, tried_full, tried_late, tried_taken, try_open_own}
 use Rattle.npf_ctl.proofs.PacketWalks.{look_for_walks}
 use Rattle.npf_ctl.proofs.Scanning.{Scans, scans_none, scans_append, AreOlder, none_older}
 use Rattle.npf_ctl.specs.Doing.{IsReached}

@@ -1,9 +1,9 @@
 -- The items of a group, one step from their front.
-use Rattle.std.proofs.Common.{◌≡◌, ◌≢◌, ◌<◌, Bool, true, false, IsTrue, Option, Some, None, List, [], ◌∷◌, length, refl, sym, ap, subst, ◌∙◌, arith}
+use Rattle.std.proofs.Common.{◌≡◌, ◌≢◌, ◌<◌, true, false, IsTrue, Some, List, [], ◌∷◌, length, refl, sym, ap, subst, ◌∙◌, arith}
 use Rattle.std.specs.List.{list_all}
 use Rattle.npf_ctl.specs.declared.token.Token.{Token}
 use Rattle.npf_ctl.specs.declared.token.Token.TheVariants.{Separator, CloseBrace}
-use Rattle.npf_ctl.specs.Grammar.{AreItems, close, empty, item, IsRule, is_separator, ends_item, IsFile}
+use Rattle.npf_ctl.specs.Grammar.{AreItems, close, empty, item, is_separator, ends_item}
 use Rattle.npf_ctl.specs.Phrases.{rule_of}
 use Rattle.npf_ctl.specs.Reading.{IsOnly}
 use Rattle.npf_ctl.specs.SoFar.{IsSoFar}

@@ -1,10 +1,8 @@
 -- What one thread asks for one packet is no other packet's.
-use Rattle.std.proofs.Common.{◌≡◌, ℕ, ◌+◌, ◌<◌, ◌≤◌, ◌==◌, Bool, true, false, cond, Option, Some, None, List, [], ◌∷◌, ◌++◌, refl, sym, ap, subst, ◌∙◌, arith}
+use Rattle.std.proofs.Common.{◌≡◌, ℕ, ◌==◌, Bool, true, false, cond, Option, Some, None, List, [], ◌∷◌, refl}
 use Rattle.npf_types.specs.declared.connection.Key.{Key}
 use Rattle.npf_types.specs.declared.connection.Way.TheVariants.{Forward, Backward}
-use Rattle.npf_types.specs.declared.rule.Decision.TheVariants.{Pass, Block}
-use Rattle.npf_types.specs.declared.rule.Return.TheVariants.{Nothing}
-use Rattle.npf_core.specs.declared.act.Act.TheVariants.{Claim, Look, Hold, Start, Step, Kill, Unhold}
+use Rattle.npf_core.specs.declared.act.Act.TheVariants.{Claim, Hold, Step, Kill}
 use Rattle.npf_core.specs.declared.act.Why.TheVariants.{Abandoned}
 use Rattle.npf_core.specs.declared.conn_id.ConnId.{ConnId}
 use Rattle.npf_core.specs.declared.found.Found.{Found}
@@ -17,7 +15,7 @@ use Rattle.npf_ctl.specs.declared.outcome.Outcome.{Outcome}
 use Rattle.npf_ctl.specs.declared.outcome.Unkept.TheVariants.{Taken}
 use Rattle.npf_ctl.specs.declared.packet.Packet.{Packet}
 use Rattle.npf_ctl.specs.declared.rule.Rule.{Rule}
-use Rattle.npf_ctl.specs.Histories.{FlowAct, FlowEntry, FlowMachine, History, carries, builds, is_among}
+use Rattle.npf_ctl.specs.Histories.{FlowEntry, FlowMachine, History, carries, builds, is_among}
 use Rattle.npf_ctl.specs.OneLine.{most_connections, lowest_from, is_packets, by_rule, unkept, or_else, keeps, step_holder, step_found, look_for, begin, with_backward, hold_backward, with_forward, build_in, try_open, by_verdict, ask_rules, handle, rule_at}
 use Rattle.npf_ctl.specs.Packets.{own_key, any_key, forward_of, backward_of, arg_of}
 use Rattle.npf_ctl.specs.Verdict.{verdict}

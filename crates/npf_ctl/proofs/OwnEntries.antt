@@ -1,13 +1,10 @@
 -- What one thread asks for a packet explains the outcome that it finds.
-use Rattle.std.proofs.Common.{◌≡◌, ◌≢◌, ◌⊎◌, inl, inr, ℕ, ◌+◌, ◌<◌, ◌≤◌, ◌==◌, Bool, true, false, cond, Option, Some, None, List, [], ◌∷◌, ◌++◌, slice_get, refl, sym, ap, subst, ◌∙◌, append-nil, arith}
-use Rattle.std.proofs.lemmas.Bool.Decides.{nat_tests, Decides-eqb}
+use Rattle.std.proofs.Common.{◌≡◌, ◌≢◌, ◌⊎◌, inl, inr, ℕ, ◌<◌, ◌==◌, Bool, true, false, cond, Option, Some, None, List, [], ◌∷◌, ◌++◌, refl, sym, ap, subst, ◌∙◌, arith}
+use Rattle.std.proofs.lemmas.Bool.Decides.{Decides-eqb}
 use Rattle.npf_types.specs.declared.connection.Key.{Key}
 use Rattle.npf_types.specs.declared.connection.Way.{Way}
 use Rattle.npf_types.specs.declared.connection.Way.TheVariants.{Forward, Backward, Port}
-use Rattle.npf_types.specs.declared.rule.Decision.{Decision}
-use Rattle.npf_types.specs.declared.rule.Decision.TheVariants.{Pass, Block}
-use Rattle.npf_types.specs.declared.rule.Return.{Return}
-use Rattle.npf_types.specs.declared.rule.Return.TheVariants.{Nothing}
+use Rattle.npf_types.specs.declared.rule.Decision.TheVariants.{Pass}
 use Rattle.npf_core.specs.declared.act.Act.TheVariants.{Claim, Look, Hold, Start, Step, Kill, Unhold}
 use Rattle.npf_core.specs.declared.act.Why.TheVariants.{Abandoned}
 use Rattle.npf_core.specs.declared.conn_id.ConnId.{ConnId}
@@ -15,28 +12,23 @@ use Rattle.npf_core.specs.declared.found.Found.{Found}
 use Rattle.npf_core.specs.declared.held.Held.{Held}
 use Rattle.npf_core.specs.declared.reply.Reply.TheVariants.{ToLook, ToHold, ToStep}
 use Rattle.npf_core.specs.declared.stepped.Stepped.{Stepped}
-use Rattle.npf_core.specs.History.{state_from}
 use Rattle.npf_core.specs.Machine.{IsClaimed, is_key, stage_of}
-use Rattle.npf_core.specs.NextState.{after_act, is_id}
+use Rattle.npf_core.specs.NextState.{after_act}
 use Rattle.npf_core.specs.Replies.{claimed_id, held_by, step_answer}
 use Rattle.npf_core.proofs.Equalities.{is_id-Decides, is_key-Decides}
 use Rattle.npf_flow.specs.declared.step.FlowReply.{FlowReply}
 use Rattle.npf_flow.specs.Flows.{flow_law}
 use Rattle.npf_ctl.specs.declared.outcome.Outcome.{Outcome}
 use Rattle.npf_ctl.specs.declared.outcome.Outcome.TheVariants.{ByConn, ByRule}
-use Rattle.npf_ctl.specs.declared.outcome.Unkept.TheVariants.{Kept, Full, NoNode, Taken}
+use Rattle.npf_ctl.specs.declared.outcome.Unkept.TheVariants.{Kept, Full, Taken}
 use Rattle.npf_ctl.specs.declared.packet.Packet.{Packet}
-use Rattle.npf_ctl.specs.declared.rule.Rule.{Rule}
-use Rattle.npf_ctl.specs.declared.rule.StateOpt.{StateOpt}
-use Rattle.npf_ctl.specs.declared.rule.StateOpt.TheVariants.{Not, OnInterface}
-use Rattle.npf_ctl.specs.Explained.{IsClaim, IsLook, IsStep, IsPackets, Misses, free, port, dead, Meets, MissesBoth, Opens, with_both, with_one, Yields, yields, IsCrossed, crossed, Decides, PassesKept}
-use Rattle.npf_ctl.specs.Histories.{FlowAct, FlowEntry, FlowMachine, History, carries, builds, is_among, with_claimed}
-use Rattle.npf_ctl.specs.OneLine.{most_connections, lowest_from, is_packets, by_connection, by_rule, unkept, or_else, keeps, step_holder, step_found, look_for, begin, with_backward, hold_backward, with_forward, build_in, try_open, by_verdict, ask_rules, handle, rule_at}
-use Rattle.npf_ctl.specs.Packets.{own_key, any_key, forward_of, backward_of, opening_of, arg_of}
-use Rattle.npf_ctl.specs.Verdict.{verdict}
+use Rattle.npf_ctl.specs.Explained.{IsClaim, IsPackets, Misses, free, port, dead, Meets, Opens, with_both, with_one, Yields, yields, IsCrossed, crossed}
+use Rattle.npf_ctl.specs.Histories.{FlowEntry, FlowMachine, History, is_among}
+use Rattle.npf_ctl.specs.OneLine.{most_connections, lowest_from, is_packets, by_connection, unkept, or_else, step_holder, step_found, look_for, begin, with_backward, hold_backward, with_forward, try_open}
+use Rattle.npf_ctl.specs.Packets.{forward_of, backward_of, opening_of, arg_of}
 use Rattle.npf_ctl.specs.Work.{Work, finds, ◌>>=◌, entry_of, claim, hold}
 use Rattle.npf_ctl.proofs.PacketWalks.{IsLowestOf, lowest_is, claim_fresh, built_walks, may_claim_lowest}
-use Rattle.npf_ctl.proofs.Scanning.{Scans, scans_none, scans_carried, scans_built, scans_other, scans_append, AreOlder, none_older, older_from, claimed_older}
+use Rattle.npf_ctl.proofs.Scanning.{Scans, scans_none, scans_carried, scans_built, scans_other, AreOlder, none_older, older_from, claimed_older}
 use Rattle.npf_ctl.specs.Doing.{IsReached}
 use Rattle.npf_ctl.proofs.Walking.{walks_on, walks_asks}
 

@@ -1,41 +1,38 @@
 -- What one thread asks for a packet is legal.
-use Rattle.std.proofs.Common.{◌≡◌, ◌≢◌, ◌⊎◌, inl, inr, nat_lt, ℕ, zero, suc, ◌+◌, ◌<◌, ◌≤◌, ◌==◌, Bool, true, false, cond, Option, Some, None, List, [], ◌∷◌, ◌++◌, refl, sym, ap, subst, ◌∙◌, arith}
+use Rattle.std.proofs.Common.{◌≡◌, ◌⊎◌, inl, inr, nat_lt, ℕ, zero, suc, ◌+◌, ◌<◌, ◌≤◌, ◌==◌, Bool, true, false, cond, Option, Some, None, List, [], ◌∷◌, refl, sym, ap, subst, ◌∙◌, arith}
 use Rattle.std.proofs.lemmas.Bool.Decides.{nat_tests, Decides-eqb}
 use Rattle.npf_types.specs.declared.connection.Key.{Key}
 use Rattle.npf_types.specs.declared.connection.Way.{Way}
-use Rattle.npf_types.specs.declared.connection.Way.TheVariants.{Forward, Backward, Port}
+use Rattle.npf_types.specs.declared.connection.Way.TheVariants.{Forward, Backward}
 use Rattle.npf_core.specs.declared.act.Act.TheVariants.{Claim, Look, Hold, Start, Step, Kill, Unhold}
 use Rattle.npf_core.specs.declared.act.Why.TheVariants.{Abandoned}
 use Rattle.npf_core.specs.declared.conn_id.ConnId.{ConnId}
 use Rattle.npf_core.specs.declared.found.Found.{Found}
 use Rattle.npf_core.specs.declared.held.Held.{Held}
-use Rattle.npf_core.specs.declared.slot.Slot.{Slot}
 use Rattle.npf_core.specs.declared.stage.Stage.{Stage}
 use Rattle.npf_core.specs.declared.stage.Stage.TheVariants.{Vacant, Building, Live, Dead}
-use Rattle.npf_core.specs.declared.stepped.Stepped.{Stepped}
-use Rattle.npf_core.specs.Allowed.{Allows, MayClaim, MayHold, MayUnhold}
-use Rattle.npf_core.specs.Machine.{Machine, stage_of, IsClaimed, Holds, HoldsNone, HoldsSome, is_key}
+use Rattle.npf_core.specs.Allowed.{MayClaim}
+use Rattle.npf_core.specs.Machine.{stage_of, IsClaimed, Holds, is_key}
 use Rattle.npf_core.specs.NextState.{after_act, first_of, is_way}
 use Rattle.npf_core.specs.Replies.{claimed_id, held_by, step_answer}
 use Rattle.npf_core.proofs.Building.{claim_builds}
 use Rattle.npf_core.proofs.Equalities.{is_key-Decides}
 use Rattle.npf_core.proofs.Lives.{IsClaimed-last, IsClaimed-is}
 use Rattle.npf_flow.specs.Flows.{flow_law}
-use Rattle.npf_flow.specs.declared.step.FlowReply.{FlowReply}
 use Rattle.npf_packet.specs.declared.decoded.Decoded.{Decoded}
 use Rattle.npf_packet.specs.declared.decoded.Decoded.TheVariants as Says
 use Rattle.npf_types.specs.declared.rule.Decision.TheVariants.{Pass, Block}
 use Rattle.npf_types.specs.declared.rule.Return.TheVariants.{Nothing}
 use Rattle.npf_ctl.specs.declared.outcome.Outcome.{Outcome}
-use Rattle.npf_ctl.specs.declared.outcome.Outcome.TheVariants.{Skip, Malformed, ByConn, ByRule}
+use Rattle.npf_ctl.specs.declared.outcome.Outcome.TheVariants.{Skip, Malformed, ByRule}
 use Rattle.npf_ctl.specs.declared.outcome.Unkept.TheVariants.{Kept, Full, NoNode, Taken}
 use Rattle.npf_ctl.specs.declared.packet.Packet.{Packet}
 use Rattle.npf_ctl.specs.declared.rule.Rule.{Rule}
-use Rattle.npf_ctl.specs.Histories.{FlowAct, FlowMachine, History}
+use Rattle.npf_ctl.specs.Histories.{FlowMachine}
 use Rattle.npf_ctl.specs.OneLine.{most_connections, is_vacant, lowest_from, is_packets, by_connection, by_rule, unkept, or_else, keeps, step_holder, step_found, look_for, begin, with_backward, hold_backward, with_forward, build_in, try_open, by_verdict, ask_rules, handle, arrive, arrive_as, arrive_each, rule_at}
 use Rattle.npf_ctl.specs.Packets.{own_key, any_key, forward_of, backward_of, opening_of, arg_of, Arrival}
 use Rattle.npf_ctl.specs.Verdict.{verdict}
-use Rattle.npf_ctl.specs.Work.{Work, finds, ◌>>=◌, asks, look, claim, hold, step, start, abandon, unhold}
+use Rattle.npf_ctl.specs.Work.{Work, finds, ◌>>=◌, look, claim, hold, step, start, abandon, unhold}
 use Rattle.npf_ctl.specs.Doing.{IsReached, IsFresh, IsForwarded, HoldsForward}
 use Rattle.npf_ctl.proofs.Walking.{Walks, walks_finds, walks_asks, walks_then, walks_on, reached_holders, reached_claims}
 

@@ -1,12 +1,12 @@
 -- What is read at the front of tokens is what the grammar says, and the other way round where an item may end behind it.
-use Rattle.std.proofs.Common.{◌≡◌, ℕ, ◌<◌, ◌≤◌, Bool, true, false, IsTrue, cond, leb, Option, Some, None, List, [], ◌∷◌, length, refl, sym, ap, subst, ◌∙◌, arith}
+use Rattle.std.proofs.Common.{◌≡◌, ℕ, ◌<◌, ◌≤◌, Bool, true, false, IsTrue, cond, leb, Some, None, List, [], ◌∷◌, length, refl, sym, ap, subst, ◌∙◌, arith}
 use Rattle.std.proofs.lemmas.Bool.Decides.{nat_tests}
 use Rattle.npf_types.specs.declared.rule.Decision.{Decision}
 use Rattle.npf_types.specs.declared.rule.Decision.TheVariants as Decides
 use Rattle.npf_types.specs.declared.rule.Return.TheVariants.{Nothing}
 use Rattle.npf_ctl.specs.declared.token.Token.{Token}
 use Rattle.npf_ctl.specs.declared.token.Token.TheVariants.{Separator, OpenBrace, CloseBrace, Slash, Number, Address, Word}
-use Rattle.npf_ctl.specs.declared.token.Word.TheVariants.{Group, Default, Pass, Block, Final, All, From, To, Any, Stateful, Proto, Udp}
+use Rattle.npf_ctl.specs.declared.token.Word.TheVariants.{Pass, Block, Final, All, From, To, Any, Stateful, Proto, Udp}
 use Rattle.npf_ctl.specs.Grammar.{IsEnds, any, host, prefix, IsFilter, all, from, between, to, IsMatch, final, plain, IsUdpMatch, udp_final, udp_plain, IsRule, passes, blocks, keeps, written, written_udp, ends_item}
 use Rattle.npf_ctl.specs.Written.{Ends, Written, block_v4}
 use Rattle.npf_ctl.specs.Phrases.{Phrase, and_then, length_of, block_from, ends_of, destination_of, filter_of, decided, match_of, udp_of, stateful_of, pass_of, rule_of}

@@ -3,7 +3,6 @@ use Rattle.std.proofs.Common.{◌≡◌, ℕ, suc, ◌+◌, List, [], ◌∷◌,
 use Rattle.npf_types.specs.declared.packet.Link.TheVariants.{Raw}
 use Rattle.npf_core.specs.Machine.{opening}
 use Rattle.npf_flow.specs.declared.flow.Flow.{Flow}
-use Rattle.npf_flow.specs.Flows.{flow_law}
 use Rattle.npf_packet.specs.Decoding.{Decodes}
 use Rattle.npf_pcap.specs.declared.capture.Record.{Record}
 use Rattle.npf_store.specs.declared.store.Store.{Store}

@@ -1,12 +1,12 @@
 -- What a text that begins with a byte of some class spells, one step from its front.
-use Rattle.std.proofs.Common.{◌≡◌, ◌≢◌, ℕ, ◌+◌, ◌<◌, ◌≤◌, List, [], ◌∷◌, length, drop, take, refl, sym, ap, subst, ◌∙◌, slice_index, true, arith, length-drop}
+use Rattle.std.proofs.Common.{◌≡◌, ◌≢◌, ℕ, ◌+◌, ◌<◌, List, [], ◌∷◌, length, drop, refl, sym, ap, subst, ◌∙◌, slice_index, true, arith, length-drop}
 use Rattle.std.proofs.lemmas.Bool.Decides.{nat_tests}
 use Rattle.std.specs.List.{prefix_len}
 use Rattle.npf_ctl.specs.declared.class.Class.{Class}
 use Rattle.npf_ctl.specs.declared.class.Class.TheVariants.{Blank, Backslash, Comment, Sign, Run, Unknown}
 use Rattle.npf_ctl.specs.declared.token.Token.{Token}
 use Rattle.npf_ctl.specs.Classes.{class_of, is_run_byte}
-use Rattle.npf_ctl.specs.Reading.{IsReading, IsOnly}
+use Rattle.npf_ctl.specs.Reading.{IsOnly}
 use Rattle.npf_ctl.specs.SoFar.{IsSoFar}
 use Rattle.npf_ctl.specs.Tokens.{Spells, end, blank, joined, comment, sign, run, IsRunToken, front_of, behind, is_within_line}
 

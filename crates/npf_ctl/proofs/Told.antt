@@ -1,5 +1,5 @@
 -- What holds of a told file.
-use Rattle.std.proofs.Common.{◌≡◌, ℕ, ◌<◌, ◌≤◌, List, length, Option, Some, None, IsSomeAnd, refl, sym, ◌∙◌, subst, arith}
+use Rattle.std.proofs.Common.{ℕ, ◌<◌, ◌≤◌, List, length, Option, Some, None, IsSomeAnd, sym, ◌∙◌, subst, arith}
 use Rattle.npf_outside.specs.Tree.{Tree, Has, IsLonger, SameFiles}
 use Rattle.npf_ctl.specs.Run.{OfFile}
 

@@ -1,25 +1,13 @@
 -- What one thread asks is legal: each act is allowed in the state in which it is asked.
-use Rattle.std.proofs.Common.{◌≡◌, ℕ, zero, suc, ◌+◌, ◌<◌, ◌≤◌, Bool, true, false, cond, Option, Some, None, List, [], ◌∷◌, ◌++◌, refl, sym, ap, subst, ◌∙◌, arith}
-use Rattle.npf_types.specs.declared.connection.Key.{Key}
-use Rattle.npf_types.specs.declared.connection.Way.{Way}
-use Rattle.npf_types.specs.declared.connection.Way.TheVariants.{Forward, Backward, Port}
-use Rattle.npf_core.specs.declared.act.Act.TheVariants.{Claim, Look, Hold, Start, Step, Kill, Unhold}
-use Rattle.npf_core.specs.declared.act.Why.TheVariants.{Abandoned}
-use Rattle.npf_core.specs.declared.conn_id.ConnId.{ConnId}
-use Rattle.npf_core.specs.declared.found.Found.{Found}
-use Rattle.npf_core.specs.declared.held.Held.{Held}
-use Rattle.npf_core.specs.declared.stage.Stage.{Stage}
-use Rattle.npf_core.specs.declared.stage.Stage.TheVariants.{Vacant, Building, Live, Dead}
+use Rattle.std.proofs.Common.{◌≡◌, [], ◌++◌, refl, sym, ap, subst, ◌∙◌}
 use Rattle.npf_core.specs.Allowed.{Allows}
-use Rattle.npf_core.specs.History.{LegalFrom, Legal, state_from, state_of}
+use Rattle.npf_core.specs.History.{LegalFrom, state_from}
 use Rattle.npf_core.specs.HolderLaw.{HoldersAreClaimed, ClaimsWithNone}
-use Rattle.npf_core.specs.Machine.{Machine, stage_of, opening, IsClaimed, Holds, HoldsNone, is_key}
-use Rattle.npf_core.specs.NextState.{after_act}
-use Rattle.npf_core.specs.Replies.{claimed_id, held_by}
+use Rattle.npf_core.specs.Machine.{opening}
 use Rattle.npf_core.proofs.Histories.{state_from-append, LegalFrom-append}
 use Rattle.npf_core.proofs.Holders.{holders_claimed, claim_with_none}
 use Rattle.npf_flow.specs.Flows.{flow_law}
-use Rattle.npf_ctl.specs.Histories.{FlowAct, FlowMachine, History}
+use Rattle.npf_ctl.specs.Histories.{FlowAct, FlowMachine}
 use Rattle.npf_ctl.specs.OneLine.{most_connections}
 use Rattle.npf_ctl.specs.Doing.{IsReached}
 use Rattle.npf_ctl.specs.Work.{Work, finds, ◌>>=◌, asks}

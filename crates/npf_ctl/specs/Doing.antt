@@ -1,6 +1,6 @@
 -- What the code does for a packet is the work that one thread is to do, from every state that a legal history leads to and that the
 -- store represents.
-use Rattle.std.specs.Prelude.{◌≡◌, ℕ, ◌<◌, Option, Some, List}
+use Rattle.std.specs.Prelude.{◌≡◌, ℕ, Some, List}
 use Rattle.npf_types.specs.declared.connection.Key.{Key}
 use Rattle.npf_types.specs.declared.connection.Way.{Way}
 use Rattle.npf_types.specs.declared.connection.Way.TheVariants.{Forward, Backward}
@@ -8,7 +8,7 @@ use Rattle.npf_core.specs.declared.conn_id.ConnId.{ConnId}
 use Rattle.npf_core.specs.declared.found.Found.{Found}
 use Rattle.npf_core.specs.declared.stage.Stage.TheVariants.{Building}
 use Rattle.npf_core.specs.History.{Legal, state_of}
-use Rattle.npf_core.specs.Machine.{stage_of, IsClaimed, Holds, HoldsNone}
+use Rattle.npf_core.specs.Machine.{stage_of, Holds, HoldsNone}
 use Rattle.npf_flow.specs.declared.flow.Flow.{Flow}
 use Rattle.npf_flow.specs.Flows.{flow_law}
 use Rattle.npf_packet.specs.Decoding.{Decodes}

@@ -1,6 +1,6 @@
 -- The grammar of npf.conf(5) as far as this project knows it: one default group of rules. Each line of the grammar is
 -- a relation between the tokens from a place on, what they say, and the tokens that follow.
-use Rattle.std.specs.Prelude.{◌≡◌, ℕ, ◌≤◌, Bool, true, false, IsTrue, Option, Some, None, List, [], ◌∷◌, length, map}
+use Rattle.std.specs.Prelude.{◌≡◌, ℕ, ◌≤◌, Bool, true, false, IsTrue, Some, None, List, [], ◌∷◌, length, map}
 use Rattle.std.specs.List.{list_all}
 use Rattle.npf_types.specs.declared.rule.Decision.{Decision}
 use Rattle.npf_types.specs.declared.rule.Decision.TheVariants as Decides

@@ -1,6 +1,6 @@
 -- The history of a run on one thread: what each packet in turn asks of the machine of connections, from the opening state on, each
 -- claim in the lowest slot that isn't claimed.
-use Rattle.std.specs.Prelude.{◌≡◌, ℕ, zero, suc, ◌+◌, Bool, true, false, if◌then◌else◌, Option, Some, None, List, [], ◌∷◌, ◌++◌, slice_get}
+use Rattle.std.specs.Prelude.{ℕ, zero, suc, ◌+◌, Bool, true, false, if◌then◌else◌, Option, Some, None, List, [], ◌∷◌, slice_get}
 use Rattle.npf_types.specs.declared.connection.Key.{Key}
 use Rattle.npf_types.specs.declared.connection.Way.{Way}
 use Rattle.npf_types.specs.declared.connection.Way.TheVariants.{Forward, Backward, Port}
@@ -28,7 +28,7 @@ use Rattle.npf_ctl.specs.declared.rule.StateOpt.TheVariants.{Not, OnInterface}
 use Rattle.npf_ctl.specs.Histories.{FlowMachine, History}
 use Rattle.npf_ctl.specs.Packets.{own_key, any_key, forward_of, backward_of, opening_of, arg_of, Arrival}
 use Rattle.npf_ctl.specs.Verdict.{verdict}
-use Rattle.npf_ctl.specs.Work.{Done, Work, finds, ◌>>=◌, look, claim, hold, step, start, abandon, unhold}
+use Rattle.npf_ctl.specs.Work.{Work, finds, ◌>>=◌, look, claim, hold, step, start, abandon, unhold}
 
 -- how many connections there can be at a time
 abbrev pub most_connections : ℕ

@@ -1,8 +1,7 @@
 -- What of a packet is asked of connections.
-use Rattle.std.specs.Prelude.{◌≡◌, ℕ, ◌+◌, false, Option, Some, None, List, [], ◌∷◌}
+use Rattle.std.specs.Prelude.{◌≡◌, ℕ, false, Option, Some, None, List, [], ◌∷◌}
 use Rattle.npf_types.specs.declared.connection.IfId.{IfId}
 use Rattle.npf_types.specs.declared.connection.Key.{Key}
-use Rattle.npf_types.specs.declared.packet.Facts.{Facts}
 use Rattle.npf_types.specs.declared.packet.L4.{L4}
 use Rattle.npf_types.specs.declared.packet.L4.TheVariants.{Tcp}
 use Rattle.npf_types.specs.declared.packet.Link.TheVariants.{Raw}

@@ -1,5 +1,5 @@
 -- What a phrase that the parser read says, apart from references and from the facts that a prefix keeps.
-use Rattle.std.specs.Prelude.{◌≡◌, ◌<◌, Option, List, [], ◌∷◌, IsTrue, length}
+use Rattle.std.specs.Prelude.{◌≡◌, ◌<◌, Option, List, [], ◌∷◌, length}
 use Rattle.std.specs.Option.{option_map}
 use Rattle.std.specs.Borrow.{Bor}
 use Rattle.npf_types.specs.declared.address.Prefix.{Prefix}

@@ -1,6 +1,5 @@
 -- What stands at the front of tokens, read with one token of sight, and the tokens behind it.
-use Rattle.std.specs.Prelude.{ℕ, nat_le, if◌then◌else◌, Bool, true, false, Option, Some, None, List, [], ◌∷◌}
-use Rattle.std.specs.Option.{option_map}
+use Rattle.std.specs.Prelude.{ℕ, nat_le, if◌then◌else◌, Bool, true, false, Option, Some, None, List, ◌∷◌}
 use Rattle.npf_types.specs.declared.rule.Decision.{Decision}
 use Rattle.npf_types.specs.declared.rule.Decision.TheVariants as Decides
 use Rattle.npf_types.specs.declared.rule.Return.TheVariants.{Nothing}

@@ -1,5 +1,5 @@
 -- What a reader answers of a text: its one reading, or that there is none.
-use Rattle.std.specs.Prelude.{◌≡◌, ℕ, List, Option, Some, None}
+use Rattle.std.specs.Prelude.{◌≡◌, Option, Some, None}
 
 pub record IsOnly {X Y : Type 0} (Rel : X → Y → Type 0) (x : X) (y : Y) : Type 0 where
   pub reads : Rel x y

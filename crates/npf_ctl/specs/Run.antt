@@ -1,6 +1,6 @@
 -- What a run of one configuration over one capture does, and the cause of each fault.
 use Rattle.std.specs.Prelude.{◌≡◌, ◌≢◌, ℕ, ◌≤◌, ◌⊎◌, List, [], Option, Some, None, length}
-use Rattle.npf_outside.specs.Counts.{Rose, StoodStill}
+use Rattle.npf_outside.specs.Counts.{Rose}
 use Rattle.npf_outside.specs.Put.{Appends, AppendsFront}
 use Rattle.npf_outside.specs.Tree.{Tree, IsLonger}
 use Rattle.npf_pcap.specs.declared.capture.Record.{Record}

@@ -9,7 +9,6 @@ use Rattle.npf_ctl.specs.declared.class.Class.TheVariants.{Blank, Backslash, Com
 use Rattle.npf_ctl.specs.declared.token.Token.{Token}
 use Rattle.npf_ctl.specs.declared.token.Token.TheVariants as Tok
 use Rattle.npf_ctl.specs.declared.token.Word.{Word}
-use Rattle.npf_ctl.specs.declared.token.Word.TheVariants as Word
 use Rattle.npf_ctl.specs.Classes.{class_of, is_run_byte}
 
 -- the items at the front that pass a test

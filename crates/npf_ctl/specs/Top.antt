@@ -7,7 +7,7 @@ use Rattle.npf_outside.specs.Tree.{Tree, IsLonger}
 use Rattle.npf_pcap.specs.declared.capture.Record.{Record}
 use Rattle.npf_pcap.specs.declared.fault.CaptureFault.{CaptureFault}
 use Rattle.npf_ctl.specs.declared.fault.Fault.{Fault}
-use Rattle.npf_ctl.specs.declared.fault.Fault.TheVariants.{Usage, Unread, Long, Unbuilt, BadCapture, Unwritten, NoMemory}
+use Rattle.npf_ctl.specs.declared.fault.Fault.TheVariants.{Usage, NoMemory}
 use Rattle.npf_ctl.specs.declared.fault.Input.{Input}
 use Rattle.npf_ctl.specs.declared.fault.Input.TheVariants.{Conf, Capture}
 use Rattle.npf_ctl.specs.Message.{message, status_of, file_of, most_bytes}

@@ -1,6 +1,6 @@
 -- What one thread asks of the machine of connections, one act after another. Each piece of work on a packet adds entries to the
 -- history, leaves a state, and finds something.
-use Rattle.std.specs.Prelude.{ℕ, List, [], ◌∷◌, ◌++◌, Option}
+use Rattle.std.specs.Prelude.{ℕ, [], ◌∷◌, ◌++◌, Option}
 use Rattle.npf_types.specs.declared.connection.Key.{Key}
 use Rattle.npf_types.specs.declared.connection.Way.{Way}
 use Rattle.npf_core.specs.declared.act.Act.TheVariants.{Claim, Look, Hold, Start, Step, Kill, Unhold}

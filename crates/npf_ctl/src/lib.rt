@@ -2,13 +2,14 @@
 // and the line of a fault.
 //
 // The language is npf.conf(5)'s, the command npfctl(8)'s, the captures are pcap-savefile(5)'s. Only one default group
-// of rules with `final`, `from` and `to` is built so far, over captures of raw packets.
+// of rules with `final`, `from` and `to`, and `stateful` for UDP, is built so far, over captures of raw packets.
 //
 // The contract is that of the top call. With status 0 the bytes put are the report of the configuration that the text
 // spells over the capture that the file spells: one line for each packet, by time, each outcome explained by the facts
-// of the packet's bytes and the meaning of the rules, and then the total. Any other status is that of the first fault
-// met, with its cause, and its line was put on the error sink. `input`, `engine` and `output` do the work of a run;
-// the text of a configuration is read by `lexer` and `parser`, and `report` and `messages` write text.
+// of the packet's bytes, the meaning of the rules and the legal history that the packets make of the machine of
+// connections, and then the total. Any other status is that of the first fault met, with its cause, and its line was put
+// on the error sink. `input`, `engine` with `connections`, and `output` do the work of a run; the text of a configuration
+// is read by `lexer` and `parser`, and `report` and `messages` write text.
 #![tactic(auto)]
 
 mod capture;

@@ -1,4 +1,4 @@
-use Rattle.std.proofs.Common.{◌≡◌, ℕ, Option, Some, None, map, subst, arith}
+use Rattle.std.proofs.Common.{map, subst, arith}
 use Rattle.std.specs.Option.{option_map}
 use Rattle.npf_ctl.specs.Grammar.{IsFile}
 use Rattle.npf_ctl.specs.Reading.{IsReading, IsOnly}

@@ -1,13 +1,8 @@
-use Rattle.std.proofs.Common.{◌≡◌, Some, None, length, sym, ◌∙◌, refl}
+use Rattle.std.proofs.Common.{length, sym, ◌∙◌, refl}
 use Rattle.std.proofs.lemmas.Option.{slice_get_read}
-use Rattle.npf_types.specs.declared.rule.Decision.TheVariants.{Block}
-use Rattle.npf_types.specs.declared.rule.Return.TheVariants.{Nothing}
-use Rattle.npf_ctl.specs.declared.outcome.Outcome.TheVariants.{ByRule}
-use Rattle.npf_ctl.specs.declared.outcome.Unkept.TheVariants.{Kept}
 use Rattle.npf_ctl.specs.Doing.{Does}
-use Rattle.npf_ctl.specs.OneLine.{ask_rules, rule_at, try_open}
-use Rattle.npf_ctl.specs.Verdict.{verdict}
-use Rattle.npf_ctl.proofs.Doing.{did_as, did_finds, if_ok, none_did, kept_did, alone_did}
+use Rattle.npf_ctl.specs.OneLine.{ask_rules, try_open}
+use Rattle.npf_ctl.proofs.Doing.{if_ok, none_did, kept_did, alone_did}
 use Rattle.npf_ctl.proofs.connections.ask_rules.Goals as goal
 
 pub returns-in_default : goal.returns-in_default

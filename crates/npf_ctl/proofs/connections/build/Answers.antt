@@ -1,4 +1,4 @@
-use Rattle.std.proofs.Common.{◌≡◌, Some, sym, subst, ◌∙◌}
+use Rattle.std.proofs.Common.{sym, subst, ◌∙◌}
 use Rattle.npf_types.specs.declared.connection.Way.TheVariants.{Forward}
 use Rattle.npf_core.specs.declared.act.Act.TheVariants.{Hold}
 use Rattle.npf_core.specs.declared.held.Held.{Held}

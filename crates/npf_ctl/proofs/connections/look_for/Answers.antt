@@ -1,7 +1,6 @@
 use Rattle.std.proofs.Common.{◌≡◌, Some, None, sym, ◌∙◌}
 use Rattle.npf_ctl.proofs.Doing.{did_finds, looked_did}
 use Rattle.npf_ctl.proofs.Walking.{reached_holders}
-use Rattle.npf_ctl.specs.Work.{finds}
 use Rattle.npf_ctl.proofs.connections.look_for.Goals as goal
 
 pub returns-in-Some : goal.returns-in-Some

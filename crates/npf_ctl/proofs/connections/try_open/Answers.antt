@@ -1,4 +1,4 @@
-use Rattle.std.proofs.Common.{◌≡◌, Some, None, sym, subst, refl}
+use Rattle.std.proofs.Common.{Some, None, sym, subst}
 use Rattle.npf_core.specs.declared.act.Act.TheVariants.{Claim}
 use Rattle.npf_core.specs.Replies.{claimed_id}
 use Rattle.npf_flow.specs.declared.flow.Flow.{Flow}
@@ -6,8 +6,8 @@ use Rattle.npf_flow.specs.Flows.{flow_law}
 use Rattle.npf_store.specs.Store.{AnswersClaim}
 use Rattle.npf_store.proofs.Representing.{claim_is_act, full_is_claimed, stays_same}
 use Rattle.npf_ctl.specs.declared.outcome.Unkept.TheVariants.{Full}
-use Rattle.npf_ctl.specs.Doing.{Did, Does, DoesFrom, IsFresh}
-use Rattle.npf_ctl.specs.OneLine.{build, build_in, lowest_from, most_connections, try_open, unkept}
+use Rattle.npf_ctl.specs.Doing.{Does, DoesFrom, IsFresh}
+use Rattle.npf_ctl.specs.OneLine.{build, most_connections, try_open, unkept}
 use Rattle.npf_ctl.specs.Work.{claim}
 use Rattle.npf_ctl.proofs.Doing.{claim_did, did_as, did_finds, did_then, if_ok, opened_did}
 use Rattle.npf_ctl.proofs.PacketWalks.{claim_fresh, lowest_none, lowest_one}

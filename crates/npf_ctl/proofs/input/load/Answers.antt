@@ -1,4 +1,3 @@
-use Rattle.std.proofs.Common.{◌≡◌, ap, subst, sym}
 use Rattle.npf_ctl.proofs.Told.{OfFile-Has}
 use Rattle.npf_ctl.specs.Run.{IsRefused}
 use Rattle.npf_ctl.proofs.input.load.Goals as goal

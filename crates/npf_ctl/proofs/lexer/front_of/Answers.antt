@@ -1,4 +1,4 @@
-use Rattle.std.proofs.Common.{◌≡◌, sym, ◌∙◌}
+use Rattle.std.proofs.Common.{◌≡◌, sym}
 use Rattle.npf_ctl.specs.Tokens.{behind, is_within_line}
 use Rattle.npf_ctl.proofs.TokenSteps.{step_blank, step_comment, step_sign, step_joined, refuse_unknown, refuse_backslash}
 use Rattle.npf_ctl.proofs.lexer.front_of.Goals as goal

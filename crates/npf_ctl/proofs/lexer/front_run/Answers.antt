@@ -1,8 +1,7 @@
-use Rattle.std.proofs.Common.{◌≡◌, drop, take, sym, subst, ap}
+use Rattle.std.proofs.Common.{◌≡◌}
 use Rattle.npf_ctl.specs.Classes.{is_run_byte}
-use Rattle.npf_ctl.specs.Reading.{IsReading, IsOnly}
-use Rattle.npf_ctl.specs.Tokens.{IsRunToken, front_of, behind}
-use Rattle.npf_ctl.proofs.TokenSteps.{Steps, step_run, refuse_run}
+use Rattle.npf_ctl.specs.Tokens.{front_of, behind}
+use Rattle.npf_ctl.proofs.TokenSteps.{step_run, refuse_run}
 use Rattle.npf_ctl.proofs.lexer.front_run.Goals as goal
 
 pub returns-in-Some : goal.returns-in-Some
