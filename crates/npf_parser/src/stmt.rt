@@ -1,5 +1,5 @@
 // Statements and files: a function for each line of the grammar.
-ghost use Rattle.std.specs.Prelude.{◌≡◌, codes, IfOk, Err};
+ghost use Rattle.std.specs.Prelude.{◌≡◌, codes, IfOk};
 ghost use Rattle.npf_types.specs.declared.place.Span.{Span};
 ghost use Rattle.npf_lexer.specs.declared.fault.Fault.TheVariants.{Expected};
 ghost use Rattle.npf_syntax.specs.declared.stmt.Tree.{Tree};
@@ -260,7 +260,6 @@ pub fn parse(alloc: Global, tokens: &[Token]) -> Result<Tree, Refused>
     ensures tree { IfOk result (λ tree. Parses tokens.now tree) }
     ensures refused { OnFault result (λ fault. ¬ HasTree tokens.now) }
     ensures fault { OnFault result (λ fault. fault.fault ≡ Expected) }
-    ensures place { OnFault result (λ fault. tree_of tokens.now ≡ Err fault.span) }
     ensures stops { OnFault result (λ fault. StopsAt tokens.now fault.span) }
     ensures halts { OnFault result (λ fault. HaltsAt tokens.now fault.span) }
     ensures complete { (tree : Tree) → Parses tokens.now tree → AnswersUnlessMemory tree result }

@@ -2,22 +2,22 @@ use crate::value::{One, OneList, Value, ValueList, Values};
 use crate::word::{Number, Word};
 use npf_types::Span;
 
-/// `"inet4" | "inet6"`: an address family.
+/// An address family, by its word.
 #[derive(Clone, Copy, Debug, PartialEq, Eq)]
 pub enum Family {
     Inet4 { span: Span },
     Inet6 { span: Span },
 }
 
-/// `one | list`: the protocols of a filter.
+/// The protocols of a filter: one, or a list in braces.
 #[derive(Debug, Drop)]
 pub enum Protocols {
     One { one: One, span: Span },
     List { list: OneList, span: Span },
 }
 
-/// `"flags" WORD [ "/" WORD ] | "icmp-type" NUMBER [ "code" NUMBER ]`: flags are letters of `FSRPAUEW`, types and codes at
-/// most 255.
+/// What more a filter says of its protocols: TCP's flags, and those among which they are looked for, by letters of
+/// `FSRPAUEW`; or ICMP's type, and its code, each at most 255.
 #[derive(Debug, Drop)]
 pub enum Detail {
     Flags {
@@ -32,7 +32,7 @@ pub enum Detail {
     },
 }
 
-/// `"proto" ( one | list ) [ detail ]`.
+/// The protocols of a filter behind their word, with what more is said of them.
 #[derive(Debug, Drop)]
 pub struct ProtoPart {
     pub protocols: Protocols,
@@ -40,7 +40,7 @@ pub struct ProtoPart {
     pub span: Span,
 }
 
-/// `"any" | value | vlist`: the addresses of an end. A written value is an address, a table, a variable or a function.
+/// The addresses of an end: any, one value, or a list of values. A written value is an address, a table, a variable or a function.
 #[derive(Debug, Drop)]
 pub enum Addresses {
     Any { span: Span },
@@ -48,8 +48,8 @@ pub enum Addresses {
     List { list: ValueList, span: Span },
 }
 
-/// `ends = addresses [ "port" ( value | vlist ) ] | "port" ( value | vlist )`. A written port is a number up to 65535, a
-/// range of such, a word or a variable.
+/// An end of a connection: addresses, and the ports behind them if they are said, or ports alone. A written port is a
+/// number up to 65535, a range of such, a word or a variable.
 #[derive(Debug, Drop)]
 pub enum Ends {
     Addresses {
@@ -63,7 +63,7 @@ pub enum Ends {
     },
 }
 
-/// `"all" | "from" ends [ "to" ends ] | "to" ends`.
+/// Where packets come from and go to: anywhere, from an end and to another if it is said, or to an end alone.
 #[derive(Debug, Drop)]
 pub enum Where {
     All {
@@ -80,7 +80,7 @@ pub enum Where {
     },
 }
 
-/// `filter = [ "family" family ] [ "proto" .. ] ( "all" | "from" .. | "to" .. )`.
+/// Which packets a rule or a map is about: their family and protocols, where these are said, and their ends.
 #[derive(Debug, Drop)]
 pub struct Filter {
     pub family: Option<Family>,

@@ -3,7 +3,8 @@ use crate::value::Iface;
 use crate::word::Str;
 use npf_types::Span;
 
-/// `STRING [ dir ] [ "on" iface ] | "default"`.
+/// What stands before a group's brace: its name, with a direction and an interface if they are said; or that it is the
+/// default group.
 #[derive(Debug, Drop)]
 pub enum GroupHead {
     Named {
@@ -17,7 +18,7 @@ pub enum GroupHead {
     },
 }
 
-/// `item = rule | "ruleset" STRING [ dir ] [ "on" iface ]`. A ruleset's name is a `Name`.
+/// An item of a group: a rule, or the place of dynamic rules, whose name is a `Name`.
 #[derive(Debug, Drop)]
 pub enum Item {
     Rule {

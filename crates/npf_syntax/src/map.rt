@@ -2,14 +2,14 @@ use crate::value::Value;
 use crate::word::Word;
 use npf_types::Span;
 
-/// `"dynamic" | "static" [ "algo" WORD ]`.
+/// How a map translates: by ports that are drawn, or by a fixed rule, which may be named.
 #[derive(Debug, Drop)]
 pub enum MapKind {
     Dynamic { span: Span },
     Static { algo: Option<Word>, span: Span },
 }
 
-/// `"->" | "<-" | "<->"`.
+/// Which way a map translates: outward, inward, or both.
 #[derive(Clone, Copy, Debug, PartialEq, Eq)]
 pub enum Arrow {
     Right { span: Span },
@@ -17,7 +17,7 @@ pub enum Arrow {
     Both { span: Span },
 }
 
-/// `side = value [ "port" value ]`: one side of a map. A written value is an address, a table, a variable or a function; a
+/// One side of a map: an address, and a port if it is said. A written value is an address, a table, a variable or a function; a
 /// written port is a number up to 65535, a range of such, a word or a variable.
 #[derive(Debug, Drop)]
 pub struct Side {

@@ -1,15 +1,15 @@
 use crate::word::{Number, Str, Word};
 use npf_types::{List, Span};
 
-/// `WORD | STRING`: the interface to which packets are logged, a `Name`.
+/// The interface to which packets are logged, a `Name`, as a word or as a string.
 #[derive(Debug, Drop)]
 pub enum LogName {
     Word { word: Word, span: Span },
     Str { string: Str, span: Span },
 }
 
-/// `opt = "min-ttl" NUMBER | "max-mss" NUMBER | "no-df"`, the names written as strings. A time to live is at most 255, a
-/// segment size at most 65535.
+/// An option of normalisation, by its name as a string: the least time to live, at most 255; the greatest segment size, at
+/// most 65535; or that packets may be fragmented.
 #[derive(Clone, Copy, Debug, PartialEq, Eq)]
 pub enum Opt {
     MinTtl { number: Number, span: Span },
@@ -17,7 +17,7 @@ pub enum Opt {
     NoDf { span: Span },
 }
 
-/// `call = "log" ":" log | "normalize" ":" opt { "," opt }*`.
+/// What a procedure does to a packet: it logs it, or normalises it by one option or more.
 #[derive(Debug, Drop)]
 pub enum Call {
     Log { name: LogName, span: Span },

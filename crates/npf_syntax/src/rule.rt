@@ -3,14 +3,14 @@ use crate::value::Iface;
 use crate::word::Str;
 use npf_types::Span;
 
-/// `dir = "in" | "out"`.
+/// A direction, by its word.
 #[derive(Clone, Copy, Debug, PartialEq, Eq)]
 pub enum Direction {
     In { span: Span },
     Out { span: Span },
 }
 
-/// `"return" | "return-rst" | "return-icmp"`: what a block rule answers to the sender.
+/// What a rule that blocks answers to the sender.
 #[derive(Clone, Copy, Debug, PartialEq, Eq)]
 pub enum Answer {
     Return { span: Span },
@@ -18,21 +18,22 @@ pub enum Answer {
     ReturnIcmp { span: Span },
 }
 
-/// `"block" [ answer ] | "pass"`.
+/// Whether a rule blocks, and with which answer if any, or passes.
 #[derive(Clone, Copy, Debug, PartialEq, Eq)]
 pub enum RuleAction {
     Block { answer: Option<Answer>, span: Span },
     Pass { span: Span },
 }
 
-/// `"stateful" | "stateful-all"`.
+/// Of which packets a rule keeps state: those of its interface, or all.
 #[derive(Clone, Copy, Debug, PartialEq, Eq)]
 pub enum Stateful {
     Stateful { span: Span },
     StatefulAll { span: Span },
 }
 
-/// `rule = action [ stateful ] [ dir ] [ "final" ] [ "on" iface ] filter [ "apply" STRING ]`.
+/// A rule: what it does, whether it keeps state, its direction and interface if they are said, its filter, and the
+/// procedure that it applies if it names one.
 #[derive(Debug, Drop)]
 pub struct RuleTree {
     pub action: RuleAction,

@@ -6,14 +6,14 @@ use crate::value::{Iface, One, Values};
 use crate::word::{Number, Str, Var, Word};
 use npf_types::{List, Span};
 
-/// `WORD | NUMBER`: what a parameter is set to.
+/// What a parameter is set to.
 #[derive(Debug, Drop)]
 pub enum Setting {
     Word { word: Word, span: Span },
     Number { number: Number, span: Span },
 }
 
-/// `"ipset" | "lpm" | "const"`.
+/// The type of a table.
 #[derive(Clone, Copy, Debug, PartialEq, Eq)]
 pub enum TableType {
     IpSet { span: Span },

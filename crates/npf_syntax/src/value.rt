@@ -1,7 +1,7 @@
 use crate::word::{Address, Number, Str, Var, Word};
 use npf_types::{List, Span};
 
-/// `iface = WORD | STRING | VAR`: an interface, a `Name` where it is written.
+/// An interface: a word or a string, which is a `Name`, or a variable.
 #[derive(Debug, Drop)]
 pub enum Iface {
     Word { word: Word, span: Span },
@@ -9,7 +9,7 @@ pub enum Iface {
     Var { var: Var, span: Span },
 }
 
-/// `one = WORD | NUMBER | VAR`: a protocol, at most 255 where it is a number.
+/// A protocol: a word, a number of at most 255, or a variable.
 #[derive(Debug, Drop)]
 pub enum One {
     Word { word: Word, span: Span },
@@ -17,14 +17,14 @@ pub enum One {
     Var { var: Var, span: Span },
 }
 
-/// `list = "{" one { "," one }* "}"`.
+/// Protocols in braces, one at least.
 #[derive(Debug, Drop)]
 pub struct OneList {
     pub ones: List<One>,
     pub span: Span,
 }
 
-/// `"inet4" | "inet6" | "ifaddrs"`: which of an interface's addresses a function stands for.
+/// Which of an interface's addresses a function stands for: those of IPv4, those of IPv6, or all.
 #[derive(Clone, Copy, Debug, PartialEq, Eq)]
 pub enum Function {
     Inet4 { span: Span },
@@ -69,14 +69,14 @@ pub enum Value {
     },
 }
 
-/// `vlist = "{" [ value { "," value }* ] "}"`.
+/// Values in braces; there may be none.
 #[derive(Debug, Drop)]
 pub struct ValueList {
     pub values: List<Value>,
     pub span: Span,
 }
 
-/// `value | vlist`.
+/// One value, or a list of values.
 #[derive(Debug, Drop)]
 pub enum Values {
     One { value: Value, span: Span },
