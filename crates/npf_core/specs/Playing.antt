@@ -1,10 +1,13 @@
 -- What a machine does that is asked for an act: where the act is allowed it answers and goes on, and else nothing changes.
 use Rattle.std.specs.Prelude.{◌≡◌, ℕ, Option, Some, None}
+use Rattle.npf_types.specs.declared.connection.Key.{Key}
+use Rattle.npf_types.specs.declared.connection.Way.{Way}
 use Rattle.npf_core.specs.declared.act.Act.{Act}
 use Rattle.npf_core.specs.declared.act.Act.TheVariants.{Claim, Look, Hold, Start, Step, Kill, Unhold, Free}
+use Rattle.npf_core.specs.declared.conn_id.ConnId.{ConnId}
 use Rattle.npf_core.specs.declared.plain_machine.PlainMachine.{PlainMachine}
 use Rattle.npf_core.specs.declared.reply.Reply.{Reply}
-use Rattle.npf_core.specs.Allowed.{Allows}
+use Rattle.npf_core.specs.Allowed.{Allows, MayHold}
 use Rattle.npf_core.specs.Machine.{Machine}
 use Rattle.npf_core.specs.Meaning.{Meaning}
 use Rattle.npf_core.specs.NextState.{after_act}
@@ -31,13 +34,18 @@ Plays m slots k seat act (Some reply) next = IsPlayed m slots k seat act reply n
 abbrev pub PlaysOn : {S A R : Type 0} → Meaning S A R → PlainMachine S → ℕ → Act S A → Option (Reply R) → PlainMachine S → Type 0
 PlaysOn m machine seat act reply next = Plays m (slots_in machine) (state_in machine) seat act reply (state_in next)
 
--- only a Hold keeps something that wasn't there
-abbrev pub WantsMemory : {S A : Type 0} → Act S A → Type 0
-WantsMemory (Claim packet slot) = ⊥
-WantsMemory (Look packet key) = ⊥
-WantsMemory (Hold id key way) = Unit {0}
-WantsMemory (Start id packet init) = ⊥
-WantsMemory (Step packet id way arg) = ⊥
-WantsMemory (Kill id why) = ⊥
-WantsMemory (Unhold id way) = ⊥
-WantsMemory (Free id) = ⊥
+-- the Hold is allowed, and its key has no holder: it gives the key
+pub record MayGive {S : Type 0} (k : Machine S) (seat : ℕ) (id : ConnId) (key : Key) (way : Way) : Type 0 where
+  pub may : MayHold k seat id way
+  pub unheld : k.holder key ≡ None
+
+-- only a Hold that gives its key keeps something that wasn't there
+abbrev pub WantsMemory : {S A : Type 0} → Machine S → ℕ → Act S A → Type 0
+WantsMemory k seat (Claim packet slot) = ⊥
+WantsMemory k seat (Look packet key) = ⊥
+WantsMemory k seat (Hold id key way) = MayGive k seat id key way
+WantsMemory k seat (Start id packet init) = ⊥
+WantsMemory k seat (Step packet id way arg) = ⊥
+WantsMemory k seat (Kill id why) = ⊥
+WantsMemory k seat (Unhold id way) = ⊥
+WantsMemory k seat (Free id) = ⊥

@@ -2,7 +2,7 @@ ghost use Rattle.std.specs.Prelude.{◌≡◌, ℕ, ◌↔◌, IsTrue, IfOk, OnE
 ghost use Rattle.npf_core.specs.Allowed.{IsDue};
 ghost use Rattle.npf_core.specs.Machine.{stage_of};
 ghost use Rattle.npf_core.specs.PlainMachine.{state_in, slots_in};
-ghost use Rattle.npf_core.specs.Playing.{PlaysOn, WantsMemory};
+ghost use Rattle.npf_core.specs.Playing.{PlaysOn, MayGive, WantsMemory};
 
 use crate::act::{Act, Why};
 use crate::conn_id::ConnId;
@@ -16,7 +16,7 @@ use crate::stepped::Stepped;
 use npf_types::{Key, NoMemory, Way};
 
 /// Asks the machine for an act under a seat. Some reply where the act is allowed, and None, with nothing changed, where it
-/// isn't. Only a Hold may want memory, and then nothing changes.
+/// isn't. Only a Hold that gives its key may want memory, and then nothing changes.
 pub fn play<L: Law>(
     machine: &mut PlainMachine<L::State>,
     seat: u64,
@@ -24,7 +24,7 @@ pub fn play<L: Law>(
 ) -> Result<Option<Reply<L::Reply>>, NoMemory>
     ensures plays { IfOk result (λ reply. PlaysOn L.meaning machine.old seat act.now reply machine.new) }
     ensures same { OnErr result (state_in machine.new ≡ state_in machine.old) }
-    ensures memory { OnErr result (WantsMemory act.now) }
+    ensures memory { OnErr result (WantsMemory (state_in machine.old) seat act.now) }
     ensures slots { slots_in machine.new ≡ slots_in machine.old }
 {
     Ok(match *act {
@@ -69,6 +69,7 @@ fn hold<L: Law>(
 ) -> Result<Option<Reply<L::Reply>>, NoMemory>
     ensures plays { IfOk result (λ reply. PlaysOn L.meaning machine.old seat (Act.Hold id key way) reply machine.new) }
     ensures same { OnErr result (state_in machine.new ≡ state_in machine.old) }
+    ensures memory { OnErr result (MayGive (state_in machine.old) seat id key way) }
     ensures slots { slots_in machine.new ≡ slots_in machine.old }
 {
     let found = Found { id, way };
