@@ -1,5 +1,5 @@
 use Rattle.std.specs.Prelude.{ℕ, None, if◌then◌else◌}
-use Rattle.npf_types.specs.declared.packet.Segment.{Segment}
+use Rattle.npf_types.specs.declared.facts.Segment.{Segment}
 use Rattle.npf_tcp.specs.declared.class.Class.{Class}
 use Rattle.npf_tcp.specs.declared.class.Class.TheVariants.{Rst, Syn, SynAck, Ack, Fin, Invalid}
 use Rattle.npf_tcp.specs.declared.state.Known.TheVariants.{Nothing, Expected, Seen}
