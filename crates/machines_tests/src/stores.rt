@@ -1,5 +1,5 @@
 ghost use Rattle.std.specs.Prelude.{◌≡◌, ◌||◌, ◌-◌, nat_le, IfOk};
-ghost use Rattle.npf_types.specs.declared.connection.Way.TheVariants.{Backward};
+ghost use Rattle.npf_types.specs.declared.key.Way.TheVariants.{Backward};
 ghost use Rattle.npf_core.specs.NextState.{is_way};
 ghost use Rattle.npf_store.specs.Store.{phase_of};
 ghost use Rattle.npf_store.specs.declared.phase.Phase.{Phase};

@@ -2,7 +2,7 @@
 use Rattle.std.proofs.Common.{◌≡◌, ℕ, ◌+◌, ◌-◌, ◌^◌, ◌<◌, min, Bool, true, false, ◌&&◌, ◌==◌, cond, None, IsTrue, refl, ap, sym, ◌∙◌, arith}
 use Rattle.std.specs.Prelude.{nat_lt, if◌then◌else◌}
 use Rattle.std.proofs.lemmas.Bool.Decides.{nat_tests, Decides-eqb, Decides-ltb, not_from_Decides}
-use Rattle.npf_types.specs.declared.connection.Way.{Way}
+use Rattle.npf_types.specs.declared.key.Way.{Way}
 use Rattle.npf_core.specs.declared.act.Act.{Act}
 use Rattle.npf_core.specs.declared.act.Act.TheVariants.{Claim, Look, Hold, Start, Step, Kill, Unhold, Free}
 use Rattle.npf_core.specs.declared.act.Why.TheVariants.{Abandoned, Expired}

@@ -2,7 +2,7 @@
 use Rattle.std.proofs.Common.{◌≡◌, ℕ, ◌+◌, ◌-◌, ◌^◌, min, true, List, [], ◌∷◌, ◌++◌, length, Option, Some, None, refl, sym, ◌∙◌, arith, length-append, append-nil}
 use Rattle.std.specs.List.{filter_map}
 use Rattle.std.proofs.lemmas.List.Elements.{filter_map-append}
-use Rattle.npf_types.specs.declared.connection.Way.{Way}
+use Rattle.npf_types.specs.declared.key.Way.{Way}
 use Rattle.npf_core.specs.declared.act.Act.{Act}
 use Rattle.npf_core.specs.declared.act.Act.TheVariants.{Start, Step}
 use Rattle.npf_core.specs.declared.conn_id.ConnId.{ConnId}

@@ -1,6 +1,6 @@
 -- The state that a plain machine is in.
 use Rattle.std.specs.Prelude.{◌≡◌, ℕ, ◌<◌, ◌-◌, ◌^◌, ◌==◌, length, if◌then◌else◌}
-use Rattle.npf_types.specs.declared.connection.Key.{Key}
+use Rattle.npf_types.specs.declared.key.Key.{Key}
 use Rattle.npf_core.specs.declared.conn_id.ConnId.{ConnId}
 use Rattle.npf_core.specs.declared.found.Found.{Found}
 use Rattle.npf_core.specs.declared.plain_machine.PlainMachine.{PlainMachine}

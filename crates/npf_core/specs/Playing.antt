@@ -1,7 +1,7 @@
 -- What a machine does that is asked for an act: where the act is allowed it answers and goes on, and else nothing changes.
 use Rattle.std.specs.Prelude.{◌≡◌, ℕ, Option, Some, None}
-use Rattle.npf_types.specs.declared.connection.Key.{Key}
-use Rattle.npf_types.specs.declared.connection.Way.{Way}
+use Rattle.npf_types.specs.declared.key.Key.{Key}
+use Rattle.npf_types.specs.declared.key.Way.{Way}
 use Rattle.npf_core.specs.declared.act.Act.{Act}
 use Rattle.npf_core.specs.declared.act.Act.TheVariants.{Claim, Look, Hold, Start, Step, Kill, Unhold, Free}
 use Rattle.npf_core.specs.declared.conn_id.ConnId.{ConnId}

@@ -1,9 +1,9 @@
 -- What the calls of a store do is the work that one thread is to do.
 use Rattle.std.proofs.Common.{◌≡◌, ℕ, true, false, Option, Some, None, List, slice_get, Result, Ok, Err, IfOk, refl, sym, ap, subst, ◌∙◌}
-use Rattle.npf_types.specs.declared.connection.Key.{Key}
-use Rattle.npf_types.specs.declared.connection.Way.{Way}
-use Rattle.npf_types.specs.declared.rule.Decision.TheVariants.{Pass, Block}
-use Rattle.npf_types.specs.declared.rule.Return.TheVariants.{Nothing}
+use Rattle.npf_types.specs.declared.key.Key.{Key}
+use Rattle.npf_types.specs.declared.key.Way.{Way}
+use Rattle.npf_types.specs.declared.decision.Decision.TheVariants.{Pass, Block}
+use Rattle.npf_types.specs.declared.decision.Return.TheVariants.{Nothing}
 use Rattle.npf_core.specs.declared.act.Why.TheVariants.{Abandoned}
 use Rattle.npf_core.specs.declared.conn_id.ConnId.{ConnId}
 use Rattle.npf_core.specs.declared.found.Found.{Found}

@@ -1,9 +1,9 @@
 -- What one thread asks for a packet is legal.
 use Rattle.std.proofs.Common.{◌≡◌, ◌⊎◌, inl, inr, nat_lt, ℕ, zero, suc, ◌+◌, ◌<◌, ◌≤◌, ◌==◌, Bool, true, false, cond, Option, Some, None, List, [], ◌∷◌, refl, sym, ap, subst, ◌∙◌, arith}
 use Rattle.std.proofs.lemmas.Bool.Decides.{nat_tests, Decides-eqb}
-use Rattle.npf_types.specs.declared.connection.Key.{Key}
-use Rattle.npf_types.specs.declared.connection.Way.{Way}
-use Rattle.npf_types.specs.declared.connection.Way.TheVariants.{Forward, Backward}
+use Rattle.npf_types.specs.declared.key.Key.{Key}
+use Rattle.npf_types.specs.declared.key.Way.{Way}
+use Rattle.npf_types.specs.declared.key.Way.TheVariants.{Forward, Backward}
 use Rattle.npf_core.specs.declared.act.Act.TheVariants.{Claim, Look, Hold, Start, Step, Kill, Unhold}
 use Rattle.npf_core.specs.declared.act.Why.TheVariants.{Abandoned}
 use Rattle.npf_core.specs.declared.conn_id.ConnId.{ConnId}
@@ -21,8 +21,8 @@ use Rattle.npf_core.proofs.LifeLemmas.{IsClaimed-last, IsClaimed-is}
 use Rattle.npf_flow.specs.Flows.{flow_law}
 use Rattle.npf_packet.specs.declared.decoded.Decoded.{Decoded}
 use Rattle.npf_packet.specs.declared.decoded.Decoded.TheVariants as Says
-use Rattle.npf_types.specs.declared.rule.Decision.TheVariants.{Pass, Block}
-use Rattle.npf_types.specs.declared.rule.Return.TheVariants.{Nothing}
+use Rattle.npf_types.specs.declared.decision.Decision.TheVariants.{Pass, Block}
+use Rattle.npf_types.specs.declared.decision.Return.TheVariants.{Nothing}
 use Rattle.npf_ctl.specs.declared.outcome.Outcome.{Outcome}
 use Rattle.npf_ctl.specs.declared.outcome.Outcome.TheVariants.{Skip, Malformed, ByRule}
 use Rattle.npf_ctl.specs.declared.outcome.Unkept.TheVariants.{Kept, Full, NoNode, Taken}

@@ -1,6 +1,6 @@
 -- Packets that were taken one after another: what they did, and one more.
 use Rattle.std.proofs.Common.{◌≡◌, ℕ, suc, ◌+◌, List, [], ◌∷◌, ◌++◌, length, refl, sym, ap, subst, ◌∙◌, arith}
-use Rattle.npf_types.specs.declared.packet.Link.TheVariants.{Raw}
+use Rattle.npf_types.specs.declared.link.Link.TheVariants.{Raw}
 use Rattle.npf_core.specs.Machine.{opening}
 use Rattle.npf_flow.specs.declared.flow.Flow.{Flow}
 use Rattle.npf_packet.specs.Decoding.{Decodes}

@@ -1,7 +1,7 @@
 use Rattle.std.proofs.Common.{◌≡◌, ◌∙◌, ℕ, Bool, true, false, ◌||◌, [], ◌∷◌, refl, ap, max, arith}
-use Rattle.npf_types.specs.declared.connection.Way.TheVariants.{Forward, Backward, Port}
-use Rattle.npf_types.specs.declared.rule.Action.{Action}
-use Rattle.npf_types.specs.declared.rule.Change.{Change}
+use Rattle.npf_types.specs.declared.key.Way.TheVariants.{Forward, Backward, Port}
+use Rattle.npf_types.specs.declared.action.Action.{Action}
+use Rattle.npf_types.specs.declared.change.Change.{Change}
 use Rattle.npf_flow.specs.declared.flow.Flow.{Flow}
 use Rattle.npf_flow.specs.declared.flow.FlowKind.{FlowKind}
 use Rattle.npf_flow.specs.declared.flow.FlowKind.TheVariants.{Other}

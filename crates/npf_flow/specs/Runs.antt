@@ -1,7 +1,7 @@
 -- A flow over many packets, the oldest first.
 use Rattle.std.specs.Prelude.{ℕ, max, Bool, true, false, ◌||◌, List, [], ◌∷◌}
-use Rattle.npf_types.specs.declared.connection.Way.{Way}
-use Rattle.npf_types.specs.declared.connection.Way.TheVariants.{Forward, Backward, Port}
+use Rattle.npf_types.specs.declared.key.Way.{Way}
+use Rattle.npf_types.specs.declared.key.Way.TheVariants.{Forward, Backward, Port}
 use Rattle.npf_flow.specs.declared.flow.Flow.{Flow}
 use Rattle.npf_flow.specs.declared.step.FlowArg.{FlowArg}
 use Rattle.npf_flow.specs.Flows.{next_flow}

@@ -1,8 +1,8 @@
 -- The ports of a packet, by what it carries: TCP and UDP have theirs (RFC 9293 section 3.1, RFC 768), an echo message has its
 -- identifier on both sides (RFC 792, RFC 4443 section 4), and all else has 0.
 use Rattle.std.specs.Prelude.{ℕ, Option, Some, None}
-use Rattle.npf_types.specs.declared.packet.L4.{L4}
-use Rattle.npf_types.specs.declared.packet.L4.TheVariants.{Tcp, Udp, Icmp, Icmp6, Other}
+use Rattle.npf_types.specs.declared.facts.L4.{L4}
+use Rattle.npf_types.specs.declared.facts.L4.TheVariants.{Tcp, Udp, Icmp, Icmp6, Other}
 
 -- an echo's identifier, where the message is one
 abbrev pub echo_port : Option ℕ → ℕ

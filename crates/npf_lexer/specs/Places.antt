@@ -1,6 +1,6 @@
 -- Where the bytes of a text stand: lines and columns count from 1, a column is a byte.
 use Rattle.std.specs.Prelude.{ℕ, ◌+◌, ◌≤◌}
-use Rattle.npf_types.specs.declared.place.Span.{Span}
+use Rattle.npf_types.specs.declared.span.Span.{Span}
 use Rattle.npf_lexer.specs.declared.place.Place.{Place}
 
 -- the place of the first byte

@@ -1,8 +1,8 @@
 -- The calls of a store are the acts of the machine: where the store represents a state, it is answered as the machine is, and
 -- represents the state that the act leaves.
 use Rattle.std.specs.Prelude.{◌≡◌, ℕ, ◌<◌}
-use Rattle.npf_types.specs.declared.connection.Key.{Key}
-use Rattle.npf_types.specs.declared.connection.Way.{Way}
+use Rattle.npf_types.specs.declared.key.Key.{Key}
+use Rattle.npf_types.specs.declared.key.Way.{Way}
 use Rattle.npf_core.specs.declared.act.Act.TheVariants.{Claim, Look, Hold, Start, Step, Kill, Unhold}
 use Rattle.npf_core.specs.declared.act.Why.{Why}
 use Rattle.npf_core.specs.declared.conn_id.ConnId.{ConnId}

@@ -1,23 +1,14 @@
--- A text is one address at most, and one entry at most.
+-- A text is one entry at most.
 use Rattle.std.proofs.Common.{◌≡◌, ◌↔◌, ◌≤◌, ◌-◌, ◌*◌, ◌/◌, ◌^◌, ℕ, List, Option, Some, None, IsSome, IfSome, refl, sym, ap, subst, ◌∙◌, arith, true≢false, length}
 use Rattle.std.proofs.Math.Nat.{div-one, mul-one}
-use Rattle.std.specs.declared.net.ip_addr.IpAddr.{IpAddr}
-use Rattle.std.specs.Net.Grammar.{IsIpText}
-use Rattle.std.proofs.NetLemmas.Theorems.{IsIpText_unique}
 use Rattle.npf_types.specs.declared.address.Addr.{Addr}
 use Rattle.npf_types.specs.declared.address.Addr.TheVariants.{V4, V6}
-use Rattle.npf_types.specs.declared.address.Prefix.{Prefix}
+use Rattle.npf_types.specs.declared.prefix.Prefix.{Prefix}
 use Rattle.npf_types.specs.Address.{width, cleared}
-use Rattle.npf_lpm.proofs.PrefixLemmas.{Prefix-same}
-use Rattle.npf_table.specs.AddressText.{addr_of, IsAddressText}
+use Rattle.npf_types.proofs.PrefixLemmas.{Prefix-same}
+use Rattle.npf_types.specs.AddressText.{IsAddressText}
 use Rattle.npf_table.specs.PrefixText.{IsHostText, IsBlockText, IsLengthText, IsByteLengthText}
-use Rattle.npf_table.specs.Reading.{IsOnly, IsReading}
-
-pub address_only : (text : List ℕ) (ip : IpAddr) (addr : Addr) → IsIpText text ip → addr ≡ addr_of ip → IsOnly IsAddressText text addr
-address_only text ip addr spelled value = record {
-  reads = record { ip = ip; spelled = spelled; value = sym value };
-  only = λ other h. sym h.value ∙ ap addr_of (IsIpText_unique text h.ip ip h.spelled spelled) ∙ sym value;
-}
+use Rattle.npf_types.specs.Reading.{IsOnly, IsReading}
 
 -- the whole width clears nothing
 kept_whole : (bits a : ℕ) → a / 2 ^ (bits - bits) * 2 ^ (bits - bits) ≡ a

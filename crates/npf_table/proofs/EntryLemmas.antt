@@ -5,13 +5,13 @@ use Rattle.std.proofs.lemmas.Option.{slice_get_read, get_or_from_slice_get}
 use Rattle.std.proofs.lemmas.List.Elements.{Contains-push, Contains-append_left, Contains-push_cases}
 use Rattle.std.proofs.Math.Seq.{take-suc}
 use Rattle.npf_model.specs.declared.table.Kind.{Kind}
-use Rattle.npf_types.specs.declared.address.Prefix.{Prefix}
-use Rattle.npf_lpm.specs.Prefixes.{Gains}
-use Rattle.npf_lpm.proofs.PrefixLemmas.{same_prefix, same_prefix_tells}
+use Rattle.npf_types.specs.declared.prefix.Prefix.{Prefix}
+use Rattle.npf_lpm.specs.Lpm.{Gains}
+use Rattle.npf_types.proofs.PrefixLemmas.{same_prefix, same_prefix_tells}
 use Rattle.npf_lpm.proofs.MemberLemmas.{same_prefix_decides}
 use Rattle.std.proofs.lemmas.Bool.{cases_Bool}
 use Rattle.npf_table.specs.Line.{IsBlankLine, IsEntry, IsBad}
-use Rattle.npf_table.specs.Reading.{IsOnly}
+use Rattle.npf_types.specs.Reading.{IsOnly}
 use Rattle.npf_table.specs.TableFile.{Writes, AreEntries, IsFirstBad}
 
 -- no line, no entry

@@ -2,7 +2,7 @@
 use Rattle.std.specs.Prelude.{◌≡◌, ◌≢◌, ℕ, List, Contains}
 use Rattle.npf_model.specs.declared.table.Kind.{Kind}
 use Rattle.npf_model.specs.declared.table.Kind.TheVariants.{Ipset, Const}
-use Rattle.npf_types.specs.declared.address.Prefix.{Prefix}
+use Rattle.npf_types.specs.declared.prefix.Prefix.{Prefix}
 use Rattle.npf_table.specs.declared.fault.TableFault.{TableFault}
 use Rattle.npf_table.specs.declared.fault.TableFault.TheVariants.{Present, Absent, ReadOnly, WrongKind, BadLine, NoMemory}
 use Rattle.npf_table.specs.declared.table.Table.{Table}

@@ -2,7 +2,7 @@
 use Rattle.std.specs.Prelude.{◌≡◌, ◌==◌, ◌+◌, ◌<◌, ◌↔◌, ℕ, Bool, List, Some, Contains, slice_get}
 use Rattle.std.specs.List.{slice_split}
 use Rattle.npf_model.specs.declared.table.Kind.{Kind}
-use Rattle.npf_types.specs.declared.address.Prefix.{Prefix}
+use Rattle.npf_types.specs.declared.prefix.Prefix.{Prefix}
 use Rattle.npf_table.specs.Line.{IsEntry, IsBad}
 
 abbrev pub is_line_feed : ℕ → Bool

@@ -1,5 +1,5 @@
 use Rattle.std.proofs.Common.{◌≡◌, ◌≤◌, ℕ, Bool, true, false, if◌then◌else◌, Option, None, refl, sym, arith}
-use Rattle.npf_types.specs.declared.packet.Segment.{Segment}
+use Rattle.npf_types.specs.declared.facts.Segment.{Segment}
 use Rattle.npf_tcp.specs.declared.state.Known.{Known}
 use Rattle.npf_tcp.specs.declared.state.Known.TheVariants.{Nothing, Expected, Seen}
 use Rattle.npf_tcp.specs.declared.state.TcpSide.{TcpSide}

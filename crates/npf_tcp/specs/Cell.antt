@@ -1,6 +1,6 @@
 use Rattle.std.specs.Prelude.{Option, Some, None}
-use Rattle.npf_types.specs.declared.connection.Way.{Way}
-use Rattle.npf_types.specs.declared.connection.Way.TheVariants.{Forward, Backward, Port}
+use Rattle.npf_types.specs.declared.key.Way.{Way}
+use Rattle.npf_types.specs.declared.key.Way.TheVariants.{Forward, Backward, Port}
 use Rattle.npf_tcp.specs.declared.class.SegmentClass.{SegmentClass}
 use Rattle.npf_tcp.specs.declared.class.SegmentClass.TheVariants.{Rst, Syn, SynAck, Ack, Fin, Invalid}
 use Rattle.npf_tcp.specs.declared.state.TcpPhase.{TcpPhase}

@@ -1,6 +1,6 @@
 use Rattle.std.specs.Prelude.{◌≡◌, ◌≢◌, ◌↔◌, ◌<◌, ◌≤◌, ◌^◌, ℕ, Bool, true, false}
-use Rattle.npf_types.specs.declared.connection.Way.{Way}
-use Rattle.npf_types.specs.declared.packet.Segment.{Segment}
+use Rattle.npf_types.specs.declared.key.Way.{Way}
+use Rattle.npf_types.specs.declared.facts.Segment.{Segment}
 use Rattle.npf_tcp.specs.declared.class.SegmentClass.{SegmentClass}
 use Rattle.npf_tcp.specs.declared.class.SegmentClass.TheVariants.{Rst, Invalid}
 use Rattle.npf_tcp.specs.declared.state.Known.TheVariants.{Seen}

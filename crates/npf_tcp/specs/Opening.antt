@@ -1,5 +1,5 @@
 use Rattle.std.specs.Prelude.{ℕ, None, if◌then◌else◌}
-use Rattle.npf_types.specs.declared.packet.Segment.{Segment}
+use Rattle.npf_types.specs.declared.facts.Segment.{Segment}
 use Rattle.npf_tcp.specs.declared.class.SegmentClass.{SegmentClass}
 use Rattle.npf_tcp.specs.declared.class.SegmentClass.TheVariants.{Rst, Syn, SynAck, Ack, Fin, Invalid}
 use Rattle.npf_tcp.specs.declared.state.Known.TheVariants.{Nothing, Expected, Seen}

@@ -1,1 +1,4 @@
-pub mod AddressBits
+pub mod AddressLemmas
+pub mod AddressTextLemmas
+pub mod PrefixLemmas
+pub mod ReadingLemmas

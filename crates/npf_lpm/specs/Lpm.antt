@@ -1,18 +1,8 @@
 -- A table of prefixes as contracts see it: a list of them, in no order that means anything.
 use Rattle.std.specs.Prelude.{◌≡◌, ◌≢◌, ◌↔◌, ℕ, List, Contains}
 use Rattle.npf_types.specs.declared.address.Addr.{Addr}
-use Rattle.npf_types.specs.declared.address.Prefix.{Prefix}
-use Rattle.npf_types.specs.Address.{SharesFirst}
-
--- the address lies in the block: it is of the block's family and agrees in its first bits
-abbrev pub Has : Prefix → Addr → Type 0
-Has prefix addr = SharesFirst prefix.len prefix.addr addr
-
--- some prefix of the list has the address
-pub record Covers (prefixes : List Prefix) (addr : Addr) : Type 0 where
-  pub prefix : Prefix
-  pub listed : Contains prefixes prefix
-  pub has : Has prefix addr
+use Rattle.npf_types.specs.declared.prefix.Prefix.{Prefix}
+use Rattle.npf_types.specs.Prefix.{Has}
 
 -- some prefix of the list that is `len` bits long has the address
 pub record CoversAt (prefixes : List Prefix) (addr : Addr) (len : ℕ) : Type 0 where

@@ -1,12 +1,5 @@
 use crate::address::Addr;
 
-/// The link layer of a capture: Ethernet II, or IP with no link header (LINKTYPE_ETHERNET and LINKTYPE_RAW).
-#[derive(Clone, Copy, Debug, PartialEq, Eq, PartialOrd, Ord, Hash)]
-pub enum Link {
-    Ethernet,
-    Raw,
-}
-
 /// A TCP segment (RFC 9293 section 3.1): its flags, sequence and acknowledgment numbers and window as they stand
 /// in the header, the number of payload bytes, and the shift of a window scale option (RFC 7323 section 2), at most 14.
 #[derive(Clone, Copy, Debug, PartialEq, Eq, PartialOrd, Ord, Hash)]
