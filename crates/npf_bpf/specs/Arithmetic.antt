@@ -17,8 +17,8 @@ calculated ShiftLeft a b = Some (if nat_lt b 32 then a * 2 ^ b % 2 ^ 32 else 0)
 calculated ShiftRight a b = Some (if nat_lt b 32 then a / 2 ^ b else 0)
 
 -- whether a comparison of a with b holds
-abbrev pub holds : Comparison → ℕ → ℕ → Bool
-holds Equal a b = a == b
-holds Greater a b = nat_lt b a
-holds GreaterOrEqual a b = nat_le b a
-holds AnyBit a b = not (bit_and a b == 0)
+abbrev pub compared : Comparison → ℕ → ℕ → Bool
+compared Equal a b = a == b
+compared Greater a b = nat_lt b a
+compared GreaterOrEqual a b = nat_le b a
+compared AnyBit a b = not (bit_and a b == 0)

@@ -1,6 +1,6 @@
-// Numbers out of the packet.
+// The numbers that a program loads from the packet.
 ghost use Rattle.std.specs.Prelude.{◌≡◌, ◌%◌, ◌^◌, ◌<◌, length};
-ghost use Rattle.npf_bpfvm.specs.Packet.{header_length_at, loaded};
+ghost use Rattle.npf_bpf.specs.Load.{header_length_at, loaded};
 
 use npf_bpf::Width;
 
