@@ -14,6 +14,7 @@ pub struct Prefix {
 }
 
 impl Prefix {
+    ghost use Rattle.npf_types.specs.Block.{block};
     ghost use Rattle.npf_types.specs.Prefix.{Has, has};
 
     /// The block of `addr` with this length, its host bits cleared. None exactly where `len` passes the family's width.
@@ -21,6 +22,7 @@ impl Prefix {
         ensures fits { IsSome result ↔ (len ≤ width addr) }
         ensures addr { IfSome result (λ p. p.addr ≡ cleared addr len) }
         ensures len { IfSome result (λ p. p.len ≡ len) }
+        ensures block { IfSome result (λ p. p ≡ block addr len) }
     {
         if len > addr.width() {
             return None;
