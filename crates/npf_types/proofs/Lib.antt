@@ -2,3 +2,4 @@ pub mod AddressLemmas
 pub mod AddressTextLemmas
 pub mod PrefixLemmas
 pub mod ReadingLemmas
+pub mod NameLemmas

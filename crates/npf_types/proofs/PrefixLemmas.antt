@@ -1,5 +1,7 @@
 -- Two prefixes are one where their addresses and lengths are, which is what `==` tests; and what lists of them have.
-use Rattle.std.proofs.Common.{◌≡◌, ◌≤◌, ℕ, Bool, true, ap, List, Contains}
+use Rattle.std.proofs.Common.{◌≡◌, ◌≤◌, ℕ, Bool, true, ap, sym, ◌∙◌, List}
+use Rattle.std.proofs.Math.Nat.{min-eq_left}
+use Rattle.npf_types.specs.Block.{block}
 use mathlib.Core.HLevel.{is_prop→PathP}
 use Rattle.std.specs.Cmp.{IsEquivalence}
 use Rattle.std.proofs.lemmas.Bool.{and_parts, eqb-true, eq-eqb}
@@ -14,8 +16,8 @@ use Rattle.npf_types.specs.contracts.prefix.Prefix.{short-found, zeroed-found}
 use Rattle.npf_types.specs.contracts.prefix.PrefixPartialEq.TheImpl as prefix_eq
 use Rattle.npf_types.specs.contracts.prefix.PrefixEq.TheImpl.Laws.{laws-law}
 use Rattle.npf_types.specs.contracts.address.AddrPartialEq.TheImpl as addr_eq
-use Rattle.npf_types.specs.Address.{width, cleared, SharesFirst, shares_first}
-use Rattle.npf_types.specs.Prefix.{has, Covers, covers}
+use Rattle.npf_types.specs.Address.{width, cleared, kept_bits, SharesFirst, shares_first}
+use Rattle.npf_types.specs.Prefix.{has_address, Covers, covers}
 
 -- the test that `==` of two prefixes is
 abbrev pub same_prefix : Prefix → Prefix → Bool
@@ -65,9 +67,14 @@ tells_shares_first n (V6 a) (V4 b) h = absurd h
 pub covers_decides : (prefixes : List Prefix) (addr : Addr) → Decides (covers prefixes addr) (Covers prefixes addr)
 covers_decides prefixes addr = (
   λ h.
-      let (k, p, within, at, is) = Any-from_list_any (λ p. has p addr) prefixes h in
+      let (k, p, within, at, is) = Any-from_list_any (λ p. has_address p addr) prefixes h in
       record { prefix = p; listed = (k, within, at); has = shares_first_tells p.len p.addr addr is },
   λ c.
       let p = c.prefix in
-      list_any-from_Any (λ p. has p addr) prefixes (c.listed.0, p, c.listed.1, c.listed.2, tells_shares_first p.len p.addr addr c.has),
+      list_any-from_Any (λ p. has_address p addr) prefixes (c.listed.0, p, c.listed.1, c.listed.2, tells_shares_first p.len p.addr addr c.has),
 )
+
+-- the prefix of an address and a length that fits is the one whose host bits are cleared
+pub block_is : (p : Prefix) (addr : Addr) (len : ℕ) → len ≤ width addr → p.addr ≡ cleared addr len → p.len ≡ len → p ≡ block addr len
+block_is p (V4 a) len fits at long = Prefix-same p (block (V4 a) len) (at ∙ ap (λ n. V4 (kept_bits 32 n a)) (sym (min-eq_left fits))) (long ∙ sym (min-eq_left fits))
+block_is p (V6 a) len fits at long = Prefix-same p (block (V6 a) len) (at ∙ ap (λ n. V6 (kept_bits 128 n a)) (sym (min-eq_left fits))) (long ∙ sym (min-eq_left fits))

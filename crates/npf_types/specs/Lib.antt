@@ -5,3 +5,5 @@ pub mod Name
 pub mod NameText
 pub mod Prefix
 pub mod Reading
+pub mod Block
+pub mod Named
