@@ -2,6 +2,7 @@ pub mod Phrasing
 pub mod Configs
 pub mod Items
 pub mod Readers
+mod Reports
 pub mod RunTokens
 pub mod TokenSteps
 pub mod RawCaptures

@@ -1,11 +1,11 @@
 // The files that a run reads: the configuration and the capture.
-ghost use Rattle.std.specs.Prelude.{◌≡◌, ◌≤◌, List as Seq, length, IfOk, IfErr, All};
+ghost use Rattle.std.specs.Prelude.{◌≡◌, ◌≤◌, ℕ, List as Seq, length, IfOk, IfErr, All};
 ghost use Rattle.std.specs.List.Sorted.{IsPermutation, IsSortedByKey, IsStableByKey};
 ghost use Rattle.std.specs.Ordering.{nat_cmp};
-ghost use Rattle.npf_outside.specs.Tree.{Has, SameFiles};
+ghost use Rattle.npf_outside.specs.Files.{Has, SameFiles};
 ghost use Rattle.npf_ctl.specs.Explained.{AreInOrder};
 ghost use Rattle.npf_ctl.specs.Message.{most_bytes};
-ghost use Rattle.npf_ctl.specs.Run.{OfFile, Accepts, HasPackets, HasReadFault, HasConfFault, HasCaptureFileFault};
+ghost use Rattle.npf_ctl.specs.Run.{IfTold, Accepts, HasPackets, HasReadFault, HasConfFault, HasCaptureFileFault};
 
 use crate::capture::read_raw;
 use crate::config::read_rules;
@@ -18,12 +18,13 @@ use std::alloc::Global;
 
 /// The rules of the configuration.
 pub(crate) fn load<F: Files>(alloc: Global, name: &str, files: &mut F) -> Result<Vec<Rule>, Fault>
-    ensures ok { IfOk result (λ rules. OfFile (F.contents files.old) name.now (λ text. Accepts text rules.items)) }
+    ensures ok { IfOk result (λ rules. IfTold (F.moment files.old).contents name.now (λ text. Accepts text rules.items)) }
     ensures few { IfOk result (λ rules. length rules.items ≤ 4096) }
-    ensures fault { IfErr result (HasConfFault (F.contents files.old) name.now (F.read_faults files.old) (F.read_faults files.new) (F.taken files.old) (F.taken files.new)) }
-    ensures same { SameFiles (F.contents files.old) (F.contents files.new) }
-    ensures reads { F.read_faults files.old ≤ F.read_faults files.new }
-    ensures taken { F.taken files.old ≤ F.taken files.new }
+    ensures fault { IfErr result (HasConfFault (F.moment files.old) (F.moment files.new) name.now) }
+    ensures same { SameFiles (F.moment files.old).contents (F.moment files.new).contents }
+    ensures reads { (other : Seq ℕ) →
+        (F.moment files.old).read_faults_of other ≤ (F.moment files.new).read_faults_of other }
+    ensures taken { (F.moment files.old).taken ≤ (F.moment files.new).taken }
 {
     let text = read_file(alloc, name, Input::Conf, files)?;
     match read_rules(alloc, text.as_slice()) {
@@ -39,12 +40,13 @@ pub(crate) fn read_packets<F: Files>(
     name: &str,
     files: &mut F,
 ) -> Result<Vec<Record>, Fault>
-    ensures ok { IfOk result (λ packets. OfFile (F.contents files.old) name.now (λ bytes. HasPackets bytes packets.items)) }
+    ensures ok { IfOk result (λ packets. IfTold (F.moment files.old).contents name.now (λ bytes. HasPackets bytes packets.items)) }
     ensures short { IfOk result (λ packets. All (λ packet. length packet.bytes ≤ 262144) packets.items) }
-    ensures fault { IfErr result (HasCaptureFileFault (F.contents files.old) name.now (F.read_faults files.old) (F.read_faults files.new) (F.taken files.old) (F.taken files.new)) }
-    ensures same { SameFiles (F.contents files.old) (F.contents files.new) }
-    ensures reads { F.read_faults files.old ≤ F.read_faults files.new }
-    ensures taken { F.taken files.old ≤ F.taken files.new }
+    ensures fault { IfErr result (HasCaptureFileFault (F.moment files.old) (F.moment files.new) name.now) }
+    ensures same { SameFiles (F.moment files.old).contents (F.moment files.new).contents }
+    ensures reads { (other : Seq ℕ) →
+        (F.moment files.old).read_faults_of other ≤ (F.moment files.new).read_faults_of other }
+    ensures taken { (F.moment files.old).taken ≤ (F.moment files.new).taken }
 {
     let bytes = read_file(alloc, name, Input::Capture, files)?;
     match read_raw(alloc, bytes.as_slice()) {
@@ -80,12 +82,13 @@ fn read_file<F: Files>(
     input: Input,
     files: &mut F,
 ) -> Result<Vec<u8>, Fault>
-    ensures whole { IfOk result (λ bytes. Has (F.contents files.old) name.now bytes.items) }
+    ensures whole { IfOk result (λ bytes. Has (F.moment files.old).contents name.now bytes.items) }
     ensures fits { IfOk result (λ bytes. length bytes.items ≤ most_bytes input) }
-    ensures fault { IfErr result (HasReadFault (F.contents files.old) name.now input (F.read_faults files.old) (F.read_faults files.new) (F.taken files.old) (F.taken files.new)) }
-    ensures same { SameFiles (F.contents files.old) (F.contents files.new) }
-    ensures reads { F.read_faults files.old ≤ F.read_faults files.new }
-    ensures taken { F.taken files.old ≤ F.taken files.new }
+    ensures fault { IfErr result (HasReadFault (F.moment files.old) (F.moment files.new) name.now input) }
+    ensures same { SameFiles (F.moment files.old).contents (F.moment files.new).contents }
+    ensures reads { (other : Seq ℕ) →
+        (F.moment files.old).read_faults_of other ≤ (F.moment files.new).read_faults_of other }
+    ensures taken { (F.moment files.old).taken ≤ (F.moment files.new).taken }
 {
     match files.read(alloc, name, input.most_bytes()) {
         Ok(bytes) => Ok(bytes),

@@ -1,5 +1,5 @@
 use Rattle.std.proofs.Common.{◌≡◌, ℕ, List, [], ◌++◌, Option, Some, None, refl, sym, ap, ◌∙◌, append_assoc, append-nil}
-use Rattle.npf_outside.specs.Put.{Appends, AppendsFront, IsPutTo}
+use Rattle.npf_outside.specs.Sink.{Appends, AppendsFront, IsPutTo}
 
 -- what is put in two pieces is put
 pub Appends-append : (old now new : Option (List ℕ)) (said piece : List ℕ) → Appends old now said → Appends now new piece → Appends old new (said ++ piece)

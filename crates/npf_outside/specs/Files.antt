@@ -1,9 +1,19 @@
+-- What files show at a moment, and what a call leaves of it.
 use Rattle.std.specs.Prelude.{◌≡◌, ◌≢◌, ℕ, ◌<◌, List, length, Option, Some, None, IsSomeAnd, ⊤}
 use Rattle.npf_outside.specs.Counts.{RoseByMore}
 
 -- the files by the bytes of their names
 abbrev pub Tree : Type 0
 Tree = List ℕ → Option (List ℕ)
+
+-- The contents, where they are told; how many reads failed, in all and of the file of each name; how many writes failed;
+-- and how many bytes reads took.
+pub record FilesMoment : Type 0 where
+  pub contents : Option Tree
+  pub read_faults : ℕ
+  pub read_faults_of : List ℕ → ℕ
+  pub write_faults : ℕ
+  pub taken : ℕ
 
 -- the file of this name has these bytes, where contents are told
 abbrev pub Has : Option Tree → List ℕ → List ℕ → Type 0
@@ -26,3 +36,8 @@ abbrev pub SameOthers : Option Tree → Option Tree → List ℕ → Type 0
 SameOthers None None name = ⊤
 SameOthers (Some old) (Some new) name = (other : List ℕ) → other ≢ name → new other ≡ old other
 SameOthers _ _ name = ⊥
+
+-- no read failed
+pub record SameReadFaults (before now : FilesMoment) : Type 0 where
+  pub all : now.read_faults ≡ before.read_faults
+  pub each : (name : List ℕ) → now.read_faults_of name ≡ before.read_faults_of name

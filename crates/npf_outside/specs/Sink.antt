@@ -1,4 +1,12 @@
+-- What a sink shows at a moment, and what was put on it.
 use Rattle.std.specs.Prelude.{◌≡◌, ℕ, List, ◌++◌, Option, Some, None, ⊤}
+
+-- The bytes that were put, where they are told; how many calls failed; and how many bytes were put that a buffer of the
+-- sink still keeps.
+pub record SinkMoment : Type 0 where
+  pub held : Option (List ℕ)
+  pub faults : ℕ
+  pub waiting : ℕ
 
 -- the bytes were put after what was held, where that is told
 abbrev pub Appends : Option (List ℕ) → Option (List ℕ) → List ℕ → Type 0
