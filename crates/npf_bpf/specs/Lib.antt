@@ -1,2 +1,9 @@
 pub mod Table
 pub mod Validity
+pub mod State
+pub mod Coprocessor
+pub mod Load
+pub mod Arithmetic
+pub mod Effect
+pub mod Value
+pub mod ValueLaw

@@ -5,6 +5,10 @@
 // An instruction comes as four numbers, the way a kernel is given it (`Insn`). The table of bpf(4)
 // says what it does: `decode` reads the table, and gives a named `Operation` or none.
 //
+// What a program returns is its value, which specs/Value.antt gives by an equation for each row of
+// the table; npf_bpfvm computes it. Each calculation is on a state of A, X and M (specs/State.antt),
+// a packet, and what a coprocessor tells (specs/Coprocessor.antt).
+//
 // The contract in words: `validate` accepts exactly the programs that keep the rules, and refuses
 // any other at the first instruction that breaks one. So whoever holds a `Program` knows that each
 // instruction is in the table, that no jump leaves the program, that no memory index is past the
@@ -12,12 +16,14 @@
 #![tactic(auto)]
 
 mod insn;
+mod laws;
 mod operation;
 mod program;
 #[cfg(test)]
 mod tests;
 
 pub use insn::Insn;
+pub use laws::{takes_at_most_one_step_an_instruction, value_behind_others};
 pub use operation::{
     Arithmetic, Comparison, Distances, MEMORY_WORDS, Operand, Operation, Width, decode,
 };

@@ -1,6 +1,6 @@
 // Calculations and comparisons: unsigned, on 32 bits.
 ghost use Rattle.std.specs.Prelude.{◌≡◌};
-ghost use Rattle.npf_bpfvm.specs.Arithmetic.{calculated, holds};
+ghost use Rattle.npf_bpf.specs.Arithmetic.{calculated, compared};
 
 use npf_bpf::{Arithmetic, Comparison};
 
@@ -22,7 +22,7 @@ pub fn calculate(arithmetic: Arithmetic, a: u32, b: u32) -> Option<u32>
 
 /// Whether a comparison holds.
 pub fn compare(comparison: Comparison, a: u32, b: u32) -> bool
-    ensures { result ≡ holds comparison a b }
+    ensures { result ≡ compared comparison a b }
 {
     match comparison {
         Comparison::Equal => a == b,

@@ -1,13 +1,14 @@
 // The machine: bpf(4)'s table, carried out.
-ghost use Rattle.std.specs.Prelude.{◌≡◌, ◌+◌, ◌<◌, ◌≤◌, length, slice_set};
+ghost use Rattle.std.specs.Prelude.{◌≡◌, ◌+◌, ◌<◌, length, slice_set};
+ghost use Rattle.npf_bpf.specs.Effect.{branched, effect_of, operand_value, or_return_0, with_accumulator, with_index, with_ip_header, with_member, with_memory};
+ghost use Rattle.npf_bpf.specs.State.{initial};
 ghost use Rattle.npf_bpf.specs.Validity.{IsValid, StaysInMemory};
-ghost use Rattle.npf_bpfvm.specs.Outcome.{branched, operand_value, or_return_0, outcome, with_accumulator, with_header, with_index, with_member, with_memory};
-ghost use Rattle.npf_bpfvm.specs.Step.{IsOperationAt, outcome_at};
-ghost use Rattle.npf_bpfvm.specs.Value.{program_steps, program_value, start};
+ghost use Rattle.npf_bpf.specs.Value.{program_value};
+ghost use Rattle.npf_bpfvm.specs.Machine.{IsOperationAt, effect_told, state_in};
 
 use crate::arithmetic::{calculate, compare};
 use crate::cop::Cop;
-use crate::packet::{header_length_at, length_of, load};
+use crate::load::{header_length_at, length_of, load};
 use npf_bpf::Operation::{
     AskHeader, AskMember, Calculate, CopyToAccumulator, CopyToIndex, Jump, JumpIf, LoadAbsolute,
     LoadConstant, LoadIndexConstant, LoadIndexHeader, LoadIndexLength, LoadIndexMemory,
@@ -18,7 +19,7 @@ use npf_bpf::{Comparison, Distances, Insn, MEMORY_WORDS, Operand, Operation, Pro
 
 /// The number that a program returns on a packet, which begins at its IP header.
 pub fn run<C: Cop>(program: &Program, packet: &[u8], cop: &C) -> u32
-    ensures { result ≡ program_value program.now packet.now (C.answers cop.now) }
+    ensures { result ≡ program_value program.now packet.now (C.tells cop.now) }
 {
     let insns = program.insns();
     let mut registers = Registers::new();
@@ -31,11 +32,6 @@ pub fn run<C: Cop>(program: &Program, packet: &[u8], cop: &C) -> u32
         }
     }
 }
-
-/// A law: a run takes at most as many steps as the program has instructions.
-pub fn takes_at_most_one_step_an_instruction<C: Cop>(program: &Program, packet: &[u8], cop: &C)
-    ensures { program_steps program.now packet.now (C.answers cop.now) ≤ length program.now }
-{}
 
 // The operation of an instruction of a valid program.
 fn operation_at(insns: &[Insn], at: usize) -> Operation
@@ -66,7 +62,7 @@ struct Registers {
 
 impl Registers {
     fn new() -> Self
-        ensures { result ≡ start }
+        ensures { state_in result ≡ initial }
     {
         Registers {
             accumulator: 0,
@@ -77,8 +73,8 @@ impl Registers {
 
     fn step<C: Cop>(&mut self, operation: Operation, packet: &[u8], cop: &C) -> Next
         requires { StaysInMemory operation }
-        ensures { outcome_at result self.new
-            ≡ outcome operation self.old packet.now (C.answers cop.now) }
+        ensures { effect_told result self.new
+            ≡ effect_of operation (state_in self.old) packet.now (C.tells cop.now) }
     {
         match operation {
             LoadAbsolute(width, k) => self.load(load(packet, width, u64::from(k))),
@@ -108,14 +104,14 @@ impl Registers {
     }
 
     fn set_accumulator(&mut self, value: u32) -> Next
-        ensures { outcome_at result self.new ≡ with_accumulator self.old value }
+        ensures { effect_told result self.new ≡ with_accumulator (state_in self.old) value }
     {
         self.accumulator = value;
         Next::Onward(0)
     }
 
     fn set_index(&mut self, value: u32) -> Next
-        ensures { outcome_at result self.new ≡ with_index self.old value }
+        ensures { effect_told result self.new ≡ with_index (state_in self.old) value }
     {
         self.index = value;
         Next::Onward(0)
@@ -123,7 +119,7 @@ impl Registers {
 
     // Without a number to load the program returns 0.
     fn load(&mut self, value: Option<u32>) -> Next
-        ensures { outcome_at result self.new ≡ or_return_0 value (with_accumulator self.old) }
+        ensures { effect_told result self.new ≡ or_return_0 value (with_accumulator (state_in self.old)) }
     {
         match value {
             Some(value) => self.set_accumulator(value),
@@ -132,7 +128,7 @@ impl Registers {
     }
 
     fn load_index(&mut self, value: Option<u32>) -> Next
-        ensures { outcome_at result self.new ≡ or_return_0 value (with_index self.old) }
+        ensures { effect_told result self.new ≡ or_return_0 value (with_index (state_in self.old)) }
     {
         match value {
             Some(value) => self.set_index(value),
@@ -142,8 +138,8 @@ impl Registers {
 
     fn store(&mut self, k: u32, value: u32) -> Next
         requires { k < 16 }
-        ensures { outcome_at result self.new
-            ≡ with_memory self.old (slice_set self.old.memory k value) }
+        ensures { effect_told result self.new
+            ≡ with_memory (state_in self.old) (slice_set self.old.memory k value) }
     {
         self.memory[k as usize] = value;
         Next::Onward(0)
@@ -157,7 +153,7 @@ impl Registers {
     }
 
     fn value_of(&self, operand: Operand) -> u32
-        ensures { result ≡ operand_value operand self.now }
+        ensures { result ≡ operand_value operand (state_in self.now) }
     {
         match operand {
             Operand::Constant(k) => k,
@@ -166,7 +162,7 @@ impl Registers {
     }
 
     fn branch(&self, comparison: Comparison, operand: Operand, distances: Distances) -> Next
-        ensures { outcome_at result self.now ≡ branched comparison operand distances self.now }
+        ensures { effect_told result self.now ≡ branched comparison operand distances (state_in self.now) }
     {
         if compare(comparison, self.accumulator, self.value_of(operand)) {
             Next::Onward(u32::from(distances.on_true))
@@ -176,7 +172,7 @@ impl Registers {
     }
 
     fn ask_header<C: Cop>(&mut self, cop: &C) -> Next
-        ensures { outcome_at result self.new ≡ with_header self.old (C.answers cop.now).header }
+        ensures { effect_told result self.new ≡ with_ip_header (state_in self.old) (C.tells cop.now).header }
     {
         let (version, offset, protocol) = cop.header();
         self.memory[0] = version;
@@ -186,7 +182,7 @@ impl Registers {
     }
 
     fn ask_member<C: Cop>(&mut self, cop: &C) -> Next
-        ensures { outcome_at result self.new ≡ with_member self.old (C.answers cop.now).member }
+        ensures { effect_told result self.new ≡ with_member (state_in self.old) (C.tells cop.now).member }
     {
         let table = self.accumulator & 0x7fff_ffff;
         let source = self.accumulator & 0x8000_0000 != 0;

@@ -1,6 +1,6 @@
 ghost use Rattle.std.specs.Prelude.{◌==◌, ◌&&◌, ◌||◌, not};
 
-use crate::{Cop, run, takes_at_most_one_step_an_instruction};
+use crate::{Cop, run};
 use npf_bpf::{Insn, validate};
 use std::alloc::Global;
 use std::test::Fail;
@@ -20,7 +20,7 @@ const TXA: (u16, u32) = (0x87, 0);
 struct Answering;
 
 impl Cop for Answering {
-    ghost answers = { λ _. record {
+    ghost tells = { λ _. record {
       header = (4, 20, 6);
       member = λ table source. (table == 7 && source) || (table == 9 && not source);
     } };
@@ -45,7 +45,6 @@ fn value_of(alloc: Global, numbers: &[Numbers], packet: &[u8]) -> Result<u32, Fa
         })?;
     }
     let program = validate(code)?;
-    takes_at_most_one_step_an_instruction(&program, packet, &Answering);
     Ok(run(&program, packet, &Answering))
 }
 

@@ -1,8 +1,7 @@
 pub mod Phrasing
 pub mod Configs
 pub mod Items
-pub mod Readers
-mod Reports
+pub mod Reports
 pub mod RunTokens
 pub mod TokenSteps
 pub mod RawCaptures
@@ -22,3 +21,4 @@ pub mod Lines
 pub mod Clauses
 pub mod CommandLines
 pub mod Answering
+pub mod VerdictLemmas

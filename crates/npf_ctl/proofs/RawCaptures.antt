@@ -1,7 +1,7 @@
 -- A capture with this header is one of raw packets, its faults are those of its records, and it has none of them itself.
 use Rattle.std.proofs.Common.{◌≡◌, ℕ, List, refl, sym, ◌∙◌, subst, arith}
-use Rattle.npf_types.specs.declared.packet.Link.{Link}
-use Rattle.npf_types.specs.declared.packet.Link.TheVariants.{Raw}
+use Rattle.npf_types.specs.declared.link.Link.{Link}
+use Rattle.npf_types.specs.declared.link.Link.TheVariants.{Raw}
 use Rattle.npf_pcap.specs.declared.format.Format.{Format}
 use Rattle.npf_pcap.specs.declared.capture.Record.{Record}
 use Rattle.npf_pcap.specs.declared.fault.CaptureFault.{CaptureFault}

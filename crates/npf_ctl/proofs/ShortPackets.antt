@@ -2,6 +2,7 @@
 use Rattle.std.proofs.Common.{ℕ, ◌≤◌, List, [], ◌∷◌, length, drop, arith, All, length-take}
 use Rattle.std.proofs.lemmas.List.Elements.{All-cons}
 use Rattle.std.proofs.lemmas.List.Sorted.{All-permutation}
+use Rattle.npf_types.specs.declared.limits.TheConstants.{MAX_PACKET_BYTES}
 use Rattle.npf_pcap.specs.declared.capture.Record.{Record}
 use Rattle.npf_pcap.specs.declared.format.Format.{Format}
 use Rattle.npf_pcap.specs.Record.{AreRecords, stored_len, record_len, Spells}
@@ -9,7 +10,7 @@ use Rattle.npf_ctl.specs.Explained.{AreInOrder}
 use Rattle.npf_ctl.specs.RawCapture.{IsRawCapture}
 
 abbrev IsShort : Record → Type 0
-IsShort packet = length packet.bytes ≤ 262144
+IsShort packet = length packet.bytes ≤ MAX_PACKET_BYTES
 
 spelled_short : (format : Format) (bytes : List ℕ) (packet : Record) → Spells format bytes packet → IsShort packet
 spelled_short format bytes packet spelled = rw spelled.stored (omega (arith, spelled.whole.short, length-take (stored_len format bytes) (drop 16 bytes)))

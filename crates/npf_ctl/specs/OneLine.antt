@@ -1,12 +1,13 @@
 -- The history of a run on one thread: what each packet in turn asks of the machine of connections, from the opening state on, each
 -- claim in the lowest slot that isn't claimed.
 use Rattle.std.specs.Prelude.{ℕ, zero, suc, ◌+◌, Bool, true, false, if◌then◌else◌, Option, Some, None, List, [], ◌∷◌, slice_get}
-use Rattle.npf_types.specs.declared.connection.Key.{Key}
-use Rattle.npf_types.specs.declared.connection.Way.{Way}
-use Rattle.npf_types.specs.declared.connection.Way.TheVariants.{Forward, Backward, Port}
-use Rattle.npf_types.specs.declared.rule.Decision.{Decision}
-use Rattle.npf_types.specs.declared.rule.Decision.TheVariants.{Pass, Block}
-use Rattle.npf_types.specs.declared.rule.Return.TheVariants.{Nothing}
+use Rattle.npf_types.specs.declared.limits.TheConstants.{MAX_CONNECTIONS}
+use Rattle.npf_types.specs.declared.key.Key.{Key}
+use Rattle.npf_types.specs.declared.key.Way.{Way}
+use Rattle.npf_types.specs.declared.key.Way.TheVariants.{Forward, Backward, Port}
+use Rattle.npf_types.specs.declared.decision.Decision.{Decision}
+use Rattle.npf_types.specs.declared.decision.Decision.TheVariants.{Pass, Block}
+use Rattle.npf_types.specs.declared.decision.Return.TheVariants.{Nothing}
 use Rattle.npf_core.specs.declared.conn_id.ConnId.{ConnId}
 use Rattle.npf_core.specs.declared.found.Found.{Found}
 use Rattle.npf_core.specs.declared.held.Held.{Held}
@@ -32,7 +33,7 @@ use Rattle.npf_ctl.specs.Work.{Work, finds, ◌>>=◌, look, claim, hold, step, 
 
 -- how many connections there can be at a time
 abbrev pub most_connections : ℕ
-most_connections = 65536
+most_connections = MAX_CONNECTIONS
 
 abbrev pub is_vacant : {S : Type 0} → Stage S → Bool
 is_vacant Vacant = true

@@ -2,13 +2,14 @@
 ghost use Rattle.std.specs.Prelude.{◌≡◌, ◌≤◌, ◌↔◌, List as Seq, MatchOption, MatchResult, IfOk, IfErr, IsTrue, length};
 ghost use Rattle.npf_pcap.specs.declared.capture.Record.{Record as RecordType};
 ghost use Rattle.npf_pcap.specs.Capture.{HasHeader, HasVersion};
-ghost use Rattle.npf_types.specs.declared.packet.Link.TheVariants.{Raw};
+ghost use Rattle.npf_types.specs.declared.link.Link.TheVariants.{Raw};
 ghost use Rattle.npf_ctl.specs.RawCapture.{classic, IsRawCapture, HasRawFault};
 
 use byteorder::{ByteOrder, LittleEndian};
 use npf_fields::get32;
 use npf_pcap::{CaptureFault, Record, read_capture};
 use npf_types::List;
+use npf_types::limits::MAX_CAPTURE_BYTES;
 use std::alloc::Global;
 
 /// The file header, in bytes, and the places of its fields (pcap-savefile(5)).
@@ -27,7 +28,7 @@ const LINKTYPE_RAW: u32 = 101;
 
 /// The records of a capture, or its first fault. It takes at most 268,435,456 bytes.
 pub(crate) fn read_raw(alloc: Global, bytes: &[u8]) -> Result<List<Record>, CaptureFault>
-    requires { length bytes.now ≤ 268435456 }
+    requires { length bytes.now ≤ MAX_CAPTURE_BYTES }
     ensures read { IfOk result (λ records. IsRawCapture bytes.now records) }
     ensures fault { IfErr result (λ fault. HasRawFault bytes.now fault) }
 {
@@ -38,7 +39,7 @@ pub(crate) fn read_raw(alloc: Global, bytes: &[u8]) -> Result<List<Record>, Capt
 }
 
 fn read_records(alloc: Global, bytes: &[u8]) -> Result<List<Record>, CaptureFault>
-    requires size { length bytes.now ≤ 268435456 }
+    requires size { length bytes.now ≤ MAX_CAPTURE_BYTES }
     requires header { HasHeader classic Raw bytes.now }
     ensures read { IfOk result (λ records. IsRawCapture bytes.now records) }
     ensures fault { IfErr result (λ fault. HasRawFault bytes.now fault) }

@@ -12,11 +12,9 @@ use npf_flow::Flow;
 use npf_packet::{Decoded, decode};
 use npf_pcap::Record;
 use npf_store::Store;
+use npf_types::limits::{MAX_CONNECTIONS, MAX_PACKET_BYTES, MAX_RULES};
 use npf_types::{Link, NoMemory};
 use std::alloc::Global;
-
-/// How many connections there can be at a time.
-const MOST_CONNECTIONS: u32 = 65_536;
 
 /// The outcome of each packet, in order: the packets are numbered from 1.
 pub(crate) fn explain(
@@ -24,11 +22,11 @@ pub(crate) fn explain(
     rules: &[Rule],
     packets: &[Record],
 ) -> Result<Vec<Outcome>, NoMemory>
-    requires few { length rules.now ≤ 4096 }
-    requires short { All (λ packet. length packet.bytes ≤ 262144) packets.now }
+    requires few { length rules.now ≤ MAX_RULES }
+    requires short { All (λ packet. length packet.bytes ≤ MAX_PACKET_BYTES) packets.now }
     ensures { IfOk result (λ outcomes. AreExplained rules.now packets.now outcomes.items) }
 {
-    let mut store = Store::new(alloc, MOST_CONNECTIONS);
+    let mut store = Store::new(alloc, MAX_CONNECTIONS as u32);
     let mut outcomes = Vec::with_capacity(alloc, packets.len())?;
     for (place, packet) in packets.iter().enumerate() {
         let outcome = outcome_of(rules, place as u64 + 1, packet, &mut store)?;
@@ -43,8 +41,8 @@ fn outcome_of(
     packet: &Record,
     store: &mut Store<Flow>,
 ) -> Result<Outcome, NoMemory>
-    requires few { length rules.now ≤ 4096 }
-    requires short { length packet.now.bytes ≤ 262144 }
+    requires few { length rules.now ≤ MAX_RULES }
+    requires short { length packet.now.bytes ≤ MAX_PACKET_BYTES }
     ensures { IfOk result (λ outcome. Arrives rules.now number packet.now store.old store.new outcome) }
 {
     match decode(Link::Raw, packet.bytes.as_slice()) {

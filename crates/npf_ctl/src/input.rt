@@ -13,13 +13,14 @@ use crate::fault::{Fault, Input};
 use crate::rule::Rule;
 use npf_outside::{FileFault, Files};
 use npf_pcap::{CaptureFault, Record};
+use npf_types::limits::{MAX_PACKET_BYTES, MAX_RULES};
 use npf_types::{List, NoMemory};
 use std::alloc::Global;
 
 /// The rules of the configuration.
 pub(crate) fn load<F: Files>(alloc: Global, name: &str, files: &mut F) -> Result<Vec<Rule>, Fault>
     ensures ok { IfOk result (λ rules. IfTold (F.moment files.old).contents name.now (λ text. Accepts text rules.items)) }
-    ensures few { IfOk result (λ rules. length rules.items ≤ 4096) }
+    ensures few { IfOk result (λ rules. length rules.items ≤ MAX_RULES) }
     ensures fault { IfErr result (HasConfFault (F.moment files.old) (F.moment files.new) name.now) }
     ensures same { SameFiles (F.moment files.old).contents (F.moment files.new).contents }
     ensures reads { (other : Seq ℕ) →
@@ -41,7 +42,7 @@ pub(crate) fn read_packets<F: Files>(
     files: &mut F,
 ) -> Result<Vec<Record>, Fault>
     ensures ok { IfOk result (λ packets. IfTold (F.moment files.old).contents name.now (λ bytes. HasPackets bytes packets.items)) }
-    ensures short { IfOk result (λ packets. All (λ packet. length packet.bytes ≤ 262144) packets.items) }
+    ensures short { IfOk result (λ packets. All (λ packet. length packet.bytes ≤ MAX_PACKET_BYTES) packets.items) }
     ensures fault { IfErr result (HasCaptureFileFault (F.moment files.old) (F.moment files.new) name.now) }
     ensures same { SameFiles (F.moment files.old).contents (F.moment files.new).contents }
     ensures reads { (other : Seq ℕ) →

@@ -19,6 +19,7 @@ mod connections;
 mod engine;
 mod fault;
 mod input;
+pub mod laws;
 mod lexer;
 mod messages;
 mod outcome;
@@ -35,6 +36,3 @@ mod verdicts;
 mod words;
 
 pub use top::{Status, npfctl_top};
-
-#[cfg(test)]
-mod tests;

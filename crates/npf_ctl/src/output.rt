@@ -3,7 +3,7 @@ ghost use Rattle.std.specs.Prelude.{◌≡◌, ◌≤◌, [], OnOk, IfErr};
 ghost use Rattle.npf_outside.specs.Sink.{Appends, AppendsFront};
 ghost use Rattle.npf_types.specs.Name.{name_bytes};
 ghost use Rattle.npf_ctl.specs.ReportText.{report_text, line_text, total_text, cap0};
-ghost use Rattle.npf_types.specs.declared.rule.Dir.TheVariants.{In};
+ghost use Rattle.npf_types.specs.declared.direction.Dir.TheVariants.{In};
 ghost use Rattle.npf_ctl.specs.Run.{HasPutFault};
 
 use crate::fault::Fault;

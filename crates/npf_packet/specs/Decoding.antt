@@ -1,7 +1,7 @@
 -- What a record's bytes say, by tests in order: the first that fits is answered.
 use Rattle.std.specs.Prelude.{◌≡◌, ℕ, Result, MatchResult, List}
-use Rattle.npf_types.specs.declared.packet.Link.{Link}
-use Rattle.npf_types.specs.declared.packet.Link.TheVariants.{Ethernet, Raw}
+use Rattle.npf_types.specs.declared.link.Link.{Link}
+use Rattle.npf_types.specs.declared.link.Link.TheVariants.{Ethernet, Raw}
 use Rattle.npf_packet.specs.declared.decoded.Decoded.{Decoded}
 use Rattle.npf_packet.specs.declared.link.Version.{Version}
 use Rattle.npf_packet.specs.declared.link.Version.TheVariants.{V4, V6}

@@ -7,8 +7,8 @@
 --   16: checksum      18: urgent pointer
 --   20: options
 use Rattle.std.specs.Prelude.{◌≡◌, ℕ, ◌+◌, ◌-◌, ◌*◌, ◌/◌, nat_lt, if◌then◌else◌, Result, Ok, Err, MatchResult, List, slice_index}
-use Rattle.npf_types.specs.declared.packet.L4.{L4}
-use Rattle.npf_types.specs.declared.packet.L4.TheVariants.{Tcp}
+use Rattle.npf_types.specs.declared.facts.L4.{L4}
+use Rattle.npf_types.specs.declared.facts.L4.TheVariants.{Tcp}
 use Rattle.npf_packet.specs.declared.decoded.Decoded.{Decoded}
 use Rattle.npf_packet.specs.declared.decoded.Decoded.TheVariants.{Ip}
 use Rattle.npf_packet.specs.declared.packet.Packet.{Packet}

@@ -1,6 +1,6 @@
 -- The header of UDP (RFC 768): 0: source port, 2: destination port, 4: length, 6: checksum.
 use Rattle.std.specs.Prelude.{ℕ, ◌+◌, List}
-use Rattle.npf_types.specs.declared.packet.L4.TheVariants.{Udp}
+use Rattle.npf_types.specs.declared.facts.L4.TheVariants.{Udp}
 use Rattle.npf_packet.specs.declared.decoded.Decoded.{Decoded}
 use Rattle.npf_packet.specs.declared.packet.Packet.{Packet}
 use Rattle.npf_fields.specs.Fields.{number16}

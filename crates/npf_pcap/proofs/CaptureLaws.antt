@@ -2,7 +2,7 @@
 -- faults, or are two captures; and each list of bytes is a capture or has a fault.
 use Rattle.std.proofs.Common.{◌≡◌, ◌≢◌, ℕ, zero, suc, ◌<◌, ◌≤◌, ◌⊎◌, inl, inr, ◌∙◌, sym, ap, subst, refl, List, length, drop, arith, Result, Ok, Err, IfOk, IfErr, MatchResult, IsErrAnd}
 use Rattle.std.proofs.lemmas.Bool.{cases_lt, cases_eq, cases_order}
-use Rattle.npf_types.specs.declared.packet.Link.{Link}
+use Rattle.npf_types.specs.declared.link.Link.{Link}
 use Rattle.npf_pcap.specs.declared.format.Format.{Format}
 use Rattle.npf_pcap.specs.declared.capture.Record.{Record}
 use Rattle.npf_pcap.specs.declared.capture.Capture.{Capture}

@@ -4,7 +4,7 @@ use Rattle.std.proofs.lemmas.List.{drop-drop, take_at, drop_at}
 use Rattle.std.proofs.lemmas.List.Elements.{recursion_from_All}
 use Rattle.std.specs.List.{flat_map, AllByRecursion}
 use Rattle.byteorder.specs.Numbers.{little_number-reads_back}
-use Rattle.npf_types.specs.declared.packet.Link.TheVariants.{Raw}
+use Rattle.npf_types.specs.declared.link.Link.TheVariants.{Raw}
 use Rattle.npf_pcap.specs.declared.format.Format.{Format}
 use Rattle.npf_pcap.specs.declared.format.Order.TheVariants.{Little}
 use Rattle.npf_pcap.specs.declared.format.Precision.TheVariants.{Nano}

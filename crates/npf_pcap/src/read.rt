@@ -1,5 +1,5 @@
 ghost use Rattle.std.specs.Prelude.{◌≡◌, ◌≢◌, ◌+◌, ◌≤◌, ◌<◌, ◌↔◌, ◌⊎◌, List as Seq, length, drop, IsTrue, IfOk, IfErr, IfSome, IfNone, MatchResult, IsErrAnd};
-ghost use Rattle.npf_types.specs.declared.packet.Link.{Link as LinkType};
+ghost use Rattle.npf_types.specs.declared.link.Link.{Link as LinkType};
 ghost use Rattle.npf_pcap.specs.declared.capture.Record.{Record as RecordType};
 ghost use Rattle.npf_pcap.specs.declared.fault.CaptureFault.{CaptureFault as FaultType};
 ghost use Rattle.npf_pcap.specs.Capture.{IsCapture, HasCaptureFault, HasHeader, HasVersion};

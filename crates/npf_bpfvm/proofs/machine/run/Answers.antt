@@ -1,23 +1,30 @@
 use Rattle.std.proofs.Common.{◌-◌, ◌<◌, length, sym, ap, ◌∙◌, arith}
-use Rattle.npf_bpfvm.specs.Value.{program_value}
-use Rattle.npf_bpfvm.proofs.Steps.{value-returns, value-goes_on, distance-within}
+use Rattle.npf_bpf.specs.Effect.{Returns, Continues}
+use Rattle.npf_bpf.specs.Value.{program_value}
+use Rattle.npf_bpf.proofs.ValueLemmas.{Does, value-returns, value-continues, distance-within}
+use Rattle.npf_bpfvm.specs.Machine.{state_in}
 use Rattle.npf_bpfvm.proofs.machine.run.Goals as goal
 
 pub returns-in-Returned : goal.returns-in-Returned
 returns-in-Returned g c =
-    let cop = g.C.Cop.answers c.args.cop.now in
+    let cop = g.C.Cop.tells c.args.cop.now in
     let packet = c.args.packet.now in
+    let code = c.insns-insns.result.now in
     let operation = c.operation_at-operation in
-    let returned = value-returns c.insns-insns.result.now c.steps.at c.steps.registers packet cop operation.result c.in-Returned.number operation.ensures.found c.in-Returned.ensures in
-    sym returned ∙ c.steps.invariant.1 ∙ ap (λ code. program_value code packet cop) c.insns-insns.ensures.value
+    let does : Does packet cop code c.steps.at (state_in c.steps.registers) operation.result (Returns c.in-Returned.number) = (operation.ensures.found, sym c.in-Returned.ensures) in
+    let returned = value-returns packet cop code c.steps.at (state_in c.steps.registers) operation.result c.in-Returned.number does in
+    sym returned ∙ c.steps.invariant.same ∙ ap (λ insns. program_value insns packet cop) c.insns-insns.ensures.value
 
 pub steps-preserved : goal.steps-preserved
 steps-preserved g c =
-    let cop = g.C.Cop.answers c.args.cop.now in
+    let cop = g.C.Cop.tells c.args.cop.now in
     let packet = c.args.packet.now in
     let code = c.insns-insns.result.now in
     let operation = c.operation_at-operation in
     let distance = c.in-Onward.distance in
-    let on = value-goes_on code c.steps.at c.steps.registers packet cop operation.result distance c.step.new.self operation.ensures.found c.in-Onward.ensures in
-    let within : distance < length code - 1 - c.steps.at = distance-within operation.result c.steps.registers packet cop _ distance c.step.new.self operation.ensures.allowed c.in-Onward.ensures in
-    (omega arith, sym on ∙ c.steps.invariant.1)
+    let before = state_in c.steps.registers in
+    let behind = state_in c.step.new.self in
+    let does : Does packet cop code c.steps.at before operation.result (Continues distance behind) = (operation.ensures.found, sym c.in-Onward.ensures) in
+    let on = value-continues packet cop code c.steps.at before operation.result distance behind does in
+    let within : distance < length code - 1 - c.steps.at = distance-within packet cop operation.result before _ distance behind operation.ensures.allowed (sym c.in-Onward.ensures) in
+    record { within = omega arith; same = sym on ∙ c.steps.invariant.same }
