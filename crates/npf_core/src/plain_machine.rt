@@ -1,6 +1,6 @@
 ghost use Rattle.std.specs.Prelude.{◌≡◌, ℕ, ◌<◌, ◌-◌, ◌^◌, ◌↔◌, length, slice_get, IsTrue, IfOk, IfSome, IfNone, OnOk, OnErr};
 ghost use Rattle.npf_core.specs.Holding.{is_each_once};
-ghost use Rattle.npf_core.specs.Slots.{NextIncarnationsFit};
+ghost use Rattle.npf_core.specs.Slot.{NextIncarnationsFit};
 
 use crate::conn_id::ConnId;
 use crate::found::Found;

@@ -17,7 +17,7 @@ use Rattle.npf_flow.specs.Flows.{flow_law}
 use Rattle.npf_store.specs.declared.store.Store.{Store}
 use Rattle.npf_store.specs.Represents.{Represents}
 use Rattle.npf_store.specs.Store.{AnswersStep, AnswersHold, Starts, Kills, Claims}
-use Rattle.npf_store.proofs.Representing.{step_is_act, hold_is_act, start_is_act, kill_is_act, claim_is_act}
+use Rattle.npf_store.proofs.RepresentLemmas.{step_is_act, hold_is_act, start_is_act, kill_is_act, claim_is_act}
 use Rattle.npf_ctl.specs.declared.outcome.Outcome.{Outcome}
 use Rattle.npf_ctl.specs.declared.outcome.Outcome.TheVariants.{ByRule}
 use Rattle.npf_ctl.specs.declared.outcome.Unkept.TheVariants.{Kept}

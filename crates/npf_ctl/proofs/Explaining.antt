@@ -6,7 +6,7 @@ use Rattle.npf_types.specs.declared.link.Link.TheVariants.{Raw}
 use Rattle.npf_core.specs.declared.conn_id.ConnId.{ConnId}
 use Rattle.npf_core.specs.History.{IsPrefix, state_of, state_from}
 use Rattle.npf_core.specs.Machine.{IsClaimed, opening}
-use Rattle.npf_core.proofs.Histories.{state_from-append}
+use Rattle.npf_core.proofs.HistoryLemmas.{state_from-append}
 use Rattle.npf_flow.specs.Flows.{flow_law}
 use Rattle.npf_packet.specs.declared.decoded.Decoded.{Decoded}
 use Rattle.npf_packet.specs.declared.decoded.Decoded.TheVariants as Says

@@ -15,7 +15,7 @@ use Rattle.npf_core.specs.declared.stepped.Stepped.{Stepped}
 use Rattle.npf_core.specs.Machine.{IsClaimed, is_key, stage_of}
 use Rattle.npf_core.specs.NextState.{after_act}
 use Rattle.npf_core.specs.Replies.{claimed_id, held_by, step_answer}
-use Rattle.npf_core.proofs.Equalities.{is_id-Decides, is_key-Decides}
+use Rattle.npf_core.proofs.EqualityLemmas.{is_id-Decides, is_key-Decides}
 use Rattle.npf_flow.specs.declared.step.FlowReply.{FlowReply}
 use Rattle.npf_flow.specs.Flows.{flow_law}
 use Rattle.npf_ctl.specs.declared.outcome.Outcome.{Outcome}

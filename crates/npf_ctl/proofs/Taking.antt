@@ -8,7 +8,7 @@ use Rattle.npf_pcap.specs.declared.capture.Record.{Record}
 use Rattle.npf_store.specs.declared.store.Store.{Store}
 use Rattle.npf_store.specs.Represents.{Represents}
 use Rattle.npf_store.specs.Store.{IsNew}
-use Rattle.npf_store.proofs.Representing.{new_is_opening}
+use Rattle.npf_store.proofs.RepresentLemmas.{new_is_opening}
 use Rattle.npf_ctl.specs.declared.outcome.Outcome.{Outcome}
 use Rattle.npf_ctl.specs.declared.rule.Rule.{Rule}
 use Rattle.npf_ctl.specs.Doing.{Arrives, Did}

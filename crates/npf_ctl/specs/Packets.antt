@@ -11,7 +11,7 @@ use Rattle.npf_types.specs.declared.change.Change.{Change}
 use Rattle.npf_flow.specs.declared.flow.Flow.{Flow}
 use Rattle.npf_flow.specs.declared.step.FlowArg.{FlowArg}
 use Rattle.npf_flow.specs.Flows.{opening_flow}
-use Rattle.npf_key.specs.Keys.{key_of, backward_key}
+use Rattle.npf_key.specs.Key.{key_of, backward_key}
 use Rattle.npf_packet.specs.declared.decoded.Decoded.{Decoded}
 use Rattle.npf_packet.specs.Decoding.{Decodes}
 use Rattle.npf_pcap.specs.declared.capture.Record.{Record}
