@@ -10,7 +10,7 @@ use Rattle.npf_ctl.specs.declared.rule.Rule.{Rule}
 use Rattle.npf_ctl.specs.declared.token.Token.{Token}
 use Rattle.npf_ctl.specs.declared.token.Token.TheVariants.{CloseBrace}
 use Rattle.npf_ctl.specs.Grammar.{AreItems}
-use Rattle.npf_ctl.specs.SoFar.{IsSoFar}
+use Rattle.npf_types.specs.Reading.{IsSoFar}
 use Rattle.npf_ctl.specs.Written.{Ends, Written, block_of, written_of}
 use Rattle.npf_ctl.specs.Phrases.{Phrase}
 

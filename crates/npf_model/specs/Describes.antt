@@ -12,7 +12,7 @@ use Rattle.npf_types.specs.declared.facts.L4.{L4}
 use Rattle.npf_types.specs.declared.facts.L4.TheVariants.{Tcp, Udp, Icmp, Icmp6}
 use Rattle.npf_types.specs.declared.interface.IfId.{IfId}
 use Rattle.npf_types.specs.declared.prefix.Prefix.{Prefix}
-use Rattle.npf_types.specs.Prefix.{has, covers}
+use Rattle.npf_types.specs.Prefix.{has_address, covers}
 use Rattle.npf_model.specs.declared.ends.AddrItem.{AddrItem}
 use Rattle.npf_model.specs.declared.ends.AddrItem.TheVariants.{Net, InTable}
 use Rattle.npf_model.specs.declared.ends.Ends.{Ends}
@@ -84,7 +84,7 @@ abbrev pub table_has : Tables → ℕ → Addr → Bool
 table_has tables number addr = entries_have (slice_get tables number) addr
 
 abbrev pub item_has : Tables → Addr → AddrItem → Bool
-item_has tables addr (Net prefix) = has prefix addr
+item_has tables addr (Net prefix) = has_address prefix addr
 item_has tables addr (InTable number) = table_has tables number addr
 
 -- some item of the list has the address; an absent list has every address, and an empty one none

@@ -5,7 +5,7 @@ use Rattle.npf_types.specs.declared.direction.Dir.{Dir}
 use Rattle.npf_types.specs.declared.direction.Dir.TheVariants.{In, Out}
 use Rattle.npf_types.specs.declared.facts.Facts.{Facts}
 use Rattle.npf_types.specs.declared.interface.IfId.{IfId}
-use Rattle.npf_types.specs.Prefix.{has}
+use Rattle.npf_types.specs.Prefix.{has_address}
 use Rattle.npf_model.specs.declared.map.Arrow.{Arrow}
 use Rattle.npf_model.specs.declared.map.Arrow.TheVariants.{ToOutside, ToInside, Both}
 use Rattle.npf_model.specs.declared.map.Map.{Map}
@@ -22,7 +22,7 @@ fits_side_port (Some range) None = false
 fits_side_port (Some range) (Some port) = in_range port range
 
 abbrev pub fits_side : Side → Addr → Option ℕ → Bool
-fits_side side addr port = has side.net addr && fits_side_port side.ports port
+fits_side side addr port = has_address side.net addr && fits_side_port side.ports port
 
 -- a packet that goes out is translated by its source, which lies in the left side
 abbrev pub goes_outside : Arrow → Bool

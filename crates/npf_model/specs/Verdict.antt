@@ -53,7 +53,7 @@ module _ (tables : Tables) (facts : Facts) (ifid : IfId) (dir : Dir) where
   abbrev pub applies : Group → Bool
   applies group = fits_dir group.dir dir && fits_on group.on ifid
 
-  -- the group_answer of the first group, of those that apply, that has one
+  -- the answer of the first group, of those that apply, that has one
   abbrev pub verdict : ℕ → List Group → Option ℕ
   verdict n [] = None
   verdict n (group ∷ groups) =

@@ -17,7 +17,7 @@ use Rattle.npf_types.specs.contracts.prefix.PrefixPartialEq.TheImpl as prefix_eq
 use Rattle.npf_types.specs.contracts.prefix.PrefixEq.TheImpl.Laws.{laws-law}
 use Rattle.npf_types.specs.contracts.address.AddrPartialEq.TheImpl as addr_eq
 use Rattle.npf_types.specs.Address.{width, cleared, kept_bits, SharesFirst, shares_first}
-use Rattle.npf_types.specs.Prefix.{has, Covers, covers}
+use Rattle.npf_types.specs.Prefix.{has_address, Covers, covers}
 
 -- the test that `==` of two prefixes is
 abbrev pub same_prefix : Prefix → Prefix → Bool
@@ -67,11 +67,11 @@ tells_shares_first n (V6 a) (V4 b) h = absurd h
 pub covers_decides : (prefixes : List Prefix) (addr : Addr) → Decides (covers prefixes addr) (Covers prefixes addr)
 covers_decides prefixes addr = (
   λ h.
-      let (k, p, within, at, is) = Any-from_list_any (λ p. has p addr) prefixes h in
+      let (k, p, within, at, is) = Any-from_list_any (λ p. has_address p addr) prefixes h in
       record { prefix = p; listed = (k, within, at); has = shares_first_tells p.len p.addr addr is },
   λ c.
       let p = c.prefix in
-      list_any-from_Any (λ p. has p addr) prefixes (c.listed.0, p, c.listed.1, c.listed.2, tells_shares_first p.len p.addr addr c.has),
+      list_any-from_Any (λ p. has_address p addr) prefixes (c.listed.0, p, c.listed.1, c.listed.2, tells_shares_first p.len p.addr addr c.has),
 )
 
 -- the prefix of an address and a length that fits is the one whose host bits are cleared

@@ -15,7 +15,7 @@ pub struct Prefix {
 
 impl Prefix {
     ghost use Rattle.npf_types.specs.Block.{block};
-    ghost use Rattle.npf_types.specs.Prefix.{Has, has};
+    ghost use Rattle.npf_types.specs.Prefix.{HasAddress, has_address};
 
     /// The block of `addr` with this length, its host bits cleared. None exactly where `len` passes the family's width.
     pub fn of(addr: Addr, len: u8) -> Option<Prefix>
@@ -35,8 +35,8 @@ impl Prefix {
 
     /// Whether the address lies in the block: its family agrees and its first `len` bits are equal.
     pub fn has(&self, addr: Addr) -> bool
-        ensures value { result ≡ has self.now addr }
-        ensures fact { IsTrue result ↔ Has self.now addr }
+        ensures value { result ≡ has_address self.now addr }
+        ensures fact { IsTrue result ↔ HasAddress self.now addr }
     {
         match (self.addr, addr) {
             (Addr::V4(a), Addr::V4(b)) => first_bits_v4(a, self.len) == first_bits_v4(b, self.len),

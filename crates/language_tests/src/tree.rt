@@ -1,13 +1,11 @@
-use crate::stmt::parse;
 use npf_lexer::{Fault, Refused, lex};
+use npf_parser::parse;
 use npf_syntax::{Stmt, Tree, Values};
+use npf_types::limits::MAX_TEXT_BYTES;
 use std::alloc::Global;
 
-/// No text of a table is longer, in bytes.
-const LONGEST_TEXT: usize = 2000;
-
 fn tree_of(alloc: Global, text: &[u8]) -> Option<Tree> {
-    if text.len() > LONGEST_TEXT {
+    if text.len() > MAX_TEXT_BYTES {
         return None;
     }
     match lex(alloc, text) {
@@ -29,7 +27,7 @@ fn statements(alloc: Global, text: &[u8]) -> Option<usize> {
 
 /// The line and the column at which the text's tokens can't go on.
 fn unexpected_at(alloc: Global, text: &[u8]) -> Option<(u32, u32)> {
-    if text.len() > LONGEST_TEXT {
+    if text.len() > MAX_TEXT_BYTES {
         return None;
     }
     match lex(alloc, text) {

@@ -1,5 +1,5 @@
 -- Which tokens a text of npf.conf(5) spells, or which fault it has first.
-use Rattle.std.specs.Prelude.{◌≡◌, ℕ, ⊤, Result, Ok, Err, List, [], ◌∷◌, drop}
+use Rattle.std.specs.Prelude.{ℕ, ⊤, Result, Ok, Err, List, [], ◌∷◌, drop}
 use Rattle.npf_lexer.specs.declared.fault.ConfFault.{ConfFault}
 use Rattle.npf_lexer.specs.declared.fault.Refused.{Refused}
 use Rattle.npf_lexer.specs.declared.fault.Refused.TheVariants.{Fault, NoMemory}
@@ -7,8 +7,8 @@ use Rattle.npf_lexer.specs.declared.front.Front.TheVariants.{End, Skipped, Found
 use Rattle.npf_lexer.specs.declared.place.Place.{Place}
 use Rattle.npf_lexer.specs.declared.token.Token.{Token}
 use Rattle.npf_lexer.specs.declared.token.TokenKind.TheVariants as Kind
-use Rattle.npf_lexer.specs.Fronts.{Begins}
-use Rattle.npf_lexer.specs.Places.{start, span_of}
+use Rattle.npf_lexer.specs.Front.{Begins}
+use Rattle.npf_lexer.specs.Place.{text_start, span_of}
 
 -- tokens, or the first fault
 abbrev pub Lexed : Type 0
@@ -30,18 +30,9 @@ pub data Lexes : Place → List ℕ → Lexed → Type 0 where
   token : (p : Place) (text : List ℕ) (t : Token) (n : ℕ) (q : Place) (lexed : Lexed) → Begins p text (Found t n q) → Lexes q (drop n text) lexed → Lexes p text (onto t lexed)
   fault : (p : Place) (text : List ℕ) (f : ConfFault) → Begins p text (Faulty f) → Lexes p text (Err f)
 
--- the text spells these tokens
-abbrev pub IsTokens : List ℕ → List Token → Type 0
-IsTokens text tokens = Lexes start text (Ok tokens)
-
--- the text spells no tokens, and the first fault is this one
-abbrev pub HasFault : List ℕ → ConfFault → Type 0
-HasFault text f = Lexes start text (Err f)
-
--- this is what the text is, and nothing else is
-pub record IsOnly (text : List ℕ) (lexed : Lexed) : Type 0 where
-  pub reads : Lexes start text lexed
-  pub only : (other : Lexed) → Lexes start text other → other ≡ lexed
+-- what the text is: all its tokens, or its first fault
+abbrev pub IsLexed : List ℕ → Lexed → Type 0
+IsLexed text lexed = Lexes text_start text lexed
 
 -- a fact of the fault, where a text was refused for one
 abbrev pub IfFault : (ConfFault → Type 0) → Refused → Type 0

@@ -1,11 +1,11 @@
 -- Where the bytes of a text stand: lines and columns count from 1, a column is a byte.
-use Rattle.std.specs.Prelude.{ℕ, ◌+◌, ◌≤◌}
+use Rattle.std.specs.Prelude.{ℕ, ◌+◌}
 use Rattle.npf_types.specs.declared.span.Span.{Span}
 use Rattle.npf_lexer.specs.declared.place.Place.{Place}
 
 -- the place of the first byte
-abbrev pub start : Place
-start = record { line = 1; col = 1; at = 0 }
+abbrev pub text_start : Place
+text_start = record { line = 1; col = 1; at = 0 }
 
 -- the place of the byte that comes `n` bytes later in the same line
 abbrev pub along : ℕ → Place → Place

@@ -12,7 +12,7 @@ use Rattle.npf_lpm.proofs.MemberLemmas.{same_prefix_decides}
 use Rattle.std.proofs.lemmas.Bool.{cases_Bool}
 use Rattle.npf_table.specs.Line.{IsBlankLine, IsEntry, IsBad}
 use Rattle.npf_types.specs.Reading.{IsOnly}
-use Rattle.npf_table.specs.TableFile.{Writes, AreEntries, IsFirstBad}
+use Rattle.npf_table.specs.TableFile.{Writes, AreEntries, IsFirstBadLine}
 
 -- no line, no entry
 pub no_lines : (kind : Kind) → AreEntries kind [] []
@@ -72,7 +72,7 @@ after_entry kind done line entry old new h only gains = record {
 
 -- a bad line behind good ones is the first
 pub first_bad : (kind : Kind) (all : List (List ℕ)) (n : ℕ) (line : List ℕ) (ps : List Prefix) (number : ℕ) → AreEntries kind (take n all) ps → n < length all
-    → line ≡ get_or all n line → IsBad kind line → number ≡ n + 1 → IsFirstBad kind all number
+    → line ≡ get_or all n line → IsBad kind line → number ≡ n + 1 → IsFirstBadLine kind all number
 first_bad kind all n line ps number h within is bad counted = record {
   before = n;
   counted = counted;

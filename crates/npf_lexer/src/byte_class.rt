@@ -1,9 +1,9 @@
 ghost use Rattle.std.specs.Prelude.{◌≡◌};
-ghost use Rattle.npf_lexer.specs.Classes.{class_of, is_run_byte, is_variable_start, is_variable_byte, is_string_byte, is_line_byte};
+ghost use Rattle.npf_lexer.specs.ByteClass.{byte_class, is_run_byte, is_variable_start, is_variable_byte, is_string_byte, is_line_byte};
 
 /// What a byte begins, outside comments and strings.
 #[derive(Clone, Copy, Debug, PartialEq, Eq)]
-pub(crate) enum Class {
+pub(crate) enum ByteClass {
     /// It parts tokens.
     Blank,
     LineFeed,
@@ -20,19 +20,19 @@ pub(crate) enum Class {
     Other,
 }
 
-pub(crate) fn class_of(byte: u8) -> Class
-    ensures { result ≡ class_of byte }
+pub(crate) fn byte_class(byte: u8) -> ByteClass
+    ensures { result ≡ byte_class byte }
 {
     match byte {
-        b' ' | b'\t' | b'\r' => Class::Blank,
-        b'\n' => Class::LineFeed,
-        b';' => Class::Semicolon,
-        b'\\' => Class::Backslash,
-        b'#' => Class::Comment,
-        b'"' => Class::Quote,
-        b'$' => Class::Dollar,
-        _ if is_run_byte(byte) => Class::Run,
-        _ => Class::Other,
+        b' ' | b'\t' | b'\r' => ByteClass::Blank,
+        b'\n' => ByteClass::LineFeed,
+        b';' => ByteClass::Semicolon,
+        b'\\' => ByteClass::Backslash,
+        b'#' => ByteClass::Comment,
+        b'"' => ByteClass::Quote,
+        b'$' => ByteClass::Dollar,
+        _ if is_run_byte(byte) => ByteClass::Run,
+        _ => ByteClass::Other,
     }
 }
 

@@ -1,7 +1,7 @@
 -- A text is one thing, and a reader that goes on from what begins at each place finds it.
 use Rattle.std.proofs.Common.{◌≡◌, ℕ, ◌==◌, Bool, true, false, MatchBool, Ok, Err, List, [], ◌∷◌, ◌++◌, drop, take, refl, sym, ap, subst, ◌∙◌, append_assoc}
-use Rattle.npf_lexer.specs.declared.class.Class.{Class}
-use Rattle.npf_lexer.specs.declared.class.Class.TheVariants.{Blank, LineFeed, Semicolon, Backslash, Comment, Quote, Dollar, Run, Other}
+use Rattle.npf_lexer.specs.declared.byte_class.ByteClass.{ByteClass}
+use Rattle.npf_lexer.specs.declared.byte_class.ByteClass.TheVariants.{Blank, LineFeed, Semicolon, Backslash, Comment, Quote, Dollar, Run, Other}
 use Rattle.npf_lexer.specs.declared.fault.ConfFault.{ConfFault}
 use Rattle.npf_lexer.specs.declared.front.Front.{Front}
 use Rattle.npf_lexer.specs.declared.front.Front.TheVariants.{End, Skipped, Found, Faulty}
@@ -10,20 +10,21 @@ use Rattle.npf_lexer.specs.declared.run.Run.{Run as RunType}
 use Rattle.npf_lexer.specs.declared.token.Sign.TheVariants.{Colon}
 use Rattle.npf_lexer.specs.declared.token.Token.{Token}
 use Rattle.npf_lexer.specs.declared.token.TokenKind.TheVariants as Kind
-use Rattle.npf_lexer.specs.Classes.{class_of}
-use Rattle.npf_lexer.specs.Fronts.{Begins, BeginsWith, IsRunFront, run_front, token as found_token}
-use Rattle.npf_lexer.specs.Places.{start}
-use Rattle.npf_lexer.specs.Runs.{IsRun, run_len}
-use Rattle.npf_lexer.specs.Tokens.{Lexed, Lexes, end, skip, token, fault, onto, end_token, IsOnly}
-use Rattle.npf_lexer.proofs.RunLaws.{run_same}
+use Rattle.npf_lexer.specs.ByteClass.{byte_class}
+use Rattle.npf_lexer.specs.Front.{Begins, BeginsWith, run_front, token_front}
+use Rattle.npf_lexer.specs.Place.{text_start}
+use Rattle.npf_lexer.specs.Run.{ReadsRun, run_len}
+use Rattle.npf_lexer.specs.Lexer.{Lexed, Lexes, end, skip, token, fault, onto, end_token, IsLexed}
+use Rattle.npf_types.specs.Reading.{IsOnly}
+use Rattle.npf_lexer.proofs.RunLemmas.{run_same}
 
 run_front_same : (p : Place) (text : List ℕ) (x y : Front) (colon : Bool) →
-    MatchBool colon (x ≡ found_token (Kind.Sign Colon) 1 p) ((run : RunType) × IsRun (take (run_len text) text) run × (x ≡ run_front (run_len text) p run)) →
-    MatchBool colon (y ≡ found_token (Kind.Sign Colon) 1 p) ((run : RunType) × IsRun (take (run_len text) text) run × (y ≡ run_front (run_len text) p run)) → x ≡ y
+    MatchBool colon (x ≡ token_front (Kind.Sign Colon) 1 p) ((run : RunType) × ReadsRun (take (run_len text) text) run × (x ≡ run_front (run_len text) p run)) →
+    MatchBool colon (y ≡ token_front (Kind.Sign Colon) 1 p) ((run : RunType) × ReadsRun (take (run_len text) text) run × (y ≡ run_front (run_len text) p run)) → x ≡ y
 run_front_same p text x y true h k = h ∙ sym k
 run_front_same p text x y false (run, is, x_is) (other, is', y_is) = x_is ∙ ap (λ r. run_front (run_len text) p r) (run_same (take (run_len text) text) run other is is') ∙ sym y_is
 
-class_same : (class : Class) (p : Place) (text : List ℕ) (x y : Front) → BeginsWith class p text x → BeginsWith class p text y → x ≡ y
+class_same : (class : ByteClass) (p : Place) (text : List ℕ) (x y : Front) → BeginsWith class p text x → BeginsWith class p text y → x ≡ y
 class_same Run p text x y h k = run_front_same p text x y (run_len text == 0) h k
 class_same Blank p text x y h k = h ∙ sym k
 class_same LineFeed p text x y h k = h ∙ sym k
@@ -37,7 +38,7 @@ class_same Other p text x y h k = h ∙ sym k
 -- one thing begins at a place
 begins_same : (p : Place) (text : List ℕ) (x y : Front) → Begins p text x → Begins p text y → x ≡ y
 begins_same p [] x y h k = h ∙ sym k
-begins_same p (b ∷ bs) x y h k = class_same (class_of b) p (b ∷ bs) x y h k
+begins_same p (b ∷ bs) x y h k = class_same (byte_class b) p (b ∷ bs) x y h k
 
 -- what the text is, by what begins at the place
 abbrev Goes : Place → List ℕ → Lexed → Front → Type 0
@@ -67,8 +68,8 @@ all_onto done (Ok ts) = Ok (done ++ ts)
 all_onto _ (Err f) = Err f
 
 -- how far a reader has come: `done` was read of the text, and `rest` is left from a place on
-pub record IsSoFar (text : List ℕ) (done : List Token) (p : Place) (rest : List ℕ) : Type 0 where
-  pub onward : (lexed : Lexed) → Lexes p rest lexed → Lexes start text (all_onto done lexed)
+pub record IsLexedSoFar (text : List ℕ) (done : List Token) (p : Place) (rest : List ℕ) : Type 0 where
+  pub onward : (lexed : Lexed) → Lexes p rest lexed → IsLexed text (all_onto done lexed)
 
 all_onto_nil : (lexed : Lexed) → lexed ≡ all_onto [] lexed
 all_onto_nil (Ok ts) = refl
@@ -78,22 +79,22 @@ all_onto_one : (done : List Token) (t : Token) (lexed : Lexed) → all_onto done
 all_onto_one done t (Ok ts) = ap Ok (sym (append_assoc done (t ∷ []) ts))
 all_onto_one done t (Err f) = refl
 
-pub so_far_begins : (text : List ℕ) → IsSoFar text [] start text
-so_far_begins text = record { onward = λ lexed h. subst (Lexes start text) (all_onto_nil lexed) h }
+pub so_far_begins : (text : List ℕ) → IsLexedSoFar text [] text_start text
+so_far_begins text = record { onward = λ lexed h. subst (IsLexed text) (all_onto_nil lexed) h }
 
-pub so_far_skips : (text : List ℕ) (done : List Token) (p : Place) (rest : List ℕ) (n : ℕ) (q : Place) → IsSoFar text done p rest → Begins p rest (Skipped n q) → IsSoFar text done q (drop n rest)
+pub so_far_skips : (text : List ℕ) (done : List Token) (p : Place) (rest : List ℕ) (n : ℕ) (q : Place) → IsLexedSoFar text done p rest → Begins p rest (Skipped n q) → IsLexedSoFar text done q (drop n rest)
 so_far_skips text done p rest n q so_far b = record { onward = λ lexed h. so_far.onward lexed (skip p rest n q lexed b h) }
 
-pub so_far_finds : (text : List ℕ) (done : List Token) (p : Place) (rest : List ℕ) (t : Token) (n : ℕ) (q : Place) → IsSoFar text done p rest → Begins p rest (Found t n q) → IsSoFar text (done ++ t ∷ []) q (drop n rest)
+pub so_far_finds : (text : List ℕ) (done : List Token) (p : Place) (rest : List ℕ) (t : Token) (n : ℕ) (q : Place) → IsLexedSoFar text done p rest → Begins p rest (Found t n q) → IsLexedSoFar text (done ++ t ∷ []) q (drop n rest)
 so_far_finds text done p rest t n q so_far b = record {
-  onward = λ lexed h. subst (Lexes start text) (all_onto_one done t lexed) (so_far.onward (onto t lexed) (token p rest t n q lexed b h));
+  onward = λ lexed h. subst (IsLexed text) (all_onto_one done t lexed) (so_far.onward (onto t lexed) (token p rest t n q lexed b h));
 }
 
-only : (text : List ℕ) (lexed : Lexed) → Lexes start text lexed → IsOnly text lexed
-only text lexed h = record { reads = h; only = λ other k. lexes_same start text other lexed k h }
+only : (text : List ℕ) (lexed : Lexed) → IsLexed text lexed → IsOnly IsLexed text lexed
+only text lexed h = record { reads = h; only = λ other k. lexes_same text_start text other lexed k h }
 
-pub so_far_ends : (text : List ℕ) (done : List Token) (p : Place) (rest : List ℕ) → IsSoFar text done p rest → Begins p rest End → IsOnly text (Ok (done ++ end_token p ∷ []))
+pub so_far_ends : (text : List ℕ) (done : List Token) (p : Place) (rest : List ℕ) → IsLexedSoFar text done p rest → Begins p rest End → IsOnly IsLexed text (Ok (done ++ end_token p ∷ []))
 so_far_ends text done p rest so_far b = only text (Ok (done ++ end_token p ∷ [])) (so_far.onward (Ok (end_token p ∷ [])) (end p rest b))
 
-pub so_far_fails : (text : List ℕ) (done : List Token) (p : Place) (rest : List ℕ) (f : ConfFault) → IsSoFar text done p rest → Begins p rest (Faulty f) → IsOnly text (Err f)
+pub so_far_fails : (text : List ℕ) (done : List Token) (p : Place) (rest : List ℕ) (f : ConfFault) → IsLexedSoFar text done p rest → Begins p rest (Faulty f) → IsOnly IsLexed text (Err f)
 so_far_fails text done p rest f so_far b = only text (Err f) (so_far.onward (Err f) (fault p rest f b))

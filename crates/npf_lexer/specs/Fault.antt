@@ -1,7 +1,6 @@
 -- How a fault of a configuration is printed: its number and its name.
 use Rattle.std.specs.Prelude.{ℕ, List, codes}
 use Rattle.npf_lexer.specs.declared.fault.Excess.{Excess}
-use Rattle.npf_lexer.specs.declared.fault.Excess.TheVariants as Excess
 use Rattle.npf_lexer.specs.declared.fault.Fault.{Fault}
 use Rattle.npf_lexer.specs.declared.fault.Fault.TheVariants.{BadByte, OpenString, NumberTooLarge, Expected, UnknownVariable, UnknownInterface, UnknownService, EmptyList, BadIfaceFile, BadTableFile, NoDefault, TwoDefaults, UnknownTable, UnknownProcedure, FamilyMix, PortNeedsTcpUdp, DuplicateName, BadMap, Unbuilt, TooMany}
 
@@ -36,11 +35,11 @@ printed BadMap = numbered 47 (codes "BadMap")
 printed Unbuilt = numbered 48 (codes "Unbuilt")
 printed (TooMany _ _) = numbered 49 (codes "TooMany")
 
-abbrev pub number_of : Fault → ℕ
-number_of fault = (printed fault).number
+abbrev pub fault_number : Fault → ℕ
+fault_number fault = (printed fault).number
 
-abbrev pub name_of : Fault → List ℕ
-name_of fault = (printed fault).name
+abbrev pub fault_name : Fault → List ℕ
+fault_name fault = (printed fault).name
 
 abbrev pub excess_name : Excess → List ℕ
 excess_name Excess.Rules = codes "rules"

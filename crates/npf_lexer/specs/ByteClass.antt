@@ -1,8 +1,8 @@
 -- What a byte of npf.conf(5) begins, outside comments and strings, and which bytes go on.
 use Rattle.std.specs.Prelude.{ℕ, Bool, not, ◌||◌, ◌&&◌, ◌==◌, if◌then◌else◌}
 use Rattle.std.specs.Char.{is_ascii_alphabetic, is_ascii_alphanumeric}
-use Rattle.npf_lexer.specs.declared.class.Class.{Class}
-use Rattle.npf_lexer.specs.declared.class.Class.TheVariants.{Blank, LineFeed, Semicolon, Backslash, Comment, Quote, Dollar, Run, Other}
+use Rattle.npf_lexer.specs.declared.byte_class.ByteClass.{ByteClass}
+use Rattle.npf_lexer.specs.declared.byte_class.ByteClass.TheVariants.{Blank, LineFeed, Semicolon, Backslash, Comment, Quote, Dollar, Run, Other}
 
 -- a letter, a digit, `_`, `.` or `:`
 abbrev pub is_run_byte : ℕ → Bool
@@ -25,8 +25,8 @@ abbrev pub is_line_byte : ℕ → Bool
 is_line_byte b = not (b == 10)
 
 -- space, tab and carriage return; line feed; `;`; `\`; `#`; `"`; `$`; a run; and all else
-abbrev pub class_of : ℕ → Class
-class_of b =
+abbrev pub byte_class : ℕ → ByteClass
+byte_class b =
     if b == 32 || b == 9 || b == 13 then Blank
     else (if b == 10 then LineFeed
     else (if b == 59 then Semicolon

@@ -1,18 +1,14 @@
 -- A run of npf.conf(5): how far it goes, and what it is.
-use Rattle.std.specs.Prelude.{◌≡◌, ℕ, ◌+◌, ◌-◌, ◌^◌, nat_lt, nat_le, Bool, true, false, not, ◌||◌, ◌&&◌, ◌==◌, if◌then◌else◌, ◌⊎◌, List, [], ◌∷◌, length, take, slice_index, MatchBool}
+use Rattle.std.specs.Prelude.{◌≡◌, ℕ, ◌+◌, ◌-◌, ◌^◌, nat_lt, nat_le, Bool, not, ◌||◌, ◌&&◌, ◌==◌, if◌then◌else◌, ◌⊎◌, List, [], ◌∷◌, slice_index, MatchBool}
 use Rattle.std.specs.Char.{is_ascii_alphabetic, is_ascii_alphanumeric, is_ascii_digit}
 use Rattle.std.specs.List.{list_all}
 use Rattle.std.specs.Str.Parse.{digits_value}
-use Rattle.std.specs.Net.Addr.{ipv4_bits, ipv6_bits}
-use Rattle.std.specs.Net.Grammar.{IsIpText}
-use Rattle.std.specs.declared.net.ip_addr.IpAddr.{IpAddr}
-use Rattle.std.specs.declared.net.ip_addr.IpAddr.TheVariants as Ip
 use Rattle.npf_types.specs.declared.address.Addr.{Addr}
-use Rattle.npf_types.specs.declared.address.Addr.TheVariants as Address
+use Rattle.npf_types.specs.AddressText.{IsAddressText}
 use Rattle.npf_lexer.specs.declared.run.Run.{Run}
 use Rattle.npf_lexer.specs.declared.run.Run.TheVariants.{Kind, TooLarge, Nothing}
 use Rattle.npf_lexer.specs.declared.token.TokenKind.TheVariants as Token
-use Rattle.npf_lexer.specs.Classes.{is_run_byte}
+use Rattle.npf_lexer.specs.ByteClass.{is_run_byte}
 
 -- whether a run goes on with the first byte of what is left: `-` may stand in a run that begins with a letter, directly
 -- before a letter or a digit
@@ -43,17 +39,6 @@ is_decimal run = is_ascii_digit (slice_index run 0) && list_all is_ascii_digit r
 abbrev pub number_run : List ℕ → Run
 number_run run = if nat_lt (digits_value 10 run) (2 ^ 32) then Kind (Token.Number (digits_value 10 run)) else TooLarge
 
--- an address as a number of its family
-abbrev pub addr_of : IpAddr → Addr
-addr_of (Ip.V4 a) = Address.V4 (ipv4_bits a)
-addr_of (Ip.V6 a) = Address.V6 (ipv6_bits a)
-
--- the run writes this address: four numbers of 0 to 255 without leading zeros, or groups of RFC 4291 section 2.2
-pub record IsAddress (run : List ℕ) (address : Addr) : Type 0 where
-  pub ip : IpAddr
-  pub text : IsIpText run ip
-  pub value : address ≡ addr_of ip
-
 abbrev pub is_no_colon : ℕ → Bool
 is_no_colon b = not (b == 58)
 
@@ -67,9 +52,9 @@ word_run run = if is_word run then Kind (Token.Word run) else Nothing
 -- an address, or else a word, or else nothing
 abbrev pub IsAddressOrWord : List ℕ → Run → Type 0
 IsAddressOrWord run is =
-    ((address : Addr) × IsAddress run address × (is ≡ Kind (Token.Address address)))
-    ⊎ (((address : Addr) → ¬ IsAddress run address) × (is ≡ word_run run))
+    ((address : Addr) × IsAddressText run address × (is ≡ Kind (Token.Address address)))
+    ⊎ (((address : Addr) → ¬ IsAddressText run address) × (is ≡ word_run run))
 
 -- what a run is: the first of a number, an address and a word that fits
-abbrev pub IsRun : List ℕ → Run → Type 0
-IsRun run is = MatchBool (is_decimal run) (is ≡ number_run run) (IsAddressOrWord run is)
+abbrev pub ReadsRun : List ℕ → Run → Type 0
+ReadsRun run is = MatchBool (is_decimal run) (is ≡ number_run run) (IsAddressOrWord run is)

@@ -1,11 +1,7 @@
-use crate::fault::{ConfFault, Excess, Fault, Refused};
-use crate::lexer::lex;
-use crate::token::{Sign, Token, TokenKind};
+use npf_lexer::{ConfFault, Excess, Fault, Refused, Sign, Token, TokenKind, lex};
+use npf_types::limits::MAX_TEXT_BYTES;
 use npf_types::{Addr, Span};
 use std::alloc::Global;
-
-/// No text of a table is longer, in bytes.
-const LONGEST_TEXT: usize = 100;
 
 /// A token's kind as a table writes it.
 #[derive(Clone, Copy)]
@@ -48,7 +44,7 @@ fn is_row(token: &Token, row: Row) -> bool {
 
 /// Whether the text spells exactly these tokens.
 fn spells(alloc: Global, text: &[u8], rows: &[Row]) -> bool {
-    if text.len() > LONGEST_TEXT {
+    if text.len() > MAX_TEXT_BYTES {
         return false;
     }
     match lex(alloc, text) {
@@ -65,7 +61,7 @@ fn spells(alloc: Global, text: &[u8], rows: &[Row]) -> bool {
 
 /// Whether the text spells one token of this kind, over all its bytes.
 fn spells_one(alloc: Global, text: &[u8], kind: Kind) -> bool {
-    if text.len() > LONGEST_TEXT {
+    if text.len() > MAX_TEXT_BYTES {
         return false;
     }
     let len = text.len() as u32;
@@ -78,7 +74,7 @@ fn spells_one(alloc: Global, text: &[u8], kind: Kind) -> bool {
 
 /// The text's fault, and its line, column, place and length.
 fn fault_of(alloc: Global, text: &[u8]) -> Option<(Fault, Span)> {
-    if text.len() > LONGEST_TEXT {
+    if text.len() > MAX_TEXT_BYTES {
         return None;
     }
     match lex(alloc, text) {

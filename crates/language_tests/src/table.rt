@@ -1,5 +1,5 @@
-use super::*;
 use npf_model::Kind;
+use npf_table::{Table, TableFault};
 use npf_types::{Addr, Prefix};
 use std::test::Fail;
 

@@ -1,21 +1,21 @@
 -- What a run is: one thing, and which.
-use Rattle.std.proofs.Common.{◌≡◌, ◌≢◌, ℕ, ◌+◌, ◌^◌, ◌<◌, ◌≤◌, ◌==◌, ◌&&◌, Bool, true, false, nat_lt, cond, MatchBool, Result, Ok, Err, IfOk, List, [], ◌∷◌, length, drop, take, slice_index, refl, sym, ap, subst, ◌∙◌, inl, inr, arith}
+use Rattle.std.proofs.Common.{◌≡◌, ℕ, ◌^◌, ◌<◌, ◌==◌, ◌&&◌, Bool, true, false, nat_lt, MatchBool, Result, Ok, Err, IfOk, List, [], ◌∷◌, length, take, slice_index, refl, sym, ap, subst, ◌∙◌, inl, inr, arith}
 use Rattle.std.proofs.lemmas.Bool.Decides.{nat_tests}
 use Rattle.std.specs.Char.{is_ascii_digit, digit_value}
 use Rattle.std.specs.List.{list_all}
-use Rattle.std.specs.Net.Grammar.{IsIpText}
 use Rattle.std.specs.Str.Parse.{AllDigits, IsNumeral, digits_value, without_leading_plus}
-use Rattle.std.proofs.NetLemmas.Theorems.{IsIpText_unique}
 use Rattle.npf_types.specs.declared.address.Addr.{Addr}
 use Rattle.npf_types.specs.declared.memory.NoMemory.{NoMemory}
+use Rattle.npf_types.specs.AddressText.{IsAddressText}
+use Rattle.npf_types.proofs.AddressTextLemmas.{one_address}
 use Rattle.npf_lexer.specs.declared.front.Front.{Front}
 use Rattle.npf_lexer.specs.declared.place.Place.{Place}
 use Rattle.npf_lexer.specs.declared.run.Run.{Run}
 use Rattle.npf_lexer.specs.declared.run.Run.TheVariants.{Kind, TooLarge}
 use Rattle.npf_lexer.specs.declared.token.Sign.TheVariants.{Colon}
 use Rattle.npf_lexer.specs.declared.token.TokenKind.TheVariants as Token
-use Rattle.npf_lexer.specs.Fronts.{IsRunFront, run_front, token}
-use Rattle.npf_lexer.specs.Runs.{IsAddress, addr_of, IsAddressOrWord, IsRun, number_run, word_run, is_decimal, run_len}
+use Rattle.npf_lexer.specs.Front.{IsRunFront, run_front, token_front}
+use Rattle.npf_lexer.specs.Run.{IsAddressOrWord, ReadsRun, number_run, word_run, is_decimal, run_len}
 
 both : (a b : Bool) → (a && b) ≡ true → (a ≡ true) × (b ≡ true)
 both true b h = (refl, h)
@@ -51,23 +51,20 @@ decimal_too_large run is none =
     rw large refl
 
 -- a run that is neither digits nor an address
-pub word_is_run : (run : List ℕ) (r : Result Run NoMemory) → is_decimal run ≡ false → ((address : Addr) → ¬ IsAddress run address) → IfOk r (λ is. is ≡ word_run run) → IfOk r (IsRun run)
+pub word_is_run : (run : List ℕ) (r : Result Run NoMemory) → is_decimal run ≡ false → ((address : Addr) → ¬ IsAddressText run address) → IfOk r (λ is. is ≡ word_run run) → IfOk r (ReadsRun run)
 word_is_run run (Ok x) other none is = subst (λ b. MatchBool b (x ≡ number_run run) (IsAddressOrWord run x)) (sym other) (inr (none, is))
 word_is_run run (Err _) other none is = search
 
 -- what begins with a run
-pub run_begins : (p : Place) (text : List ℕ) (n : ℕ) (run : Run) (front : Front) → n ≡ run_len text → (n == 0) ≡ false → IsRun (take n text) run → front ≡ run_front n p run → IsRunFront p text front
+pub run_begins : (p : Place) (text : List ℕ) (n : ℕ) (run : Run) (front : Front) → n ≡ run_len text → (n == 0) ≡ false → ReadsRun (take n text) run → front ≡ run_front n p run → IsRunFront p text front
 run_begins p text n run front n_is some is front_is =
-    let at_n : (m : ℕ) → n ≡ m → MatchBool (m == 0) (front ≡ token (Token.Sign Colon) 1 p) ((r : Run) × IsRun (take m text) r × (front ≡ run_front m p r)) =
-    λ m same. subst (λ k. MatchBool (k == 0) (front ≡ token (Token.Sign Colon) 1 p) ((r : Run) × IsRun (take k text) r × (front ≡ run_front k p r))) same
-    (subst (λ b. MatchBool b (front ≡ token (Token.Sign Colon) 1 p) ((r : Run) × IsRun (take n text) r × (front ≡ run_front n p r))) (sym some) (run, is, front_is)) in
+    let at_n : (m : ℕ) → n ≡ m → MatchBool (m == 0) (front ≡ token_front (Token.Sign Colon) 1 p) ((r : Run) × ReadsRun (take m text) r × (front ≡ run_front m p r)) =
+    λ m same. subst (λ k. MatchBool (k == 0) (front ≡ token_front (Token.Sign Colon) 1 p) ((r : Run) × ReadsRun (take k text) r × (front ≡ run_front k p r))) same
+    (subst (λ b. MatchBool b (front ≡ token_front (Token.Sign Colon) 1 p) ((r : Run) × ReadsRun (take n text) r × (front ≡ run_front n p r))) (sym some) (run, is, front_is)) in
     at_n (run_len text) n_is
 
-address_same : (run : List ℕ) (a b : Addr) → IsAddress run a → IsAddress run b → a ≡ b
-address_same run a b h k = h.value ∙ ap addr_of (IsIpText_unique run h.ip k.ip h.text k.text) ∙ sym k.value
-
 address_or_word_same : (run : List ℕ) (x y : Run) → IsAddressOrWord run x → IsAddressOrWord run y → x ≡ y
-address_or_word_same run x y (inl (a, is, x_is)) (inl (b, is', y_is)) = x_is ∙ ap (λ c. Kind (Token.Address c)) (address_same run a b is is') ∙ sym y_is
+address_or_word_same run x y (inl (a, is, x_is)) (inl (b, is', y_is)) = x_is ∙ ap (λ c. Kind (Token.Address c)) (one_address run a b is is') ∙ sym y_is
 address_or_word_same run x y (inl (a, is, _)) (inr (none, _)) = absurd (none a is)
 address_or_word_same run x y (inr (none, _)) (inl (b, is, _)) = absurd (none b is)
 address_or_word_same run x y (inr (_, x_is)) (inr (_, y_is)) = x_is ∙ sym y_is
@@ -77,5 +74,5 @@ run_same_by run x y true h k = h ∙ sym k
 run_same_by run x y false h k = address_or_word_same run x y h k
 
 -- a run is one thing
-pub run_same : (run : List ℕ) (x y : Run) → IsRun run x → IsRun run y → x ≡ y
+pub run_same : (run : List ℕ) (x y : Run) → ReadsRun run x → ReadsRun run y → x ≡ y
 run_same run x y h k = run_same_by run x y (is_decimal run) h k
