@@ -2,7 +2,7 @@
 -- number.
 use Rattle.std.specs.Prelude.{◌≡◌, ◌<◌, ◌≤◌, ◌⊎◌, Bool, ◌==◌, ◌&&◌, ◌||◌, nat_lt, if◌then◌else◌, Option, Some, None, List, [], ◌∷◌, Contains, All}
 use Rattle.npf_types.specs.declared.span.Span.{Span}
-use Rattle.npf_lexer.specs.Faults.{number_of}
+use Rattle.npf_lexer.specs.Fault.{fault_number}
 use Rattle.npf_lexer.specs.declared.fault.ConfFault.{ConfFault}
 use Rattle.npf_lexer.specs.declared.fault.Fault.{Fault}
 
@@ -16,7 +16,7 @@ fault_if test span fault = if test then fault_at span fault else []
 
 -- `f` is answered rather than `g`
 abbrev pub precedes : ConfFault → ConfFault → Bool
-precedes f g = nat_lt f.span.at g.span.at || (f.span.at == g.span.at && nat_lt (number_of f.fault) (number_of g.fault))
+precedes f g = nat_lt f.span.at g.span.at || (f.span.at == g.span.at && nat_lt (fault_number f.fault) (fault_number g.fault))
 
 abbrev pub earlier : Option ConfFault → Option ConfFault → Option ConfFault
 earlier None g = g
@@ -29,7 +29,7 @@ first_fault (f ∷ fs) = earlier (Some f) (first_fault fs)
 
 -- `g` stands behind `f`, or at its place with a number that isn't smaller
 abbrev pub NotBefore : ConfFault → ConfFault → Type 0
-NotBefore f g = (f.span.at < g.span.at) ⊎ ((f.span.at ≡ g.span.at) × (number_of f.fault ≤ number_of g.fault))
+NotBefore f g = (f.span.at < g.span.at) ⊎ ((f.span.at ≡ g.span.at) × (fault_number f.fault ≤ fault_number g.fault))
 
 -- the fault is one of these, and none of them is to be answered rather
 pub record IsFirstFaultOf (fs : List ConfFault) (f : ConfFault) : Type 0 where
