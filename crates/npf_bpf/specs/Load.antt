@@ -19,7 +19,8 @@ loaded_number Byte packet at = slice_index packet at
 -- that number, or none where it isn't all in the packet
 abbrev pub loaded : List ℕ → Width → ℕ → Option ℕ
 loaded packet width at =
-    if nat_le (at + size_of width) (length packet) then Some (loaded_number width packet at) else None
+    if nat_le (at + size_of width) (length packet) then Some (loaded_number width packet at) else
+    None
 
 -- the length of the IPv4 header at an offset: four times its first byte's low half
 abbrev pub header_length_at : List ℕ → ℕ → Option ℕ

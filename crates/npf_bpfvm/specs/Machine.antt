@@ -1,4 +1,5 @@
--- How the machine stands for the states and effects of npf_bpf, by which a program's value is defined.
+-- How the machine stands for the states and effects of npf_bpf, by which a program's value is
+-- defined.
 use Rattle.std.specs.Prelude.{◌≡◌, ℕ, ◌-◌, List, length, Some, slice_get, IsSomeAnd}
 use Rattle.npf_bpf.specs.declared.insn.Insn.{Insn}
 use Rattle.npf_bpf.specs.declared.operation.Operation.{Operation}

@@ -37,7 +37,3 @@ pub record DecodesIp (version : Version) (bytes : List ℕ) (ip_at : ℕ) (decod
 abbrev pub Decodes : Link → List ℕ → Decoded → Type 0
 Decodes link bytes decoded =
     MatchResult (version_behind link bytes) (λ version. DecodesIp version bytes (packet_at link) decoded) (λ answer. decoded ≡ answer)
-
--- for each link and bytes there is one decoding
-abbrev pub OneDecoding : Type 0
-OneDecoding = (link : Link) (bytes : List ℕ) (one other : Decoded) → Decodes link bytes one → Decodes link bytes other → one ≡ other

@@ -1,13 +1,17 @@
 pub mod Answers
 pub mod Chain
 pub mod Decoding
+pub mod DecodingLaw
 pub mod Ethernet
+pub mod Field
 pub mod Icmp
 pub mod Icmpv6
 pub mod Ipv4
 pub mod Ipv6
 pub mod Options
 pub mod Packet
+pub mod PacketField
+pub mod Place
 pub mod Tcp
 pub mod Udp
 pub mod Upper

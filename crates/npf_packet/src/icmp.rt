@@ -1,6 +1,6 @@
 // ICMP (RFC 792); specs/Icmp.antt has the picture of its header.
 ghost use Rattle.std.specs.Prelude.{◌≡◌, ◌+◌, ◌≤◌, length};
-ghost use Rattle.npf_packet.specs.Icmp.{decoding_icmp, echo_of};
+ghost use Rattle.npf_packet.specs.Icmp.{decoding_icmp, echo_in_icmp};
 ghost use Rattle.npf_packet.specs.Packet.{IsPlaced};
 
 use crate::decoded::Decoded;
@@ -45,7 +45,7 @@ pub(crate) fn decode_icmp(bytes: &[u8], packet: Packet) -> Decoded
 fn echo_at(bytes: &[u8], at: usize) -> Option<u16>
     requires whole { at + 8 ≤ length bytes.now }
     requires size { length bytes.now ≤ 262144 }
-    ensures { result ≡ echo_of bytes.now at }
+    ensures { result ≡ echo_in_icmp bytes.now at }
 {
     match bytes[at + field::TYPE] {
         ECHO | ECHO_REPLY => Some(get16(bytes, at + field::IDENTIFIER)),

@@ -1,6 +1,6 @@
 // ICMPv6 (RFC 4443); specs/Icmpv6.antt has the picture of its header.
 ghost use Rattle.std.specs.Prelude.{◌≡◌, ◌+◌, ◌≤◌, length};
-ghost use Rattle.npf_packet.specs.Icmpv6.{decoding_icmpv6, echo_of};
+ghost use Rattle.npf_packet.specs.Icmpv6.{decoding_icmpv6, echo_in_icmpv6};
 ghost use Rattle.npf_packet.specs.Packet.{IsPlaced};
 
 use crate::decoded::Decoded;
@@ -45,7 +45,7 @@ pub(crate) fn decode_icmpv6(bytes: &[u8], packet: Packet) -> Decoded
 fn echo_at(bytes: &[u8], at: usize) -> Option<u16>
     requires whole { at + 8 ≤ length bytes.now }
     requires size { length bytes.now ≤ 262144 }
-    ensures { result ≡ echo_of bytes.now at }
+    ensures { result ≡ echo_in_icmpv6 bytes.now at }
 {
     match bytes[at + field::TYPE] {
         ECHO_REQUEST | ECHO_REPLY => Some(get16(bytes, at + field::IDENTIFIER)),

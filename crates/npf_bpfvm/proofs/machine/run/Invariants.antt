@@ -9,7 +9,8 @@ invariant-steps g l =
     let cop = g.C.Cop.tells l.cop in
     record {
       within : l.at < length l.insns;
-      same : value_from l.insns l.at (state_in l.registers) l.packet cop ≡ program_value l.insns l.packet cop;
+      same : value_from l.insns l.at (state_in l.registers) l.packet cop ≡ program_value l.insns
+          l.packet cop;
     }
 
 abbrev pub decreases-steps : goal.decreases-steps
