@@ -1,6 +1,6 @@
 -- The numbers that a program loads from a packet, which begins at its IP header.
 use Rattle.std.specs.Prelude.{ℕ, ◌+◌, ◌*◌, ◌%◌, List, length, slice_index, Option, Some, None, option_map, if◌then◌else◌, nat_le}
-use Rattle.npf_fields.specs.Fields.{number16, number32}
+use Rattle.npf_fields.specs.Field.{number16, number32}
 use Rattle.npf_bpf.specs.declared.operation.Width.{Width}
 use Rattle.npf_bpf.specs.declared.operation.Width.TheVariants.{Word, Half, Byte}
 

@@ -12,12 +12,12 @@ use Rattle.npf_bpfvm.specs.declared.machine.Next.{Next}
 use Rattle.npf_bpfvm.specs.declared.machine.Next.TheVariants.{Onward, Returned}
 
 -- the state that the registers hold
-abbrev pub state_in : Registers → BpfState
-state_in r = record { accumulator = r.accumulator; index = r.index; memory = r.memory }
+abbrev pub bpf_state : Registers → BpfState
+bpf_state r = record { accumulator = r.accumulator; index = r.index; memory = r.memory }
 
 -- the effect that the machine's step tells
 abbrev pub effect_told : Next → Registers → Effect
-effect_told (Onward distance) r = Continues distance (state_in r)
+effect_told (Onward distance) r = Continues distance (bpf_state r)
 effect_told (Returned number) r = Returns number
 
 -- the operation of an instruction of a valid program

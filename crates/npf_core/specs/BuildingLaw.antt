@@ -1,6 +1,6 @@
 -- A connection that is Building is its seat's alone: the entries of other seats leave it Building and give it no key.
 use Rattle.std.specs.Prelude.{◌≡◌, ℕ, List, []}
-use Rattle.npf_types.specs.declared.connection.Way.{Way}
+use Rattle.npf_types.specs.declared.key.Way.{Way}
 use Rattle.npf_core.specs.declared.act.Act.TheVariants.{Claim}
 use Rattle.npf_core.specs.declared.entry.Entry.{Entry}
 use Rattle.npf_core.specs.declared.conn_id.ConnId.{ConnId}

@@ -1,6 +1,6 @@
 -- The keys that are held, as a list.
 use Rattle.std.specs.Prelude.{Bool, true, ◌&&◌, List, [], ◌∷◌, Option, option_map, find, is_none}
-use Rattle.npf_types.specs.declared.connection.Key.{Key}
+use Rattle.npf_types.specs.declared.key.Key.{Key}
 use Rattle.npf_core.specs.declared.found.Found.{Found}
 use Rattle.npf_core.specs.declared.holding.Holding.{Holding}
 use Rattle.npf_core.specs.Machine.{is_key}

@@ -1,6 +1,6 @@
 -- The key law: a connection that isn't Dead holds every key that a Hold gave it, and no key has two holders.
 use Rattle.std.specs.Prelude.{◌≡◌, ℕ, List, ◌∷◌, ◌++◌, Some}
-use Rattle.npf_types.specs.declared.connection.Key.{Key}
+use Rattle.npf_types.specs.declared.key.Key.{Key}
 use Rattle.npf_core.specs.declared.entry.Entry.{Entry}
 use Rattle.npf_core.specs.declared.act.Act.TheVariants.{Hold}
 use Rattle.npf_core.specs.declared.found.Found.{Found}

@@ -13,8 +13,8 @@ pub mod Meaning
 pub mod NextState
 pub mod Pass
 pub mod PlainMachine
-pub mod Plays
-pub mod Replay
+pub mod Playing
+pub mod Replaying
 pub mod ReplayLaw
 pub mod Replies
-pub mod Slots
+pub mod Slot

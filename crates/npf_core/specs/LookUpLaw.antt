@@ -1,7 +1,7 @@
 -- The stale look-up law: after a look-up whose step finds the connection not Live, the key has no Live holder.
 use Rattle.std.specs.Prelude.{◌≡◌, ℕ, List, ◌∷◌, ◌++◌, Some}
-use Rattle.npf_types.specs.declared.connection.Key.{Key}
-use Rattle.npf_types.specs.declared.connection.Way.{Way}
+use Rattle.npf_types.specs.declared.key.Key.{Key}
+use Rattle.npf_types.specs.declared.key.Way.{Way}
 use Rattle.npf_core.specs.declared.entry.Entry.{Entry}
 use Rattle.npf_core.specs.declared.act.Act.TheVariants.{Look, Step}
 use Rattle.npf_core.specs.declared.conn_id.ConnId.{ConnId}

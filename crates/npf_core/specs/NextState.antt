@@ -1,8 +1,8 @@
 -- The state that an act leaves, slot by slot and key by key. Each part goes by the act and by what it was itself.
 use Rattle.std.specs.Prelude.{ℕ, ◌+◌, ◌-◌, ◌^◌, min, Bool, true, false, ◌==◌, ◌&&◌, if◌then◌else◌, Option, Some, None}
-use Rattle.npf_types.specs.declared.connection.Key.{Key}
-use Rattle.npf_types.specs.declared.connection.Way.{Way}
-use Rattle.npf_types.specs.declared.connection.Way.TheVariants.{Forward, Backward, Port}
+use Rattle.npf_types.specs.declared.key.Key.{Key}
+use Rattle.npf_types.specs.declared.key.Way.{Way}
+use Rattle.npf_types.specs.declared.key.Way.TheVariants.{Forward, Backward, Port}
 use Rattle.npf_core.specs.declared.act.Act.{Act}
 use Rattle.npf_core.specs.declared.act.Act.TheVariants.{Claim, Look, Hold, Start, Step, Kill, Unhold, Free}
 use Rattle.npf_core.specs.declared.conn_id.ConnId.{ConnId}
@@ -62,9 +62,9 @@ abbrev pub slot_after : {S A R : Type 0} → Meaning S A R → ℕ → Act S A �
 slot_after m seat act s x = if is_at s act then changed m seat act x else x
 
 -- a key without a holder goes to who asks for it, one with a holder stays
-abbrev pub first_of : Option Found → Found → Option Found
-first_of None found = Some found
-first_of (Some holder) found = Some holder
+abbrev pub holder_or : Option Found → Found → Option Found
+holder_or None found = Some found
+holder_or (Some holder) found = Some holder
 
 -- a key is given up by its holder alone
 abbrev pub given_up : Option Found → Found → Option Found
@@ -73,7 +73,7 @@ given_up (Some holder) found = if is_found holder found then None else Some hold
 
 -- a Hold gives a key, an Unhold takes one back, and no other act changes a holder
 abbrev pub holder_after : {S A : Type 0} → Act S A → Key → Option Found → Option Found
-holder_after (Hold id key way) other x = if is_key key other then first_of x (record { id = id; way = way }) else x
+holder_after (Hold id key way) other x = if is_key key other then holder_or x (record { id = id; way = way }) else x
 holder_after (Unhold id way) other x = given_up x (record { id = id; way = way })
 holder_after (Claim packet slot) other x = x
 holder_after (Look packet key) other x = x

@@ -1,6 +1,6 @@
 -- The state that a plain machine is in.
 use Rattle.std.specs.Prelude.{◌≡◌, ℕ, ◌<◌, ◌-◌, ◌^◌, ◌==◌, length, if◌then◌else◌}
-use Rattle.npf_types.specs.declared.connection.Key.{Key}
+use Rattle.npf_types.specs.declared.key.Key.{Key}
 use Rattle.npf_core.specs.declared.conn_id.ConnId.{ConnId}
 use Rattle.npf_core.specs.declared.found.Found.{Found}
 use Rattle.npf_core.specs.declared.plain_machine.PlainMachine.{PlainMachine}
@@ -8,8 +8,8 @@ use Rattle.npf_core.specs.declared.stage.Stage.{Stage}
 use Rattle.npf_core.specs.Allowed.{MayClaim}
 use Rattle.npf_core.specs.Holding.{holder_in}
 use Rattle.npf_core.specs.Machine.{Machine, is_key}
-use Rattle.npf_core.specs.NextState.{first_of, given_up}
-use Rattle.npf_core.specs.Slots.{slot_in}
+use Rattle.npf_core.specs.NextState.{holder_or, given_up}
+use Rattle.npf_core.specs.Slot.{slot_in}
 
 -- the machine's state
 abbrev pub state_in : {S : Type 0} → PlainMachine S → Machine S
@@ -30,7 +30,7 @@ at_stage k id stage = record {
 abbrev pub given : {S : Type 0} → Machine S → Key → Found → Machine S
 given k key found = record {
   slot = k.slot;
-  holder = λ other. if is_key key other then first_of (k.holder other) found else k.holder other;
+  holder = λ other. if is_key key other then holder_or (k.holder other) found else k.holder other;
 }
 
 -- the state without what is held so

@@ -7,7 +7,7 @@ pub trait Law {
     ghost use Rattle.npf_core.specs.Meaning.{Meaning};
 
     /// The flow of a live connection.
-    type State: Copy + Send;
+    type State: Copy;
     /// What a packet brings to a step.
     type Arg: Copy;
     /// What a step answers.

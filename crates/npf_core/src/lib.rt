@@ -12,34 +12,31 @@
 #![tactic(auto)]
 
 mod act;
-mod acts;
 mod conn_id;
 mod entry;
 mod found;
 mod held;
-mod history;
 mod holding;
 mod law;
 pub mod laws;
 mod plain_machine;
+mod playing;
+mod replaying;
 mod reply;
 mod slot;
 mod stage;
 mod stepped;
 
 pub use act::{Act, Why};
-pub use acts::play;
 pub use conn_id::ConnId;
 pub use entry::Entry;
 pub use found::Found;
 pub use held::Held;
-pub use history::{Asked, ReplayFault, replay};
 pub use law::Law;
 pub use plain_machine::PlainMachine;
+pub use playing::play;
+pub use replaying::{Asked, ReplayFault, replay};
 pub use reply::Reply;
 pub use slot::Slot;
 pub use stage::Stage;
 pub use stepped::Stepped;
-
-#[cfg(test)]
-mod tests;

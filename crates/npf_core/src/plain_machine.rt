@@ -1,6 +1,6 @@
 ghost use Rattle.std.specs.Prelude.{◌≡◌, ℕ, ◌<◌, ◌-◌, ◌^◌, ◌↔◌, length, slice_get, IsTrue, IfOk, IfSome, IfNone, OnOk, OnErr};
 ghost use Rattle.npf_core.specs.Holding.{is_each_once};
-ghost use Rattle.npf_core.specs.Slots.{NextIncarnationsFit};
+ghost use Rattle.npf_core.specs.Slot.{NextIncarnationsFit};
 
 use crate::conn_id::ConnId;
 use crate::found::Found;
@@ -22,7 +22,7 @@ pub struct PlainMachine<S> {
 impl<S: Copy> PlainMachine<S> {
     ghost use Rattle.npf_core.specs.Allowed.{MayClaim};
     ghost use Rattle.npf_core.specs.Machine.{opening, stage_of, HoldsSome};
-    ghost use Rattle.npf_types.specs.declared.connection.Way.{Way};
+    ghost use Rattle.npf_types.specs.declared.key.Way.{Way};
     ghost use Rattle.npf_core.specs.PlainMachine.{state_in, slots_in, at_stage, given, taken_back, MayClaimNext};
 
     /// A machine in the opening state.

@@ -4,7 +4,7 @@ use Rattle.std.proofs.lemmas.List.{length-map}
 use Rattle.npf_ctl.specs.declared.rule.Rule.{Rule}
 use Rattle.npf_ctl.specs.declared.token.Token.{Token}
 use Rattle.npf_ctl.specs.Grammar.{IsFile, IsConfig, most_rules}
-use Rattle.npf_ctl.specs.Reading.{IsOnly}
+use Rattle.npf_types.specs.Reading.{IsOnly}
 use Rattle.npf_ctl.specs.Tokens.{Spells}
 use Rattle.npf_ctl.specs.Written.{Written, written_of}
 

@@ -1,9 +1,9 @@
 -- What the calls of a store do is the work that one thread is to do.
 use Rattle.std.proofs.Common.{◌≡◌, ℕ, true, false, Option, Some, None, List, slice_get, Result, Ok, Err, IfOk, refl, sym, ap, subst, ◌∙◌}
-use Rattle.npf_types.specs.declared.connection.Key.{Key}
-use Rattle.npf_types.specs.declared.connection.Way.{Way}
-use Rattle.npf_types.specs.declared.rule.Decision.TheVariants.{Pass, Block}
-use Rattle.npf_types.specs.declared.rule.Return.TheVariants.{Nothing}
+use Rattle.npf_types.specs.declared.key.Key.{Key}
+use Rattle.npf_types.specs.declared.key.Way.{Way}
+use Rattle.npf_types.specs.declared.decision.Decision.TheVariants.{Pass, Block}
+use Rattle.npf_types.specs.declared.decision.Return.TheVariants.{Nothing}
 use Rattle.npf_core.specs.declared.act.Why.TheVariants.{Abandoned}
 use Rattle.npf_core.specs.declared.conn_id.ConnId.{ConnId}
 use Rattle.npf_core.specs.declared.found.Found.{Found}
@@ -17,7 +17,7 @@ use Rattle.npf_flow.specs.Flows.{flow_law}
 use Rattle.npf_store.specs.declared.store.Store.{Store}
 use Rattle.npf_store.specs.Represents.{Represents}
 use Rattle.npf_store.specs.Store.{AnswersStep, AnswersHold, Starts, Kills, Claims}
-use Rattle.npf_store.proofs.Representing.{step_is_act, hold_is_act, start_is_act, kill_is_act, claim_is_act}
+use Rattle.npf_store.proofs.RepresentLemmas.{step_is_act, hold_is_act, start_is_act, kill_is_act, claim_is_act}
 use Rattle.npf_ctl.specs.declared.outcome.Outcome.{Outcome}
 use Rattle.npf_ctl.specs.declared.outcome.Outcome.TheVariants.{ByRule}
 use Rattle.npf_ctl.specs.declared.outcome.Unkept.TheVariants.{Kept}

@@ -5,10 +5,9 @@ use Rattle.npf_ctl.specs.declared.token.Token.{Token}
 use Rattle.npf_ctl.specs.declared.token.Token.TheVariants.{Separator, CloseBrace}
 use Rattle.npf_ctl.specs.Grammar.{AreItems, close, empty, item, is_separator, ends_item}
 use Rattle.npf_ctl.specs.Phrases.{rule_of}
-use Rattle.npf_ctl.specs.Reading.{IsOnly}
-use Rattle.npf_ctl.specs.SoFar.{IsSoFar}
+use Rattle.npf_types.specs.Reading.{IsOnly, IsSoFar}
 use Rattle.npf_ctl.specs.Written.{Written}
-use Rattle.npf_ctl.proofs.Readers.{IsSoFar-ends}
+use Rattle.npf_types.proofs.ReadingLemmas.{IsSoFar-ends}
 use Rattle.npf_ctl.proofs.Phrasing.{same_phrase, rule_sound, rule_complete, rule_shorter}
 
 items_close : (rest : List Token) (rules : List Written) → AreItems (CloseBrace ∷ rest) rules → IsTrue (list_all is_separator rest) × (rules ≡ [])

@@ -1,7 +1,6 @@
 pub mod Phrasing
 pub mod Configs
 pub mod Items
-pub mod Readers
 pub mod RunTokens
 pub mod TokenSteps
 pub mod RawCaptures

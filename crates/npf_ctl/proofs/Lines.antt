@@ -1,7 +1,7 @@
 -- One line more of a report.
 use Rattle.std.proofs.Common.{◌≡◌, ℕ, ◌+◌, ◌<◌, ◌≤◌, List, [], ◌∷◌, ◌++◌, Option, length, get_or, drop, ap, ◌∙◌, append_assoc, append-nil, drop-cons, add-one, subst}
 use Rattle.std.proofs.Math.ListN.{drop_of_length-le}
-use Rattle.npf_types.specs.declared.rule.Dir.{Dir}
+use Rattle.npf_types.specs.declared.direction.Dir.{Dir}
 use Rattle.npf_outside.specs.Put.{IsPutTo, Appends, AppendsFront}
 use Rattle.npf_outside.proofs.Putting.{IsPutTo-goes_on, IsPutTo-fails}
 use Rattle.npf_ctl.specs.declared.outcome.Outcome.{Outcome}

@@ -1,7 +1,7 @@
 -- What one thread asks for one packet is no other packet's.
 use Rattle.std.proofs.Common.{◌≡◌, ℕ, ◌==◌, Bool, true, false, cond, Option, Some, None, List, [], ◌∷◌, refl}
-use Rattle.npf_types.specs.declared.connection.Key.{Key}
-use Rattle.npf_types.specs.declared.connection.Way.TheVariants.{Forward, Backward}
+use Rattle.npf_types.specs.declared.key.Key.{Key}
+use Rattle.npf_types.specs.declared.key.Way.TheVariants.{Forward, Backward}
 use Rattle.npf_core.specs.declared.act.Act.TheVariants.{Claim, Hold, Step, Kill}
 use Rattle.npf_core.specs.declared.act.Why.TheVariants.{Abandoned}
 use Rattle.npf_core.specs.declared.conn_id.ConnId.{ConnId}

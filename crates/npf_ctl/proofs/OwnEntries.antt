@@ -1,10 +1,10 @@
 -- What one thread asks for a packet explains the outcome that it finds.
 use Rattle.std.proofs.Common.{◌≡◌, ◌≢◌, ◌⊎◌, inl, inr, ℕ, ◌<◌, ◌==◌, Bool, true, false, cond, Option, Some, None, List, [], ◌∷◌, ◌++◌, refl, sym, ap, subst, ◌∙◌, arith}
 use Rattle.std.proofs.lemmas.Bool.Decides.{Decides-eqb}
-use Rattle.npf_types.specs.declared.connection.Key.{Key}
-use Rattle.npf_types.specs.declared.connection.Way.{Way}
-use Rattle.npf_types.specs.declared.connection.Way.TheVariants.{Forward, Backward, Port}
-use Rattle.npf_types.specs.declared.rule.Decision.TheVariants.{Pass}
+use Rattle.npf_types.specs.declared.key.Key.{Key}
+use Rattle.npf_types.specs.declared.key.Way.{Way}
+use Rattle.npf_types.specs.declared.key.Way.TheVariants.{Forward, Backward, Port}
+use Rattle.npf_types.specs.declared.decision.Decision.TheVariants.{Pass}
 use Rattle.npf_core.specs.declared.act.Act.TheVariants.{Claim, Look, Hold, Start, Step, Kill, Unhold}
 use Rattle.npf_core.specs.declared.act.Why.TheVariants.{Abandoned}
 use Rattle.npf_core.specs.declared.conn_id.ConnId.{ConnId}
@@ -15,7 +15,7 @@ use Rattle.npf_core.specs.declared.stepped.Stepped.{Stepped}
 use Rattle.npf_core.specs.Machine.{IsClaimed, is_key, stage_of}
 use Rattle.npf_core.specs.NextState.{after_act}
 use Rattle.npf_core.specs.Replies.{claimed_id, held_by, step_answer}
-use Rattle.npf_core.proofs.Equalities.{is_id-Decides, is_key-Decides}
+use Rattle.npf_core.proofs.EqualityLemmas.{is_id-Decides, is_key-Decides}
 use Rattle.npf_flow.specs.declared.step.FlowReply.{FlowReply}
 use Rattle.npf_flow.specs.Flows.{flow_law}
 use Rattle.npf_ctl.specs.declared.outcome.Outcome.{Outcome}

@@ -1,9 +1,9 @@
 -- What one thread asks for a packet is legal.
 use Rattle.std.proofs.Common.{◌≡◌, ◌⊎◌, inl, inr, nat_lt, ℕ, zero, suc, ◌+◌, ◌<◌, ◌≤◌, ◌==◌, Bool, true, false, cond, Option, Some, None, List, [], ◌∷◌, refl, sym, ap, subst, ◌∙◌, arith}
 use Rattle.std.proofs.lemmas.Bool.Decides.{nat_tests, Decides-eqb}
-use Rattle.npf_types.specs.declared.connection.Key.{Key}
-use Rattle.npf_types.specs.declared.connection.Way.{Way}
-use Rattle.npf_types.specs.declared.connection.Way.TheVariants.{Forward, Backward}
+use Rattle.npf_types.specs.declared.key.Key.{Key}
+use Rattle.npf_types.specs.declared.key.Way.{Way}
+use Rattle.npf_types.specs.declared.key.Way.TheVariants.{Forward, Backward}
 use Rattle.npf_core.specs.declared.act.Act.TheVariants.{Claim, Look, Hold, Start, Step, Kill, Unhold}
 use Rattle.npf_core.specs.declared.act.Why.TheVariants.{Abandoned}
 use Rattle.npf_core.specs.declared.conn_id.ConnId.{ConnId}
@@ -13,16 +13,16 @@ use Rattle.npf_core.specs.declared.stage.Stage.{Stage}
 use Rattle.npf_core.specs.declared.stage.Stage.TheVariants.{Vacant, Building, Live, Dead}
 use Rattle.npf_core.specs.Allowed.{MayClaim}
 use Rattle.npf_core.specs.Machine.{stage_of, IsClaimed, Holds, is_key}
-use Rattle.npf_core.specs.NextState.{after_act, first_of, is_way}
+use Rattle.npf_core.specs.NextState.{after_act, holder_or, is_way}
 use Rattle.npf_core.specs.Replies.{claimed_id, held_by, step_answer}
-use Rattle.npf_core.proofs.Building.{claim_builds}
-use Rattle.npf_core.proofs.Equalities.{is_key-Decides}
-use Rattle.npf_core.proofs.Lives.{IsClaimed-last, IsClaimed-is}
+use Rattle.npf_core.proofs.BuildingLemmas.{claim_builds}
+use Rattle.npf_core.proofs.EqualityLemmas.{is_key-Decides}
+use Rattle.npf_core.proofs.LifeLemmas.{IsClaimed-last, IsClaimed-is}
 use Rattle.npf_flow.specs.Flows.{flow_law}
 use Rattle.npf_packet.specs.declared.decoded.Decoded.{Decoded}
 use Rattle.npf_packet.specs.declared.decoded.Decoded.TheVariants as Says
-use Rattle.npf_types.specs.declared.rule.Decision.TheVariants.{Pass, Block}
-use Rattle.npf_types.specs.declared.rule.Return.TheVariants.{Nothing}
+use Rattle.npf_types.specs.declared.decision.Decision.TheVariants.{Pass, Block}
+use Rattle.npf_types.specs.declared.decision.Return.TheVariants.{Nothing}
 use Rattle.npf_ctl.specs.declared.outcome.Outcome.{Outcome}
 use Rattle.npf_ctl.specs.declared.outcome.Outcome.TheVariants.{Skip, Malformed, ByRule}
 use Rattle.npf_ctl.specs.declared.outcome.Unkept.TheVariants.{Kept, Full, NoNode, Taken}
@@ -145,17 +145,17 @@ hold_forwards k id key fresh free = record {
     found : Way → Found
     found way = record { id = id; way = way }
 
-    is_it : (other : Key) (same : Bool) → is_key key other ≡ same → cond same (first_of (k.holder other) (found Forward)) (k.holder other) ≡ Some (found Forward) → other ≡ key
+    is_it : (other : Key) (same : Bool) → is_key key other ≡ same → cond same (holder_or (k.holder other) (found Forward)) (k.holder other) ≡ Some (found Forward) → other ≡ key
     is_it other true e h = sym ((is_key-Decides key other).0 e)
     is_it other false e h = absurd (fresh.none Forward other h)
 
     apart : ◌≡◌ {A = Option Found} (Some (found Forward)) (Some (found Backward)) → ⊥
     apart e = let both : true ≡ false = ap goes_forward e in cc
 
-    isnt : (other : Key) (same : Bool) → is_key key other ≡ same → cond same (first_of (k.holder other) (found Forward)) (k.holder other) ≡ Some (found Backward) → ⊥
+    isnt : (other : Key) (same : Bool) → is_key key other ≡ same → cond same (holder_or (k.holder other) (found Forward)) (k.holder other) ≡ Some (found Backward) → ⊥
     isnt other true e h =
         let here : k.holder other ≡ None = ap k.holder (sym ((is_key-Decides key other).0 e)) ∙ free in
-        let now : ◌≡◌ {A = Option Found} (Some (found Forward)) (Some (found Backward)) = ap (λ x. first_of x (found Forward)) (sym here) ∙ h in
+        let now : ◌≡◌ {A = Option Found} (Some (found Forward)) (Some (found Backward)) = ap (λ x. holder_or x (found Forward)) (sym here) ∙ h in
         apart now
     isnt other false e h = fresh.none Backward other h
 
@@ -163,7 +163,7 @@ hold_forwards k id key fresh free = record {
 pub hold_stays : (k : FlowMachine) (id : ConnId) (key other : Key) (way : Way) (holder : Found) → k.holder other ≡ Some holder → (after_act flow_law k 0 (Hold id key way)).holder other ≡ Some holder
 hold_stays k id key other way holder h = by (is_key key other)
   where
-    by : (same : Bool) → cond same (first_of (k.holder other) (record { id = id; way = way })) (k.holder other) ≡ Some holder
+    by : (same : Bool) → cond same (holder_or (k.holder other) (record { id = id; way = way })) (k.holder other) ≡ Some holder
     by true = rw h refl
     by false = h
 
@@ -175,7 +175,7 @@ backward_keeps k id back forward forwarded = record {
   only = λ other h. by other (is_key back other) (k.holder other) refl h;
 }
   where
-    by : (other : Key) (same : Bool) (was : Option Found) → k.holder other ≡ was → cond same (first_of was (record { id = id; way = Backward })) was ≡ Some (record { id = id; way = Forward }) → other ≡ forward
+    by : (other : Key) (same : Bool) (was : Option Found) → k.holder other ≡ was → cond same (holder_or was (record { id = id; way = Backward })) was ≡ Some (record { id = id; way = Forward }) → other ≡ forward
     by other true None e h = let both : false ≡ true = ap goes_forward h in absurd (let never : ⊥ = cc in never)
     by other true (Some holder) e h = forwarded.only other (e ∙ h)
     by other false was e h = forwarded.only other (e ∙ h)

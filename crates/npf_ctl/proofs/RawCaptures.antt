@@ -1,14 +1,14 @@
 -- A capture with this header is one of raw packets, its faults are those of its records, and it has none of them itself.
 use Rattle.std.proofs.Common.{◌≡◌, ℕ, List, refl, sym, ◌∙◌, subst, arith}
-use Rattle.npf_types.specs.declared.packet.Link.{Link}
-use Rattle.npf_types.specs.declared.packet.Link.TheVariants.{Raw}
+use Rattle.npf_types.specs.declared.link.Link.{Link}
+use Rattle.npf_types.specs.declared.link.Link.TheVariants.{Raw}
 use Rattle.npf_pcap.specs.declared.format.Format.{Format}
 use Rattle.npf_pcap.specs.declared.capture.Record.{Record}
 use Rattle.npf_pcap.specs.declared.fault.CaptureFault.{CaptureFault}
 use Rattle.npf_pcap.specs.declared.fault.CaptureFault.TheVariants.{ShortHeader, BadMagic, BadVersion, BadLink, CutRecord, LongRecord, NoMemory}
 use Rattle.npf_pcap.specs.Capture.{IsCapture, HasHeader, HasVersion, HasLink, HasCaptureFault}
-use Rattle.npf_pcap.proofs.FormatLaws.{same_format, same_link}
-use Rattle.npf_pcap.proofs.CaptureLaws.{captures_have_no_fault}
+use Rattle.npf_pcap.proofs.FormatLemmas.{same_format, same_link}
+use Rattle.npf_pcap.proofs.CaptureLemmas.{captures_have_no_fault}
 use Rattle.npf_ctl.specs.RawCapture.{classic, IsRawCapture, HasRawFault}
 
 pub raw_capture : (b : List ℕ) (link : Link) (records : List Record) → HasHeader classic Raw b → IsCapture b link records → IsRawCapture b records

@@ -10,7 +10,7 @@ use Rattle.npf_ctl.specs.declared.token.Token.TheVariants as Tok
 use Rattle.npf_ctl.specs.declared.token.Word.{Word}
 use Rattle.npf_ctl.specs.declared.token.Word.TheVariants as Words
 use Rattle.std.specs.Prelude.{slice_index, if◌then◌else◌, ◌==◌}
-use Rattle.npf_ctl.specs.Reading.{IsOnly}
+use Rattle.npf_types.specs.Reading.{IsOnly}
 use Rattle.npf_ctl.specs.Tokens.{IsNumber, IsAddress, IsRunToken, word_text}
 
 pub IsAddress-only : (run : List ℕ) (address : Ipv4Addr) (a : ℕ) → IsIpv4Text run address → a ≡ ipv4_bits address → IsOnly IsAddress run a

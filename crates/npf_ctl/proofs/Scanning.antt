@@ -7,7 +7,7 @@ use Rattle.npf_core.specs.declared.slot.Slot.{Slot}
 use Rattle.npf_core.specs.History.{state_from}
 use Rattle.npf_core.specs.NextState.{after_act, is_at, changed, is_id}
 use Rattle.npf_core.specs.Replies.{claimed_id}
-use Rattle.npf_core.proofs.Equalities.{is_id-Decides}
+use Rattle.npf_core.proofs.EqualityLemmas.{is_id-Decides}
 use Rattle.npf_flow.specs.declared.flow.Flow.{Flow}
 use Rattle.npf_flow.specs.Flows.{flow_law}
 use Rattle.npf_ctl.specs.Histories.{FlowAct, FlowEntry, FlowMachine, History, carries, builds, is_among, with_claimed, entries_after}

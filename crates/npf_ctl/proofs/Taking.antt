@@ -1,6 +1,6 @@
 -- Packets that were taken one after another: what they did, and one more.
 use Rattle.std.proofs.Common.{◌≡◌, ℕ, suc, ◌+◌, List, [], ◌∷◌, ◌++◌, length, refl, sym, ap, subst, ◌∙◌, arith}
-use Rattle.npf_types.specs.declared.packet.Link.TheVariants.{Raw}
+use Rattle.npf_types.specs.declared.link.Link.TheVariants.{Raw}
 use Rattle.npf_core.specs.Machine.{opening}
 use Rattle.npf_flow.specs.declared.flow.Flow.{Flow}
 use Rattle.npf_packet.specs.Decoding.{Decodes}
@@ -8,7 +8,7 @@ use Rattle.npf_pcap.specs.declared.capture.Record.{Record}
 use Rattle.npf_store.specs.declared.store.Store.{Store}
 use Rattle.npf_store.specs.Represents.{Represents}
 use Rattle.npf_store.specs.Store.{IsNew}
-use Rattle.npf_store.proofs.Representing.{new_is_opening}
+use Rattle.npf_store.proofs.RepresentLemmas.{new_is_opening}
 use Rattle.npf_ctl.specs.declared.outcome.Outcome.{Outcome}
 use Rattle.npf_ctl.specs.declared.rule.Rule.{Rule}
 use Rattle.npf_ctl.specs.Doing.{Arrives, Did}

@@ -6,8 +6,7 @@ use Rattle.npf_ctl.specs.declared.class.Class.{Class}
 use Rattle.npf_ctl.specs.declared.class.Class.TheVariants.{Blank, Backslash, Comment, Sign, Run, Unknown}
 use Rattle.npf_ctl.specs.declared.token.Token.{Token}
 use Rattle.npf_ctl.specs.Classes.{class_of, is_run_byte}
-use Rattle.npf_ctl.specs.Reading.{IsOnly}
-use Rattle.npf_ctl.specs.SoFar.{IsSoFar}
+use Rattle.npf_types.specs.Reading.{IsOnly, IsSoFar}
 use Rattle.npf_ctl.specs.Tokens.{Spells, end, blank, joined, comment, sign, run, IsRunToken, front_of, behind, is_within_line}
 
 -- what stands behind a byte of this class in a text that spells these tokens

@@ -4,8 +4,8 @@ use Rattle.npf_core.specs.Allowed.{Allows}
 use Rattle.npf_core.specs.History.{LegalFrom, state_from}
 use Rattle.npf_core.specs.HolderLaw.{HoldersAreClaimed, ClaimsWithNone}
 use Rattle.npf_core.specs.Machine.{opening}
-use Rattle.npf_core.proofs.Histories.{state_from-append, LegalFrom-append}
-use Rattle.npf_core.proofs.Holders.{holders_claimed, claim_with_none}
+use Rattle.npf_core.proofs.HistoryLemmas.{state_from-append, LegalFrom-append}
+use Rattle.npf_core.proofs.HolderLemmas.{holders_claimed, claim_with_none}
 use Rattle.npf_flow.specs.Flows.{flow_law}
 use Rattle.npf_ctl.specs.Histories.{FlowAct, FlowMachine}
 use Rattle.npf_ctl.specs.OneLine.{most_connections}

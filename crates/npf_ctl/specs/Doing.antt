@@ -1,9 +1,9 @@
 -- What the code does for a packet is the work that one thread is to do, from every state that a legal history leads to and that the
 -- store represents.
 use Rattle.std.specs.Prelude.{◌≡◌, ℕ, Some, List}
-use Rattle.npf_types.specs.declared.connection.Key.{Key}
-use Rattle.npf_types.specs.declared.connection.Way.{Way}
-use Rattle.npf_types.specs.declared.connection.Way.TheVariants.{Forward, Backward}
+use Rattle.npf_types.specs.declared.key.Key.{Key}
+use Rattle.npf_types.specs.declared.key.Way.{Way}
+use Rattle.npf_types.specs.declared.key.Way.TheVariants.{Forward, Backward}
 use Rattle.npf_core.specs.declared.conn_id.ConnId.{ConnId}
 use Rattle.npf_core.specs.declared.found.Found.{Found}
 use Rattle.npf_core.specs.declared.stage.Stage.TheVariants.{Building}
@@ -12,7 +12,7 @@ use Rattle.npf_core.specs.Machine.{stage_of, Holds, HoldsNone}
 use Rattle.npf_flow.specs.declared.flow.Flow.{Flow}
 use Rattle.npf_flow.specs.Flows.{flow_law}
 use Rattle.npf_packet.specs.Decoding.{Decodes}
-use Rattle.npf_types.specs.declared.packet.Link.TheVariants.{Raw}
+use Rattle.npf_types.specs.declared.link.Link.TheVariants.{Raw}
 use Rattle.npf_pcap.specs.declared.capture.Record.{Record}
 use Rattle.npf_store.specs.declared.store.Store.{Store}
 use Rattle.npf_store.specs.Represents.{Represents}

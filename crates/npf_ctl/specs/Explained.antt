@@ -3,15 +3,15 @@
 use Rattle.std.specs.Prelude.{◌≡◌, ◌≢◌, ◌⊎◌, Bool, ℕ, ◌+◌, ◌<◌, Option, Some, None, List, [], ◌∷◌, ◌++◌, slice_get}
 use Rattle.std.specs.List.Sorted.{IsPermutation, IsSortedByKey, IsStableByKey}
 use Rattle.std.specs.Ordering.{nat_cmp}
-use Rattle.npf_types.specs.declared.connection.Key.{Key}
-use Rattle.npf_types.specs.declared.connection.Way.{Way}
-use Rattle.npf_types.specs.declared.connection.Way.TheVariants.{Forward, Backward, Port}
-use Rattle.npf_types.specs.declared.packet.Facts.{Facts}
-use Rattle.npf_types.specs.declared.packet.Link.TheVariants.{Raw}
-use Rattle.npf_types.specs.declared.rule.Decision.{Decision}
-use Rattle.npf_types.specs.declared.rule.Decision.TheVariants.{Pass, Block}
-use Rattle.npf_types.specs.declared.rule.Return.{Return}
-use Rattle.npf_types.specs.declared.rule.Return.TheVariants.{Nothing}
+use Rattle.npf_types.specs.declared.key.Key.{Key}
+use Rattle.npf_types.specs.declared.key.Way.{Way}
+use Rattle.npf_types.specs.declared.key.Way.TheVariants.{Forward, Backward, Port}
+use Rattle.npf_types.specs.declared.facts.Facts.{Facts}
+use Rattle.npf_types.specs.declared.link.Link.TheVariants.{Raw}
+use Rattle.npf_types.specs.declared.decision.Decision.{Decision}
+use Rattle.npf_types.specs.declared.decision.Decision.TheVariants.{Pass, Block}
+use Rattle.npf_types.specs.declared.decision.Return.{Return}
+use Rattle.npf_types.specs.declared.decision.Return.TheVariants.{Nothing}
 use Rattle.npf_core.specs.declared.act.Act.TheVariants.{Claim, Look, Hold, Start, Step, Kill}
 use Rattle.npf_core.specs.declared.act.Why.TheVariants.{Abandoned}
 use Rattle.npf_core.specs.declared.conn_id.ConnId.{ConnId}

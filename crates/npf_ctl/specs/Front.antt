@@ -3,7 +3,7 @@ use Rattle.std.specs.Prelude.{◌≡◌, ◌<◌, ℕ, List, [], ◌∷◌, leng
 use Rattle.npf_ctl.specs.declared.lexer.Front.{Front}
 use Rattle.npf_ctl.specs.declared.lexer.Front.TheVariants.{End, Skipped, Token, Refused}
 use Rattle.npf_ctl.specs.declared.token.Token.{Token as TokenType}
-use Rattle.npf_ctl.specs.SoFar.{IsSoFar}
+use Rattle.npf_types.specs.Reading.{IsSoFar}
 use Rattle.npf_ctl.specs.Tokens.{Spells}
 
 abbrev pub IsFront : List ℕ → Front → Type 0

@@ -2,9 +2,9 @@
 -- a relation between the tokens from a place on, what they say, and the tokens that follow.
 use Rattle.std.specs.Prelude.{◌≡◌, ℕ, ◌≤◌, Bool, true, false, IsTrue, Some, None, List, [], ◌∷◌, length, map}
 use Rattle.std.specs.List.{list_all}
-use Rattle.npf_types.specs.declared.rule.Decision.{Decision}
-use Rattle.npf_types.specs.declared.rule.Decision.TheVariants as Decides
-use Rattle.npf_types.specs.declared.rule.Return.TheVariants.{Nothing}
+use Rattle.npf_types.specs.declared.decision.Decision.{Decision}
+use Rattle.npf_types.specs.declared.decision.Decision.TheVariants as Decides
+use Rattle.npf_types.specs.declared.decision.Return.TheVariants.{Nothing}
 use Rattle.npf_ctl.specs.declared.rule.Rule.{Rule}
 use Rattle.npf_ctl.specs.declared.rule.StateOpt.TheVariants.{Not, OnInterface}
 use Rattle.npf_ctl.specs.declared.token.Token.{Token}

@@ -1,8 +1,6 @@
 pub mod Classes
 pub mod Tokens
-pub mod SoFar
 pub mod Front
-pub mod Reading
 pub mod Written
 pub mod Grammar
 pub mod Phrases

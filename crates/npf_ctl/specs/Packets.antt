@@ -1,17 +1,17 @@
 -- What of a packet is asked of connections.
 use Rattle.std.specs.Prelude.{◌≡◌, ℕ, false, Option, Some, None, List, [], ◌∷◌}
-use Rattle.npf_types.specs.declared.connection.IfId.{IfId}
-use Rattle.npf_types.specs.declared.connection.Key.{Key}
-use Rattle.npf_types.specs.declared.packet.L4.{L4}
-use Rattle.npf_types.specs.declared.packet.L4.TheVariants.{Tcp}
-use Rattle.npf_types.specs.declared.packet.Link.TheVariants.{Raw}
-use Rattle.npf_types.specs.declared.packet.Segment.{Segment}
-use Rattle.npf_types.specs.declared.rule.Action.{Action}
-use Rattle.npf_types.specs.declared.rule.Change.{Change}
+use Rattle.npf_types.specs.declared.interface.IfId.{IfId}
+use Rattle.npf_types.specs.declared.key.Key.{Key}
+use Rattle.npf_types.specs.declared.facts.L4.{L4}
+use Rattle.npf_types.specs.declared.facts.L4.TheVariants.{Tcp}
+use Rattle.npf_types.specs.declared.link.Link.TheVariants.{Raw}
+use Rattle.npf_types.specs.declared.facts.Segment.{Segment}
+use Rattle.npf_types.specs.declared.action.Action.{Action}
+use Rattle.npf_types.specs.declared.change.Change.{Change}
 use Rattle.npf_flow.specs.declared.flow.Flow.{Flow}
 use Rattle.npf_flow.specs.declared.step.FlowArg.{FlowArg}
 use Rattle.npf_flow.specs.Flows.{opening_flow}
-use Rattle.npf_key.specs.Keys.{key_of, backward_key}
+use Rattle.npf_key.specs.Key.{key_of, backward_key}
 use Rattle.npf_packet.specs.declared.decoded.Decoded.{Decoded}
 use Rattle.npf_packet.specs.Decoding.{Decodes}
 use Rattle.npf_pcap.specs.declared.capture.Record.{Record}

@@ -2,7 +2,7 @@
 use Rattle.std.specs.Prelude.{◌≡◌, ◌<◌, Option, List, [], ◌∷◌, length}
 use Rattle.std.specs.Option.{option_map}
 use Rattle.std.specs.Borrow.{Bor}
-use Rattle.npf_types.specs.declared.address.Prefix.{Prefix}
+use Rattle.npf_types.specs.declared.prefix.Prefix.{Prefix}
 use Rattle.npf_ctl.specs.declared.parser.Filter.{Filter}
 use Rattle.npf_ctl.specs.declared.parser.Item.{Item}
 use Rattle.npf_ctl.specs.declared.parser.Item.TheVariants.{Close, Empty, Rule as One, Refused}
@@ -10,7 +10,7 @@ use Rattle.npf_ctl.specs.declared.rule.Rule.{Rule}
 use Rattle.npf_ctl.specs.declared.token.Token.{Token}
 use Rattle.npf_ctl.specs.declared.token.Token.TheVariants.{CloseBrace}
 use Rattle.npf_ctl.specs.Grammar.{AreItems}
-use Rattle.npf_ctl.specs.SoFar.{IsSoFar}
+use Rattle.npf_types.specs.Reading.{IsSoFar}
 use Rattle.npf_ctl.specs.Written.{Ends, Written, block_of, written_of}
 use Rattle.npf_ctl.specs.Phrases.{Phrase}
 

@@ -1,8 +1,8 @@
 -- What stands at the front of tokens, read with one token of sight, and the tokens behind it.
 use Rattle.std.specs.Prelude.{ℕ, nat_le, if◌then◌else◌, Bool, true, false, Option, Some, None, List, ◌∷◌}
-use Rattle.npf_types.specs.declared.rule.Decision.{Decision}
-use Rattle.npf_types.specs.declared.rule.Decision.TheVariants as Decides
-use Rattle.npf_types.specs.declared.rule.Return.TheVariants.{Nothing}
+use Rattle.npf_types.specs.declared.decision.Decision.{Decision}
+use Rattle.npf_types.specs.declared.decision.Decision.TheVariants as Decides
+use Rattle.npf_types.specs.declared.decision.Return.TheVariants.{Nothing}
 use Rattle.npf_ctl.specs.declared.token.Token.{Token}
 use Rattle.npf_ctl.specs.declared.token.Token.TheVariants.{Slash, Number, Address, Word}
 use Rattle.npf_ctl.specs.declared.token.Word.TheVariants.{Pass, Block, Final, All, From, To, Any, Stateful, Proto, Udp}

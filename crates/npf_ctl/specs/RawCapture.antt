@@ -1,6 +1,6 @@
 -- The captures that a run takes so far, and the first test that other bytes fail (pcap-savefile(5)).
 use Rattle.std.specs.Prelude.{ℕ, ◌<◌, ◌≤◌, List, length}
-use Rattle.npf_types.specs.declared.packet.Link.TheVariants.{Raw}
+use Rattle.npf_types.specs.declared.link.Link.TheVariants.{Raw}
 use Rattle.npf_pcap.specs.declared.format.Format.{Format}
 use Rattle.npf_pcap.specs.declared.format.Order.TheVariants.{Little}
 use Rattle.npf_pcap.specs.declared.format.Precision.TheVariants.{Micro}

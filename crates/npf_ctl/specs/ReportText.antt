@@ -1,12 +1,12 @@
 -- The text of a report: a line for each packet, in order, and then the total line.
 use Rattle.std.specs.Prelude.{ℕ, ◌+◌, Bool, true, false, not, Option, Some, None, List, [], ◌∷◌, ◌++◌, length, count_by, codes}
 use Rattle.std.specs.Fmt.{decimal}
-use Rattle.npf_types.specs.declared.rule.Decision.{Decision}
-use Rattle.npf_types.specs.declared.rule.Decision.TheVariants.{Pass, Block}
-use Rattle.npf_types.specs.declared.rule.Dir.{Dir}
-use Rattle.npf_types.specs.declared.rule.Dir.TheVariants.{In, Out}
-use Rattle.npf_types.specs.declared.rule.Return.{Return}
-use Rattle.npf_types.specs.declared.rule.Return.TheVariants.{Nothing, Any, Rst, Icmp}
+use Rattle.npf_types.specs.declared.decision.Decision.{Decision}
+use Rattle.npf_types.specs.declared.decision.Decision.TheVariants.{Pass, Block}
+use Rattle.npf_types.specs.declared.direction.Dir.{Dir}
+use Rattle.npf_types.specs.declared.direction.Dir.TheVariants.{In, Out}
+use Rattle.npf_types.specs.declared.decision.Return.{Return}
+use Rattle.npf_types.specs.declared.decision.Return.TheVariants.{Nothing, Any, Rst, Icmp}
 use Rattle.npf_packet.specs.declared.decoded.BadPacket.{BadPacket}
 use Rattle.npf_packet.specs.declared.decoded.BadPacket.TheVariants.{Cut, Bad}
 use Rattle.npf_ctl.specs.declared.outcome.Outcome.{Outcome}

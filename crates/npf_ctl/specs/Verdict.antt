@@ -1,8 +1,8 @@
 -- What the rules say of a packet.
 use Rattle.std.specs.Prelude.{ℕ, ◌+◌, Bool, true, ◌==◌, ◌&&◌, if◌then◌else◌, Option, Some, None, unwrap_or, List, [], ◌∷◌}
 use Rattle.npf_types.specs.declared.address.Addr.{Addr}
-use Rattle.npf_types.specs.declared.address.Prefix.{Prefix}
-use Rattle.npf_types.specs.declared.packet.Facts.{Facts}
+use Rattle.npf_types.specs.declared.prefix.Prefix.{Prefix}
+use Rattle.npf_types.specs.declared.facts.Facts.{Facts}
 use Rattle.npf_types.specs.Address.{shares_first}
 use Rattle.npf_ctl.specs.declared.rule.Rule.{Rule}
 

@@ -1,8 +1,8 @@
 -- What one thread asks of the machine of connections, one act after another. Each piece of work on a packet adds entries to the
 -- history, leaves a state, and finds something.
 use Rattle.std.specs.Prelude.{ℕ, [], ◌∷◌, ◌++◌, Option}
-use Rattle.npf_types.specs.declared.connection.Key.{Key}
-use Rattle.npf_types.specs.declared.connection.Way.{Way}
+use Rattle.npf_types.specs.declared.key.Key.{Key}
+use Rattle.npf_types.specs.declared.key.Way.{Way}
 use Rattle.npf_core.specs.declared.act.Act.TheVariants.{Claim, Look, Hold, Start, Step, Kill, Unhold}
 use Rattle.npf_core.specs.declared.act.Why.TheVariants.{Abandoned}
 use Rattle.npf_core.specs.declared.conn_id.ConnId.{ConnId}

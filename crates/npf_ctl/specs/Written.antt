@@ -3,8 +3,8 @@ use Rattle.std.specs.Prelude.{ℕ, Bool, Option}
 use Rattle.std.specs.Option.{option_map}
 use Rattle.npf_types.specs.declared.address.Addr.{Addr}
 use Rattle.npf_types.specs.declared.address.Addr.TheVariants.{V4}
-use Rattle.npf_types.specs.declared.address.Prefix.{Prefix}
-use Rattle.npf_types.specs.declared.rule.Decision.{Decision}
+use Rattle.npf_types.specs.declared.prefix.Prefix.{Prefix}
+use Rattle.npf_types.specs.declared.decision.Decision.{Decision}
 use Rattle.npf_types.specs.Address.{cleared}
 use Rattle.npf_ctl.specs.declared.rule.StateOpt.{StateOpt}
 use Rattle.npf_ctl.specs.declared.rule.Rule.{Rule}

@@ -2,7 +2,7 @@
 ghost use Rattle.std.specs.Prelude.{◌≡◌, ◌≤◌, ◌↔◌, List as Seq, MatchOption, MatchResult, IfOk, IfErr, IsTrue, length};
 ghost use Rattle.npf_pcap.specs.declared.capture.Record.{Record as RecordType};
 ghost use Rattle.npf_pcap.specs.Capture.{HasHeader, HasVersion};
-ghost use Rattle.npf_types.specs.declared.packet.Link.TheVariants.{Raw};
+ghost use Rattle.npf_types.specs.declared.link.Link.TheVariants.{Raw};
 ghost use Rattle.npf_ctl.specs.RawCapture.{classic, IsRawCapture, HasRawFault};
 
 use byteorder::{ByteOrder, LittleEndian};

@@ -5,7 +5,7 @@ ghost use Rattle.std.specs.List.{prefix_len};
 ghost use Rattle.npf_ctl.specs.Tokens.{Spells, IsRunToken, is_within_line};
 ghost use Rattle.npf_ctl.specs.Classes.{class_of, is_run_byte};
 ghost use Rattle.npf_ctl.specs.declared.class.Class.TheVariants.{Run};
-ghost use Rattle.npf_ctl.specs.Reading.{IsReading};
+ghost use Rattle.npf_types.specs.Reading.{IsReading};
 ghost use Rattle.npf_ctl.specs.Front.{IsFront};
 
 use crate::class::{Class, class_of, is_run_byte};

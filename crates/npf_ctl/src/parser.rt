@@ -7,7 +7,7 @@ ghost use Rattle.npf_ctl.specs.declared.token.Token.{Token as TokenType};
 ghost use Rattle.npf_ctl.specs.Grammar.{AreItems, IsFile, is_separator, ends_item};
 ghost use Rattle.npf_ctl.specs.Phrases.{ends_of, block_from, length_of, filter_of, destination_of, match_of, decided, rule_of, pass_of, stateful_of, udp_of};
 ghost use Rattle.npf_ctl.specs.PhraseViews.{ends_phrase, filter_phrase, rule_phrase, IsItem};
-ghost use Rattle.npf_ctl.specs.Reading.{IsReading};
+ghost use Rattle.npf_types.specs.Reading.{IsReading};
 ghost use Rattle.npf_ctl.specs.Tokens.{behind};
 ghost use Rattle.npf_ctl.specs.Written.{written_of, block_of};
 

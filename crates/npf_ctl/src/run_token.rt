@@ -1,6 +1,6 @@
 // What a run of letters, digits, `_` and `.` is: the first of a number, an address and a word that fits.
 ghost use Rattle.std.specs.Prelude.{◌≡◌, ◌≢◌, ℕ, List, Option, IfSome, MatchOption, slice_index};
-ghost use Rattle.npf_ctl.specs.Reading.{IsReading};
+ghost use Rattle.npf_types.specs.Reading.{IsReading};
 ghost use Rattle.npf_ctl.specs.Tokens.{IsRunToken, IsNumber, IsAddress, word_text};
 ghost use Rattle.npf_ctl.specs.declared.token.Word.{Word as WordType};
 

@@ -2,7 +2,7 @@ use Rattle.std.proofs.Common.{ℕ, ◌≡◌, ◌<◌, ◌≤◌, ◌+◌, ◌-�
 use Rattle.std.proofs.lemmas.List.{get_or-drop}
 use Rattle.byteorder.specs.Endian.{big_number, big_bytes}
 use Rattle.byteorder.specs.Numbers.{big_number-reads_back}
-use Rattle.npf_fields.specs.Fields.{number16, number32, number64, number128}
+use Rattle.npf_fields.specs.Field.{number16, number32, number64, number128}
 use Rattle.npf_fields.proofs.FieldBytes.{drop-put}
 use borrow.Rule.Slice.PartMut.{put_mid}
 

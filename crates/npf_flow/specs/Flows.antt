@@ -1,10 +1,10 @@
 -- How a connection's flow goes on, for a protocol other than TCP (npf.conf(5), "Stateful"). The timeouts are this project's own,
 -- after NetBSD's npf: one for a flow that is new, and a longer one once it is answered.
 use Rattle.std.specs.Prelude.{ℕ, ◌-◌, ◌*◌, ◌^◌, max, nat_le, Bool, true, false, ◌&&◌}
-use Rattle.npf_types.specs.declared.connection.Way.{Way}
-use Rattle.npf_types.specs.declared.connection.Way.TheVariants.{Forward, Backward, Port}
-use Rattle.npf_types.specs.declared.rule.Action.{Action}
-use Rattle.npf_types.specs.declared.rule.Change.{Change}
+use Rattle.npf_types.specs.declared.key.Way.{Way}
+use Rattle.npf_types.specs.declared.key.Way.TheVariants.{Forward, Backward, Port}
+use Rattle.npf_types.specs.declared.action.Action.{Action}
+use Rattle.npf_types.specs.declared.change.Change.{Change}
 use Rattle.npf_core.specs.Meaning.{Meaning}
 use Rattle.npf_flow.specs.declared.flow.Flow.{Flow}
 use Rattle.npf_flow.specs.declared.flow.FlowKind.{FlowKind}

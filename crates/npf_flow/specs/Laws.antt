@@ -1,11 +1,11 @@
 use Rattle.std.specs.Prelude.{◌≡◌, ◌↔◌, ◌≤◌, ◌+◌, ◌||◌, ℕ, Bool, true, false}
-use Rattle.npf_types.specs.declared.connection.Way.{Way}
-use Rattle.npf_types.specs.declared.rule.Action.{Action}
-use Rattle.npf_types.specs.declared.rule.Change.{Change}
+use Rattle.npf_types.specs.declared.key.Way.{Way}
+use Rattle.npf_types.specs.declared.action.Action.{Action}
+use Rattle.npf_types.specs.declared.change.Change.{Change}
 use Rattle.npf_flow.specs.declared.flow.Flow.{Flow}
 use Rattle.npf_flow.specs.declared.flow.FlowKind.TheVariants.{Other}
 use Rattle.npf_flow.specs.declared.step.FlowArg.{FlowArg}
-use Rattle.npf_flow.specs.Flows.{next_flow, opening_flow, timeout, is_due}
+use Rattle.npf_flow.specs.Flows.{next_flow, opening_flow, timeout, is_due, flow_law}
 use Rattle.npf_flow.specs.Runs.{Packets, flow_after, has_backward, latest}
 
 -- no packet takes a flow's last time back
@@ -24,9 +24,15 @@ IsDueExactly = (flow : Flow) (now : ℕ) → (is_due flow now ≡ true) ↔ (flo
 abbrev pub IsNotDueByLast : Type 0
 IsNotDueByLast = (flow : Flow) (now : ℕ) → now ≤ flow.last → is_due flow now ≡ false
 
--- so a flow that a packet goes on isn't due at that packet's time, nor is one that a packet opens
+-- the packet is accepted
+abbrev pub is_passed : Flow → Way → FlowArg → Bool
+is_passed flow way arg = (flow_law.answer flow way arg).pass
+
+-- so a flow that an accepted packet goes on isn't due at that packet's time, nor is one that a packet opens
 abbrev pub IsNotDueAtPacket : Type 0
-IsNotDueAtPacket = (flow : Flow) (way : Way) (arg : FlowArg) → is_due (next_flow flow way arg) arg.now ≡ false
+IsNotDueAtPacket =
+    (flow : Flow) (way : Way) (arg : FlowArg) → is_passed flow way arg ≡ true →
+    is_due (next_flow flow way arg) arg.now ≡ false
 
 abbrev pub IsNotDueAtOpening : Type 0
 IsNotDueAtOpening =

@@ -19,6 +19,3 @@ pub use flow::{Flow, FlowKind, open_flow};
 pub use law::FlowLaw;
 pub use step::{FlowArg, FlowReply};
 pub use timeout::due;
-
-#[cfg(test)]
-mod tests;

@@ -1,10 +1,10 @@
 use Rattle.std.specs.Prelude.{◌≡◌, ◌≢◌, ◌↔◌, ◌<◌, ◌^◌, ℕ, None, IsTrue}
 use Rattle.npf_types.specs.declared.address.Addr.{Addr}
-use Rattle.npf_types.specs.declared.connection.IfId.{IfId}
-use Rattle.npf_types.specs.declared.packet.Facts.{Facts}
-use Rattle.npf_types.specs.declared.rule.Change.{Change}
-use Rattle.npf_key.specs.Keys.{key_of, backward_key, port_key}
-use Rattle.npf_key.specs.Ports.{source_port, destination_port}
+use Rattle.npf_types.specs.declared.interface.IfId.{IfId}
+use Rattle.npf_types.specs.declared.facts.Facts.{Facts}
+use Rattle.npf_types.specs.declared.change.Change.{Change}
+use Rattle.npf_key.specs.Key.{key_of, backward_key, port_key}
+use Rattle.npf_key.specs.Port.{source_port, destination_port}
 use Rattle.npf_key.specs.Translated.{about, shares_family}
 
 -- a packet's numbers fit their fields, as a program's do by their types

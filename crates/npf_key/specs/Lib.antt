@@ -1,4 +1,4 @@
-pub mod Keys
+pub mod Key
 pub mod Laws
-pub mod Ports
+pub mod Port
 pub mod Translated

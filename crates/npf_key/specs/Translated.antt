@@ -2,11 +2,11 @@
 use Rattle.std.specs.Prelude.{ℕ, Bool, true, false, if◌then◌else◌, Option, Some, None}
 use Rattle.npf_types.specs.declared.address.Addr.{Addr}
 use Rattle.npf_types.specs.declared.address.Addr.TheVariants.{V4, V6}
-use Rattle.npf_types.specs.declared.packet.Facts.{Facts}
-use Rattle.npf_types.specs.declared.packet.L4.{L4}
-use Rattle.npf_types.specs.declared.packet.L4.TheVariants.{Tcp, Udp, Icmp, Icmp6, Other}
-use Rattle.npf_types.specs.declared.rule.Change.{Change}
-use Rattle.npf_types.specs.declared.rule.End.{End}
+use Rattle.npf_types.specs.declared.facts.Facts.{Facts}
+use Rattle.npf_types.specs.declared.facts.L4.{L4}
+use Rattle.npf_types.specs.declared.facts.L4.TheVariants.{Tcp, Udp, Icmp, Icmp6, Other}
+use Rattle.npf_types.specs.declared.change.Change.{Change}
+use Rattle.npf_types.specs.declared.change.End.{End}
 
 -- two addresses are of one family
 abbrev pub shares_family : Addr → Addr → Bool

@@ -9,13 +9,10 @@
 // `keys_of` is the key of the translated packet with source and destination changed about, for packets of IPv4 and IPv6.
 #![tactic(auto)]
 
-mod keys;
+mod key;
 pub mod laws;
-mod ports;
+mod port;
 mod translated;
-mod words;
+mod word;
 
-pub use keys::{key_of, keys_of, port_key};
-
-#[cfg(test)]
-mod tests;
+pub use key::{key_of, keys_of, port_key};

@@ -1,2 +1,2 @@
-pub mod RunLaws
-pub mod TokenLaws
+pub mod RunLemmas
+pub mod LexerLemmas

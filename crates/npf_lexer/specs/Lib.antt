@@ -1,7 +1,7 @@
-pub mod Classes
-pub mod Faults
-pub mod Fronts
-pub mod Places
-pub mod Runs
-pub mod Signs
-pub mod Tokens
+pub mod ByteClass
+pub mod Fault
+pub mod Front
+pub mod Lexer
+pub mod Place
+pub mod Run
+pub mod Sign

@@ -1,5 +1,5 @@
 ghost use Rattle.std.specs.Prelude.{◌≡◌};
-ghost use Rattle.npf_lexer.specs.Faults.{number_of, name_of, excess_name};
+ghost use Rattle.npf_lexer.specs.Fault.{fault_number, fault_name, excess_name};
 
 use npf_types::{NoMemory, Span};
 use std::alloc::AllocFailed;
@@ -78,7 +78,7 @@ pub enum Fault {
 impl Fault {
     /// The number that is printed for the fault.
     pub fn number(&self) -> u8
-        ensures { result ≡ number_of self.now }
+        ensures { result ≡ fault_number self.now }
     {
         match self {
             Fault::BadByte => 10,
@@ -106,7 +106,7 @@ impl Fault {
 
     /// The name that is printed for the fault.
     pub fn name(&self) -> &'static str
-        ensures { result.now ≡ name_of self.now }
+        ensures { result.now ≡ fault_name self.now }
     {
         match self {
             Fault::BadByte => "BadByte",

@@ -1,19 +1,20 @@
 // What begins at a place, by the class of its first byte.
 ghost use Rattle.std.specs.Prelude.{◌≡◌, ◌≤◌, ◌-◌, IfOk, length, slice_index};
 ghost use Rattle.std.specs.List.{prefix_len};
-ghost use Rattle.npf_lexer.specs.Classes.{is_line_byte, is_string_byte, is_variable_byte, class_of};
-ghost use Rattle.npf_lexer.specs.Fronts.{Begins, BeginsWith, IsStep, Fits, IsRunFront, backslash_front, string_front, variable_front, sign_front, run_front, token, line_feed, faulty, skipped};
-ghost use Rattle.npf_lexer.specs.Runs.{run_len};
-ghost use Rattle.npf_lexer.specs.Signs.{sign_at};
+ghost use Rattle.npf_lexer.specs.ByteClass.{is_line_byte, is_string_byte, is_variable_byte, byte_class};
+ghost use Rattle.npf_lexer.specs.Front.{Begins, BeginsWith, AdvancesWithin, Fits, IsRunFront, backslash_front, string_front, variable_front, sign_front, run_front, token_front, line_feed, faulty, skipped};
+ghost use Rattle.npf_lexer.specs.Run.{run_len};
+ghost use Rattle.npf_lexer.specs.Sign.{sign_at};
 
-use crate::class::{
-    Class, class_of, is_line_byte, is_string_byte, is_variable_byte, is_variable_start,
+use crate::byte_class::{
+    ByteClass, byte_class, is_line_byte, is_string_byte, is_variable_byte, is_variable_start,
 };
 use crate::fault::{ConfFault, Fault};
 use crate::place::Place;
 use crate::run::{Run, run_len, run_of};
 use crate::sign::sign_at;
 use crate::token::{Sign, Token, TokenKind};
+use npf_types::limits::MAX_TEXT_BYTES;
 use npf_types::{List, NoMemory};
 use std::alloc::Global;
 
@@ -29,38 +30,43 @@ pub(crate) enum Front {
 pub(crate) fn front_at(alloc: Global, place: Place, text: &[u8]) -> Result<Front, NoMemory>
     requires { Fits place (length text.now) }
     ensures begins { IfOk result (Begins place text.now) }
-    ensures step { IfOk result (IsStep (length text.now)) }
+    ensures step { IfOk result (AdvancesWithin (length text.now)) }
 {
     match text.first() {
-        Some(first) => front_of_class(alloc, class_of(*first), place, text),
+        Some(first) => front_of_class(alloc, byte_class(*first), place, text),
         None => Ok(Front::End),
     }
 }
 
-fn front_of_class(alloc: Global, class: Class, place: Place, text: &[u8]) -> Result<Front, NoMemory>
+fn front_of_class(
+    alloc: Global,
+    class: ByteClass,
+    place: Place,
+    text: &[u8],
+) -> Result<Front, NoMemory>
     requires fits { Fits place (length text.now) }
     requires some { 1 ≤ length text.now }
-    requires class { class ≡ class_of (slice_index text.now 0) }
+    requires class { class ≡ byte_class (slice_index text.now 0) }
     ensures begins { IfOk result (BeginsWith class place text.now) }
-    ensures step { IfOk result (IsStep (length text.now)) }
+    ensures step { IfOk result (AdvancesWithin (length text.now)) }
 {
     match class {
-        Class::Blank => Ok(Front::Skipped(1, place.along(1))),
-        Class::LineFeed => Ok(line_feed(place)),
-        Class::Semicolon => Ok(found(TokenKind::Semicolon, 1, place)),
-        Class::Backslash => Ok(backslash_front(place, text)),
-        Class::Comment => Ok(comment_front(place, text)),
-        Class::Quote => string_front(alloc, place, text),
-        Class::Dollar => variable_front(alloc, place, text),
-        Class::Run => run_or_colon_front(alloc, place, text),
-        Class::Other => Ok(sign_front(place, text)),
+        ByteClass::Blank => Ok(Front::Skipped(1, place.along(1))),
+        ByteClass::LineFeed => Ok(line_feed(place)),
+        ByteClass::Semicolon => Ok(found(TokenKind::Semicolon, 1, place)),
+        ByteClass::Backslash => Ok(backslash_front(place, text)),
+        ByteClass::Comment => Ok(comment_front(place, text)),
+        ByteClass::Quote => string_front(alloc, place, text),
+        ByteClass::Dollar => variable_front(alloc, place, text),
+        ByteClass::Run => run_or_colon_front(alloc, place, text),
+        ByteClass::Other => Ok(sign_front(place, text)),
     }
 }
 
 fn found(kind: TokenKind, len: usize, place: Place) -> Front
-    requires len { len ≤ 4194304 }
+    requires len { len ≤ MAX_TEXT_BYTES }
     requires fits { Fits place len }
-    ensures { result ≡ token kind len place }
+    ensures { result ≡ token_front kind len place }
 {
     let token = Token {
         kind,
@@ -81,7 +87,7 @@ fn line_feed(place: Place) -> Front
 }
 
 fn faulty(fault: Fault, len: usize, place: Place) -> Front
-    requires { len ≤ 4194304 }
+    requires { len ≤ MAX_TEXT_BYTES }
     ensures { result ≡ faulty fault len place }
 {
     Front::Faulty(ConfFault {
@@ -94,7 +100,7 @@ fn backslash_front(place: Place, text: &[u8]) -> Front
     requires fits { Fits place (length text.now) }
     requires some { 1 ≤ length text.now }
     ensures begins { result ≡ backslash_front place text.now }
-    ensures step { IsStep (length text.now) result }
+    ensures step { AdvancesWithin (length text.now) result }
 {
     match text.get(1) {
         Some(b'\n') => Front::Skipped(2, place.over_line(2)),
@@ -107,7 +113,7 @@ fn comment_front(place: Place, text: &[u8]) -> Front
     requires some { 1 ≤ length text.now }
     requires comment { slice_index text.now 0 ≡ 35 }
     ensures begins { result ≡ skipped (prefix_len is_line_byte text.now) place }
-    ensures step { IsStep (length text.now) result }
+    ensures step { AdvancesWithin (length text.now) result }
 {
     let len = line_len(text);
     Front::Skipped(len, place.along(len))
@@ -125,7 +131,7 @@ fn string_front(alloc: Global, place: Place, text: &[u8]) -> Result<Front, NoMem
     requires fits { Fits place (length text.now) }
     requires some { 1 ≤ length text.now }
     ensures begins { IfOk result (λ front. front ≡ string_front place text.now) }
-    ensures step { IfOk result (IsStep (length text.now)) }
+    ensures step { IfOk result (AdvancesWithin (length text.now)) }
 {
     let inside = text.split_at(1).1;
     let len = string_len(inside);
@@ -153,7 +159,7 @@ fn variable_front(alloc: Global, place: Place, text: &[u8]) -> Result<Front, NoM
     requires fits { Fits place (length text.now) }
     requires some { 1 ≤ length text.now }
     ensures begins { IfOk result (λ front. front ≡ variable_front place text.now) }
-    ensures step { IfOk result (IsStep (length text.now)) }
+    ensures step { IfOk result (AdvancesWithin (length text.now)) }
 {
     let name = text.split_at(1).1;
     match name.first() {
@@ -180,7 +186,7 @@ fn run_or_colon_front(alloc: Global, place: Place, text: &[u8]) -> Result<Front,
     requires fits { Fits place (length text.now) }
     requires some { 1 ≤ length text.now }
     ensures begins { IfOk result (IsRunFront place text.now) }
-    ensures step { IfOk result (IsStep (length text.now)) }
+    ensures step { IfOk result (AdvancesWithin (length text.now)) }
 {
     let len = run_len(text);
     if len == 0 {
@@ -191,7 +197,7 @@ fn run_or_colon_front(alloc: Global, place: Place, text: &[u8]) -> Result<Front,
 }
 
 fn run_front(run: Run, len: usize, place: Place) -> Front
-    requires len { len ≤ 4194304 }
+    requires len { len ≤ MAX_TEXT_BYTES }
     requires fits { Fits place len }
     ensures { result ≡ run_front len place run }
 {
@@ -206,7 +212,7 @@ fn sign_front(place: Place, text: &[u8]) -> Front
     requires fits { Fits place (length text.now) }
     requires some { 1 ≤ length text.now }
     ensures begins { result ≡ sign_front place (sign_at text.now) }
-    ensures step { IsStep (length text.now) result }
+    ensures step { AdvancesWithin (length text.now) result }
 {
     match sign_at(text) {
         Some(sign) => found(TokenKind::Sign(sign), sign.text().len(), place),

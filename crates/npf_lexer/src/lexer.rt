@@ -1,18 +1,20 @@
 ghost use Rattle.std.specs.Prelude.{◌≡◌, ◌≤◌, Ok, Err, IfOk, IfErr, length};
-ghost use Rattle.npf_lexer.specs.Tokens.{IsOnly, IfFault, end_token};
+ghost use Rattle.npf_types.specs.Reading.{IsOnly};
+ghost use Rattle.npf_lexer.specs.Lexer.{IsLexed, IfFault, end_token};
 
 use crate::fault::Refused;
 use crate::front::{Front, front_at};
 use crate::place::Place;
 use crate::token::{Token, TokenKind};
+use npf_types::limits::MAX_TEXT_BYTES;
 use std::alloc::Global;
 
 /// The tokens of a text of npf.conf(5), the last of them `End`; or the first fault of the text: a byte or run that is no
-/// token (10), a string without its end (11), a number past 4,294,967,295 (12). The text has at most 4,194,304 bytes.
+/// token (10), a string without its end (11), a number past 4,294,967,295 (12). The text has at most `MAX_TEXT_BYTES` bytes.
 pub fn lex(alloc: Global, text: &[u8]) -> Result<Vec<Token>, Refused>
-    requires { length text.now ≤ 4194304 }
-    ensures tokens { IfOk result (λ tokens. IsOnly text.now (Ok tokens.items)) }
-    ensures fault { IfErr result (IfFault (λ fault. IsOnly text.now (Err fault))) }
+    requires { length text.now ≤ MAX_TEXT_BYTES }
+    ensures tokens { IfOk result (λ tokens. IsOnly IsLexed text.now (Ok tokens.items)) }
+    ensures fault { IfErr result (IfFault (λ fault. IsOnly IsLexed text.now (Err fault))) }
 {
     let mut tokens = Vec::new(alloc);
     let mut place = Place::start();

@@ -9,7 +9,7 @@
 // doesn't with the fault that stands there, unless memory runs out.
 #![tactic(auto)]
 
-mod class;
+mod byte_class;
 mod fault;
 mod front;
 mod lexer;
@@ -21,6 +21,3 @@ mod token;
 pub use fault::{ConfFault, Excess, Fault, Refused};
 pub use lexer::lex;
 pub use token::{Sign, Token, TokenKind};
-
-#[cfg(test)]
-mod tests;

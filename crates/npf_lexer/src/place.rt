@@ -1,10 +1,8 @@
 ghost use Rattle.std.specs.Prelude.{◌≡◌, ◌+◌, ◌≤◌};
-ghost use Rattle.npf_lexer.specs.Places.{start, along, over_line, span_of};
+ghost use Rattle.npf_lexer.specs.Place.{text_start, along, over_line, span_of};
 
 use npf_types::Span;
-
-/// The longest text that is read, in bytes.
-pub(crate) const MOST_BYTES: usize = 4_194_304;
+use npf_types::limits::MAX_TEXT_BYTES;
 
 /// Where a byte of the text stands: its line and column from 1, and how many bytes are before it.
 #[derive(Clone, Copy, Debug, PartialEq, Eq)]
@@ -16,7 +14,7 @@ pub(crate) struct Place {
 
 impl Place {
     pub(crate) fn start() -> Place
-        ensures { result ≡ start }
+        ensures { result ≡ text_start }
     {
         Place {
             line: 1,
@@ -27,9 +25,9 @@ impl Place {
 
     /// The place `len` bytes further in the same line.
     pub(crate) fn along(self, len: usize) -> Place
-        requires bytes { len ≤ 4194304 }
-        requires col { self.col ≤ 4194305 }
-        requires at { self.at ≤ 4194304 }
+        requires bytes { len ≤ MAX_TEXT_BYTES }
+        requires col { self.col ≤ MAX_TEXT_BYTES + 1 }
+        requires at { self.at ≤ MAX_TEXT_BYTES }
         ensures { result ≡ along len self }
     {
         Place {
@@ -41,9 +39,9 @@ impl Place {
 
     /// The beginning of the next line, which is `len` bytes further.
     pub(crate) fn over_line(self, len: usize) -> Place
-        requires bytes { len ≤ 4194304 }
-        requires line { self.line ≤ 4194305 }
-        requires at { self.at ≤ 4194304 }
+        requires bytes { len ≤ MAX_TEXT_BYTES }
+        requires line { self.line ≤ MAX_TEXT_BYTES + 1 }
+        requires at { self.at ≤ MAX_TEXT_BYTES }
         ensures { result ≡ over_line len self }
     {
         Place {
@@ -54,7 +52,7 @@ impl Place {
     }
 
     pub(crate) fn span(self, len: usize) -> Span
-        requires { len ≤ 4194304 }
+        requires { len ≤ MAX_TEXT_BYTES }
         ensures { result ≡ span_of len self }
     {
         Span {

@@ -1,14 +1,12 @@
 ghost use Rattle.std.specs.Prelude.{◌≡◌, ◌+◌, ◌≤◌, IfOk, IsTrue, ℕ, MatchOption, length, take, true};
-ghost use Rattle.npf_lexer.specs.Runs.{goes_on, longest_run, ends_in_colon, run_len, is_decimal, number_run, IsAddress, is_word, word_run, is_no_colon, IsAddressOrWord, IsRun};
+ghost use Rattle.npf_lexer.specs.Run.{goes_on, longest_run, ends_in_colon, run_len, is_decimal, number_run, is_word, word_run, is_no_colon, IsAddressOrWord, ReadsRun};
 ghost use Rattle.std.specs.Char.{is_ascii_digit};
 ghost use Rattle.std.specs.List.{list_all};
-ghost use Rattle.npf_types.specs.declared.address.Addr.{Addr as AddrType};
 
-use crate::class::is_run_byte;
+use crate::byte_class::is_run_byte;
 use crate::token::TokenKind;
 use npf_types::{Addr, List, NoMemory};
 use std::alloc::Global;
-use std::net::IpAddr;
 use std::str;
 
 /// What a run of letters, digits, `_`, `.`, `:` and `-` is.
@@ -69,12 +67,12 @@ fn ends_in_colon(len: usize, text: &[u8]) -> bool
 
 /// What the run is: the first of a number, an address and a word that fits.
 pub(crate) fn run_of(alloc: Global, run: &[u8]) -> Result<Run, NoMemory>
-    ensures { IfOk result (IsRun run.now) }
+    ensures { IfOk result (ReadsRun run.now) }
 {
     if is_decimal(run) {
         return Ok(number_run(run));
     }
-    match address_of(run) {
+    match Addr::parse_ascii(run) {
         Some(address) => Ok(Run::Kind(TokenKind::Address(address))),
         None => word_run(alloc, run),
     }
@@ -102,16 +100,6 @@ fn number_run(run: &[u8]) -> Run
     match digits.parse::<u32>() {
         Ok(number) => Run::Kind(TokenKind::Number(number)),
         Err(_) => Run::TooLarge,
-    }
-}
-
-fn address_of(run: &[u8]) -> Option<Addr>
-    ensures { MatchOption result ((address : AddrType) → IsAddress run.now address → ⊥) (IsAddress run.now) }
-{
-    match IpAddr::parse_ascii(run) {
-        Ok(IpAddr::V4(address)) => Some(Addr::V4(address.to_bits())),
-        Ok(IpAddr::V6(address)) => Some(Addr::V6(address.to_bits())),
-        Err(_) => None,
     }
 }
 

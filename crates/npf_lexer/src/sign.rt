@@ -1,5 +1,5 @@
 ghost use Rattle.std.specs.Prelude.{◌≡◌, find, nat_eq};
-ghost use Rattle.npf_lexer.specs.Signs.{sign_text, sign_at};
+ghost use Rattle.npf_lexer.specs.Sign.{sign_text, sign_at};
 
 use crate::token::Sign;
 

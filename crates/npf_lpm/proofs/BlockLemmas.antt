@@ -3,14 +3,15 @@ use Rattle.std.proofs.Common.{◌≡◌, ◌↔◌, IsTrue, Bool, Contains, List
 use Rattle.std.proofs.Math.Nat.{div-eq_of_eq-mul_left}
 use Rattle.std.proofs.lemmas.Nat.{pow_pos}
 use Rattle.npf_types.specs.declared.address.Addr.{Addr}
-use Rattle.npf_types.specs.declared.address.Prefix.{Prefix}
+use Rattle.npf_types.specs.declared.prefix.Prefix.{Prefix}
 use Rattle.npf_types.specs.declared.address.Addr.TheVariants.{V4, V6}
 use Rattle.npf_types.specs.Address.{width, cleared, SharesFirst, kept_bits, first_bits}
-use Rattle.npf_lpm.specs.Lengths.{place_of, is_counted_at, CountsLengths}
-use Rattle.npf_lpm.specs.Prefixes.{Covers, CoversAt}
+use Rattle.npf_lpm.specs.Length.{place_of, is_counted_at, CountsLengths}
+use Rattle.npf_types.specs.Prefix.{Covers}
+use Rattle.npf_lpm.specs.Lpm.{CoversAt}
 use Rattle.npf_lpm.proofs.LengthLemmas.{counted_in}
 use Rattle.npf_lpm.proofs.MemberLemmas.{has_key, key_listed, listed_key}
-use Rattle.npf_lpm.proofs.PrefixLemmas.{Prefix-same}
+use Rattle.npf_types.proofs.PrefixLemmas.{Prefix-same}
 
 first_of_kept : (bits n a : ℕ) → first_bits bits n (kept_bits bits n a) ≡ first_bits bits n a
 first_of_kept bits n a = div-eq_of_eq-mul_left (pow_pos (bits - n)) refl

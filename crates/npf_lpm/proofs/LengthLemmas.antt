@@ -4,8 +4,8 @@ use Rattle.std.proofs.lemmas.Bool.{cases_eq, eq-eqb, ne_eqb, cond-true, cond-fal
 use Rattle.std.proofs.lemmas.List.Sums.{get_or-le-sum_by, count_by-le-length}
 use Rattle.std.proofs.lemmas.List.{get_or-replicate}
 use Rattle.std.proofs.Math.ListN.{length-set}
-use Rattle.npf_types.specs.declared.address.Prefix.{Prefix}
-use Rattle.npf_lpm.specs.Lengths.{place_of, is_counted_at, CountsLengths}
+use Rattle.npf_types.specs.declared.prefix.Prefix.{Prefix}
+use Rattle.npf_lpm.specs.Length.{place_of, is_counted_at, CountsLengths}
 
 -- what a prefix adds to the count at a place
 abbrev pub counts_for : ℕ → Prefix → ℕ

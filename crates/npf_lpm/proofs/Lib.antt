@@ -1,4 +1,3 @@
 pub mod BlockLemmas
 pub mod LengthLemmas
 pub mod MemberLemmas
-pub mod PrefixLemmas

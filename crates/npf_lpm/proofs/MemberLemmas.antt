@@ -4,9 +4,9 @@ use Rattle.std.specs.List.{list_any}
 use Rattle.std.proofs.lemmas.Bool.{false_from_ne_true}
 use Rattle.std.proofs.lemmas.Map.Views.{Contains-from_any, list_any-from_Contains}
 use Rattle.std.specs.Bool.{Decides}
-use Rattle.npf_types.specs.declared.address.Prefix.{Prefix}
-use Rattle.npf_lpm.specs.Prefixes.{Gains, Loses}
-use Rattle.npf_lpm.proofs.PrefixLemmas.{same_prefix, same_prefix_laws, same_prefix_tells}
+use Rattle.npf_types.specs.declared.prefix.Prefix.{Prefix}
+use Rattle.npf_lpm.specs.Lpm.{Gains, Loses}
+use Rattle.npf_types.proofs.PrefixLemmas.{same_prefix, same_prefix_laws, same_prefix_tells}
 
 -- the answer of a hash set with these keys
 abbrev pub has_key : List Prefix → Prefix → Bool

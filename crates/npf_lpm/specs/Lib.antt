@@ -1,2 +1,2 @@
-pub mod Lengths
-pub mod Prefixes
+pub mod Length
+pub mod Lpm

@@ -2,8 +2,9 @@ ghost use Rattle.std.specs.Prelude.{◌≡◌, ◌≢◌, ◌≤◌, ◌+◌, �
 ghost use Rattle.std.specs.Bool.{OnFalse};
 ghost use Rattle.std.specs.List.{AllPairs};
 ghost use Rattle.npf_types.specs.Address.{width};
-ghost use Rattle.npf_lpm.specs.Lengths.{place_of};
-ghost use Rattle.npf_lpm.specs.Prefixes.{Covers, CoversAt, Gains, Loses};
+ghost use Rattle.npf_types.specs.Prefix.{Covers};
+ghost use Rattle.npf_lpm.specs.Length.{place_of};
+ghost use Rattle.npf_lpm.specs.Lpm.{CoversAt, Gains, Loses};
 
 use npf_types::{Addr, NoMemory, Prefix};
 use std::alloc::Global;
@@ -23,8 +24,8 @@ pub struct Lpm {
 
 impl Model for Lpm {
     ghost use Rattle.std.specs.Prelude.{List};
-    ghost use Rattle.npf_types.specs.declared.address.Prefix.{Prefix};
-    ghost use Rattle.npf_lpm.specs.Lengths.{CountsLengths};
+    ghost use Rattle.npf_types.specs.declared.prefix.Prefix.{Prefix};
+    ghost use Rattle.npf_lpm.specs.Length.{CountsLengths};
 
     ghost Value = { List Prefix };
 

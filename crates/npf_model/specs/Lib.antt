@@ -1,0 +1,7 @@
+pub mod Configuration
+pub mod Count
+pub mod Describes
+pub mod MapOf
+pub mod Numbering
+pub mod Place
+pub mod Verdict

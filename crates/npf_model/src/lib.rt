@@ -1,8 +1,27 @@
-// The meaning of a configuration as plain data, in the words of npf.conf(5).
+// The meaning of a configuration as plain data, in the words of npf.conf(5), and what it says of a packet.
 //
-// So far it has the kinds of address tables. Its types say no more than their variants.
+// The types say no more than their fields. Beside them stand the definitions that every layer above cites, apart from
+// any code: which packets a rule describes (specs/Describes), which rule decides (specs/Verdict), which map applies
+// (specs/MapOf), what the number of an interface is (specs/Numbering), and a configuration as data (specs/Configuration).
+//
+// The contract: a copy is equal to what was copied.
 #![tactic(auto)]
 
+mod copy;
+mod ends;
+mod group;
+mod iface;
+mod map;
+mod model;
+mod procedure;
+mod rule;
 mod table;
 
-pub use table::Kind;
+pub use ends::{AddrItem, Ends};
+pub use group::{Group, Item};
+pub use iface::{Iface, Ifaces};
+pub use map::{Algo, Arrow, Map, Side};
+pub use model::Model;
+pub use procedure::Procedure;
+pub use rule::{OnIf, Rule, StateOpt};
+pub use table::{Kind, TableDecl};

@@ -1,3 +1,5 @@
+use npf_types::{Name, Span, Text};
+
 /// The kind of an address table (npf.conf(5), "Tables").
 #[derive(Clone, Copy, Debug, PartialEq, Eq)]
 pub enum Kind {
@@ -7,4 +9,14 @@ pub enum Kind {
     Lpm,
     /// Single addresses that stay as they were read.
     Const,
+}
+
+/// A table as it is declared: its name and kind, the file of its first entries where it has one, and where the
+/// declaration stands. Rules name a table by its place in the model's list, counted from 0.
+#[derive(Debug, Drop)]
+pub struct TableDecl {
+    pub name: Name,
+    pub kind: Kind,
+    pub file: Option<Text>,
+    pub span: Span,
 }

@@ -2,16 +2,16 @@
 use Rattle.std.proofs.Common.{◌≡◌, ℕ, ◌+◌, ◌≤◌, Some, List, length, Ok, Err, refl, sym, ap, ◌∙◌, subst, arith}
 use Rattle.std.proofs.lemmas.Bool.Decides.{nat_tests}
 use Rattle.std.specs.Prelude.{Result, MatchResult}
-use Rattle.npf_fields.specs.Fields.{number128}
+use Rattle.npf_fields.specs.Field.{number128}
 use Rattle.npf_types.specs.declared.address.Addr.TheVariants as Addr
-use Rattle.npf_types.specs.declared.packet.Facts.{Facts}
-use Rattle.npf_types.specs.declared.packet.Link.{Link}
-use Rattle.npf_types.specs.declared.packet.Link.TheVariants.{Ethernet, Raw}
+use Rattle.npf_types.specs.declared.facts.Facts.{Facts}
+use Rattle.npf_types.specs.declared.link.Link.{Link}
+use Rattle.npf_types.specs.declared.link.Link.TheVariants.{Ethernet, Raw}
 use Rattle.npf_packet.specs.declared.decoded.Decoded.{Decoded}
 use Rattle.npf_packet.specs.declared.decoded.Decoded.TheVariants.{Ip}
 use Rattle.npf_packet.specs.declared.ipv6.Header.{Header}
-use Rattle.npf_packet.specs.declared.link.Version.{Version}
-use Rattle.npf_packet.specs.declared.link.Version.TheVariants.{V4, V6}
+use Rattle.npf_packet.specs.declared.version.Version.{Version}
+use Rattle.npf_packet.specs.declared.version.Version.TheVariants.{V4, V6}
 use Rattle.npf_packet.specs.declared.packet.Packet.{Packet}
 use Rattle.npf_packet.specs.Decoding.{Decodes, DecodesIp, packet_at, version_behind}
 use Rattle.npf_packet.specs.Field.{ipv6_source, ipv6_destination}
@@ -21,7 +21,7 @@ use Rattle.npf_packet.specs.PacketField.{HasIpHeader}
 use Rattle.npf_packet.specs.Place.{least_ip_header}
 use Rattle.npf_packet.specs.Upper.{Carries}
 use Rattle.npf_packet.specs.Version.{version_number}
-use Rattle.npf_packet.proofs.ChainLaws.{chain_keeps}
+use Rattle.npf_packet.proofs.ChainLemmas.{chain_keeps}
 
 -- what holds of a result that isn't an error
 pub of_ok : {T E : Type 0} (r : Result T E) (P : T → Type 0) (Q : E → Type 0)

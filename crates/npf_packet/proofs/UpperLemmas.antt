@@ -5,21 +5,21 @@ use Rattle.std.specs.Option.{option_or}
 use Rattle.std.specs.Prelude.{IfSome}
 use Rattle.npf_types.specs.declared.address.Addr.{Addr}
 use Rattle.npf_types.specs.declared.address.Addr.TheVariants.{V4, V6}
-use Rattle.npf_types.specs.declared.packet.Facts.{Facts}
-use Rattle.npf_types.specs.declared.packet.L4.{L4}
+use Rattle.npf_types.specs.declared.facts.Facts.{Facts}
+use Rattle.npf_types.specs.declared.facts.L4.{L4}
 use Rattle.npf_packet.specs.declared.decoded.Decoded.TheVariants.{Ip}
-use Rattle.npf_packet.specs.declared.options.Options.{Options}
+use Rattle.npf_packet.specs.declared.tcp_option.Options.{Options}
 use Rattle.npf_packet.specs.declared.packet.Packet.{Packet}
 use Rattle.npf_packet.specs.declared.upper.Upper.{Upper}
 use Rattle.npf_packet.specs.declared.upper.Upper.TheVariants.{Tcp, Udp, Icmp, Icmpv6, Other}
 use Rattle.npf_packet.specs.Chain.{IsChain}
-use Rattle.npf_packet.specs.Options.{HasOptions, first_said, mss_at, option_end}
+use Rattle.npf_packet.specs.TcpOption.{HasOptions, first_said, mss_at, option_end}
 use Rattle.npf_packet.specs.Packet.{facts_of, with_header}
 use Rattle.npf_packet.specs.PacketField.{HasUpperFields, HasProtocol}
 use Rattle.npf_packet.specs.Place.{HasOptionAt, IsAmongOptions, least_upper_header}
 use Rattle.npf_packet.specs.Tcp.{CarriesTcp, HasSegment, header_end, segment_of}
 use Rattle.npf_packet.specs.Upper.{Carries, CarriesAs, upper_of}
-use Rattle.npf_packet.proofs.ChainLaws.{is_some_and}
+use Rattle.npf_packet.proofs.ChainLemmas.{is_some_and}
 use Rattle.npf_packet.proofs.HeaderLemmas.{of_ok}
 
 some_of_either : (a b : Option ℕ) (x : ℕ) → option_or a b ≡ Some x → (a ≡ Some x) ⊎ (b ≡ Some x)

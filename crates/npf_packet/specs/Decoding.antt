@@ -1,10 +1,10 @@
 -- What a record's bytes say, by tests in order: the first that fits is answered.
 use Rattle.std.specs.Prelude.{◌≡◌, ℕ, Result, MatchResult, List}
-use Rattle.npf_types.specs.declared.packet.Link.{Link}
-use Rattle.npf_types.specs.declared.packet.Link.TheVariants.{Ethernet, Raw}
+use Rattle.npf_types.specs.declared.link.Link.{Link}
+use Rattle.npf_types.specs.declared.link.Link.TheVariants.{Ethernet, Raw}
 use Rattle.npf_packet.specs.declared.decoded.Decoded.{Decoded}
-use Rattle.npf_packet.specs.declared.link.Version.{Version}
-use Rattle.npf_packet.specs.declared.link.Version.TheVariants.{V4, V6}
+use Rattle.npf_packet.specs.declared.version.Version.{Version}
+use Rattle.npf_packet.specs.declared.version.Version.TheVariants.{V4, V6}
 use Rattle.npf_packet.specs.declared.packet.Packet.{Packet}
 use Rattle.npf_packet.specs.Ethernet.{version_in_frame}
 use Rattle.npf_packet.specs.Version.{version_of_packet}

@@ -1,7 +1,7 @@
 -- What holds of every packet that is decoded.
 use Rattle.std.specs.Prelude.{◌≡◌, ℕ, List, length}
-use Rattle.npf_types.specs.declared.packet.Facts.{Facts}
-use Rattle.npf_types.specs.declared.packet.Link.{Link}
+use Rattle.npf_types.specs.declared.facts.Facts.{Facts}
+use Rattle.npf_types.specs.declared.link.Link.{Link}
 use Rattle.npf_packet.specs.declared.decoded.Decoded.{Decoded}
 use Rattle.npf_packet.specs.declared.decoded.Decoded.TheVariants.{Ip}
 use Rattle.npf_packet.specs.Decoding.{Decodes}

@@ -2,11 +2,11 @@
 use Rattle.std.specs.Prelude.{ℕ, ◌==◌, nat_lt, if◌then◌else◌, Result, Ok, Err, List, length}
 use Rattle.npf_packet.specs.declared.decoded.Decoded.{Decoded}
 use Rattle.npf_packet.specs.declared.decoded.Decoded.TheVariants.{Skip}
-use Rattle.npf_packet.specs.declared.link.Version.{Version}
-use Rattle.npf_packet.specs.declared.link.Version.TheVariants.{V4, V6}
-use Rattle.npf_fields.specs.Fields.{number16}
+use Rattle.npf_packet.specs.declared.version.Version.{Version}
+use Rattle.npf_packet.specs.declared.version.Version.TheVariants.{V4, V6}
+use Rattle.npf_fields.specs.Field.{number16}
 use Rattle.npf_packet.specs.Field.{ethertype}
-use Rattle.npf_packet.specs.Answers.{cut, bad}
+use Rattle.npf_packet.specs.Decoded.{cut, bad}
 use Rattle.npf_packet.specs.Version.{version_number}
 
 -- the version that the EtherType told, where the IP header has its number

@@ -46,11 +46,11 @@ abbrev pub ipv6_destination : ℕ
 ipv6_destination = 24
 
 -- the ports, in TCP and in UDP (RFC 9293 section 3.1, RFC 768)
-abbrev pub source_port : ℕ
-source_port = 0
+abbrev pub l4_source_port : ℕ
+l4_source_port = 0
 
-abbrev pub destination_port : ℕ
-destination_port = 2
+abbrev pub l4_destination_port : ℕ
+l4_destination_port = 2
 
 -- TCP (RFC 9293 section 3.1). The data offset is the upper half of its byte; the flags are the
 -- control bits.

@@ -1,10 +1,10 @@
 -- The header of ICMPv6 (RFC 4443 section 2.1): 0: type, 1: code, 2: checksum; in an echo message
 -- (section 4) 4: identifier, 6: sequence number.
 use Rattle.std.specs.Prelude.{ℕ, ◌+◌, ◌==◌, ◌||◌, if◌then◌else◌, Option, Some, None, List, slice_index}
-use Rattle.npf_types.specs.declared.packet.L4.TheVariants.{Icmp6}
+use Rattle.npf_types.specs.declared.facts.L4.TheVariants.{Icmp6}
 use Rattle.npf_packet.specs.declared.decoded.Decoded.{Decoded}
 use Rattle.npf_packet.specs.declared.packet.Packet.{Packet}
-use Rattle.npf_fields.specs.Fields.{number16}
+use Rattle.npf_fields.specs.Field.{number16}
 use Rattle.npf_packet.specs.Field.{icmp_type, icmp_code, icmp_identifier}
 use Rattle.npf_packet.specs.Packet.{with_header}
 

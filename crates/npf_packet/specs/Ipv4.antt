@@ -9,9 +9,9 @@ use Rattle.npf_types.specs.declared.address.Addr.TheVariants.{V4}
 use Rattle.npf_packet.specs.declared.decoded.Decoded.{Decoded}
 use Rattle.npf_packet.specs.declared.decoded.Decoded.TheVariants.{Skip}
 use Rattle.npf_packet.specs.declared.packet.Packet.{Packet}
-use Rattle.npf_fields.specs.Fields.{number16, number32}
+use Rattle.npf_fields.specs.Field.{number16, number32}
 use Rattle.npf_packet.specs.Field.{ipv4_total_length, ipv4_fragment, ipv4_protocol, ipv4_source, ipv4_destination}
-use Rattle.npf_packet.specs.Answers.{cut, bad}
+use Rattle.npf_packet.specs.Decoded.{cut, bad}
 
 module _ (bytes : List ℕ) (ip_at : ℕ) where
   -- the header's length in bytes: its field counts words of four

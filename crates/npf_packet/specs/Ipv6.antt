@@ -12,9 +12,9 @@ use Rattle.npf_packet.specs.declared.decoded.Decoded.{Decoded}
 use Rattle.npf_packet.specs.declared.decoded.Decoded.TheVariants.{Skip}
 use Rattle.npf_packet.specs.declared.packet.Packet.{Packet}
 use Rattle.npf_packet.specs.declared.ipv6.Header.{Header}
-use Rattle.npf_fields.specs.Fields.{number16, number128}
+use Rattle.npf_fields.specs.Field.{number16, number128}
 use Rattle.npf_packet.specs.Field.{ipv6_payload_length, ipv6_next_header, ipv6_source, ipv6_destination}
-use Rattle.npf_packet.specs.Answers.{cut}
+use Rattle.npf_packet.specs.Decoded.{cut}
 use Rattle.npf_packet.specs.Chain.{IsChain}
 
 -- hop-by-hop options (0), routing (43), authentication (51) and destination options (60)

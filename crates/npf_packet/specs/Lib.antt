@@ -1,5 +1,5 @@
-pub mod Answers
 pub mod Chain
+pub mod Decoded
 pub mod Decoding
 pub mod DecodingLaw
 pub mod Ethernet
@@ -8,11 +8,11 @@ pub mod Icmp
 pub mod Icmpv6
 pub mod Ipv4
 pub mod Ipv6
-pub mod Options
 pub mod Packet
 pub mod PacketField
 pub mod Place
 pub mod Tcp
+pub mod TcpOption
 pub mod Udp
 pub mod Upper
 pub mod Version

@@ -3,12 +3,12 @@
 use Rattle.std.specs.Prelude.{◌≡◌, ◌≢◌, ℕ, ◌+◌, ◌-◌, ◌*◌, ◌/◌, ◌%◌, ◌≤◌, List, length, slice_index, slice_range, ⊤}
 use Rattle.npf_types.specs.declared.address.Addr.{Addr}
 use Rattle.npf_types.specs.declared.address.Addr.TheVariants.{V4, V6}
-use Rattle.npf_types.specs.declared.packet.Facts.{Facts}
-use Rattle.npf_types.specs.declared.packet.L4.{L4}
-use Rattle.npf_types.specs.declared.packet.L4.TheVariants.{Tcp, Udp, Icmp, Icmp6, Other}
-use Rattle.npf_types.specs.declared.packet.Segment.{Segment}
-use Rattle.npf_fields.specs.Fields.{number16, number32, number128}
-use Rattle.npf_packet.specs.Field.{ipv4_protocol, ipv4_source, ipv4_destination, ipv6_source, ipv6_destination, source_port, destination_port, tcp_sequence, tcp_acknowledgment, tcp_flags, tcp_window, icmp_type, icmp_code}
+use Rattle.npf_types.specs.declared.facts.Facts.{Facts}
+use Rattle.npf_types.specs.declared.facts.L4.{L4}
+use Rattle.npf_types.specs.declared.facts.L4.TheVariants.{Tcp, Udp, Icmp, Icmp6, Other}
+use Rattle.npf_types.specs.declared.facts.Segment.{Segment}
+use Rattle.npf_fields.specs.Field.{number16, number32, number128}
+use Rattle.npf_packet.specs.Field.{ipv4_protocol, ipv4_source, ipv4_destination, ipv6_source, ipv6_destination, l4_source_port, l4_destination_port, tcp_sequence, tcp_acknowledgment, tcp_flags, tcp_window, icmp_type, icmp_code}
 use Rattle.npf_packet.specs.Icmp.{echo_in_icmp}
 use Rattle.npf_packet.specs.Icmpv6.{echo_in_icmpv6}
 use Rattle.npf_packet.specs.Place.{least_ip_header, least_upper_header}
@@ -37,8 +37,8 @@ module _ (bytes : List ℕ) where
 
   -- the ports of TCP and of UDP
   pub record HasPorts (at sport dport : ℕ) : Type 0 where
-    pub source : number16 bytes (at + source_port) ≡ sport
-    pub destination : number16 bytes (at + destination_port) ≡ dport
+    pub source : number16 bytes (at + l4_source_port) ≡ sport
+    pub destination : number16 bytes (at + l4_destination_port) ≡ dport
 
   pub record IsSegment (at sport dport : ℕ) (segment : Segment) : Type 0 where
     pub ports : HasPorts at sport dport

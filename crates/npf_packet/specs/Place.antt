@@ -3,10 +3,10 @@
 use Rattle.std.specs.Prelude.{◌≡◌, ℕ, ◌+◌, ◌≤◌, IfSome, ⊤}
 use Rattle.npf_types.specs.declared.address.Addr.{Addr}
 use Rattle.npf_types.specs.declared.address.Addr.TheVariants.{V4, V6}
-use Rattle.npf_types.specs.declared.packet.Facts.{Facts}
-use Rattle.npf_types.specs.declared.packet.L4.{L4}
-use Rattle.npf_types.specs.declared.packet.L4.TheVariants.{Tcp, Udp, Icmp, Icmp6, Other}
-use Rattle.npf_types.specs.declared.packet.Link.{Link}
+use Rattle.npf_types.specs.declared.facts.Facts.{Facts}
+use Rattle.npf_types.specs.declared.facts.L4.{L4}
+use Rattle.npf_types.specs.declared.facts.L4.TheVariants.{Tcp, Udp, Icmp, Icmp6, Other}
+use Rattle.npf_types.specs.declared.link.Link.{Link}
 use Rattle.npf_packet.specs.Decoding.{packet_at}
 
 -- an IP header without options has this many bytes (RFC 791 section 3.1, RFC 8200 section 3)

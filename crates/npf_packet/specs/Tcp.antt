@@ -7,16 +7,16 @@
 --   16: checksum      18: urgent pointer
 --   20: options
 use Rattle.std.specs.Prelude.{◌≡◌, ℕ, ◌+◌, ◌-◌, ◌*◌, ◌/◌, nat_lt, if◌then◌else◌, Result, Ok, Err, MatchResult, List, slice_index}
-use Rattle.npf_types.specs.declared.packet.L4.{L4}
-use Rattle.npf_types.specs.declared.packet.L4.TheVariants.{Tcp}
+use Rattle.npf_types.specs.declared.facts.L4.{L4}
+use Rattle.npf_types.specs.declared.facts.L4.TheVariants.{Tcp}
 use Rattle.npf_packet.specs.declared.decoded.Decoded.{Decoded}
 use Rattle.npf_packet.specs.declared.decoded.Decoded.TheVariants.{Ip}
 use Rattle.npf_packet.specs.declared.packet.Packet.{Packet}
-use Rattle.npf_packet.specs.declared.options.Options.{Options}
-use Rattle.npf_fields.specs.Fields.{number16, number32}
-use Rattle.npf_packet.specs.Field.{source_port, destination_port, tcp_sequence, tcp_acknowledgment, tcp_data_offset, tcp_flags, tcp_window}
-use Rattle.npf_packet.specs.Answers.{cut, bad}
-use Rattle.npf_packet.specs.Options.{HasOptions}
+use Rattle.npf_packet.specs.declared.tcp_option.Options.{Options}
+use Rattle.npf_fields.specs.Field.{number16, number32}
+use Rattle.npf_packet.specs.Field.{l4_source_port, l4_destination_port, tcp_sequence, tcp_acknowledgment, tcp_data_offset, tcp_flags, tcp_window}
+use Rattle.npf_packet.specs.Decoded.{cut, bad}
+use Rattle.npf_packet.specs.TcpOption.{HasOptions}
 use Rattle.npf_packet.specs.Packet.{facts_of}
 
 module _ (bytes : List ℕ) (packet : Packet) where
@@ -35,7 +35,7 @@ module _ (bytes : List ℕ) (packet : Packet) where
   abbrev pub segment_of : ℕ → Options → L4
   segment_of header_end options =
       let at = packet.l4_at in
-      Tcp (number16 bytes (at + source_port)) (number16 bytes (at + destination_port)) (record {
+      Tcp (number16 bytes (at + l4_source_port)) (number16 bytes (at + l4_destination_port)) (record {
         flags = slice_index bytes (at + tcp_flags);
         seq = number32 bytes (at + tcp_sequence);
         ack = number32 bytes (at + tcp_acknowledgment);

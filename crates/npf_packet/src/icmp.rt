@@ -7,6 +7,7 @@ use crate::decoded::Decoded;
 use crate::packet::Packet;
 use npf_fields::get16;
 use npf_types::L4;
+use npf_types::limits::MAX_PACKET_BYTES;
 
 /// The offsets of the header's fields, in bytes.
 mod field {
@@ -27,7 +28,7 @@ const ECHO: u8 = 8;
 
 /// What a packet says that carries ICMP.
 pub(crate) fn decode_icmp(bytes: &[u8], packet: Packet) -> Decoded
-    requires size { length bytes.now ≤ 262144 }
+    requires size { length bytes.now ≤ MAX_PACKET_BYTES }
     requires placed { IsPlaced bytes.now packet }
     ensures { result ≡ decoding_icmp bytes.now packet }
 {
@@ -44,7 +45,7 @@ pub(crate) fn decode_icmp(bytes: &[u8], packet: Packet) -> Decoded
 /// The identifier of an echo message.
 fn echo_at(bytes: &[u8], at: usize) -> Option<u16>
     requires whole { at + 8 ≤ length bytes.now }
-    requires size { length bytes.now ≤ 262144 }
+    requires size { length bytes.now ≤ MAX_PACKET_BYTES }
     ensures { result ≡ echo_in_icmp bytes.now at }
 {
     match bytes[at + field::TYPE] {

@@ -13,22 +13,20 @@
 #![tactic(auto)]
 
 mod decoded;
+mod decoding;
 mod ethernet;
 mod icmp;
 mod icmpv6;
 mod ipv4;
 mod ipv6;
 mod laws;
-mod link;
-mod options;
 mod packet;
 mod tcp;
+mod tcp_option;
 mod udp;
 mod upper;
+mod version;
 
 pub use decoded::{BadPacket, Decoded};
+pub use decoding::decode;
 pub use laws::{decoded_has_fields, decoded_has_places, decoded_is_packet, one_decoding};
-pub use link::decode;
-
-#[cfg(test)]
-mod tests;

@@ -1,6 +1,6 @@
 -- Where maps, procedures, statements and whole configurations halt, reading fails.
 use Rattle.std.proofs.Common.{◌≡◌, suc, false, Err, List, length, codes, refl, sym, ap, ◌∙◌, arith}
-use Rattle.npf_types.specs.declared.place.Span.{Span}
+use Rattle.npf_types.specs.declared.span.Span.{Span}
 use Rattle.npf_lexer.specs.declared.token.Token.{Token}
 use Rattle.npf_lexer.specs.declared.token.TokenKind.TheVariants as Kind
 use Rattle.npf_parser.specs.declared.role.Role.TheVariants.{Any, Address, Port}

@@ -1,6 +1,6 @@
 -- Where maps, procedures, statements and whole configurations fail they halt.
 use Rattle.std.proofs.Common.{◌≡◌, suc, false, Result, Ok, Err, List, length, codes, arith}
-use Rattle.npf_types.specs.declared.place.Span.{Span}
+use Rattle.npf_types.specs.declared.span.Span.{Span}
 use Rattle.npf_lexer.specs.declared.token.Sign.TheVariants as Sign
 use Rattle.npf_lexer.specs.declared.token.Token.{Token}
 use Rattle.npf_syntax.specs.declared.stmt.Stmt.{Stmt}

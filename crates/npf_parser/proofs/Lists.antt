@@ -1,6 +1,6 @@
 -- Lists that a loop reads, an item a turn.
 use Rattle.std.proofs.Common.{◌≡◌, ℕ, suc, Bool, true, false, ◌||◌, if◌then◌else◌, Some, None, Ok, Err, List, [], ◌∷◌, ◌++◌, refl, sym, ap, ◌∙◌, append_assoc, append-nil}
-use Rattle.npf_types.specs.declared.place.Span.{Span}
+use Rattle.npf_types.specs.declared.span.Span.{Span}
 use Rattle.npf_lexer.specs.declared.fault.Refused.{Refused}
 use Rattle.npf_lexer.specs.declared.token.Sign.TheVariants.{Comma}
 use Rattle.npf_lexer.specs.declared.token.Token.{Token}

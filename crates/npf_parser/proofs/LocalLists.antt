@@ -1,7 +1,7 @@
 -- Tokens that are skipped, lists with commas, and blocks: they hang on no token but those that are read and the next.
 use Rattle.std.proofs.Common.{◌≡◌, ℕ, zero, suc, ◌+◌, ◌<◌, ◌≤◌, Bool, true, false, ◌||◌, cond, if◌then◌else◌, is_some, Option, Some, None, Ok, Err, List, [], ◌∷◌, ◌++◌, length, length-append, drop, refl, sym, ap, subst, ◌∙◌, one-add, arith}
 use Rattle.std.specs.List.{prefix_len}
-use Rattle.npf_types.specs.declared.place.Span.{Span}
+use Rattle.npf_types.specs.declared.span.Span.{Span}
 use Rattle.npf_lexer.specs.declared.token.Sign.{Sign}
 use Rattle.npf_lexer.specs.declared.token.Sign.TheVariants.{Comma}
 use Rattle.npf_lexer.specs.declared.token.Token.{Token}

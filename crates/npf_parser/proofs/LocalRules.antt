@@ -1,6 +1,6 @@
 -- Filters, rules, items and groups' heads: what is read of them hangs on no token but those that are read and the next.
 use Rattle.std.proofs.Common.{Bool, true, false, Option, Some, None, Ok, List, codes}
-use Rattle.npf_types.specs.declared.place.Span.{Span}
+use Rattle.npf_types.specs.declared.span.Span.{Span}
 use Rattle.npf_lexer.specs.declared.token.Sign.TheVariants.{OpenBrace, Slash}
 use Rattle.npf_lexer.specs.declared.token.Token.{Token}
 use Rattle.npf_syntax.specs.declared.filter.Addresses.TheVariants as Addresses

@@ -1,8 +1,8 @@
 -- From what is read to what the grammar says of the tokens, and back: how the parts of a phrase are put together.
 use Rattle.std.proofs.Common.{◌≡◌, ℕ, ◌+◌, ◌≤◌, Bool, true, false, if◌then◌else◌, codes, Option, Some, None, Ok, Err, List, [], ◌∷◌, length, refl, sym, ap, subst, ◌∙◌, arith, bytes_eq}
 use Rattle.std.proofs.lemmas.Slice.Eq.{bytes_eq-Decides}
-use Rattle.npf_types.specs.declared.place.Span.{Span}
-use Rattle.npf_lexer.specs.Signs.{sign_text}
+use Rattle.npf_types.specs.declared.span.Span.{Span}
+use Rattle.npf_lexer.specs.Sign.{sign_text}
 use Rattle.npf_lexer.specs.declared.token.Sign.{Sign}
 use Rattle.npf_lexer.specs.declared.token.Token.{Token}
 use Rattle.npf_lexer.specs.declared.token.TokenKind.{TokenKind}

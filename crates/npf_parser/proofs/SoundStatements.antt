@@ -1,6 +1,6 @@
 -- What is read of maps, procedures, statements and whole configurations is what the grammar says of them.
 use Rattle.std.proofs.Common.{◌≡◌, suc, ◌+◌, ◌≤◌, true, false, is_some, Option, Some, None, Ok, Err, List, [], ◌∷◌, length, codes, refl, ap, subst, arith}
-use Rattle.npf_types.specs.declared.place.Span.{Span}
+use Rattle.npf_types.specs.declared.span.Span.{Span}
 use Rattle.npf_lexer.specs.declared.token.Sign.TheVariants as Sign
 use Rattle.npf_lexer.specs.declared.token.Token.{Token}
 use Rattle.npf_lexer.specs.declared.token.TokenKind.{TokenKind}

@@ -1,6 +1,6 @@
 -- Where the tokens of no configuration stop going on.
 use Rattle.std.proofs.Common.{◌≡◌, ◌⊎◌, inl, inr, Result, Ok, Err, List, [], ◌++◌, sym, ap, subst, ◌∙◌}
-use Rattle.npf_types.specs.declared.place.Span.{Span}
+use Rattle.npf_types.specs.declared.span.Span.{Span}
 use Rattle.npf_lexer.specs.declared.fault.Refused.{Refused}
 use Rattle.npf_lexer.specs.declared.fault.Refused.TheVariants.{Fault, NoMemory}
 use Rattle.npf_lexer.specs.declared.token.Token.{Token}

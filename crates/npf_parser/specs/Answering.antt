@@ -1,6 +1,6 @@
 -- How `parse` answers to the grammar.
 use Rattle.std.specs.Prelude.{◌≡◌, ⊤, Result, Ok, Err, List}
-use Rattle.npf_types.specs.declared.place.Span.{Span}
+use Rattle.npf_types.specs.declared.span.Span.{Span}
 use Rattle.npf_lexer.specs.declared.fault.ConfFault.{ConfFault}
 use Rattle.npf_lexer.specs.declared.fault.Refused.{Refused}
 use Rattle.npf_lexer.specs.declared.fault.Refused.TheVariants.{Fault, NoMemory}

@@ -1,7 +1,7 @@
 -- The grammar of npf.conf(5) for interfaces, protocols, values and lists of these.
 use Rattle.std.specs.Prelude.{◌≤◌, Bool, true, false, Option, Some, None, List, [], codes}
 use Rattle.npf_types.specs.declared.address.Addr.{Addr}
-use Rattle.npf_types.specs.declared.place.Span.{Span}
+use Rattle.npf_types.specs.declared.span.Span.{Span}
 use Rattle.npf_types.specs.Address.{width}
 use Rattle.npf_lexer.specs.declared.token.Sign.{Sign}
 use Rattle.npf_lexer.specs.declared.token.Sign.TheVariants.{OpenBrace, CloseBrace, OpenParen, CloseParen, Slash, Dash, Less, Greater}

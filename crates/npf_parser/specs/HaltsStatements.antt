@@ -1,6 +1,6 @@
 -- Where statements halt, and a whole configuration: the place of its fault.
 use Rattle.std.specs.Prelude.{◌≡◌, Option, List, codes}
-use Rattle.npf_types.specs.declared.place.Span.{Span}
+use Rattle.npf_types.specs.declared.span.Span.{Span}
 use Rattle.npf_lexer.specs.declared.token.Sign.TheVariants.{Less, Greater, Equals, OpenBrace}
 use Rattle.npf_lexer.specs.declared.token.Token.{Token}
 use Rattle.npf_syntax.specs.declared.group.GroupHead.{GroupHead}

@@ -1,6 +1,6 @@
 -- What follows of the grammar, whatever the tokens.
 use Rattle.std.specs.Prelude.{◌≡◌, ◌⊎◌, ◌↔◌, Err, List}
-use Rattle.npf_types.specs.declared.place.Span.{Span}
+use Rattle.npf_types.specs.declared.span.Span.{Span}
 use Rattle.npf_lexer.specs.declared.token.Token.{Token}
 use Rattle.npf_syntax.specs.declared.stmt.Tree.{Tree}
 use Rattle.npf_parser.specs.Answering.{HasTree}

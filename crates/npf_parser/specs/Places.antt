@@ -1,6 +1,6 @@
 -- Where tokens that are no configuration stop going on.
 use Rattle.std.specs.Prelude.{◌≡◌, ◌⊎◌, Bool, true, false, Option, List, [], ◌∷◌, ◌++◌}
-use Rattle.npf_types.specs.declared.place.Span.{Span}
+use Rattle.npf_types.specs.declared.span.Span.{Span}
 use Rattle.npf_lexer.specs.declared.token.Sign.TheVariants.{Slash, Dash, Less, Greater}
 use Rattle.npf_lexer.specs.declared.token.Token.{Token}
 use Rattle.npf_syntax.specs.declared.word.Address.{Address}

@@ -5,8 +5,8 @@ use Rattle.std.specs.List.{prefix_len}
 use Rattle.std.specs.Str.{bytes_eq}
 use Rattle.std.specs.Option.{option_map}
 use Rattle.std.specs.Borrow.{Bor}
-use Rattle.npf_types.specs.declared.place.Span.{Span}
-use Rattle.npf_lexer.specs.Signs.{sign_text}
+use Rattle.npf_types.specs.declared.span.Span.{Span}
+use Rattle.npf_lexer.specs.Sign.{sign_text}
 use Rattle.npf_lexer.specs.declared.fault.Fault.TheVariants.{Expected}
 use Rattle.npf_lexer.specs.declared.fault.Refused.{Refused}
 use Rattle.npf_lexer.specs.declared.token.Sign.{Sign}

@@ -1,6 +1,6 @@
 -- What the descent reads of statements and whole configurations: a definition for each of its functions.
 use Rattle.std.specs.Prelude.{◌≡◌, ⊤, suc, length, Result, Ok, Err, List, codes}
-use Rattle.npf_types.specs.declared.place.Span.{Span}
+use Rattle.npf_types.specs.declared.span.Span.{Span}
 use Rattle.npf_lexer.specs.declared.fault.Fault.TheVariants.{Expected}
 use Rattle.npf_lexer.specs.declared.fault.Refused.{Refused}
 use Rattle.npf_lexer.specs.declared.token.Sign.TheVariants.{Less, Greater, Equals}

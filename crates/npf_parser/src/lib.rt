@@ -25,6 +25,3 @@ mod tokens;
 mod value;
 
 pub use stmt::parse;
-
-#[cfg(test)]
-mod tests;

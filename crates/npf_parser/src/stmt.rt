@@ -1,6 +1,6 @@
 // Statements and files: a function for each line of the grammar.
 ghost use Rattle.std.specs.Prelude.{◌≡◌, codes, IfOk};
-ghost use Rattle.npf_types.specs.declared.place.Span.{Span};
+ghost use Rattle.npf_types.specs.declared.span.Span.{Span};
 ghost use Rattle.npf_lexer.specs.declared.fault.Fault.TheVariants.{Expected};
 ghost use Rattle.npf_syntax.specs.declared.stmt.Tree.{Tree};
 ghost use Rattle.npf_parser.specs.Answering.{OnFault, HasTree, AnswersUnlessMemory, FaultsUnlessMemory};

@@ -2,8 +2,8 @@
 -- fractions of a second count (pcap-savefile(5)).
 use Rattle.std.specs.Prelude.{ℕ, ◌*◌, min, List, drop}
 use Rattle.byteorder.specs.Endian.{big_number, little_number}
-use Rattle.npf_types.specs.declared.packet.Link.{Link}
-use Rattle.npf_types.specs.declared.packet.Link.TheVariants.{Ethernet, Raw}
+use Rattle.npf_types.specs.declared.link.Link.{Link}
+use Rattle.npf_types.specs.declared.link.Link.TheVariants.{Ethernet, Raw}
 use Rattle.npf_pcap.specs.declared.format.Order.{Order}
 use Rattle.npf_pcap.specs.declared.format.Order.TheVariants.{Big, Little}
 use Rattle.npf_pcap.specs.declared.format.Precision.{Precision}

@@ -1,4 +1,4 @@
-pub mod Keys
-pub mod NextClaim
-pub mod Pushed
-pub mod Representing
+pub mod KeyLemmas
+pub mod ClaimLemmas
+pub mod ConnectionLemmas
+pub mod RepresentLemmas

@@ -1,4 +1,4 @@
-pub mod Connections
+pub mod Connection
 pub mod RepresentLaw
 pub mod Represents
 pub mod Store

@@ -1,8 +1,8 @@
 -- The calls of a store are the acts of the machine: where the store represents a state, it is answered as the machine is, and
 -- represents the state that the act leaves.
 use Rattle.std.specs.Prelude.{◌≡◌, ℕ, ◌<◌}
-use Rattle.npf_types.specs.declared.connection.Key.{Key}
-use Rattle.npf_types.specs.declared.connection.Way.{Way}
+use Rattle.npf_types.specs.declared.key.Key.{Key}
+use Rattle.npf_types.specs.declared.key.Way.{Way}
 use Rattle.npf_core.specs.declared.act.Act.TheVariants.{Claim, Look, Hold, Start, Step, Kill, Unhold}
 use Rattle.npf_core.specs.declared.act.Why.{Why}
 use Rattle.npf_core.specs.declared.conn_id.ConnId.{ConnId}
@@ -42,7 +42,7 @@ ShowsBuilding S =
 abbrev pub ShowsAlive : (S : Type 0) → Type 0
 ShowsAlive S =
     (slots : ℕ) (store : Store S) (k : Machine S) (id : ConnId) → Represents slots store k →
-    IsAlive (stage_of k id) → calls.IsAlive (phase_of store id)
+    IsAlive (stage_of k id) → calls.IsAlivePhase (phase_of store id)
 
 -- a look-up finds the key's holder, and leaves the state
 pub record LooksUp {S A R : Type 0} (m : Meaning S A R) (slots : ℕ) (store : Store S) (k : Machine S) (key : Key) : Type 0 where
@@ -54,7 +54,7 @@ abbrev pub LookIsAct : {S A R : Type 0} → Meaning S A R → Type 0
 LookIsAct {S} m = (slots : ℕ) (store : Store S) (k : Machine S) (key : Key) → Represents slots store k → LooksUp m slots store k key
 
 -- a claim is allowed, and gives the machine's identity in the lowest slot that may be claimed
-pub record IsClaim {S A R : Type 0} (m : Meaning S A R) (slots : ℕ) (k : Machine S) (id : ConnId) (new : Store S) : Type 0 where
+pub record IsClaimAct {S A R : Type 0} (m : Meaning S A R) (slots : ℕ) (k : Machine S) (id : ConnId) (new : Store S) : Type 0 where
   pub may : MayClaim slots k id.slot
   pub identity : id ≡ claimed_id k id.slot
   pub lowest : (s : ℕ) → s < id.slot → IsClaimed (k.slot s).stage
@@ -62,14 +62,14 @@ pub record IsClaim {S A R : Type 0} (m : Meaning S A R) (slots : ℕ) (k : Machi
 
 -- so it is with each claim
 abbrev pub ClaimIsAct : {S A R : Type 0} → Meaning S A R → Type 0
-ClaimIsAct {S} m = (slots : ℕ) (old new : Store S) (k : Machine S) (id : ConnId) → Represents slots old k → Claims old new id → IsClaim m slots k id new
+ClaimIsAct {S} m = (slots : ℕ) (old new : Store S) (k : Machine S) (id : ConnId) → Represents slots old k → Claims old new id → IsClaimAct m slots k id new
 
 -- where a store is full, each slot of the machine is claimed
 abbrev pub FullIsClaimed : (S : Type 0) → Type 0
 FullIsClaimed S = (slots : ℕ) (store : Store S) (k : Machine S) → Represents slots store k → IsFull store → (s : ℕ) → s < slots → IsClaimed (k.slot s).stage
 
 -- a hold is answered by the key's holder
-pub record IsHold {S A R : Type 0} (m : Meaning S A R) (slots : ℕ) (k : Machine S) (id : ConnId) (key : Key) (way : Way) (held : Held) (new : Store S) : Type 0 where
+pub record IsHoldAct {S A R : Type 0} (m : Meaning S A R) (slots : ℕ) (k : Machine S) (id : ConnId) (key : Key) (way : Way) (held : Held) (new : Store S) : Type 0 where
   pub replied : held ≡ held_by (k.holder key)
   pub goes_on : (seat : ℕ) → Represents slots new (after_act m k seat (Hold id key way))
 
@@ -77,7 +77,7 @@ pub record IsHold {S A R : Type 0} (m : Meaning S A R) (slots : ℕ) (k : Machin
 abbrev pub HoldIsAct : {S A R : Type 0} → Meaning S A R → Type 0
 HoldIsAct {S} m =
     (slots : ℕ) (old new : Store S) (k : Machine S) (id : ConnId) (key : Key) (way : Way) (held : Held) →
-    Represents slots old k → AnswersHold old new key (record { id = id; way = way }) held → IsHold m slots k id key way held new
+    Represents slots old k → AnswersHold old new key (record { id = id; way = way }) held → IsHoldAct m slots k id key way held new
 
 -- a start of a connection that is Building under the seat goes on as the machine does
 abbrev pub StartIsAct : {S A R : Type 0} → Meaning S A R → Type 0
@@ -86,7 +86,7 @@ StartIsAct {S} m =
     stage_of k id ≡ Building seat → Starts old new id init → (packet : ℕ) → Represents slots new (after_act m k seat (Start id packet init))
 
 -- a step is answered by the law where the connection is Live, and NotLive where it isn't
-pub record IsStep {S A R : Type 0} (m : Meaning S A R) (slots : ℕ) (k : Machine S) (id : ConnId) (way : Way) (arg : A) (reply : Stepped R) (new : Store S) : Type 0 where
+pub record IsStepAct {S A R : Type 0} (m : Meaning S A R) (slots : ℕ) (k : Machine S) (id : ConnId) (way : Way) (arg : A) (reply : Stepped R) (new : Store S) : Type 0 where
   pub replied : reply ≡ step_answer m way arg (stage_of k id)
   pub goes_on : (seat packet : ℕ) → Represents slots new (after_act m k seat (Step packet id way arg))
 
@@ -94,7 +94,7 @@ pub record IsStep {S A R : Type 0} (m : Meaning S A R) (slots : ℕ) (k : Machin
 abbrev pub StepIsAct : {S A R : Type 0} → Meaning S A R → Type 0
 StepIsAct {S} {A} {R} m =
     (slots : ℕ) (old new : Store S) (k : Machine S) (id : ConnId) (way : Way) (arg : A) (reply : Stepped R) →
-    Represents slots old k → IsClaimed (stage_of k id) → AnswersStep m old new id way arg reply → IsStep m slots k id way arg reply new
+    Represents slots old k → IsClaimed (stage_of k id) → AnswersStep m old new id way arg reply → IsStepAct m slots k id way arg reply new
 
 -- a kill of a connection that is Building or Live does so, whatever the cause
 abbrev pub KillIsAct : {S A R : Type 0} → Meaning S A R → Type 0

@@ -1,6 +1,6 @@
 -- How a store represents a state of the machine of connections: it agrees in each slot and each key, and forgets the seats.
 use Rattle.std.specs.Prelude.{◌≡◌, ℕ}
-use Rattle.npf_types.specs.declared.connection.Key.{Key}
+use Rattle.npf_types.specs.declared.key.Key.{Key}
 use Rattle.npf_core.specs.declared.slot.Slot.{Slot}
 use Rattle.npf_core.specs.declared.stage.Stage.{Stage}
 use Rattle.npf_core.specs.declared.stage.Stage.TheVariants as stage

@@ -5,8 +5,8 @@ use Rattle.std.specs.declared.cmp.Ordering.{Ordering}
 use Rattle.std.specs.BTreeMap.{get}
 use Rattle.std.specs.Cmp.Lexicographic.{slice_cmp}
 use Rattle.std.specs.Ordering.{nat_cmp}
-use Rattle.npf_types.specs.declared.connection.Key.{Key}
-use Rattle.npf_types.specs.declared.connection.Way.{Way}
+use Rattle.npf_types.specs.declared.key.Key.{Key}
+use Rattle.npf_types.specs.declared.key.Way.{Way}
 use Rattle.npf_core.specs.declared.conn_id.ConnId.{ConnId}
 use Rattle.npf_core.specs.declared.found.Found.{Found}
 use Rattle.npf_core.specs.declared.held.Held.{Held}
@@ -16,7 +16,7 @@ use Rattle.npf_store.specs.declared.connection.Connection.{Connection}
 use Rattle.npf_store.specs.declared.phase.Phase.{Phase}
 use Rattle.npf_store.specs.declared.phase.Phase.TheVariants.{Vacant, Building, Live, Dead}
 use Rattle.npf_store.specs.declared.store.Store.{Store}
-use Rattle.npf_store.specs.Connections.{connection_in}
+use Rattle.npf_store.specs.Connection.{connection_in}
 
 -- keys in the order of their five numbers, the first one first
 abbrev pub key_cmp : Key → Key → Ordering
@@ -43,18 +43,18 @@ abbrev pub phase_of : {S : Type 0} → Store S → ConnId → Phase S
 phase_of store id = phase_at (slot_of store id.slot) id.inc
 
 -- Building or Live
-abbrev pub IsAlive : {S : Type 0} → Phase S → Type 0
-IsAlive Vacant = ⊥
-IsAlive Building = Unit {0}
-IsAlive (Live _ _) = Unit {0}
-IsAlive Dead = ⊥
+abbrev pub IsAlivePhase : {S : Type 0} → Phase S → Type 0
+IsAlivePhase Vacant = ⊥
+IsAlivePhase Building = Unit {0}
+IsAlivePhase (Live _ _) = Unit {0}
+IsAlivePhase Dead = ⊥
 
 -- Live
-abbrev pub IsLive : {S : Type 0} → Phase S → Type 0
-IsLive Vacant = ⊥
-IsLive Building = ⊥
-IsLive (Live _ _) = Unit {0}
-IsLive Dead = ⊥
+abbrev pub IsLivePhase : {S : Type 0} → Phase S → Type 0
+IsLivePhase Vacant = ⊥
+IsLivePhase Building = ⊥
+IsLivePhase (Live _ _) = Unit {0}
+IsLivePhase Dead = ⊥
 
 -- a store of so many slots of which none was ever claimed, without a key
 pub record IsNew {S : Type 0} (slots : ℕ) (store : Store S) : Type 0 where
@@ -100,19 +100,19 @@ AnswersClaim old new None = IsFull old × IsSame old new
 AnswersClaim old new (Some id) = Claims old new id
 
 -- a key without a holder is given to this one
-pub record Holds {S : Type 0} (old new : Store S) (key : Key) (found : Found) : Type 0 where
+pub record GivesKey {S : Type 0} (old new : Store S) (key : Key) (found : Found) : Type 0 where
   pub unheld : holder_of old key ≡ None
   pub given : Rekeys old new key (Some found)
 
 -- a key with this holder stays with it, as all else does
-pub record IsTaken {S : Type 0} (old new : Store S) (key : Key) (holder : Found) : Type 0 where
+pub record FindsTaken {S : Type 0} (old new : Store S) (key : Key) (holder : Found) : Type 0 where
   pub held : holder_of old key ≡ Some holder
   pub same : IsSame old new
 
 -- the answer to a hold: Taken exactly where the key has a holder, and there is always a node
 abbrev pub AnswersHold : {S : Type 0} → Store S → Store S → Key → Found → Held → Type 0
-AnswersHold old new key found Held.Done = Holds old new key found
-AnswersHold old new key found (Held.Taken holder) = IsTaken old new key holder
+AnswersHold old new key found Held.Done = GivesKey old new key found
+AnswersHold old new key found (Held.Taken holder) = FindsTaken old new key holder
 AnswersHold old new key found Held.NoNode = ⊥
 
 -- a start: the connection is Live with this flow, and the start counts as its first step
@@ -129,7 +129,7 @@ pub record Steps {S A R : Type 0} (m : Meaning S A R) (old new : Store S) (id : 
 
 -- the connection isn't Live, and all is as it was
 pub record IsNotLive {S : Type 0} (old new : Store S) (id : ConnId) : Type 0 where
-  pub refused : ¬ IsLive (phase_of old id)
+  pub refused : ¬ IsLivePhase (phase_of old id)
   pub same : IsSame old new
 
 -- the answer to a step: NotLive exactly where the connection isn't Live

@@ -18,6 +18,3 @@ mod store;
 
 pub use steps::step;
 pub use store::Store;
-
-#[cfg(test)]
-mod tests;

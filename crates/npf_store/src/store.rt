@@ -1,5 +1,5 @@
 ghost use Rattle.std.specs.Prelude.{◌≡◌, ◌≢◌, ◌≤◌, vec_len, IfOk, OnErr};
-ghost use Rattle.npf_store.specs.Connections.{AreClaimed};
+ghost use Rattle.npf_store.specs.Connection.{AreClaimed};
 
 use crate::connection::Connection;
 use crate::phase::Phase;
@@ -20,7 +20,7 @@ pub struct Store<S> {
 }
 
 impl<S: Copy> Store<S> {
-    ghost use Rattle.npf_store.specs.Store.{holder_of, phase_of, IsNew, IsSame, AnswersClaim, IsFull, AnswersHold, Starts, IsAlive, Kills, Unholds, Puts};
+    ghost use Rattle.npf_store.specs.Store.{holder_of, phase_of, IsNew, IsSame, AnswersClaim, IsFull, AnswersHold, Starts, IsAlivePhase, Kills, Unholds, Puts};
 
     /// A store of so many slots of which none is claimed. It takes memory only as connections are claimed and keys are held.
     pub fn new(alloc: Global, slots: u32) -> Store<S>
@@ -91,7 +91,7 @@ impl<S: Copy> Store<S> {
 
     /// A connection that was Building or Live is Dead from now on. It holds its keys until they are taken back.
     pub fn kill(&mut self, id: ConnId)
-        requires { IsAlive (phase_of self.old id) }
+        requires { IsAlivePhase (phase_of self.old id) }
         ensures { Kills self.old self.new id }
     {
         self.put(id, Phase::Dead);

@@ -1,4 +1,3 @@
-pub mod AddressLemmas
-pub mod EntryLemmas
 pub mod LineLemmas
-pub mod ReadingLemmas
+pub mod PrefixTextLemmas
+pub mod TableFileLemmas

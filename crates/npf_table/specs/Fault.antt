@@ -4,26 +4,26 @@ use Rattle.npf_table.specs.declared.fault.TableFault.{TableFault}
 use Rattle.npf_table.specs.declared.fault.TableFault.TheVariants.{Present, Absent, ReadOnly, WrongKind, BadLine, NoMemory}
 
 -- want of memory is no fault of a table, and has no number of its own
-abbrev pub number_of : TableFault → ℕ
-number_of Present = 50
-number_of Absent = 51
-number_of ReadOnly = 52
-number_of WrongKind = 53
-number_of (BadLine _) = 35
-number_of NoMemory = 0
+abbrev pub table_fault_number : TableFault → ℕ
+table_fault_number Present = 50
+table_fault_number Absent = 51
+table_fault_number ReadOnly = 52
+table_fault_number WrongKind = 53
+table_fault_number (BadLine _) = 35
+table_fault_number NoMemory = 0
 
-abbrev pub name_of : TableFault → List ℕ
-name_of Present = codes "Present"
-name_of Absent = codes "Absent"
-name_of ReadOnly = codes "ReadOnly"
-name_of WrongKind = codes "WrongKind"
-name_of (BadLine _) = codes "BadTableFile"
-name_of NoMemory = codes "NoMemory"
+abbrev pub table_fault_name : TableFault → List ℕ
+table_fault_name Present = codes "Present"
+table_fault_name Absent = codes "Absent"
+table_fault_name ReadOnly = codes "ReadOnly"
+table_fault_name WrongKind = codes "WrongKind"
+table_fault_name (BadLine _) = codes "BadTableFile"
+table_fault_name NoMemory = codes "NoMemory"
 
-abbrev pub line_of : TableFault → Option ℕ
-line_of Present = None
-line_of Absent = None
-line_of ReadOnly = None
-line_of WrongKind = None
-line_of (BadLine number) = Some number
-line_of NoMemory = None
+abbrev pub fault_line : TableFault → Option ℕ
+fault_line Present = None
+fault_line Absent = None
+fault_line ReadOnly = None
+fault_line WrongKind = None
+fault_line (BadLine number) = Some number
+fault_line NoMemory = None

@@ -1,7 +1,5 @@
-pub mod AddressText
 pub mod Fault
 pub mod Line
 pub mod PrefixText
-pub mod Reading
 pub mod Table
 pub mod TableFile

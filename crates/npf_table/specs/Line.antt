@@ -4,12 +4,12 @@ use Rattle.std.specs.Prelude.{◌≡◌, ◌==◌, ◌||◌, ◌-◌, ℕ, Bool,
 use Rattle.std.specs.List.{before_first, prefix_len, suffix_len}
 use Rattle.npf_model.specs.declared.table.Kind.{Kind}
 use Rattle.npf_model.specs.declared.table.Kind.TheVariants.{Ipset, Lpm, Const}
-use Rattle.npf_types.specs.declared.address.Prefix.{Prefix}
+use Rattle.npf_types.specs.declared.prefix.Prefix.{Prefix}
 use Rattle.npf_types.specs.Address.{width}
 use Rattle.npf_table.specs.declared.line.Line.{Line}
 use Rattle.npf_table.specs.declared.line.Line.TheVariants.{Blank, Entry, Bad}
 use Rattle.npf_table.specs.PrefixText.{IsPrefixText}
-use Rattle.npf_table.specs.Reading.{IsOnly}
+use Rattle.npf_types.specs.Reading.{IsOnly}
 
 abbrev pub is_blank : ℕ → Bool
 is_blank byte = byte == 32 || byte == 9

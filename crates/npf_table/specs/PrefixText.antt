@@ -3,9 +3,9 @@
 use Rattle.std.specs.Prelude.{◌≡◌, ◌==◌, ◌+◌, ◌<◌, ◌^◌, ℕ, Bool, List, take, drop, length, position, slice_index, MatchOption}
 use Rattle.std.specs.Str.Parse.{IsNumeral, digits_value}
 use Rattle.npf_types.specs.declared.address.Addr.{Addr}
-use Rattle.npf_types.specs.declared.address.Prefix.{Prefix}
+use Rattle.npf_types.specs.declared.prefix.Prefix.{Prefix}
 use Rattle.npf_types.specs.Address.{width, cleared}
-use Rattle.npf_table.specs.AddressText.{IsAddressText}
+use Rattle.npf_types.specs.AddressText.{IsAddressText}
 
 abbrev pub is_slash : ℕ → Bool
 is_slash byte = byte == 47

@@ -2,12 +2,12 @@
 use Rattle.std.specs.Prelude.{◌≡◌, ◌≢◌, ℕ, List, Contains}
 use Rattle.npf_model.specs.declared.table.Kind.{Kind}
 use Rattle.npf_model.specs.declared.table.Kind.TheVariants.{Ipset, Const}
-use Rattle.npf_types.specs.declared.address.Prefix.{Prefix}
+use Rattle.npf_types.specs.declared.prefix.Prefix.{Prefix}
 use Rattle.npf_table.specs.declared.fault.TableFault.{TableFault}
 use Rattle.npf_table.specs.declared.fault.TableFault.TheVariants.{Present, Absent, ReadOnly, WrongKind, BadLine, NoMemory}
 use Rattle.npf_table.specs.declared.table.Table.{Table}
 use Rattle.npf_table.specs.Line.{IsHost}
-use Rattle.npf_table.specs.TableFile.{lines, AreEntries, IsFirstBad}
+use Rattle.npf_table.specs.TableFile.{lines, AreEntries, IsFirstBadLine}
 
 abbrev pub kind_of : Table → Kind
 kind_of table = table.kind
@@ -22,7 +22,7 @@ pub record IsTableOf (kind : Kind) (text : List ℕ) (table : Table) : Type 0 wh
 
 -- a file is refused for its first bad line; want of memory says nothing of it
 abbrev pub RefusesFile : Kind → List ℕ → TableFault → Type 0
-RefusesFile kind text (BadLine number) = IsFirstBad kind (lines text) number
+RefusesFile kind text (BadLine number) = IsFirstBadLine kind (lines text) number
 RefusesFile kind text NoMemory = Unit {0}
 RefusesFile kind text _ = ⊥
 

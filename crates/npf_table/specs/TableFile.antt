@@ -2,7 +2,7 @@
 use Rattle.std.specs.Prelude.{◌≡◌, ◌==◌, ◌+◌, ◌<◌, ◌↔◌, ℕ, Bool, List, Some, Contains, slice_get}
 use Rattle.std.specs.List.{slice_split}
 use Rattle.npf_model.specs.declared.table.Kind.{Kind}
-use Rattle.npf_types.specs.declared.address.Prefix.{Prefix}
+use Rattle.npf_types.specs.declared.prefix.Prefix.{Prefix}
 use Rattle.npf_table.specs.Line.{IsEntry, IsBad}
 
 abbrev pub is_line_feed : ℕ → Bool
@@ -24,7 +24,7 @@ pub record AreEntries (kind : Kind) (all : List (List ℕ)) (prefixes : List Pre
   pub none_bad : (line : List ℕ) → Contains all line → ¬ IsBad kind line
 
 -- the line with this number, from 1, is the first bad one
-pub record IsFirstBad (kind : Kind) (all : List (List ℕ)) (number : ℕ) : Type 0 where
+pub record IsFirstBadLine (kind : Kind) (all : List (List ℕ)) (number : ℕ) : Type 0 where
   pub before : ℕ
   pub counted : number ≡ before + 1
   pub line : List ℕ

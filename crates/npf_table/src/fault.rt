@@ -1,5 +1,5 @@
 ghost use Rattle.std.specs.Prelude.{◌≡◌};
-ghost use Rattle.npf_table.specs.Fault.{number_of, name_of, line_of};
+ghost use Rattle.npf_table.specs.Fault.{table_fault_number, table_fault_name, fault_line};
 
 use npf_types::NoMemory;
 use thiserror::Error;
@@ -30,7 +30,7 @@ pub enum TableFault {
 impl TableFault {
     /// The number that is printed for the fault; 0 for want of memory, which has none.
     pub fn number(&self) -> u8
-        ensures { result ≡ number_of self.now }
+        ensures { result ≡ table_fault_number self.now }
     {
         match self {
             TableFault::Present => 50,
@@ -44,7 +44,7 @@ impl TableFault {
 
     /// The name that is printed for the fault.
     pub fn name(&self) -> &'static str
-        ensures { result.now ≡ name_of self.now }
+        ensures { result.now ≡ table_fault_name self.now }
     {
         match self {
             TableFault::Present => "Present",
@@ -58,7 +58,7 @@ impl TableFault {
 
     /// The number of the line that the fault speaks of.
     pub fn line_number(&self) -> Option<u32>
-        ensures { result ≡ line_of self.now }
+        ensures { result ≡ fault_line self.now }
     {
         match self {
             TableFault::BadLine(number) => Some(*number),

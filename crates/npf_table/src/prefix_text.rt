@@ -1,11 +1,9 @@
 // The text of an entry: an address, or an address with the length of its block.
 ghost use Rattle.std.specs.Prelude.{◌≡◌, ◌==◌, ◌≢◌, position, slice_index};
-ghost use Rattle.npf_table.specs.AddressText.{IsAddressText};
 ghost use Rattle.npf_table.specs.PrefixText.{IsPrefixText, IsHostText, IsBlockText, IsByteLengthText, IsByteNumber};
-ghost use Rattle.npf_table.specs.Reading.{IsReading};
+ghost use Rattle.npf_types.specs.Reading.{IsReading};
 
 use npf_types::{Addr, Prefix};
-use std::net::IpAddr;
 use std::str;
 
 /// The prefix that the text writes, or None where it writes none.
@@ -21,7 +19,7 @@ pub(crate) fn written_prefix(text: &[u8]) -> Option<Prefix>
 fn host(text: &[u8]) -> Option<Prefix>
     ensures { IsReading IsHostText text.now result }
 {
-    match address_of(text) {
+    match Addr::parse_ascii(text) {
         Some(addr) => Prefix::of(addr, addr.width()),
         None => None,
     }
@@ -30,23 +28,13 @@ fn host(text: &[u8]) -> Option<Prefix>
 fn block(address: &[u8], digits: &[u8]) -> Option<Prefix>
     ensures { IsReading (IsBlockText address.now) digits.now result }
 {
-    let Some(addr) = address_of(address) else {
+    let Some(addr) = Addr::parse_ascii(address) else {
         return None;
     };
     let Some(len) = length_of(digits) else {
         return None;
     };
     Prefix::of(addr, len)
-}
-
-fn address_of(text: &[u8]) -> Option<Addr>
-    ensures { IsReading IsAddressText text.now result }
-{
-    match IpAddr::parse_ascii(text) {
-        Ok(IpAddr::V4(ip)) => Some(Addr::V4(ip.to_bits())),
-        Ok(IpAddr::V6(ip)) => Some(Addr::V6(ip.to_bits())),
-        Err(_) => None,
-    }
 }
 
 // The length, where it fits a byte; a longer one is longer than any address.

@@ -1,11 +1,14 @@
 ghost use Rattle.std.specs.Prelude.{◌≡◌, ◌≢◌, ◌≤◌, ◌+◌, ◌↔◌, ℕ, IsTrue, IfOk, IfErr, OnOk, OnErr, Contains, length};
-ghost use Rattle.npf_lpm.specs.Prefixes.{Covers, Gains, Loses};
+ghost use Rattle.std.specs.List.{AllPairs};
+ghost use Rattle.npf_types.specs.Prefix.{Covers};
+ghost use Rattle.npf_lpm.specs.Lpm.{Gains, Loses};
 ghost use Rattle.npf_table.specs.Table.{kind_of, prefixes, IsTableOf, RefusesFile, RefusesChange, RefusesAddition, RefusesRemoval, MayChange};
 
 use crate::fault::TableFault;
 use crate::line::{Line, is_host, read_line};
 use npf_lpm::Lpm;
 use npf_model::Kind;
+use npf_types::limits::MAX_TEXT_BYTES;
 use npf_types::{Addr, NoMemory, Prefix};
 use std::alloc::Global;
 
@@ -17,10 +20,10 @@ pub struct Table {
 }
 
 impl Table {
-    /// Reads the text of a table file, of at most 4,194,304 bytes. A prefix that stands on several lines counts once.
+    /// Reads the text of a table file, of at most `MAX_TEXT_BYTES` bytes. A prefix that stands on several lines counts once.
     /// Refused for its first bad line, counted from 1, or for want of memory.
     pub fn of_text(alloc: Global, kind: Kind, text: &[u8]) -> Result<Table, TableFault>
-        requires { length text.now ≤ 4194304 }
+        requires { length text.now ≤ MAX_TEXT_BYTES }
         ensures ok { IfOk result (IsTableOf kind text.now) }
         ensures err { IfErr result (RefusesFile kind text.now) }
     {
@@ -46,9 +49,10 @@ impl Table {
         self.prefixes.contains(addr)
     }
 
-    /// How many prefixes the table has.
+    /// How many prefixes the table has. None is there twice.
     pub fn len(&self) -> u64
-        ensures { result ≡ length (prefixes self.now) }
+        ensures value { result ≡ length (prefixes self.now) }
+        ensures once { AllPairs (λ p q. p ≢ q) (prefixes self.now) }
     {
         self.prefixes.len()
     }

@@ -1,11 +1,11 @@
 use Rattle.std.proofs.Common.{◌≡◌, Some, None, true, false, refl}
-use Rattle.npf_types.specs.declared.connection.Way.{Way}
-use Rattle.npf_types.specs.declared.connection.Way.TheVariants.{Forward, Backward, Port}
-use Rattle.npf_tcp.specs.declared.class.Class.{Class}
-use Rattle.npf_tcp.specs.declared.class.Class.TheVariants.{Rst, Syn, SynAck, Fin, Invalid}
+use Rattle.npf_types.specs.declared.key.Way.{Way}
+use Rattle.npf_types.specs.declared.key.Way.TheVariants.{Forward, Backward, Port}
+use Rattle.npf_tcp.specs.declared.class.SegmentClass.{SegmentClass}
+use Rattle.npf_tcp.specs.declared.class.SegmentClass.TheVariants.{Rst, Syn, SynAck, Fin, Invalid}
 use Rattle.npf_tcp.specs.declared.state.TcpPhase.{TcpPhase}
 use Rattle.npf_tcp.specs.declared.state.TcpPhase.TheVariants.{Closed}
-use Rattle.npf_tcp.specs.Cells.{row, no, cell, forward_cell, backward_cell}
+use Rattle.npf_tcp.specs.Cell.{row, no, cell, forward_cell, backward_cell}
 use Rattle.npf_tcp.specs.Mirror.{mirrored_phase, mirrored_cell, opposite_way, is_one_sided, is_symmetric}
 
 -- a reset leads to CLOSED from every phase
@@ -37,30 +37,30 @@ cell-invalid phase Backward = backward_cell-invalid phase
 cell-invalid phase Port = forward_cell-invalid phase
 
 -- an empty row has a cell for a reset alone
-empty_row : (class : Class) (phase : TcpPhase) → row no no no no class ≡ Some phase → class ≡ Rst
+empty_row : (class : SegmentClass) (phase : TcpPhase) → row no no no no class ≡ Some phase → class ≡ Rst
 empty_row Rst phase h = refl
 empty_row _ phase h = cc
 
-pub closed_cell : (way : Way) (class : Class) (phase : TcpPhase) → cell Closed way class ≡ Some phase → class ≡ Rst
+pub closed_cell : (way : Way) (class : SegmentClass) (phase : TcpPhase) → cell Closed way class ≡ Some phase → class ≡ Rst
 closed_cell Forward = empty_row
 closed_cell _ = empty_row
 
 -- the rows of one way are those of the other, but at the one-sided cells
-forward_mirrored : (phase : TcpPhase) (class : Class) → is_one_sided phase class ≡ false → backward_cell (mirrored_phase phase) class ≡ mirrored_cell (forward_cell phase class)
+forward_mirrored : (phase : TcpPhase) (class : SegmentClass) → is_one_sided phase class ≡ false → backward_cell (mirrored_phase phase) class ≡ mirrored_cell (forward_cell phase class)
 forward_mirrored = elim [ Closed ↦ elim [ Rst ↦ λ h. cc | _ ↦ λ h. cc ] | _ ↦ elim [ Rst ↦ λ h. cc | _ ↦ λ h. cc ] ]
 
-backward_mirrored : (phase : TcpPhase) (class : Class) → is_one_sided phase class ≡ false → forward_cell (mirrored_phase phase) class ≡ mirrored_cell (backward_cell phase class)
+backward_mirrored : (phase : TcpPhase) (class : SegmentClass) → is_one_sided phase class ≡ false → forward_cell (mirrored_phase phase) class ≡ mirrored_cell (backward_cell phase class)
 backward_mirrored = elim [ Closed ↦ elim [ Rst ↦ λ h. cc | _ ↦ λ h. cc ] | _ ↦ elim [ Rst ↦ λ h. cc | _ ↦ λ h. cc ] ]
 
-pub cell-mirrored : (phase : TcpPhase) (class : Class) → is_one_sided phase class ≡ false → (way : Way) → cell (mirrored_phase phase) (opposite_way way) class ≡ mirrored_cell (cell phase way class)
+pub cell-mirrored : (phase : TcpPhase) (class : SegmentClass) → is_one_sided phase class ≡ false → (way : Way) → cell (mirrored_phase phase) (opposite_way way) class ≡ mirrored_cell (cell phase way class)
 cell-mirrored phase class h Forward = forward_mirrored phase class h
 cell-mirrored phase class h Backward = backward_mirrored phase class h
 cell-mirrored phase class h Port = forward_mirrored phase class h
 
-pub not_one_sided : (phase : TcpPhase) (class : Class) → backward_cell (mirrored_phase phase) class ≡ mirrored_cell (forward_cell phase class) → is_one_sided phase class ≡ false
+pub not_one_sided : (phase : TcpPhase) (class : SegmentClass) → backward_cell (mirrored_phase phase) class ≡ mirrored_cell (forward_cell phase class) → is_one_sided phase class ≡ false
 not_one_sided = elim [ Closed ↦ elim [ Rst ↦ λ h. cc | _ ↦ λ h. cc ] | _ ↦ elim [ Rst ↦ λ h. cc | _ ↦ λ h. cc ] ]
 
-pub symmetric_class : (phase : TcpPhase) → is_symmetric phase ≡ true → (class : Class) → is_one_sided phase class ≡ false
+pub symmetric_class : (phase : TcpPhase) → is_symmetric phase ≡ true → (class : SegmentClass) → is_one_sided phase class ≡ false
 symmetric_class = elim [ Closed ↦ λ h. elim [ Rst ↦ cc | _ ↦ cc ] | _ ↦ λ h. elim [ Rst ↦ cc | _ ↦ cc ] ]
 
 -- each of the four phases of the opening has a one-sided cell at SYN, SYN with ACK or FIN

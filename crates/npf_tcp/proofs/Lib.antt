@@ -1,6 +1,6 @@
 pub mod CellLemmas
-pub mod ControlBits
+pub mod FlagLemmas
 pub mod MirrorLemmas
 pub mod SequenceLemmas
 pub mod SideLemmas
-pub mod StepLemmas
+pub mod SegmentLemmas

@@ -1,14 +1,14 @@
 use Rattle.std.proofs.Common.{◌≡◌, Option, Some, None, Bool, true, false, refl, sym, subst}
-use Rattle.npf_types.specs.declared.connection.Way.{Way}
-use Rattle.npf_types.specs.declared.connection.Way.TheVariants.{Forward, Backward, Port}
-use Rattle.npf_types.specs.declared.packet.Segment.{Segment}
+use Rattle.npf_types.specs.declared.key.Way.{Way}
+use Rattle.npf_types.specs.declared.key.Way.TheVariants.{Forward, Backward, Port}
+use Rattle.npf_types.specs.declared.facts.Segment.{Segment}
 use Rattle.npf_tcp.specs.declared.state.TcpPhase.{TcpPhase}
 use Rattle.npf_tcp.specs.declared.state.TcpState.{TcpState}
-use Rattle.npf_tcp.specs.Bounds.{is_in_bounds}
-use Rattle.npf_tcp.specs.Cells.{cell}
-use Rattle.npf_tcp.specs.Class.{class_of}
+use Rattle.npf_tcp.specs.Bound.{is_in_bounds}
+use Rattle.npf_tcp.specs.Cell.{cell}
+use Rattle.npf_tcp.specs.Class.{segment_class}
 use Rattle.npf_tcp.specs.Mirror.{mirrored_state, mirrored_phase, mirrored_cell, opposite_way, is_one_sided}
-use Rattle.npf_tcp.specs.Segment.{sender_of, receiver_of, state_after, answer, step}
+use Rattle.npf_tcp.specs.Segment.{sender_of, receiver_of, state_after, answer, segment_step}
 use Rattle.npf_tcp.proofs.CellLemmas.{cell-mirrored}
 
 -- a segment between the exchanged sides moves them as it moves the sides
@@ -33,10 +33,10 @@ answer-mirrored (Some phase) true state way seg = record { next = state_after-mi
 answer-mirrored (Some phase) false state way seg = record { next = refl; accepted = refl }
 answer-mirrored None bounded state way seg = record { next = refl; accepted = refl }
 
-pub step-mirrored : (state : TcpState) (way : Way) (seg : Segment) → is_one_sided state.phase (class_of seg.flags) ≡ false → IsExchanged (step (mirrored_state state) (opposite_way way) seg) (step state way seg)
-unfolding step
+pub step-mirrored : (state : TcpState) (way : Way) (seg : Segment) → is_one_sided state.phase (segment_class seg.flags) ≡ false → IsExchanged (segment_step (mirrored_state state) (opposite_way way) seg) (segment_step state way seg)
+unfolding segment_step
 step-mirrored state way seg h =
-    let class = class_of seg.flags in
+    let class = segment_class seg.flags in
     let here = answer-mirrored (cell state.phase way class) (is_in_bounds (sender_of state way) (receiver_of state way) seg) state way seg in
-    let there = subst (λ (b : Bool). IsExchanged (answer (mirrored_cell (cell state.phase way class)) b (mirrored_state state) (opposite_way way) seg) (step state way seg)) (bounds-mirrored state way seg) here in
-    subst (λ (c : Option TcpPhase). IsExchanged (answer c (is_in_bounds (sender_of (mirrored_state state) (opposite_way way)) (receiver_of (mirrored_state state) (opposite_way way)) seg) (mirrored_state state) (opposite_way way) seg) (step state way seg)) (sym (cell-mirrored state.phase class h way)) there
+    let there = subst (λ (b : Bool). IsExchanged (answer (mirrored_cell (cell state.phase way class)) b (mirrored_state state) (opposite_way way) seg) (segment_step state way seg)) (bounds-mirrored state way seg) here in
+    subst (λ (c : Option TcpPhase). IsExchanged (answer c (is_in_bounds (sender_of (mirrored_state state) (opposite_way way)) (receiver_of (mirrored_state state) (opposite_way way)) seg) (mirrored_state state) (opposite_way way) seg) (segment_step state way seg)) (sym (cell-mirrored state.phase class h way)) there

@@ -1,12 +1,12 @@
 use Rattle.std.proofs.Common.{◌≡◌, ◌≤◌, ℕ, Bool, true, false, if◌then◌else◌, Option, None, refl, sym, arith}
-use Rattle.npf_types.specs.declared.packet.Segment.{Segment}
+use Rattle.npf_types.specs.declared.facts.Segment.{Segment}
 use Rattle.npf_tcp.specs.declared.state.Known.{Known}
 use Rattle.npf_tcp.specs.declared.state.Known.TheVariants.{Nothing, Expected, Seen}
 use Rattle.npf_tcp.specs.declared.state.TcpSide.{TcpSide}
 use Rattle.npf_tcp.specs.Extent.{segment_end, window}
-use Rattle.npf_tcp.specs.Flags.{has_ack}
+use Rattle.npf_tcp.specs.Flag.{has_ack}
 use Rattle.npf_tcp.specs.Laws.{BothSides, StaysSeen, KeepsMaxwin, IsQuietUnseen}
-use Rattle.npf_tcp.specs.Opening.{opening, opening_forward, opening_backward, expected_side, unknown_side}
+use Rattle.npf_tcp.specs.Opening.{opening_state, opening_forward, opening_backward, expected_side, unknown_side}
 use Rattle.npf_tcp.specs.Segment.{side_after_sending_by, side_after_sending, side_after_ack_by, side_after_ack, sender_after, receiver_after, receiver_scale}
 
 -- a sender is seen afterwards, and if it was before, its greatest window doesn't fall
@@ -73,7 +73,7 @@ opening_backward-quiet : (b : Bool) (ack w : ℕ) → IsQuietUnseen (if b then e
 opening_backward-quiet true ack w = λ unseen. refl
 opening_backward-quiet false ack w = λ unseen. refl
 
-pub opening_is_quiet : (seg : Segment) → BothSides IsQuietUnseen (opening seg)
-unfolding opening opening_forward opening_backward
+pub opening_is_quiet : (seg : Segment) → BothSides IsQuietUnseen (opening_state seg)
+unfolding opening_state opening_forward opening_backward
 opening_is_quiet seg =
     (λ unseen. absurd (unseen refl), opening_backward-quiet (has_ack seg.flags) seg.ack (window seg None None))

@@ -1,11 +1,11 @@
 use Rattle.std.specs.Prelude.{ℕ, if◌then◌else◌, ◌&&◌}
-use Rattle.npf_tcp.specs.Flags.{has_fin, has_syn, has_rst, has_ack}
-use Rattle.npf_tcp.specs.declared.class.Class.{Class}
-use Rattle.npf_tcp.specs.declared.class.Class.TheVariants.{Rst, Syn, SynAck, Ack, Fin, Invalid}
+use Rattle.npf_tcp.specs.Flag.{has_fin, has_syn, has_rst, has_ack}
+use Rattle.npf_tcp.specs.declared.class.SegmentClass.{SegmentClass}
+use Rattle.npf_tcp.specs.declared.class.SegmentClass.TheVariants.{Rst, Syn, SynAck, Ack, Fin, Invalid}
 
 -- the class of a segment with these flags: the first that fits
-unfoldable pub class_of : ℕ → Class
-class_of flags =
+unfoldable pub segment_class : ℕ → SegmentClass
+segment_class flags =
     if has_rst flags then Rst
     else (if has_syn flags && has_fin flags then Invalid
     else (if has_syn flags && has_ack flags then SynAck

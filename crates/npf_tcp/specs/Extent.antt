@@ -1,6 +1,6 @@
 use Rattle.std.specs.Prelude.{ℕ, Option, Some, ◌+◌, ◌*◌, ◌%◌, ◌^◌, max, min, if◌then◌else◌}
-use Rattle.npf_types.specs.declared.packet.Segment.{Segment}
-use Rattle.npf_tcp.specs.Flags.{has_fin, has_syn}
+use Rattle.npf_types.specs.declared.facts.Segment.{Segment}
+use Rattle.npf_tcp.specs.Flag.{has_fin, has_syn}
 
 -- the sequence number after a segment: its payload counts, and so do SYN and FIN, each as one byte (RFC 9293 section 3.4)
 unfoldable pub segment_end : Segment → ℕ

@@ -1,27 +1,27 @@
 use Rattle.std.specs.Prelude.{◌≡◌, ◌≢◌, ◌↔◌, ◌<◌, ◌≤◌, ◌^◌, ℕ, Bool, true, false}
-use Rattle.npf_types.specs.declared.connection.Way.{Way}
-use Rattle.npf_types.specs.declared.packet.Segment.{Segment}
-use Rattle.npf_tcp.specs.declared.class.Class.{Class}
-use Rattle.npf_tcp.specs.declared.class.Class.TheVariants.{Rst, Invalid}
+use Rattle.npf_types.specs.declared.key.Way.{Way}
+use Rattle.npf_types.specs.declared.facts.Segment.{Segment}
+use Rattle.npf_tcp.specs.declared.class.SegmentClass.{SegmentClass}
+use Rattle.npf_tcp.specs.declared.class.SegmentClass.TheVariants.{Rst, Invalid}
 use Rattle.npf_tcp.specs.declared.state.Known.TheVariants.{Seen}
 use Rattle.npf_tcp.specs.declared.state.TcpPhase.{TcpPhase}
 use Rattle.npf_tcp.specs.declared.state.TcpPhase.TheVariants.{Closed}
 use Rattle.npf_tcp.specs.declared.state.TcpSide.{TcpSide}
 use Rattle.npf_tcp.specs.declared.state.TcpState.{TcpState}
-use Rattle.npf_tcp.specs.Bounds.{is_in_bounds}
-use Rattle.npf_tcp.specs.Cells.{cell}
-use Rattle.npf_tcp.specs.Class.{class_of}
+use Rattle.npf_tcp.specs.Bound.{is_in_bounds}
+use Rattle.npf_tcp.specs.Cell.{cell}
+use Rattle.npf_tcp.specs.Class.{segment_class}
 use Rattle.npf_tcp.specs.Mirror.{mirrored_state, mirrored_phase, mirrored_cell, opposite_way, is_one_sided, is_symmetric}
-use Rattle.npf_tcp.specs.Opening.{opening}
-use Rattle.npf_tcp.specs.Segment.{step, sender_of, receiver_of}
+use Rattle.npf_tcp.specs.Opening.{opening_state}
+use Rattle.npf_tcp.specs.Segment.{segment_step, sender_of, receiver_of}
 use Rattle.npf_tcp.specs.Sequence.{plus, minus, is_at_or_before}
 
 -- the two parts of the answer
 abbrev pub next_state : TcpState → Way → Segment → TcpState
-next_state state way seg = (step state way seg).0
+next_state state way seg = (segment_step state way seg).0
 
 abbrev pub is_accepted : TcpState → Way → Segment → Bool
-is_accepted state way seg = (step state way seg).1
+is_accepted state way seg = (segment_step state way seg).1
 
 -- a fact of each side
 abbrev pub BothSides : (TcpSide → Type 0) → TcpState → Type 0
@@ -38,23 +38,23 @@ RefusedChangesNothing =
 -- an accepted reset leads to CLOSED from every phase
 abbrev pub ResetCloses : Type 0
 ResetCloses =
-    (state : TcpState) (way : Way) (seg : Segment) → class_of seg.flags ≡ Rst →
+    (state : TcpState) (way : Way) (seg : Segment) → segment_class seg.flags ≡ Rst →
     is_accepted state way seg ≡ true → (next_state state way seg).phase ≡ Closed
 
 -- and no phase refuses one: only the bounds do
 abbrev pub ResetIsBounded : Type 0
 ResetIsBounded =
-    (state : TcpState) (way : Way) (seg : Segment) → class_of seg.flags ≡ Rst →
+    (state : TcpState) (way : Way) (seg : Segment) → segment_class seg.flags ≡ Rst →
     is_accepted state way seg ≡ is_in_bounds (sender_of state way) (receiver_of state way) seg
 
 abbrev pub ClosedTakesOnlyReset : Type 0
 ClosedTakesOnlyReset =
     (state : TcpState) (way : Way) (seg : Segment) → state.phase ≡ Closed →
-    is_accepted state way seg ≡ true → class_of seg.flags ≡ Rst
+    is_accepted state way seg ≡ true → segment_class seg.flags ≡ Rst
 
 abbrev pub InvalidIsRefused : Type 0
 InvalidIsRefused =
-    (state : TcpState) (way : Way) (seg : Segment) → class_of seg.flags ≡ Invalid → is_accepted state way seg ≡ false
+    (state : TcpState) (way : Way) (seg : Segment) → segment_class seg.flags ≡ Invalid → is_accepted state way seg ≡ false
 
 -- a side that is seen stays seen
 abbrev pub StaysSeen : TcpSide → TcpSide → Type 0
@@ -79,7 +79,7 @@ IsQuietUnseen side = side.known ≢ Seen → side.maxwin ≡ 0
 -- So it is from the opening on, and then no side's greatest window ever falls. Of a side that isn't seen and has one,
 -- as no connection's has, it may fall: its first segment sets it.
 abbrev pub OpeningIsQuiet : Type 0
-OpeningIsQuiet = (seg : Segment) → BothSides IsQuietUnseen (opening seg)
+OpeningIsQuiet = (seg : Segment) → BothSides IsQuietUnseen (opening_state seg)
 
 abbrev pub StepKeepsQuiet : Type 0
 StepKeepsQuiet =
@@ -94,14 +94,14 @@ MaxwinNeverFalls =
 -- the table is symmetric exactly at the cells that aren't one-sided
 abbrev pub OneSidedExactly : Type 0
 OneSidedExactly =
-    (phase : TcpPhase) (class : Class) →
+    (phase : TcpPhase) (class : SegmentClass) →
     (is_one_sided phase class ≡ false)
     ↔ ((way : Way) → cell (mirrored_phase phase) (opposite_way way) class ≡ mirrored_cell (cell phase way class))
 
 -- the symmetric phases are those with no one-sided cell
 abbrev pub SymmetricExactly : Type 0
 SymmetricExactly =
-    (phase : TcpPhase) → (is_symmetric phase ≡ true) ↔ ((class : Class) → is_one_sided phase class ≡ false)
+    (phase : TcpPhase) → (is_symmetric phase ≡ true) ↔ ((class : SegmentClass) → is_one_sided phase class ≡ false)
 
 -- in a symmetric phase, exchanging the sides and the way exchanges the answer
 abbrev pub SidesExchange : Type 0
@@ -113,7 +113,7 @@ SidesExchange =
 -- and so it does in each phase for the classes at which the table is symmetric
 abbrev pub ClassesExchange : Type 0
 ClassesExchange =
-    (state : TcpState) (way : Way) (seg : Segment) → is_one_sided state.phase (class_of seg.flags) ≡ false →
+    (state : TcpState) (way : Way) (seg : Segment) → is_one_sided state.phase (segment_class seg.flags) ≡ false →
     (next_state (mirrored_state state) (opposite_way way) seg ≡ mirrored_state (next_state state way seg))
     × (is_accepted (mirrored_state state) (opposite_way way) seg ≡ is_accepted state way seg)
 

@@ -1,8 +1,8 @@
-pub mod Bounds
-pub mod Cells
+pub mod Bound
+pub mod Cell
 pub mod Class
 pub mod Extent
-pub mod Flags
+pub mod Flag
 pub mod Laws
 pub mod Mirror
 pub mod Opening

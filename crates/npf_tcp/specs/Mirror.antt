@@ -1,8 +1,8 @@
 use Rattle.std.specs.Prelude.{Bool, true, false, Option, Some, None}
-use Rattle.npf_types.specs.declared.connection.Way.{Way}
-use Rattle.npf_types.specs.declared.connection.Way.TheVariants.{Forward, Backward, Port}
-use Rattle.npf_tcp.specs.declared.class.Class.{Class}
-use Rattle.npf_tcp.specs.declared.class.Class.TheVariants.{Syn, SynAck, Ack, Fin}
+use Rattle.npf_types.specs.declared.key.Way.{Way}
+use Rattle.npf_types.specs.declared.key.Way.TheVariants.{Forward, Backward, Port}
+use Rattle.npf_tcp.specs.declared.class.SegmentClass.{SegmentClass}
+use Rattle.npf_tcp.specs.declared.class.SegmentClass.TheVariants.{Syn, SynAck, Ack, Fin}
 use Rattle.npf_tcp.specs.declared.state.TcpPhase.{TcpPhase}
 use Rattle.npf_tcp.specs.declared.state.TcpPhase.TheVariants.{Closed, SynSent, SimsynSent, SynReceived, Established, FinSent, FinReceived, CloseWait, FinWait, Closing, LastAck, TimeWait}
 use Rattle.npf_tcp.specs.declared.state.TcpState.{TcpState}
@@ -40,7 +40,7 @@ mirrored_state state = record { phase = mirrored_phase state.phase; forward = st
 -- In SYN_SENT only the backward side may answer. In SIMSYN_SENT only the backward side may send FIN. In SYN_RECEIVED the
 -- forward side alone may repeat its SYN, and its ACK ends the opening. In ESTABLISHED the backward side alone may repeat
 -- its SYN with ACK.
-abbrev pub is_one_sided : TcpPhase → Class → Bool
+abbrev pub is_one_sided : TcpPhase → SegmentClass → Bool
 is_one_sided SynSent Syn = true
 is_one_sided SynSent SynAck = true
 is_one_sided SimsynSent Fin = true

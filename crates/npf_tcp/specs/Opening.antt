@@ -1,19 +1,19 @@
 use Rattle.std.specs.Prelude.{ℕ, None, if◌then◌else◌}
-use Rattle.npf_types.specs.declared.packet.Segment.{Segment}
-use Rattle.npf_tcp.specs.declared.class.Class.{Class}
-use Rattle.npf_tcp.specs.declared.class.Class.TheVariants.{Rst, Syn, SynAck, Ack, Fin, Invalid}
+use Rattle.npf_types.specs.declared.facts.Segment.{Segment}
+use Rattle.npf_tcp.specs.declared.class.SegmentClass.{SegmentClass}
+use Rattle.npf_tcp.specs.declared.class.SegmentClass.TheVariants.{Rst, Syn, SynAck, Ack, Fin, Invalid}
 use Rattle.npf_tcp.specs.declared.state.Known.TheVariants.{Nothing, Expected, Seen}
 use Rattle.npf_tcp.specs.declared.state.TcpPhase.{TcpPhase}
 use Rattle.npf_tcp.specs.declared.state.TcpPhase.TheVariants.{Closed, SynSent, Established, FinSent}
 use Rattle.npf_tcp.specs.declared.state.TcpSide.{TcpSide}
 use Rattle.npf_tcp.specs.declared.state.TcpState.{TcpState}
-use Rattle.npf_tcp.specs.Class.{class_of}
+use Rattle.npf_tcp.specs.Class.{segment_class}
 use Rattle.npf_tcp.specs.Extent.{segment_end, window}
-use Rattle.npf_tcp.specs.Flags.{has_syn, has_ack}
+use Rattle.npf_tcp.specs.Flag.{has_syn, has_ack}
 use Rattle.npf_tcp.specs.Sequence.{plus}
 
 -- the phase that a first segment of this class opens
-abbrev pub opening_phase : Class → TcpPhase
+abbrev pub opening_phase : SegmentClass → TcpPhase
 opening_phase Syn = SynSent
 opening_phase Rst = Closed
 opening_phase Fin = FinSent
@@ -44,9 +44,9 @@ unfoldable pub opening_backward : Segment → TcpSide
 opening_backward seg = if has_ack seg.flags then expected_side seg.ack (window seg None None) else unknown_side
 
 -- the state that a connection's first segment opens
-unfoldable pub opening : Segment → TcpState
-opening seg = record {
-  phase = opening_phase (class_of seg.flags);
+unfoldable pub opening_state : Segment → TcpState
+opening_state seg = record {
+  phase = opening_phase (segment_class seg.flags);
   forward = opening_forward seg;
   backward = opening_backward seg;
 }

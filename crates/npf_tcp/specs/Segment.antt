@@ -1,17 +1,17 @@
 use Rattle.std.specs.Prelude.{ℕ, Bool, true, false, Option, Some, None, ◌&&◌, ◌||◌, max, is_none, if◌then◌else◌}
-use Rattle.npf_types.specs.declared.connection.Way.{Way}
-use Rattle.npf_types.specs.declared.connection.Way.TheVariants.{Forward, Backward, Port}
-use Rattle.npf_types.specs.declared.packet.Segment.{Segment}
+use Rattle.npf_types.specs.declared.key.Way.{Way}
+use Rattle.npf_types.specs.declared.key.Way.TheVariants.{Forward, Backward, Port}
+use Rattle.npf_types.specs.declared.facts.Segment.{Segment}
 use Rattle.npf_tcp.specs.declared.state.Known.{Known}
 use Rattle.npf_tcp.specs.declared.state.Known.TheVariants.{Nothing, Expected, Seen}
 use Rattle.npf_tcp.specs.declared.state.TcpPhase.{TcpPhase}
 use Rattle.npf_tcp.specs.declared.state.TcpSide.{TcpSide}
 use Rattle.npf_tcp.specs.declared.state.TcpState.{TcpState}
-use Rattle.npf_tcp.specs.Bounds.{is_in_bounds}
-use Rattle.npf_tcp.specs.Cells.{cell}
-use Rattle.npf_tcp.specs.Class.{class_of}
+use Rattle.npf_tcp.specs.Bound.{is_in_bounds}
+use Rattle.npf_tcp.specs.Cell.{cell}
+use Rattle.npf_tcp.specs.Class.{segment_class}
 use Rattle.npf_tcp.specs.Extent.{segment_end, window}
-use Rattle.npf_tcp.specs.Flags.{has_syn, has_ack}
+use Rattle.npf_tcp.specs.Flag.{has_syn, has_ack}
 use Rattle.npf_tcp.specs.Sequence.{plus, later_of}
 
 -- the side that sends a segment of this way, and the side that gets it; the way of a port counts as forward
@@ -26,10 +26,10 @@ receiver_of state Backward = state.forward
 receiver_of state Port = state.backward
 
 -- the state with this phase, sender and receiver
-abbrev pub state_of : TcpPhase → Way → TcpSide → TcpSide → TcpState
-state_of phase Forward sender receiver = record { phase = phase; forward = sender; backward = receiver }
-state_of phase Backward sender receiver = record { phase = phase; forward = receiver; backward = sender }
-state_of phase Port sender receiver = record { phase = phase; forward = sender; backward = receiver }
+abbrev pub state_with : TcpPhase → Way → TcpSide → TcpSide → TcpState
+state_with phase Forward sender receiver = record { phase = phase; forward = sender; backward = receiver }
+state_with phase Backward sender receiver = record { phase = phase; forward = receiver; backward = sender }
+state_with phase Port sender receiver = record { phase = phase; forward = sender; backward = receiver }
 
 -- First, the sender's numbers after a segment that ends at e and offers a window, by how much was known of it.
 abbrev pub side_after_sending_by : Known → TcpSide → ℕ → ℕ → TcpSide
@@ -85,7 +85,7 @@ unfoldable pub state_after : TcpPhase → TcpState → Way → Segment → TcpSt
 state_after phase state way seg =
     let sender : TcpSide = sender_of state way in
     let receiver : TcpSide = receiver_of state way in
-    state_of phase way (sender_after sender receiver seg) (receiver_after sender receiver seg)
+    state_with phase way (sender_after sender receiver seg) (receiver_after sender receiver seg)
 
 -- the answer where the table has this cell, and the numbers lie within the bounds or not
 abbrev pub answer : Option TcpPhase → Bool → TcpState → Way → Segment → TcpState × Bool
@@ -94,6 +94,6 @@ answer (Some _) false state _ _ = (state, false)
 answer None _ state _ _ = (state, false)
 
 -- the segment law: the next state, and whether the segment is accepted
-unfoldable pub step : TcpState → Way → Segment → TcpState × Bool
-step state way seg =
-    answer (cell state.phase way (class_of seg.flags)) (is_in_bounds (sender_of state way) (receiver_of state way) seg) state way seg
+unfoldable pub segment_step : TcpState → Way → Segment → TcpState × Bool
+segment_step state way seg =
+    answer (cell state.phase way (segment_class seg.flags)) (is_in_bounds (sender_of state way) (receiver_of state way) seg) state way seg

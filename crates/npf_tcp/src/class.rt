@@ -1,10 +1,10 @@
 ghost use Rattle.std.specs.Prelude.{◌≡◌};
 
-use crate::flags::{has_ack, has_fin, has_rst, has_syn};
+use crate::flag::{has_ack, has_fin, has_rst, has_syn};
 
 /// What a segment is to the table of phases, by its flags.
 #[derive(Clone, Copy, Debug, PartialEq, Eq)]
-pub enum Class {
+pub enum SegmentClass {
     Rst,
     Syn,
     SynAck,
@@ -14,23 +14,23 @@ pub enum Class {
     Invalid,
 }
 
-impl Class {
-    ghost use Rattle.npf_tcp.specs.Class.{class_of};
+impl SegmentClass {
+    ghost use Rattle.npf_tcp.specs.Class.{segment_class};
 
-    #[tactic(auto, unfolding(crate::specs::Class::class_of))]
-    pub fn of(flags: u8) -> Class
-        ensures { result ≡ class_of flags }
+    #[tactic(auto, unfolding(crate::specs::Class::segment_class))]
+    pub fn of(flags: u8) -> SegmentClass
+        ensures { result ≡ segment_class flags }
     {
         if has_rst(flags) {
-            return Class::Rst;
+            return SegmentClass::Rst;
         }
         match (has_syn(flags), has_fin(flags), has_ack(flags)) {
-            (true, true, _) => Class::Invalid,
-            (true, false, true) => Class::SynAck,
-            (true, false, false) => Class::Syn,
-            (false, true, _) => Class::Fin,
-            (false, false, true) => Class::Ack,
-            (false, false, false) => Class::Invalid,
+            (true, true, _) => SegmentClass::Invalid,
+            (true, false, true) => SegmentClass::SynAck,
+            (true, false, false) => SegmentClass::Syn,
+            (false, true, _) => SegmentClass::Fin,
+            (false, false, true) => SegmentClass::Ack,
+            (false, false, false) => SegmentClass::Invalid,
         }
     }
 }

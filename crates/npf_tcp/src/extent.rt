@@ -2,7 +2,7 @@
 ghost use Rattle.std.specs.Prelude.{◌≡◌, ◌≤◌, ◌*◌, ◌^◌};
 ghost use Rattle.npf_tcp.specs.Extent.{segment_end, window};
 
-use crate::flags::{has_fin, has_syn};
+use crate::flag::{has_fin, has_syn};
 use npf_types::Segment;
 
 /// The greatest shift of a window (RFC 7323 section 2.3).

@@ -11,11 +11,11 @@
 // machine words. Both answer at every state and segment. A refused segment changes nothing.
 #![tactic(auto)]
 
-mod bounds;
-mod cells;
+mod bound;
+mod cell;
 mod class;
 mod extent;
-mod flags;
+mod flag;
 pub mod laws;
 mod opening;
 mod segment;
@@ -25,6 +25,3 @@ mod state;
 pub use opening::open_tcp;
 pub use segment::step_tcp;
 pub use state::{Known, TcpPhase, TcpSide, TcpState};
-
-#[cfg(test)]
-mod tests;

@@ -1,34 +1,34 @@
 ghost use Rattle.std.specs.Prelude.{◌≡◌};
-ghost use Rattle.npf_tcp.specs.Opening.{opening, opening_phase, opening_forward, opening_backward};
+ghost use Rattle.npf_tcp.specs.Opening.{opening_state, opening_phase, opening_forward, opening_backward};
 
-use crate::class::Class;
+use crate::class::SegmentClass;
 use crate::extent::{segment_end, window};
-use crate::flags::{has_ack, has_syn};
+use crate::flag::{has_ack, has_syn};
 use crate::state::{Known, TcpPhase, TcpSide, TcpState};
 use npf_types::Segment;
 
 /// The state that a connection's first segment opens, at any segment: its sender is the forward side. SYN opens
 /// SYN_SENT, RST opens CLOSED, FIN opens FIN_SENT, and all else ESTABLISHED, as a connection that was under way
 /// before the filter saw it.
-#[tactic(auto, unfolding(crate::specs::Opening::opening))]
+#[tactic(auto, unfolding(crate::specs::Opening::opening_state))]
 pub fn open_tcp(seg: &Segment) -> TcpState
-    ensures { result ≡ opening seg.now }
+    ensures { result ≡ opening_state seg.now }
 {
     TcpState {
-        phase: opening_phase(Class::of(seg.flags)),
+        phase: opening_phase(SegmentClass::of(seg.flags)),
         forward: opening_forward(seg),
         backward: opening_backward(seg),
     }
 }
 
-fn opening_phase(class: Class) -> TcpPhase
+fn opening_phase(class: SegmentClass) -> TcpPhase
     ensures { result ≡ opening_phase class }
 {
     match class {
-        Class::Syn => TcpPhase::SynSent,
-        Class::Rst => TcpPhase::Closed,
-        Class::Fin => TcpPhase::FinSent,
-        Class::SynAck | Class::Ack | Class::Invalid => TcpPhase::Established,
+        SegmentClass::Syn => TcpPhase::SynSent,
+        SegmentClass::Rst => TcpPhase::Closed,
+        SegmentClass::Fin => TcpPhase::FinSent,
+        SegmentClass::SynAck | SegmentClass::Ack | SegmentClass::Invalid => TcpPhase::Established,
     }
 }
 

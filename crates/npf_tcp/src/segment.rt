@@ -1,23 +1,23 @@
 ghost use Rattle.std.specs.Prelude.{◌≡◌, Option};
-ghost use Rattle.npf_tcp.specs.Segment.{sender_of, receiver_of, state_after, sender_after, receiver_after, side_after_sending, side_after_ack, sender_scale, receiver_scale, is_without_scales, step};
+ghost use Rattle.npf_tcp.specs.Segment.{sender_of, receiver_of, state_after, sender_after, receiver_after, side_after_sending, side_after_ack, sender_scale, receiver_scale, is_without_scales, segment_step};
 
-use crate::bounds::is_in_bounds;
-use crate::cells::cell;
-use crate::class::Class;
+use crate::bound::is_in_bounds;
+use crate::cell::cell;
+use crate::class::SegmentClass;
 use crate::extent::{segment_end, window};
-use crate::flags::{has_ack, has_syn};
+use crate::flag::{has_ack, has_syn};
 use crate::sequence::later_of;
 use crate::state::{Known, TcpPhase, TcpSide, TcpState};
 use npf_types::{Segment, Way};
 
 /// The state after a segment that goes this way, and whether it is accepted, at any state and segment. A refused
 /// segment changes nothing. A segment of the way `Port` counts as `Forward`.
-#[tactic(auto, unfolding(crate::specs::Segment::step))]
+#[tactic(auto, unfolding(crate::specs::Segment::segment_step))]
 pub fn step_tcp(state: &TcpState, way: Way, seg: &Segment) -> (TcpState, bool)
-    ensures { result ≡ step state.now way seg.now }
+    ensures { result ≡ segment_step state.now way seg.now }
 {
     let (sender, receiver) = (sender_of(state, way), receiver_of(state, way));
-    match cell(state.phase, way, Class::of(seg.flags)) {
+    match cell(state.phase, way, SegmentClass::of(seg.flags)) {
         Some(phase) if is_in_bounds(sender, receiver, seg) => {
             (state_after(phase, state, way, seg), true)
         }

@@ -1,1 +1,5 @@
-pub mod AddressBits
+pub mod AddressLemmas
+pub mod AddressTextLemmas
+pub mod PrefixLemmas
+pub mod ReadingLemmas
+pub mod NameLemmas

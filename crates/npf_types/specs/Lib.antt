@@ -1,4 +1,9 @@
 pub mod Address
+pub mod AddressText
 pub mod List
 pub mod Name
 pub mod NameText
+pub mod Prefix
+pub mod Reading
+pub mod Block
+pub mod Named

@@ -1,5 +1,9 @@
-ghost use Rattle.std.specs.Prelude.{◌≡◌, ◌≤◌, ◌-◌, ◌/◌, ◌*◌, ◌^◌, ◌↔◌, IsTrue, IsSome, IfSome};
-ghost use Rattle.npf_types.specs.Address.{width, cleared, shares_first, SharesFirst, first_bits, kept_bits};
+ghost use Rattle.std.specs.Prelude.{◌≡◌};
+ghost use Rattle.npf_types.specs.Address.{width};
+ghost use Rattle.npf_types.specs.AddressText.{IsAddressText};
+ghost use Rattle.npf_types.specs.Reading.{IsReading};
+
+use std::net::IpAddr;
 
 /// An IPv4 or IPv6 address, its first byte the highest.
 #[derive(Clone, Copy, Debug, PartialEq, Eq, PartialOrd, Ord, Hash)]
@@ -9,6 +13,18 @@ pub enum Addr {
 }
 
 impl Addr {
+    /// The address that the text writes, or None where it writes none: four decimal numbers without leading zeros
+    /// (RFC 6943 section 3.1.1, the strict form), or an IPv6 address (RFC 4291 section 2.2).
+    pub fn parse_ascii(text: &[u8]) -> Option<Addr>
+        ensures { IsReading IsAddressText text.now result }
+    {
+        match IpAddr::parse_ascii(text) {
+            Ok(IpAddr::V4(ip)) => Some(Addr::V4(ip.to_bits())),
+            Ok(IpAddr::V6(ip)) => Some(Addr::V6(ip.to_bits())),
+            Err(_) => None,
+        }
+    }
+
     /// How many bits an address of this family has: 32 or 128.
     pub fn width(&self) -> u8
         ensures { result ≡ width self.now }
@@ -17,89 +33,5 @@ impl Addr {
             Addr::V4(_) => 32,
             Addr::V6(_) => 128,
         }
-    }
-}
-
-/// An address block (RFC 4632 section 3.1, RFC 4291 section 2.3): the addresses whose first `len` bits are those
-/// of `addr`, whose other bits are zero. `len` is at most 32 or 128.
-#[derive(Clone, Copy, Debug, PartialEq, Eq, PartialOrd, Ord, Hash)]
-pub struct Prefix {
-    pub addr: Addr,
-    pub len: u8,
-    ghost short: { len ≤ width addr },
-    ghost zeroed: { addr ≡ cleared addr len },
-}
-
-impl Prefix {
-    /// The block of `addr` with this length, its host bits cleared. None exactly where `len` passes the family's width.
-    pub fn of(addr: Addr, len: u8) -> Option<Prefix>
-        ensures fits { IsSome result ↔ (len ≤ width addr) }
-        ensures addr { IfSome result (λ p. p.addr ≡ cleared addr len) }
-        ensures len { IfSome result (λ p. p.len ≡ len) }
-    {
-        if len > addr.width() {
-            return None;
-        }
-        Some(Prefix {
-            addr: addr_cleared(addr, len),
-            len,
-        })
-    }
-
-    /// Whether the address lies in the block: its family agrees and its first `len` bits are equal.
-    pub fn has(&self, addr: Addr) -> bool
-        ensures value { result ≡ shares_first self.now.len self.now.addr addr }
-        ensures fact { IsTrue result ↔ SharesFirst self.now.len self.now.addr addr }
-    {
-        match (self.addr, addr) {
-            (Addr::V4(a), Addr::V4(b)) => first_bits_v4(a, self.len) == first_bits_v4(b, self.len),
-            (Addr::V6(a), Addr::V6(b)) => first_bits_v6(a, self.len) == first_bits_v6(b, self.len),
-            _ => false,
-        }
-    }
-}
-
-#[tactic(auto, using(crate::proofs::AddressBits::clearing))]
-fn addr_cleared(addr: Addr, len: u8) -> Addr
-    requires { len ≤ width addr }
-    ensures value { result ≡ cleared addr len }
-    ensures width { width result ≡ width addr }
-    ensures again { cleared result len ≡ result }
-{
-    match addr {
-        Addr::V4(a) => Addr::V4(kept_bits_v4(a, len)),
-        Addr::V6(a) => Addr::V6(kept_bits_v6(a, len)),
-    }
-}
-
-fn first_bits_v4(a: u32, n: u8) -> u32
-    requires { n ≤ 32 }
-    ensures { result ≡ first_bits 32 n a }
-{
-    if n == 0 { 0 } else { a >> (32 - n) }
-}
-
-fn first_bits_v6(a: u128, n: u8) -> u128
-    requires { n ≤ 128 }
-    ensures { result ≡ first_bits 128 n a }
-{
-    if n == 0 { 0 } else { a >> (128 - n) }
-}
-
-fn kept_bits_v4(a: u32, n: u8) -> u32
-    requires { n ≤ 32 }
-    ensures { result ≡ kept_bits 32 n a }
-{
-    if n == 0 { 0 } else { a >> (32 - n) << (32 - n) }
-}
-
-fn kept_bits_v6(a: u128, n: u8) -> u128
-    requires { n ≤ 128 }
-    ensures { result ≡ kept_bits 128 n a }
-{
-    if n == 0 {
-        0
-    } else {
-        a >> (128 - n) << (128 - n)
     }
 }

@@ -18,11 +18,13 @@ pub struct Name {
 
 impl Name {
     ghost use Rattle.npf_types.specs.Name.{name_bytes};
+    ghost use Rattle.npf_types.specs.Named.{named};
 
     /// The name that these bytes are. None exactly where they are no name.
     pub fn of(bytes: &[u8]) -> Option<Name>
         ensures named { IsSome result ↔ IsTrue (is_name bytes.now) }
         ensures bytes { IfSome result (λ name. name_bytes name ≡ bytes.now) }
+        ensures value { IfSome result (λ name. name ≡ named bytes.now) }
     {
         if !is_name(bytes) {
             return None;

@@ -39,6 +39,30 @@ fn a_prefix_clears_host_bits_and_knows_its_width(rt: HostRuntime) -> Result<(), 
     Ok(())
 }
 
+// Texts of RFC 4291 section 2.2 and of RFC 6943 section 3.1.1, and some that are neither.
+#[test]
+fn addresses_are_read_from_text(rt: HostRuntime) {
+    let documentation: u128 = 0x2001_0db8 << 96;
+    let cases: [(&[u8], Option<Addr>); 13] = [
+        (b"192.0.2.1", Some(Addr::V4(0xc000_0201))),
+        (b"0.0.0.0", Some(Addr::V4(0))),
+        (b"255.255.255.255", Some(Addr::V4(u32::MAX))),
+        (b"192.0.2.256", None),
+        (b"192.0.2.01", None),
+        (b"192.0.2", None),
+        (b"2001:db8::1", Some(Addr::V6(documentation | 1))),
+        (b"::", Some(Addr::V6(0))),
+        (b"::ffff:192.0.2.1", Some(Addr::V6(0xffff_c000_0201))),
+        (b"2001:db8::1::2", None),
+        (b"2001:db8", None),
+        (b" ::1", None),
+        (b"", None),
+    ];
+    for (text, addr) in cases {
+        assert_eq!(rt; Addr::parse_ascii(text), addr, "{text:?}");
+    }
+}
+
 #[test]
 fn names_are_those_of_npf_conf(rt: HostRuntime) {
     let cases: [(&[u8], bool); 10] = [

@@ -5,12 +5,10 @@
 use anyhow::{Error, anyhow};
 use npf_lexer::lex;
 use npf_parser::parse;
+use npf_types::limits::MAX_TEXT_BYTES;
 use std::alloc::{AllocError, Global};
 use std::env;
 use std::time::Instant;
-
-/// The most bytes of a text.
-const MOST_BYTES: usize = 4_194_304;
 
 /// One rule, with most of what a rule may say.
 const RULE: &str =
@@ -19,8 +17,8 @@ const RULE: &str =
 fn main(rt: HostRuntime) -> Result<(), Error> {
     let text = text_of(rt.alloc(), rules(&rt)?)?;
     let bytes = text.as_bytes();
-    if bytes.len() > MOST_BYTES {
-        return Err(anyhow!("a text has at most {MOST_BYTES} bytes"));
+    if bytes.len() > MAX_TEXT_BYTES {
+        return Err(anyhow!("a text has at most {MAX_TEXT_BYTES} bytes"));
     }
     let start = Instant::now(&rt)?;
     let lines = bytes.iter().filter(|byte| **byte == b'\n').count();

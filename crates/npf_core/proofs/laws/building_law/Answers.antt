@@ -1,4 +1,4 @@
-use Rattle.npf_core.proofs.Building.{claim_builds, builds_after, holds_none_after}
+use Rattle.npf_core.proofs.BuildingLemmas.{claim_builds, builds_after, holds_none_after}
 use Rattle.npf_core.proofs.laws.building_law.Goals as goal
 
 pub returns-clause-stays : goal.returns-clause-stays

@@ -1,4 +1,4 @@
-use Rattle.npf_core.proofs.Building.{claimed_after}
+use Rattle.npf_core.proofs.BuildingLemmas.{claimed_after}
 use Rattle.npf_core.proofs.laws.claimed_law.Goals as goal
 
 pub returns : goal.returns

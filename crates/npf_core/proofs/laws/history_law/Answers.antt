@@ -1,4 +1,4 @@
-use Rattle.npf_core.proofs.Histories.{Legal-prefix, goes_on_legally, state_of-append, acts_decide}
+use Rattle.npf_core.proofs.HistoryLemmas.{Legal-prefix, goes_on_legally, state_of-append, acts_decide}
 use Rattle.npf_core.proofs.laws.history_law.Goals as goal
 
 pub returns-clause-prefix : goal.returns-clause-prefix

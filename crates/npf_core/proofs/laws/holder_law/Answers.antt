@@ -1,4 +1,4 @@
-use Rattle.npf_core.proofs.Holders.{claim_with_none, hold_one_a_way, holders_claimed, unclaimed_hold_none}
+use Rattle.npf_core.proofs.HolderLemmas.{claim_with_none, hold_one_a_way, holders_claimed, unclaimed_hold_none}
 use Rattle.npf_core.proofs.laws.holder_law.Goals as goal
 
 pub returns-clause-claimed : goal.returns-clause-claimed

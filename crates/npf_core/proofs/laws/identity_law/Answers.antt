@@ -1,4 +1,4 @@
-use Rattle.npf_core.proofs.Identities.{claims_once, counts_incarnations}
+use Rattle.npf_core.proofs.IdentityLemmas.{claims_once, counts_incarnations}
 use Rattle.npf_core.proofs.laws.identity_law.Goals as goal
 
 pub returns-clause-once : goal.returns-clause-once

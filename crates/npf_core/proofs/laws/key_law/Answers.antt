@@ -1,4 +1,4 @@
-use Rattle.npf_core.proofs.Keys.{keeps_keys, shares_no_key, was_given, stays_holder}
+use Rattle.npf_core.proofs.KeyLemmas.{keeps_keys, shares_no_key, was_given, stays_holder}
 use Rattle.npf_core.proofs.laws.key_law.Goals as goal
 
 pub returns-clause-kept : goal.returns-clause-kept

@@ -1,4 +1,4 @@
-use Rattle.npf_core.proofs.Replays.{replays_answers, replays_flows}
+use Rattle.npf_core.proofs.ReplayLemmas.{replays_answers, replays_flows}
 use Rattle.npf_core.proofs.laws.replay_law.Goals as goal
 
 pub returns-clause-flows : goal.returns-clause-flows

@@ -1,4 +1,4 @@
-use Rattle.npf_core.proofs.LookUps.{looks_up_stale}
+use Rattle.npf_core.proofs.LookUpLemmas.{looks_up_stale}
 use Rattle.npf_core.proofs.laws.stale_look_up_law.Goals as goal
 
 pub returns : goal.returns

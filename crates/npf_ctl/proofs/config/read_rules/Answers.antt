@@ -1,7 +1,7 @@
 use Rattle.std.proofs.Common.{map, subst, arith}
 use Rattle.std.specs.Option.{option_map}
 use Rattle.npf_ctl.specs.Grammar.{IsFile}
-use Rattle.npf_ctl.specs.Reading.{IsReading, IsOnly}
+use Rattle.npf_types.specs.Reading.{IsOnly, IsReading}
 use Rattle.npf_ctl.specs.Tokens.{Spells}
 use Rattle.npf_ctl.specs.Written.{written_of}
 use Rattle.npf_ctl.proofs.Configs.{no_file, too_many}

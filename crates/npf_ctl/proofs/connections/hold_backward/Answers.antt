@@ -1,5 +1,5 @@
 use Rattle.std.proofs.Common.{◌≡◌, true, false, sym, ap, subst, ◌∙◌}
-use Rattle.npf_types.specs.declared.connection.Way.TheVariants.{Backward}
+use Rattle.npf_types.specs.declared.key.Way.TheVariants.{Backward}
 use Rattle.npf_core.specs.declared.act.Act.TheVariants.{Hold}
 use Rattle.npf_core.specs.declared.held.Held.{Held}
 use Rattle.npf_core.specs.Machine.{is_key}

@@ -4,7 +4,7 @@ use Rattle.npf_core.specs.Replies.{claimed_id}
 use Rattle.npf_flow.specs.declared.flow.Flow.{Flow}
 use Rattle.npf_flow.specs.Flows.{flow_law}
 use Rattle.npf_store.specs.Store.{AnswersClaim}
-use Rattle.npf_store.proofs.Representing.{claim_is_act, full_is_claimed, stays_same}
+use Rattle.npf_store.proofs.RepresentLemmas.{claim_is_act, full_is_claimed, stays_same}
 use Rattle.npf_ctl.specs.declared.outcome.Unkept.TheVariants.{Full}
 use Rattle.npf_ctl.specs.Doing.{Does, DoesFrom, IsFresh}
 use Rattle.npf_ctl.specs.OneLine.{build, most_connections, try_open, unkept}

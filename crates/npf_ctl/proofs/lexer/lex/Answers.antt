@@ -1,9 +1,8 @@
 use Rattle.std.proofs.Common.{◌≡◌, ℕ, List, [], subst}
 use Rattle.npf_ctl.specs.declared.token.Token.{Token}
-use Rattle.npf_ctl.specs.SoFar.{IsSoFar}
-use Rattle.npf_ctl.specs.Reading.{IsOnly}
+use Rattle.npf_types.specs.Reading.{IsOnly, IsSoFar}
 use Rattle.npf_ctl.specs.Tokens.{Spells, end}
-use Rattle.npf_ctl.proofs.Readers.{IsSoFar-ends}
+use Rattle.npf_types.proofs.ReadingLemmas.{IsSoFar-ends}
 use Rattle.npf_ctl.proofs.TokenSteps.{Spells-nil}
 use Rattle.npf_ctl.proofs.lexer.lex.Goals as goal
 

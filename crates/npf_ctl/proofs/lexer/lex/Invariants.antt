@@ -1,5 +1,5 @@
 use Rattle.std.proofs.Common.{length}
-use Rattle.npf_ctl.specs.SoFar.{IsSoFar}
+use Rattle.npf_types.specs.Reading.{IsSoFar}
 use Rattle.npf_ctl.specs.Tokens.{Spells}
 use Rattle.npf_ctl.proofs.lexer.lex.Given as goal
 

@@ -1,5 +1,5 @@
 use Rattle.std.proofs.Common.{◌∙◌, arith}
-use Rattle.npf_types.specs.declared.rule.Dir.TheVariants.{In}
+use Rattle.npf_types.specs.declared.direction.Dir.TheVariants.{In}
 use Rattle.npf_ctl.specs.ReportText.{report_text, cap0, total_text}
 use Rattle.npf_ctl.proofs.Lines.{line_put, line_fails, rest_fails}
 use Rattle.npf_ctl.proofs.output.put_report.Goals as goal

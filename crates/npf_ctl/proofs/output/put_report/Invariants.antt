@@ -1,5 +1,5 @@
 use Rattle.std.proofs.Common.{◌+◌, ◌++◌, ◌≤◌, drop}
-use Rattle.npf_types.specs.declared.rule.Dir.TheVariants.{In}
+use Rattle.npf_types.specs.declared.direction.Dir.TheVariants.{In}
 use Rattle.npf_outside.specs.Put.{IsPutTo}
 use Rattle.npf_ctl.specs.ReportText.{report_text, lines_from, cap0, total_text}
 use Rattle.npf_ctl.proofs.output.put_report.Given as goal

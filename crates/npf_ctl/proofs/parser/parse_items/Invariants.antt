@@ -1,6 +1,6 @@
 use Rattle.std.proofs.Common.{length, map}
 use Rattle.npf_ctl.specs.Grammar.{AreItems}
-use Rattle.npf_ctl.specs.SoFar.{IsSoFar}
+use Rattle.npf_types.specs.Reading.{IsSoFar}
 use Rattle.npf_ctl.specs.Written.{written_of}
 use Rattle.npf_ctl.proofs.parser.parse_items.Given as goal
 

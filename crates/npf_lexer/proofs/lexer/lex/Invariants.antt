@@ -1,11 +1,11 @@
 use Rattle.std.proofs.Common.{length}
-use Rattle.npf_lexer.specs.Fronts.{Fits}
-use Rattle.npf_lexer.proofs.TokenLaws.{IsSoFar}
+use Rattle.npf_lexer.specs.Front.{Fits}
+use Rattle.npf_lexer.proofs.LexerLemmas.{IsLexedSoFar}
 use Rattle.npf_lexer.proofs.lexer.lex.Given as goal
 
 abbrev pub invariant-tokens : goal.invariant-tokens
 invariant-tokens l = record {
-  so_far : IsSoFar l.fn.text l.tokens.items l.place l.rest;
+  so_far : IsLexedSoFar l.fn.text l.tokens.items l.place l.rest;
   fits : Fits l.place (length l.rest);
 }
 

@@ -1,5 +1,5 @@
 use Rattle.std.proofs.Common.{◌≡◌, ◌+◌, ◌-◌, ◌≤◌, length, drop}
-use Rattle.npf_lexer.specs.Runs.{longest_run}
+use Rattle.npf_lexer.specs.Run.{longest_run}
 use Rattle.npf_lexer.proofs.run.longest_run.Given as goal
 
 abbrev pub invariant-loop-len : goal.invariant-loop-len

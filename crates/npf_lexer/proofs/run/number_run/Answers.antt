@@ -2,7 +2,7 @@ use Rattle.std.proofs.Common.{◌^◌, ◌<◌, subst}
 use Rattle.std.specs.Str.Parse.{IsNumeral, digits_value, without_leading_plus}
 use Rattle.std.proofs.lemmas.Str.{IsUtf8-from_ascii}
 use Rattle.std.proofs.lemmas.Fmt.{IsAscii-from_digits}
-use Rattle.npf_lexer.proofs.RunLaws.{decimal_digits, decimal_too_large}
+use Rattle.npf_lexer.proofs.RunLemmas.{decimal_digits, decimal_too_large}
 use Rattle.npf_lexer.proofs.run.number_run.Goals as goal
 
 pub returns-in_default : goal.returns-in_default

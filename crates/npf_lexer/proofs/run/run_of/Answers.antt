@@ -1,5 +1,5 @@
 use Rattle.std.proofs.Common.{sym}
-use Rattle.npf_lexer.proofs.RunLaws.{word_is_run}
+use Rattle.npf_lexer.proofs.RunLemmas.{word_is_run}
 use Rattle.npf_lexer.proofs.run.run_of.Goals as goal
 
 pub returns-in-None : goal.returns-in-None

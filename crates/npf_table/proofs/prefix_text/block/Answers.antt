@@ -1,4 +1,4 @@
-use Rattle.npf_table.proofs.AddressLemmas.{block_reading, no_address}
+use Rattle.npf_table.proofs.PrefixTextLemmas.{block_reading, no_address}
 use Rattle.npf_table.proofs.prefix_text.block.Goals as goal
 
 pub returns-in_default : goal.returns-in_default

@@ -1,4 +1,4 @@
-use Rattle.npf_table.proofs.AddressLemmas.{host_reading}
+use Rattle.npf_table.proofs.PrefixTextLemmas.{host_reading}
 use Rattle.npf_table.proofs.prefix_text.host.Goals as goal
 
 pub returns-in-Some : goal.returns-in-Some

@@ -1,7 +1,7 @@
 use Rattle.std.proofs.Common.{◌≤◌, arith}
 use Rattle.npf_tcp.specs.Laws.{KeepsMaxwin, IsQuietUnseen}
 use Rattle.npf_tcp.proofs.SideLemmas.{sender_after-known, sender_after-maxwin, quiet_sender_after, receiver_after-is_acked, opening_is_quiet}
-use Rattle.npf_tcp.proofs.StepLemmas.{step_each}
+use Rattle.npf_tcp.proofs.SegmentLemmas.{step_each}
 use Rattle.npf_tcp.proofs.laws.maxwin_never_falls.Goals as goal
 
 pub returns-clause-seen : goal.returns-clause-seen

@@ -1,5 +1,5 @@
 use Rattle.std.proofs.Common.{◌≡◌, false, refl}
-use Rattle.npf_tcp.proofs.StepLemmas.{step_cases}
+use Rattle.npf_tcp.proofs.SegmentLemmas.{step_cases}
 use Rattle.npf_tcp.proofs.laws.refused_changes_nothing.Goals as goal
 
 pub returns : goal.returns

@@ -1,8 +1,8 @@
 use Rattle.std.proofs.Common.{◌≡◌, ◌∙◌, true, ap}
 use Rattle.npf_tcp.specs.declared.state.TcpPhase.TheVariants.{Closed}
-use Rattle.npf_tcp.specs.Cells.{cell}
+use Rattle.npf_tcp.specs.Cell.{cell}
 use Rattle.npf_tcp.proofs.CellLemmas.{cell-rst}
-use Rattle.npf_tcp.proofs.StepLemmas.{step_cases, step-accepted, state_after-phase}
+use Rattle.npf_tcp.proofs.SegmentLemmas.{step_cases, step-accepted, state_after-phase}
 use Rattle.npf_tcp.proofs.laws.reset_closes.Goals as goal
 
 pub returns-clause-closes : goal.returns-clause-closes

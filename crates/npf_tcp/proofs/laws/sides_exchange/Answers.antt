@@ -1,11 +1,11 @@
-use Rattle.npf_tcp.specs.Class.{class_of}
+use Rattle.npf_tcp.specs.Class.{segment_class}
 use Rattle.npf_tcp.proofs.CellLemmas.{symmetric_class}
 use Rattle.npf_tcp.proofs.MirrorLemmas.{step-mirrored}
 use Rattle.npf_tcp.proofs.laws.sides_exchange.Goals as goal
 
 pub returns-clause-phases : goal.returns-clause-phases
 returns-clause-phases c = λ state way seg h.
-    let exchanged = step-mirrored state way seg (symmetric_class state.phase h (class_of seg.flags)) in (exchanged.next, exchanged.accepted)
+    let exchanged = step-mirrored state way seg (symmetric_class state.phase h (segment_class seg.flags)) in (exchanged.next, exchanged.accepted)
 
 pub returns-clause-classes : goal.returns-clause-classes
 returns-clause-classes c = λ state way seg h. let exchanged = step-mirrored state way seg h in (exchanged.next, exchanged.accepted)

@@ -1,5 +1,5 @@
-use Rattle.npf_types.specs.declared.connection.Way.TheVariants.{Forward}
-use Rattle.npf_tcp.specs.declared.class.Class.TheVariants.{Syn, SynAck, Fin}
+use Rattle.npf_types.specs.declared.key.Way.TheVariants.{Forward}
+use Rattle.npf_tcp.specs.declared.class.SegmentClass.TheVariants.{Syn, SynAck, Fin}
 use Rattle.npf_tcp.proofs.CellLemmas.{cell-mirrored, not_one_sided, symmetric_class, symmetric_phase}
 use Rattle.npf_tcp.proofs.laws.table_is_symmetric.Goals as goal
 

@@ -1,4 +1,4 @@
-use Rattle.npf_core.proofs.PlainMachines.{is_held_by_means}
+use Rattle.npf_core.proofs.PlainMachineLemmas.{is_held_by_means}
 use Rattle.npf_core.proofs.plain_machine.PlainMachine.holds_any.Goals as goal
 
 pub returns : goal.returns

@@ -1,8 +1,8 @@
 use Rattle.std.proofs.Common.{ap, ◌∙◌}
 use Rattle.npf_core.specs.Holding.{holder_in}
-use Rattle.npf_core.specs.Slots.{slot_in}
-use Rattle.npf_core.proofs.Holdings.{each_once-filter, is_other}
-use Rattle.npf_core.proofs.PlainMachines.{taken_state}
+use Rattle.npf_core.specs.Slot.{slot_in}
+use Rattle.npf_core.proofs.HoldingLemmas.{each_once-filter, is_other}
+use Rattle.npf_core.proofs.PlainMachineLemmas.{taken_state}
 use Rattle.npf_core.proofs.plain_machine.PlainMachine.take_back.Goals as goal
 
 pub invariant_of-self : goal.invariant_of-self

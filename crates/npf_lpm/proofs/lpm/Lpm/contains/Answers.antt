@@ -1,6 +1,6 @@
 use Rattle.std.proofs.Common.{◌<◌, ◌+◌, ℕ, arith, sym, below_more, refl, true≢false}
 use Rattle.npf_types.specs.Address.{width}
-use Rattle.npf_lpm.specs.Prefixes.{CoversAt}
+use Rattle.npf_lpm.specs.Lpm.{CoversAt}
 use Rattle.npf_lpm.proofs.BlockLemmas.{none_of_length, covered_at, covered_nowhere}
 use Rattle.npf_lpm.proofs.lpm.Lpm.contains.Goals as goal
 use Rattle.npf_lpm.proofs.lpm.Lpm.contains.Goals.{else-self-place-gt0-via-then-self-place-gt0+else-lists_block, else-self-place-gt0-via-else-self-place-gt0}

@@ -1,6 +1,6 @@
 use Rattle.std.proofs.Common.{◌≡◌, ◌<◌, ◌+◌, cond, get_or, sum_by, count_by, ap, sym, ◌∙◌, arith}
 use Rattle.std.proofs.lemmas.Map.Made.{sum_by-remove_same}
-use Rattle.npf_lpm.specs.Lengths.{place_of, is_counted_at}
+use Rattle.npf_lpm.specs.Length.{place_of, is_counted_at}
 use Rattle.npf_lpm.proofs.LengthLemmas.{counted_in, lowered}
 use Rattle.npf_lpm.proofs.MemberLemmas.{key_listed, old_key, loses, same_prefix_decides, has_key}
 use Rattle.npf_lpm.proofs.lpm.Lpm.remove.Goals as goal

@@ -1,8 +1,8 @@
 use Rattle.std.proofs.Common.{arith, ◌∙◌, refl}
 use Rattle.std.proofs.lemmas.Result.{err_from_is_err_and}
 use Rattle.npf_store.specs.Store.{IsFull}
-use Rattle.npf_store.proofs.Pushed.{AreClaimed-either}
-use Rattle.npf_store.proofs.NextClaim.{has_room, claims_next}
+use Rattle.npf_store.proofs.ConnectionLemmas.{AreClaimed-either}
+use Rattle.npf_store.proofs.ClaimLemmas.{has_room, claims_next}
 use Rattle.npf_store.proofs.store.Store.claim.Goals as goal
 
 pub invariant_of-self : goal.invariant_of-self

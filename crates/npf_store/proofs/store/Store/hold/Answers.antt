@@ -1,5 +1,5 @@
 use Rattle.std.proofs.Common.{refl, sym, ◌∙◌}
-use Rattle.npf_store.proofs.Keys.{keys_apart}
+use Rattle.npf_store.proofs.KeyLemmas.{keys_apart}
 use Rattle.npf_store.proofs.store.Store.hold.Goals as goal
 
 pub returns-clause-answer : goal.returns-clause-answer

@@ -1,5 +1,5 @@
 use Rattle.std.proofs.Common.{refl}
-use Rattle.npf_store.proofs.Keys.{keys_apart}
+use Rattle.npf_store.proofs.KeyLemmas.{keys_apart}
 use Rattle.npf_store.proofs.store.Store.unhold.Goals as goal
 
 pub returns : goal.returns

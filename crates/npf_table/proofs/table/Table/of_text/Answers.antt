@@ -3,7 +3,7 @@ use Rattle.std.proofs.lemmas.List.{length_push, take_all}
 use Rattle.std.proofs.lemmas.Iterator.Consumers.{YieldsList-turn, YieldsList-end}
 use Rattle.std.proofs.lemmas.Iterator.Splits.{YieldsList-from_slice_split}
 use Rattle.npf_table.specs.TableFile.{is_line_feed, lines, AreEntries}
-use Rattle.npf_table.proofs.EntryLemmas.{after_blank, after_entry, first_bad, one_line_more}
+use Rattle.npf_table.proofs.TableFileLemmas.{after_blank, after_entry, first_bad, one_line_more}
 use Rattle.npf_table.proofs.table.Table.of_text.Goals as goal
 
 pub loop-line-preserved-in-Blank : goal.loop-line-preserved-in-Blank

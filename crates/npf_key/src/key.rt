@@ -1,0 +1,36 @@
+ghost use Rattle.std.specs.Prelude.{◌≡◌};
+ghost use Rattle.npf_key.specs.Key.{key_of, backward_key, port_key};
+
+use crate::translated::{about, facts_there};
+use crate::word::{first_word, lower, marked_word, upper};
+use npf_types::{Addr, Change, Facts, IfId, Key};
+
+/// The key of a packet on this interface, as it came.
+pub fn key_of(facts: &Facts, ifid: IfId) -> Key
+    ensures { result ≡ key_of facts.now ifid }
+{
+    Key([
+        first_word(facts, ifid),
+        upper(facts.src),
+        lower(facts.src),
+        upper(facts.dst),
+        lower(facts.dst),
+    ])
+}
+
+/// The forward key and the backward key of a packet that `there` translates: the key of the packet as it came, and that of
+/// the answers to the translated packet.
+pub fn keys_of(facts: &Facts, ifid: IfId, there: &Change) -> (Key, Key)
+    ensures forward { result.0 ≡ key_of facts.now ifid }
+    ensures backward { result.1 ≡ backward_key facts.now ifid there.now }
+{
+    let translated = facts_there(facts, there);
+    (key_of(facts, ifid), key_of(&about(&translated), ifid))
+}
+
+/// The key of a port, or of an echo's identifier, that a translation draws at this address.
+pub fn port_key(addr: Addr, port: u16) -> Key
+    ensures { result ≡ port_key addr port }
+{
+    Key([marked_word(addr, port), upper(addr), lower(addr), 0, 0])
+}
