@@ -1,7 +1,7 @@
 -- What the options say that were passed.
 use Rattle.std.proofs.Common.{◌-◌, ◌≤◌}
-use Rattle.npf_packet.proofs.OptionLaws.{HasRead}
-use Rattle.npf_packet.proofs.options.options_between.Given as goal
+use Rattle.npf_packet.proofs.TcpOptionLemmas.{HasRead}
+use Rattle.npf_packet.proofs.tcp_option.options_between.Given as goal
 
 abbrev pub invariant-options : goal.invariant-options
 invariant-options l = record {

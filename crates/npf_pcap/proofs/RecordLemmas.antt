@@ -2,6 +2,7 @@
 use Rattle.std.proofs.Common.{◌≡◌, ◌≢◌, ℕ, zero, suc, ◌+◌, ◌-◌, ◌*◌, ◌≤◌, ◌⊎◌, inl, inr, ◌∙◌, sym, ap, subst, refl, List, [], ◌∷◌, ◌++◌, length, take, drop, arith, add-one, append_assoc, length-drop}
 use Rattle.std.proofs.lemmas.Bool.{cases_lt}
 use Rattle.std.proofs.lemmas.List.{append-nil}
+use Rattle.npf_types.specs.declared.limits.TheConstants.{MAX_PACKET_BYTES}
 use Rattle.npf_pcap.specs.declared.format.Format.{Format}
 use Rattle.npf_pcap.specs.declared.capture.Record.{Record}
 use Rattle.npf_pcap.specs.declared.fault.CaptureFault.{CaptureFault}
@@ -135,7 +136,7 @@ module _ (format : Format) where
   by_size zero (x ∷ b) fits = absurd (omega arith)
   by_size (suc size) (x ∷ b) fits = elim (cases_lt (length (x ∷ b)) 16) [
     | inl header ↦ inr (inl (zero, (λ e. cc, inl header)))
-    | inr header ↦ elim (cases_lt 262144 (stored_len format (x ∷ b))) [
+    | inr header ↦ elim (cases_lt MAX_PACKET_BYTES (stored_len format (x ∷ b))) [
       | inl long ↦ inr (inr (zero, (header, long)))
       | inr short ↦ elim (cases_lt (length (x ∷ b)) (record_len format (x ∷ b))) [
         | inl cut ↦ inr (inl (zero, (λ e. cc, inr (short, cut))))

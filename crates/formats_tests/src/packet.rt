@@ -1,6 +1,11 @@
+// What a packet's bytes say, by the pictures of RFC 894, 791, 8200, 4302, 9293, 7323, 768, 792 and
+// 4443, in bytes that were put together by hand.
 ghost use Rattle.std.specs.Prelude.{◌<◌};
 
-use super::*;
+use npf_packet::{
+    BadPacket, Decoded, decode, decoded_has_fields, decoded_has_places, decoded_is_packet,
+    one_decoding,
+};
 use npf_types::{Addr, Facts, L4, Link, Segment};
 
 /// A UDP packet from 10.0.0.1:5000 to 192.0.2.1:53 without payload.
@@ -452,6 +457,9 @@ fn a_frame_of_ipv6(rt: HostRuntime) {
 }
 
 #[test]
-fn the_law_takes_nothing() {
+fn the_laws_take_nothing() {
     one_decoding();
+    decoded_has_places();
+    decoded_has_fields();
+    decoded_is_packet();
 }

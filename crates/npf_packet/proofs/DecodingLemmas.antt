@@ -1,22 +1,21 @@
 -- For each link and bytes there is one decoding.
-use Rattle.std.proofs.Common.{◌≡◌, ℕ, ◌+◌, List, Ok, Err, refl, sym, ap, ◌∙◌, subst}
+use Rattle.std.proofs.Common.{◌≡◌, ℕ, ◌+◌, List, Ok, Err, sym, ap, ◌∙◌, subst}
 use Rattle.std.specs.Prelude.{Result, MatchResult}
-use Rattle.npf_types.specs.declared.link.Link.{Link}
 use Rattle.npf_packet.specs.declared.decoded.Decoded.{Decoded}
 use Rattle.npf_packet.specs.declared.decoded.Decoded.TheVariants.{Ip}
-use Rattle.npf_packet.specs.declared.ipv6.Header.{Header}
-use Rattle.npf_packet.specs.declared.link.Version.{Version}
-use Rattle.npf_packet.specs.declared.link.Version.TheVariants.{V4, V6}
+use Rattle.npf_packet.specs.declared.version.Version.{Version}
+use Rattle.npf_packet.specs.declared.version.Version.TheVariants.{V4, V6}
 use Rattle.npf_packet.specs.declared.packet.Packet.{Packet}
 use Rattle.npf_packet.specs.declared.upper.Upper.{Upper}
 use Rattle.npf_packet.specs.declared.upper.Upper.TheVariants.{Tcp, Udp, Icmp, Icmpv6, Other}
-use Rattle.npf_packet.specs.Decoding.{Decodes, DecodesIp, IsPacket, OneDecoding, version_behind, packet_at}
-use Rattle.npf_packet.specs.Ipv6.{IsBehindChain, IsPacketV6, HasLast, behind_last, end_v6, first_header, next_header}
+use Rattle.npf_packet.specs.Decoding.{DecodesIp, IsPacket, version_behind, packet_at}
+use Rattle.npf_packet.specs.DecodingLaw.{OneDecoding}
+use Rattle.npf_packet.specs.Ipv6.{IsBehindChain, behind_last, end_v6, first_header, next_header}
 use Rattle.npf_packet.specs.Packet.{facts_of}
-use Rattle.npf_packet.specs.Tcp.{CarriesTcp, HasSegment, header_end, segment_of}
+use Rattle.npf_packet.specs.Tcp.{HasSegment, header_end, segment_of}
 use Rattle.npf_packet.specs.Upper.{Carries, CarriesAs, upper_of}
-use Rattle.npf_packet.proofs.ChainLaws.{same_chain}
-use Rattle.npf_packet.proofs.OptionLaws.{same_options}
+use Rattle.npf_packet.proofs.ChainLemmas.{same_chain}
+use Rattle.npf_packet.proofs.TcpOptionLemmas.{same_options}
 
 -- at most one value is so
 abbrev pub IsOne : {A : Type 0} → (A → Type 0) → Type 0

@@ -1,6 +1,6 @@
 use Rattle.std.proofs.Common.{sym, ◌∙◌}
-use Rattle.npf_packet.proofs.OptionLaws.{reads_one, reads_all}
-use Rattle.npf_packet.proofs.options.options_between.Goals as goal
+use Rattle.npf_packet.proofs.TcpOptionLemmas.{reads_one, reads_all}
+use Rattle.npf_packet.proofs.tcp_option.options_between.Goals as goal
 
 pub options-preserved : goal.options-preserved
 options-preserved c =

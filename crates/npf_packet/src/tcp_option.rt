@@ -1,6 +1,8 @@
-// The options of TCP (RFC 9293 section 3.2, RFC 7323 section 2.2); specs/Options.antt has their picture.
+// The options of TCP (RFC 9293 section 3.2, RFC 7323 section 2.2); specs/TcpOption.antt has their picture.
 ghost use Rattle.std.specs.Prelude.{◌≡◌, ◌+◌, ◌<◌, ◌≤◌, length, IfSome};
-ghost use Rattle.npf_packet.specs.Options.{HasOptions, option_end, option_len, mss_at, scale_at};
+ghost use Rattle.npf_packet.specs.TcpOption.{HasOptions, option_end, option_len, mss_at, scale_at};
+
+use npf_types::limits::MAX_PACKET_BYTES;
 
 /// The kinds of options (assigned TCP option kind numbers), and the lengths of those that are read.
 const END: u8 = 0;
@@ -29,7 +31,7 @@ pub(crate) struct Options {
 pub(crate) fn options_between(bytes: &[u8], from: usize, to: usize) -> Options
     requires order { from ≤ to }
     requires whole { to ≤ length bytes.now }
-    requires size { length bytes.now ≤ 262144 }
+    requires size { length bytes.now ≤ MAX_PACKET_BYTES }
     ensures { HasOptions bytes.now from to result }
 {
     let mut scale = None;
@@ -46,7 +48,7 @@ pub(crate) fn options_between(bytes: &[u8], from: usize, to: usize) -> Options
 /// Where the option ends that begins at `at`. None where no whole option does, which ends the reading.
 fn option_end(bytes: &[u8], to: usize, at: usize) -> Option<usize>
     requires whole { to ≤ length bytes.now }
-    requires size { length bytes.now ≤ 262144 }
+    requires size { length bytes.now ≤ MAX_PACKET_BYTES }
     ensures value { result ≡ option_end bytes.now to at }
     ensures len { IfSome result (λ end. end ≡ at + option_len bytes.now at) }
     ensures after { IfSome result (λ end. at < end) }
@@ -86,7 +88,7 @@ fn scale_at(bytes: &[u8], at: usize, end: usize) -> Option<u8>
 fn mss_at(bytes: &[u8], at: usize, end: usize) -> Option<u32>
     requires order { at < end }
     requires whole { end ≤ length bytes.now }
-    requires size { length bytes.now ≤ 262144 }
+    requires size { length bytes.now ≤ MAX_PACKET_BYTES }
     requires len { end ≡ at + option_len bytes.now at }
     ensures { result ≡ mss_at bytes.now at }
 {

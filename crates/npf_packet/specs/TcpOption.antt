@@ -2,7 +2,7 @@
 -- both, and then as many bytes as are left of the length.
 use Rattle.std.specs.Prelude.{◌≡◌, ℕ, ◌+◌, ◌==◌, ◌&&◌, nat_lt, nat_le, min, if◌then◌else◌, Option, Some, None, List, [], ◌∷◌, slice_index}
 use Rattle.std.specs.Option.{option_or}
-use Rattle.npf_packet.specs.declared.options.Options.{Options}
+use Rattle.npf_packet.specs.declared.tcp_option.Options.{Options}
 use Rattle.npf_packet.specs.Chain.{IsChain}
 
 module _ (bytes : List ℕ) where
@@ -30,14 +30,14 @@ module _ (bytes : List ℕ) where
   mss_at at = if slice_index bytes at == 2 && option_len at == 4 then Some (at + 2) else None
 
 -- what the first place says that says something
-abbrev pub first_of : (ℕ → Option ℕ) → List ℕ → Option ℕ
-first_of says [] = None
-first_of says (place ∷ places) = option_or (says place) (first_of says places)
+abbrev pub first_said : (ℕ → Option ℕ) → List ℕ → Option ℕ
+first_said says [] = None
+first_said says (place ∷ places) = option_or (says place) (first_said says places)
 
 -- the options between two places begin at a chain of places, and say this
 pub record HasOptions (bytes : List ℕ) (from to : ℕ) (options : Options) : Type 0 where
   pub places : List ℕ
   pub last : ℕ
   pub chain : IsChain (option_end bytes to) from places last
-  pub scale : options.scale ≡ first_of (scale_at bytes) places
-  pub mss : options.mss_at ≡ first_of (mss_at bytes) places
+  pub scale : options.scale ≡ first_said (scale_at bytes) places
+  pub mss : options.mss_at ≡ first_said (mss_at bytes) places

@@ -1,5 +1,5 @@
 -- What walks a chain makes one, and from a place there is one chain.
-use Rattle.std.proofs.Common.{◌≡◌, Option, Some, None, List, [], ◌∷◌, ◌++◌, refl, sym, ap, ◌∙◌, append_assoc}
+use Rattle.std.proofs.Common.{◌≡◌, Option, Some, None, List, [], ◌∷◌, ◌++◌, refl, sym, ap, ◌∙◌, subst, append_assoc}
 use Rattle.std.specs.Prelude.{IsSomeAnd}
 use Rattle.npf_packet.specs.Chain.{IsChain}
 
@@ -21,6 +21,10 @@ some_for_both : {A : Type 0} (o : Option A) (P Q : A → Type 0) → IsSomeAnd o
 some_for_both (Some x) P Q p q = (x, (p, q))
 some_for_both None P Q p q = absurd p
 
+pub is_some_and : {A : Type 0} (o : Option A) (P : A → Type 0) → IsSomeAnd o P → (x : A) × ((o ≡ Some x) × P x)
+is_some_and (Some x) P p = (x, (refl, p))
+is_some_and None P p = absurd p
+
 not_none : {A : Type 0} (o : Option A) (P : A → Type 0) → o ≡ None → IsSomeAnd o P → ⊥
 not_none o P e p = rw e at p
 
@@ -33,3 +37,12 @@ same_chain next first (x ∷ xs) (y ∷ ys) last last' p q =
     let on = some_for_both (next first) (λ second. IsChain next second xs last) (λ second. IsChain next second ys last') p.1 q.1 in
     let same = same_chain next on.0 xs ys last last' on.1.0 on.1.1 in
     (ap (λ z. z ∷ xs) (p.0 ∙ sym q.0) ∙ ap (λ zs. y ∷ zs) same.0, same.1)
+
+-- what holds of the first and stays from each to the next holds of the last
+pub chain_keeps : {A : Type 0} (next : A → Option A) (P : A → Type 0)
+    → ((x y : A) → P x → next x ≡ Some y → P y)
+    → (first : A) (xs : List A) (last : A) → IsChain next first xs last → P first → P last
+chain_keeps next P step first [] last chain here = subst P (sym chain.0) here
+chain_keeps next P step first (x ∷ xs) last chain here =
+    let on = is_some_and (next first) (λ second. IsChain next second xs last) chain.1 in
+    chain_keeps next P step on.0 xs last on.1.1 (step first on.0 here on.1.0)

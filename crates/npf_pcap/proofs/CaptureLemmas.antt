@@ -8,12 +8,12 @@ use Rattle.npf_pcap.specs.declared.capture.Record.{Record}
 use Rattle.npf_pcap.specs.declared.capture.Capture.{Capture}
 use Rattle.npf_pcap.specs.declared.fault.CaptureFault.{CaptureFault}
 use Rattle.npf_pcap.specs.declared.fault.CaptureFault.TheVariants.{ShortHeader, BadMagic, BadVersion, BadLink, CutRecord, LongRecord, NoMemory}
-use Rattle.npf_fields.specs.Fields.{number32}
+use Rattle.npf_fields.specs.Field.{number32}
 use Rattle.npf_pcap.specs.Format.{number_at}
 use Rattle.npf_pcap.specs.Record.{AreRecords, IsFirstBad, EndsInside, IsTooLong}
 use Rattle.npf_pcap.specs.Capture.{IsCapture, HasCaptureFault, HasHeader, HasVersion, HasLink, Opens, HasBadRecord, HasOtherVersion, HasOtherLink}
-use Rattle.npf_pcap.proofs.FormatLaws.{same_format, same_link, format_or_none, link_or_none}
-use Rattle.npf_pcap.proofs.RecordLaws.{IsBadness, cut_is_bad, long_is_bad, cut_not_long, same_records, no_bad, meets, RecordsOrBad, records_or_bad}
+use Rattle.npf_pcap.proofs.FormatLemmas.{same_format, same_link, format_or_none, link_or_none}
+use Rattle.npf_pcap.proofs.RecordLemmas.{IsBadness, cut_is_bad, long_is_bad, cut_not_long, same_records, no_bad, meets, RecordsOrBad, records_or_bad}
 
 -- the bytes begin with one magic number, and a header with one link
 one_format : (b : List ℕ) (f g : Format) → Opens f b → Opens g b → f ≡ g

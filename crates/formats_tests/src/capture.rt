@@ -1,4 +1,5 @@
-use super::*;
+// Captures by pcap-savefile(5), and one that tcpdump wrote.
+use npf_pcap::{CaptureFault, Record, read_capture, write_capture};
 use npf_types::{Link, List};
 use std::alloc::{AllocError, Global};
 use std::test::Fail;
