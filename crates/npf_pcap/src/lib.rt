@@ -19,6 +19,3 @@ pub use capture::{Capture, Record};
 pub use fault::CaptureFault;
 pub use read::read_capture;
 pub use write::write_capture;
-
-#[cfg(test)]
-mod tests;

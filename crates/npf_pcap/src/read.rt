@@ -11,6 +11,7 @@ use crate::capture::{Capture, Record};
 use crate::fault::CaptureFault;
 use crate::format::Format;
 use npf_fields::get32;
+use npf_types::limits::{MAX_CAPTURE_BYTES, MAX_PACKET_BYTES};
 use npf_types::{Link, List};
 use std::alloc::Global;
 
@@ -19,18 +20,15 @@ const HEADER_LEN: usize = 24;
 
 const RECORD_HEADER_LEN: usize = 16;
 
-// The most bytes that a record may store, as libpcap has it.
-const MAX_STORED_LEN: usize = 262_144;
-
 const LINKTYPE_ETHERNET: u32 = 1;
 
 const LINKTYPE_RAW: u32 = 101;
 
-/// Reads a capture, whose bytes must be at most 268,435,456. The answer is the capture, or the first test that the
+/// Reads a capture, whose bytes must be at most `MAX_CAPTURE_BYTES`. The answer is the capture, or the first test that the
 /// bytes fail: those of the header in the order of `CaptureFault`, and then each record's. Of a record whose header is
 /// whole, `LongRecord` is tested before `CutRecord`. Zone, accuracy, snap length and a packet's own length aren't used.
 pub fn read_capture(alloc: Global, bytes: &[u8]) -> Result<Capture, CaptureFault>
-    requires { length bytes.now ≤ 268435456 }
+    requires { length bytes.now ≤ MAX_CAPTURE_BYTES }
     // What is read is spelled so.
     ensures read { IfOk result (λ c. IsCapture bytes.now c.link c.records) }
     // A fault is that of the first test that fails.
@@ -47,7 +45,7 @@ pub fn read_capture(alloc: Global, bytes: &[u8]) -> Result<Capture, CaptureFault
 
 // What is read and refused, from which the two clauses more of `read_capture` follow by the laws of captures.
 fn read_all(alloc: Global, bytes: &[u8]) -> Result<Capture, CaptureFault>
-    requires { length bytes.now ≤ 268435456 }
+    requires { length bytes.now ≤ MAX_CAPTURE_BYTES }
     ensures read { IfOk result (λ c. IsCapture bytes.now c.link c.records) }
     ensures fault { IfErr result (λ e. HasCaptureFault bytes.now e) }
 {
@@ -94,7 +92,7 @@ fn link_with(number: u32) -> Option<Link>
 }
 
 fn read_records(alloc: Global, format: Format, bytes: &[u8]) -> Result<List<Record>, CaptureFault>
-    requires { length bytes.now ≤ 268435456 }
+    requires { length bytes.now ≤ MAX_CAPTURE_BYTES }
     ensures read { IfOk result (λ records. AreRecords format bytes.now records) }
     ensures fault { IfErr result (λ e. HasRecordFault format bytes.now e) }
 {
@@ -126,7 +124,7 @@ fn read_record(
         return Err(CaptureFault::CutRecord(number));
     }
     let stored_len = format.order.number32(bytes, 8) as usize;
-    if stored_len > MAX_STORED_LEN {
+    if stored_len > MAX_PACKET_BYTES {
         return Err(CaptureFault::LongRecord(number));
     }
     let behind_header = bytes.split_at(RECORD_HEADER_LEN).1;

@@ -1,6 +1,6 @@
 use Rattle.std.proofs.Common.{◌≡◌, length, rules}
 use Rattle.std.proofs.lemmas.Result.{err_from_is_err_and}
-use Rattle.npf_pcap.proofs.RecordLaws.{progress_more, progress_end, progress_fault}
+use Rattle.npf_pcap.proofs.RecordLemmas.{progress_more, progress_end, progress_fault}
 use Rattle.npf_pcap.proofs.read.read_records.Goals as goal
 
 pub returns-in_err-record-clause-fault : goal.returns-in_err-record-clause-fault

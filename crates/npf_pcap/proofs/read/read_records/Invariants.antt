@@ -1,5 +1,5 @@
 use Rattle.std.proofs.Common.{length}
-use Rattle.npf_pcap.proofs.RecordLaws.{Progress}
+use Rattle.npf_pcap.proofs.RecordLemmas.{Progress}
 use Rattle.npf_pcap.proofs.read.read_records.Given as goal
 
 abbrev pub invariant-loop-rest : goal.invariant-loop-rest
