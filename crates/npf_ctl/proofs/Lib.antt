@@ -16,7 +16,7 @@ pub mod Doing
 pub mod Explaining
 pub mod Taking
 pub mod Told
-pub mod ShortPackets
+pub mod CapturedLemmas
 pub mod Lines
 pub mod Clauses
 pub mod CommandLines

@@ -1,20 +1,40 @@
 -- One line more of a report.
-use Rattle.std.proofs.Common.{◌≡◌, ℕ, ◌+◌, ◌<◌, ◌≤◌, List, [], ◌∷◌, ◌++◌, Option, length, get_or, drop, refl, ap, ◌∙◌, append_assoc, append-nil, drop-cons, add-one, subst}
+use Rattle.std.proofs.Common.{◌≡◌, ℕ, ◌+◌, ◌<◌, ◌≤◌, List, [], ◌∷◌, ◌++◌, Option, length, get_or, drop, refl, ap, ◌∙◌, append_assoc, append-nil, drop-cons, add-one, subst, codes, count_by}
+use Rattle.std.specs.Fmt.{decimal}
 use Rattle.std.proofs.Math.ListN.{drop_of_length-le}
 use Rattle.npf_types.specs.declared.direction.Dir.{Dir}
 use Rattle.npf_outside.specs.Sink.{IsPutTo, Appends, AppendsFront}
 use Rattle.npf_outside.proofs.SinkLemmas.{IsPutTo-goes_on, IsPutTo-stops, IsPutTo-fails}
 use Rattle.npf_ctl.specs.declared.outcome.Outcome.{Outcome}
 use Rattle.npf_ctl.specs.declared.outcome.Outcome.TheVariants.{Skip}
-use Rattle.npf_ctl.specs.ReportText.{lines_from, line_text}
+use Rattle.npf_ctl.specs.declared.report.Counts.{Counts}
+use Rattle.npf_ctl.specs.ReportText.{lines_from, line_text, total_text, CountsOutcomes, is_passed, is_blocked, is_skipped, is_malformed}
 
 -- texts behind one another, one of them a chain
-pub behind_two : (into a b c : List ℕ) → (into ++ (a ++ b)) ++ c ≡ into ++ (a ++ (b ++ c))
+behind_two : (into a b c : List ℕ) → (into ++ (a ++ b)) ++ c ≡ into ++ (a ++ (b ++ c))
 behind_two into a b c = append_assoc into (a ++ b) c ∙ ap (λ t. into ++ t) (append_assoc a b c)
 
 pub behind_four : (into a b c d e : List ℕ) → (into ++ (a ++ (b ++ (c ++ d)))) ++ e ≡ into ++ (a ++ (b ++ (c ++ (d ++ e))))
 behind_four into a b c d e =
     behind_two into a (b ++ (c ++ d)) e ∙ ap (λ t. into ++ (a ++ t)) (behind_two b c d e)
+
+behind_each : (into a b c d e f : List ℕ) → ((((((into ++ a) ++ b) ++ c) ++ d) ++ e) ++ f) ≡ into ++ (a ++ b ++ c ++ d ++ e ++ f)
+behind_each into a b c d e f =
+    let two = append_assoc into a b in
+    let three = ap (λ t. t ++ c) two ∙ append_assoc into (a ++ b) c in
+    let four = ap (λ t. t ++ d) three ∙ append_assoc into (a ++ b ++ c) d in
+    let five = ap (λ t. t ++ e) four ∙ append_assoc into (a ++ b ++ c ++ d) e in
+    ap (λ t. t ++ f) five ∙ append_assoc into (a ++ b ++ c ++ d ++ e) f
+
+-- the total line is its pieces, one behind the other
+pub total_behind : (into : List ℕ) (outcomes : List Outcome) (counts : Counts) → CountsOutcomes outcomes counts →
+    ((((((into ++ (codes "packets " ++ decimal (length outcomes))) ++ (codes " pass " ++ decimal counts.passed)) ++ (codes " block " ++ decimal counts.blocked))
+    ++ (codes " drop 0 skip " ++ decimal counts.skipped)) ++ (codes " malformed " ++ decimal counts.malformed)) ++ codes "\n") ≡ into ++ total_text outcomes
+unfolding total_text
+total_behind into outcomes counts are =
+    rw (are.passed, are.blocked, are.skipped, are.malformed)
+    (behind_each into (codes "packets " ++ decimal (length outcomes)) (codes " pass " ++ decimal (count_by is_passed outcomes)) (codes " block " ++ decimal (count_by is_blocked outcomes))
+    (codes " drop 0 skip " ++ decimal (count_by is_skipped outcomes)) (codes " malformed " ++ decimal (count_by is_malformed outcomes)) (codes "\n"))
 
 -- the outcome at this place
 abbrev at : List Outcome → ℕ → Outcome

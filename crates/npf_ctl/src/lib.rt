@@ -13,6 +13,7 @@
 #![tactic(auto)]
 
 mod capture;
+mod captured;
 mod class;
 mod config;
 mod connections;

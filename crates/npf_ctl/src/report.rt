@@ -1,8 +1,8 @@
 // The lines of a report, written behind what a buffer has.
-ghost use Rattle.std.specs.Prelude.{◌≡◌, ◌+◌, ◌<◌, ◌^◌, ◌++◌, length, OnOk, IfOk, count_by, codes};
+ghost use Rattle.std.specs.Prelude.{◌≡◌, ◌+◌, ◌<◌, ◌^◌, ◌++◌, length, OnOk, IfOk, codes};
 ghost use Rattle.std.specs.Fmt.{decimal};
 ghost use Rattle.npf_types.specs.Name.{name_bytes};
-ghost use Rattle.npf_ctl.specs.ReportText.{line_text, total_text, outcome_text, conn_text, kept_text, rule_text, decision_text, malformed_text, return_text, dir_text, passed_text, refused_text, is_passed, is_blocked, is_skipped, is_malformed};
+ghost use Rattle.npf_ctl.specs.ReportText.{line_text, total_text, outcome_text, conn_text, kept_text, rule_text, decision_text, malformed_text, return_text, dir_text, CountsOutcomes, is_passed, is_blocked, is_skipped, is_malformed};
 
 use crate::outcome::{Outcome, Unkept};
 use itoa::Buffer;
@@ -199,65 +199,44 @@ fn return_text(answer: Return) -> &'static str
 }
 
 /// Appends the last line: how many packets there were, and how many had each outcome.
-#[tactic(auto, unfolding(crate::specs::ReportText::total_text))]
 pub(crate) fn write_total(into: &mut Vec<u8>, outcomes: &[Outcome]) -> Result<(), NoMemory>
     ensures { OnOk result (into.new.items ≡ into.old.items ++ total_text outcomes.now) }
 {
-    write_passed(into, outcomes)?;
-    write_refused(into, outcomes)
-}
-
-fn write_passed(into: &mut Vec<u8>, outcomes: &[Outcome]) -> Result<(), NoMemory>
-    ensures { OnOk result (into.new.items ≡ into.old.items ++ passed_text outcomes.now) }
-{
+    let counts = counts_of(outcomes);
     write_counted(into, "packets ", outcomes.len() as u64)?;
-    write_counted(into, " pass ", passed(outcomes))?;
-    write_counted(into, " block ", blocked(outcomes))
-}
-
-fn write_refused(into: &mut Vec<u8>, outcomes: &[Outcome]) -> Result<(), NoMemory>
-    ensures { OnOk result (into.new.items ≡ into.old.items ++ refused_text outcomes.now) }
-{
-    write_counted(into, " drop 0 skip ", skipped(outcomes))?;
-    write_counted(into, " malformed ", malformed(outcomes))?;
+    write_counted(into, " pass ", counts.passed)?;
+    write_counted(into, " block ", counts.blocked)?;
+    write_counted(into, " drop 0 skip ", counts.skipped)?;
+    write_counted(into, " malformed ", counts.malformed)?;
     into.push(b'\n')?;
     Ok(())
 }
 
-fn passed(outcomes: &[Outcome]) -> u64
-    ensures { result ≡ count_by is_passed outcomes.now }
-{
-    outcomes
-        .iter()
-        .filter(|outcome| is_passed(**outcome))
-        .count() as u64
+/// How many packets had each outcome.
+#[derive(Clone, Copy)]
+struct Counts {
+    passed: u64,
+    blocked: u64,
+    skipped: u64,
+    malformed: u64,
 }
 
-fn blocked(outcomes: &[Outcome]) -> u64
-    ensures { result ≡ count_by is_blocked outcomes.now }
+fn counts_of(outcomes: &[Outcome]) -> Counts
+    ensures { CountsOutcomes outcomes.now result }
 {
-    outcomes
-        .iter()
-        .filter(|outcome| is_blocked(**outcome))
-        .count() as u64
-}
-
-fn skipped(outcomes: &[Outcome]) -> u64
-    ensures { result ≡ count_by is_skipped outcomes.now }
-{
-    outcomes
-        .iter()
-        .filter(|outcome| is_skipped(**outcome))
-        .count() as u64
-}
-
-fn malformed(outcomes: &[Outcome]) -> u64
-    ensures { result ≡ count_by is_malformed outcomes.now }
-{
-    outcomes
-        .iter()
-        .filter(|outcome| is_malformed(**outcome))
-        .count() as u64
+    let mut counts = Counts {
+        passed: 0,
+        blocked: 0,
+        skipped: 0,
+        malformed: 0,
+    };
+    for outcome in outcomes {
+        counts.passed += u64::from(is_passed(*outcome));
+        counts.blocked += u64::from(is_blocked(*outcome));
+        counts.skipped += u64::from(is_skipped(*outcome));
+        counts.malformed += u64::from(is_malformed(*outcome));
+    }
+    counts
 }
 
 fn is_passed(outcome: Outcome) -> bool

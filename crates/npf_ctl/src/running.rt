@@ -28,7 +28,7 @@ pub(crate) fn run<F: Files, O: Sink>(
 {
     let rules = load(alloc, conf, files)?;
     let packets = read_packets(alloc, capture, files)?;
-    let outcomes = explain(alloc, rules.as_slice(), packets.as_slice())?;
+    let outcomes = explain(alloc, rules.as_slice(), &packets)?;
     match put_report(alloc, outcomes.as_slice(), out) {
         Ok(()) => Ok(()),
         Err(fault) => Err(fault),
