@@ -56,6 +56,10 @@ fn write_text(into: &mut Vec<u8>, text: &str) -> Result<(), NoMemory>
 fn write_number(into: &mut Vec<u8>, number: u64) -> Result<(), NoMemory>
     ensures { OnOk result (into.new.items ≡ into.old.items ++ decimal number) }
 {
+    if number < 10 {
+        into.push(b'0' + number as u8)?;
+        return Ok(());
+    }
     let mut digits = Buffer::new();
     into.extend_from_slice(digits.format(number).as_bytes())?;
     Ok(())
