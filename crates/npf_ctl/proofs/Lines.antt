@@ -1,6 +1,7 @@
 -- One line more of a report.
-use Rattle.std.proofs.Common.{◌≡◌, ℕ, ◌+◌, ◌<◌, ◌≤◌, List, [], ◌∷◌, ◌++◌, Option, length, get_or, drop, refl, ap, ◌∙◌, append_assoc, append-nil, drop-cons, add-one, subst, codes, count_by}
+use Rattle.std.proofs.Common.{◌≡◌, ℕ, ◌+◌, ◌<◌, ◌≤◌, List, [], ◌∷◌, ◌++◌, Option, length, get_or, drop, refl, ap, ◌∙◌, append_assoc, append-nil, drop-cons, add-one, subst, codes, count_by, Bool, cond, take, sym}
 use Rattle.std.specs.Fmt.{decimal}
+use Rattle.std.proofs.lemmas.List.Sums.{sum_by_more}
 use Rattle.std.proofs.Math.ListN.{drop_of_length-le}
 use Rattle.npf_types.specs.declared.direction.Dir.{Dir}
 use Rattle.npf_outside.specs.Sink.{IsPutTo, Appends, AppendsFront}
@@ -8,7 +9,7 @@ use Rattle.npf_outside.proofs.SinkLemmas.{IsPutTo-goes_on, IsPutTo-stops, IsPutT
 use Rattle.npf_ctl.specs.declared.outcome.Outcome.{Outcome}
 use Rattle.npf_ctl.specs.declared.outcome.Outcome.TheVariants.{Skip}
 use Rattle.npf_ctl.specs.declared.report.Counts.{Counts}
-use Rattle.npf_ctl.specs.ReportText.{lines_from, line_text, total_text, CountsOutcomes, is_passed, is_blocked, is_skipped, is_malformed}
+use Rattle.npf_ctl.specs.ReportText.{lines_from, line_text, total_text, CountsOutcomes, AddsOutcome, is_passed, is_blocked, is_skipped, is_malformed}
 
 -- texts behind one another, one of them a chain
 behind_two : (into a b c : List ℕ) → (into ++ (a ++ b)) ++ c ≡ into ++ (a ++ (b ++ c))
@@ -77,3 +78,17 @@ module _ (old now new : Option (List ℕ)) (text : List ℕ) (i : ℕ) (interfac
   all_put last done so_far put stays =
       let all = IsPutTo-goes_on old now new text rest [] (rest_next done so_far) put in
       IsPutTo-stops old last text [] (IsPutTo-goes_on old new last text [] [] all stays)
+
+-- a test's count of one element more
+more_of : (p : Outcome → Bool) (outcomes : List Outcome) (i before now : ℕ) → i < length outcomes → before ≡ count_by p (take i outcomes) → now ≡ before + cond (p (at outcomes i)) 1 0
+    → now ≡ count_by p (take (i + 1) outcomes)
+more_of p outcomes i before now within counted adds =
+    adds ∙ ap (λ n. n + cond (p (at outcomes i)) 1 0) counted ∙ sym (sum_by_more (λ outcome. cond (p outcome) 1 0) outcomes i Skip within)
+
+pub one_counted : (outcomes : List Outcome) (i : ℕ) (before now : Counts) → i < length outcomes → CountsOutcomes (take i outcomes) before → AddsOutcome (at outcomes i) before now → CountsOutcomes (take (i + 1) outcomes) now
+one_counted outcomes i before now within counted adds = record {
+  passed = more_of is_passed outcomes i before.passed now.passed within counted.passed adds.passed;
+  blocked = more_of is_blocked outcomes i before.blocked now.blocked within counted.blocked adds.blocked;
+  skipped = more_of is_skipped outcomes i before.skipped now.skipped within counted.skipped adds.skipped;
+  malformed = more_of is_malformed outcomes i before.malformed now.malformed within counted.malformed adds.malformed;
+}

@@ -1,5 +1,5 @@
 -- The text of a report: a line for each packet, in order, and then the total line.
-use Rattle.std.specs.Prelude.{◌≡◌, ℕ, ◌+◌, Bool, true, false, not, Option, Some, None, List, [], ◌∷◌, ◌++◌, length, count_by, codes}
+use Rattle.std.specs.Prelude.{◌≡◌, ◌<◌, ℕ, ◌+◌, ◌-◌, ◌^◌, if◌then◌else◌, Bool, true, false, not, Option, Some, None, List, [], ◌∷◌, ◌++◌, length, count_by, codes}
 use Rattle.std.specs.Fmt.{decimal}
 use Rattle.npf_types.specs.declared.decision.Decision.{Decision}
 use Rattle.npf_types.specs.declared.decision.Decision.TheVariants.{Pass, Block}
@@ -88,6 +88,20 @@ pub record CountsOutcomes (outcomes : List Outcome) (counts : Counts) : Type 0 w
   pub blocked : counts.blocked ≡ count_by is_blocked outcomes
   pub skipped : counts.skipped ≡ count_by is_skipped outcomes
   pub malformed : counts.malformed ≡ count_by is_malformed outcomes
+
+-- one packet more was counted
+pub record AddsOutcome (outcome : Outcome) (before now : Counts) : Type 0 where
+  pub passed : now.passed ≡ before.passed + (if is_passed outcome then 1 else 0)
+  pub blocked : now.blocked ≡ before.blocked + (if is_blocked outcome then 1 else 0)
+  pub skipped : now.skipped ≡ before.skipped + (if is_skipped outcome then 1 else 0)
+  pub malformed : now.malformed ≡ before.malformed + (if is_malformed outcome then 1 else 0)
+
+-- no count stands at its greatest value
+pub record HasRoom (counts : Counts) : Type 0 where
+  pub passed : counts.passed < 2 ^ 64 - 1
+  pub blocked : counts.blocked < 2 ^ 64 - 1
+  pub skipped : counts.skipped < 2 ^ 64 - 1
+  pub malformed : counts.malformed < 2 ^ 64 - 1
 
 -- how many packets there were, and how many had each outcome; none is dropped
 unfoldable pub total_text : List Outcome → List ℕ

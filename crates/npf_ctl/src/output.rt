@@ -2,13 +2,13 @@
 ghost use Rattle.std.specs.Prelude.{◌≡◌, ◌≤◌, [], OnOk, IfErr};
 ghost use Rattle.npf_outside.specs.Sink.{Appends, AppendsFront};
 ghost use Rattle.npf_types.specs.Name.{name_bytes};
-ghost use Rattle.npf_ctl.specs.ReportText.{report_text, line_text, total_text, cap0};
+ghost use Rattle.npf_ctl.specs.ReportText.{report_text, line_text, total_text, cap0, CountsOutcomes};
 ghost use Rattle.npf_types.specs.declared.direction.Dir.TheVariants.{In};
 ghost use Rattle.npf_ctl.specs.Run.{HasPutFault};
 
 use crate::fault::Fault;
 use crate::outcome::Outcome;
-use crate::report::{write_line, write_total};
+use crate::report::{Counts, write_line, write_total};
 use npf_outside::{Sink, SinkFault};
 use npf_types::{Dir, Name, NoMemory};
 use std::alloc::Global;
@@ -25,10 +25,12 @@ pub(crate) fn put_report<O: Sink>(
     ensures fault { IfErr result (HasPutFault (O.moment out.old).faults (O.moment out.new).faults) }
 {
     let mut text = Vec::new(alloc);
+    let mut counts = Counts::new();
     for (place, outcome) in outcomes.iter().enumerate() {
         put_line(&mut text, place as u64 + 1, outcome, out)?;
+        counts.add(outcome);
     }
-    put_total(&mut text, outcomes, out)?;
+    put_total(&mut text, outcomes, counts, out)?;
     flush(out)
 }
 
@@ -51,14 +53,20 @@ fn put_line<O: Sink>(
 }
 
 /// Puts the total line, written into the buffer.
-fn put_total<O: Sink>(text: &mut Vec<u8>, outcomes: &[Outcome], out: &mut O) -> Result<(), Fault>
+fn put_total<O: Sink>(
+    text: &mut Vec<u8>,
+    outcomes: &[Outcome],
+    counts: Counts,
+    out: &mut O,
+) -> Result<(), Fault>
+    requires { CountsOutcomes outcomes.now counts }
     ensures whole { OnOk result (Appends (O.moment out.old).held (O.moment out.new).held (total_text outcomes.now)) }
     ensures front { AppendsFront (O.moment out.old).held (O.moment out.new).held (total_text outcomes.now) }
     ensures fault { IfErr result (HasPutFault (O.moment out.old).faults (O.moment out.new).faults) }
     ensures counted { (O.moment out.old).faults ≤ (O.moment out.new).faults }
 {
     text.clear();
-    write_total(text, outcomes)?;
+    write_total(text, outcomes, counts)?;
     put(out, text.as_slice())
 }
 

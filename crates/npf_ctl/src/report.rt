@@ -1,8 +1,8 @@
 // The lines of a report, written behind what a buffer has.
-ghost use Rattle.std.specs.Prelude.{◌≡◌, ◌+◌, ◌<◌, ◌^◌, ◌++◌, length, OnOk, IfOk, codes};
+ghost use Rattle.std.specs.Prelude.{◌≡◌, ◌+◌, ◌<◌, ◌^◌, ◌++◌, [], length, OnOk, IfOk, codes};
 ghost use Rattle.std.specs.Fmt.{decimal};
 ghost use Rattle.npf_types.specs.Name.{name_bytes};
-ghost use Rattle.npf_ctl.specs.ReportText.{line_text, total_text, outcome_text, conn_text, kept_text, rule_text, decision_text, malformed_text, return_text, dir_text, CountsOutcomes, is_passed, is_blocked, is_skipped, is_malformed};
+ghost use Rattle.npf_ctl.specs.ReportText.{line_text, total_text, outcome_text, conn_text, kept_text, rule_text, decision_text, malformed_text, return_text, dir_text, CountsOutcomes, AddsOutcome, HasRoom, is_passed, is_blocked, is_skipped, is_malformed};
 
 use crate::outcome::{Outcome, Unkept};
 use itoa::Buffer;
@@ -203,10 +203,14 @@ fn return_text(answer: Return) -> &'static str
 }
 
 /// Appends the last line: how many packets there were, and how many had each outcome.
-pub(crate) fn write_total(into: &mut Vec<u8>, outcomes: &[Outcome]) -> Result<(), NoMemory>
+pub(crate) fn write_total(
+    into: &mut Vec<u8>,
+    outcomes: &[Outcome],
+    counts: Counts,
+) -> Result<(), NoMemory>
+    requires { CountsOutcomes outcomes.now counts }
     ensures { OnOk result (into.new.items ≡ into.old.items ++ total_text outcomes.now) }
 {
-    let counts = counts_of(outcomes);
     write_counted(into, "packets ", outcomes.len() as u64)?;
     write_counted(into, " pass ", counts.passed)?;
     write_counted(into, " block ", counts.blocked)?;
@@ -218,29 +222,36 @@ pub(crate) fn write_total(into: &mut Vec<u8>, outcomes: &[Outcome]) -> Result<()
 
 /// How many packets had each outcome.
 #[derive(Clone, Copy)]
-struct Counts {
+pub(crate) struct Counts {
     passed: u64,
     blocked: u64,
     skipped: u64,
     malformed: u64,
 }
 
-fn counts_of(outcomes: &[Outcome]) -> Counts
-    ensures { CountsOutcomes outcomes.now result }
-{
-    let mut counts = Counts {
-        passed: 0,
-        blocked: 0,
-        skipped: 0,
-        malformed: 0,
-    };
-    for outcome in outcomes {
-        counts.passed += u64::from(is_passed(*outcome));
-        counts.blocked += u64::from(is_blocked(*outcome));
-        counts.skipped += u64::from(is_skipped(*outcome));
-        counts.malformed += u64::from(is_malformed(*outcome));
+impl Counts {
+    /// Of no packets.
+    pub(crate) fn new() -> Counts
+        ensures { CountsOutcomes [] result }
+    {
+        Counts {
+            passed: 0,
+            blocked: 0,
+            skipped: 0,
+            malformed: 0,
+        }
     }
-    counts
+
+    /// Counts one packet more.
+    pub(crate) fn add(&mut self, outcome: &Outcome)
+        requires { HasRoom self.old }
+        ensures { AddsOutcome outcome.now self.old self.new }
+    {
+        self.passed += u64::from(is_passed(*outcome));
+        self.blocked += u64::from(is_blocked(*outcome));
+        self.skipped += u64::from(is_skipped(*outcome));
+        self.malformed += u64::from(is_malformed(*outcome));
+    }
 }
 
 fn is_passed(outcome: Outcome) -> bool

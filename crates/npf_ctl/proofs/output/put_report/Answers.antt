@@ -1,7 +1,7 @@
 use Rattle.std.proofs.Common.{arith}
 use Rattle.npf_types.specs.declared.direction.Dir.TheVariants.{In}
 use Rattle.npf_ctl.specs.ReportText.{report_text, cap0, total_text}
-use Rattle.npf_ctl.proofs.Lines.{line_put, line_fails, rest_fails, all_put}
+use Rattle.npf_ctl.proofs.Lines.{line_put, line_fails, rest_fails, all_put, one_counted}
 use Rattle.npf_ctl.proofs.output.put_report.Goals as goal
 
 pub loop-place-preserved : goal.loop-place-preserved
@@ -9,6 +9,7 @@ loop-place-preserved g c =
     let outcomes = c.args.outcomes.now in
     record {
       put = line_put _ _ _ (report_text outcomes) c.loop-place.place cap0 In outcomes (total_text outcomes) c.loop-place-test.true c.loop-place.invariant.put c.in_ok-put_line.ensures.whole;
+      counts = one_counted outcomes c.loop-place.place c.loop-place.counts _ c.loop-place-test.true c.loop-place.invariant.counts c.add.ensures;
       counted = omega (arith, c.put_line.ensures.counted, c.loop-place.invariant.counted);
     }
 
