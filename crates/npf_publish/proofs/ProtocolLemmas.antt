@@ -6,7 +6,7 @@ use Rattle.left_right.specs.Register.{Admits, TurnsAt, Forks, Merges}
 use Rattle.atomic_table.proofs.Lists.{at_set, at_snoc}
 use Rattle.npf_publish.specs.declared.protocol.Published.{Published}
 use Rattle.npf_publish.specs.declared.protocol.SeatView.{SeatView}
-use Rattle.npf_publish.specs.Protocol.{IsKnown, NeverFalls, IsLook, IsFirstLook, renumbered, unseated}
+use Rattle.npf_publish.specs.Protocol.{IsKnown, NeverFalls, SeesNumber, SeesFirst, renumbered, unseated}
 
 -- what may be shown next
 record Follows (shown next : Published) : Type 0 where
@@ -62,7 +62,7 @@ merges seat view other told shown views rule at apart there =
     let once = changed shown shown views seat both same rule (record { seen = omega arith; last = known.last }) in
     changed shown shown (set views seat both) other unseated same once (nothing_known shown views rule)
 
-looks : (seat : ℕ) (view : SeatView) (shown next : Published) → Follows shown next → TurnsAt NeverFalls seat view shown next IsLook
+looks : (seat : ℕ) (view : SeatView) (shown next : Published) → Follows shown next → TurnsAt NeverFalls seat view shown next SeesNumber
 looks seat view shown next follows views rule at =
     let known = rule.known seat view at in
     let own : SeatView = record { seen = next.number; last = view.last } in
@@ -73,14 +73,14 @@ looks seat view shown next follows views rule at =
     )
 
 -- a reader's look
-pub read_look : (seat : ℕ) (view : SeatView) (shown : Published) → TurnsAt NeverFalls seat view shown shown IsLook
+pub read_look : (seat : ℕ) (view : SeatView) (shown : Published) → TurnsAt NeverFalls seat view shown shown SeesNumber
 read_look seat view shown views rule = looks seat view shown shown (stays shown views rule) views rule
 
 -- the publisher's first look, with nothing to publish
-pub first_look : (seat : ℕ) (view : SeatView) (shown next : Published) (numbers : List ℕ) → numbers ≡ [] → next ≡ fold renumbered shown numbers → TurnsAt NeverFalls seat view shown next IsFirstLook
+pub first_look : (seat : ℕ) (view : SeatView) (shown next : Published) (numbers : List ℕ) → numbers ≡ [] → next ≡ fold renumbered shown numbers → TurnsAt NeverFalls seat view shown next SeesFirst
 first_look seat view shown next numbers none is =
     let same : next ≡ shown = subst (λ (ns : List ℕ). next ≡ fold renumbered shown ns) none is in
-    subst (λ (y : Published). TurnsAt NeverFalls seat view shown y IsFirstLook) (sym same) (λ views rule at.
+    subst (λ (y : Published). TurnsAt NeverFalls seat view shown y SeesFirst) (sym same) (λ views rule at.
     let own : SeatView = record { seen = shown.number; last = shown.last } in (
       own,
       changed shown shown views seat own (stays shown views rule) rule (record { seen = le_refl shown.number; last = le_refl shown.last }),
@@ -88,7 +88,7 @@ first_look seat view shown next numbers none is =
     ))
 
 -- the publisher's step to a number
-pub next_look : (seat : ℕ) (view : SeatView) (shown next : Published) (numbers : List ℕ) (number : ℕ) → numbers ≡ number ∷ [] → shown.number ≤ number → number ≤ shown.last → next ≡ fold renumbered shown numbers → TurnsAt NeverFalls seat view shown next IsLook
+pub next_look : (seat : ℕ) (view : SeatView) (shown next : Published) (numbers : List ℕ) (number : ℕ) → numbers ≡ number ∷ [] → shown.number ≤ number → number ≤ shown.last → next ≡ fold renumbered shown numbers → TurnsAt NeverFalls seat view shown next SeesNumber
 next_look seat view shown next numbers number one up within is =
     let same : next ≡ renumbered shown number = subst (λ (ns : List ℕ). next ≡ fold renumbered shown ns) one is in
-    subst (λ (y : Published). TurnsAt NeverFalls seat view shown y IsLook) (sym same) (looks seat view shown (renumbered shown number) (record { up = up; same = refl; within = within }))
+    subst (λ (y : Published). TurnsAt NeverFalls seat view shown y SeesNumber) (sym same) (looks seat view shown (renumbered shown number) (record { up = up; same = refl; within = within }))

@@ -25,13 +25,13 @@ pub record NeverFalls (shown : Published) (views : List SeatView) : Type 0 where
   pub known : (seat : ℕ) (view : SeatView) → get_elem? views seat ≡ some view → IsKnown shown view
 
 -- a look: the number isn't below what the seat saw, nor past its last one, and the seat has then seen it
-pub record IsLook (view : SeatView) (before shown : Published) (next : SeatView) : Type 0 where
+pub record SeesNumber (view : SeatView) (before shown : Published) (next : SeatView) : Type 0 where
   pub seen : view.seen ≤ before.number
   pub last : shown.number ≤ view.last
   pub now : next.seen ≡ shown.number
   pub same : next.last ≡ view.last
 
 -- the first look: the seat has then seen the number and the last one
-pub record IsFirstLook (view : SeatView) (before shown : Published) (next : SeatView) : Type 0 where
+pub record SeesFirst (view : SeatView) (before shown : Published) (next : SeatView) : Type 0 where
   pub now : next.seen ≡ shown.number
   pub last : next.last ≡ shown.last

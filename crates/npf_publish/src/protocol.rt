@@ -1,6 +1,6 @@
 // The rule that `left_right` keeps over the published number and what each seat, the publisher's or a reader's, knows of it.
 ghost use Rattle.std.specs.Prelude.{◌≡◌, max};
-ghost use Rattle.npf_publish.specs.Protocol.{NeverFalls, IsFirstLook, IsLook, renumbered, unseated};
+ghost use Rattle.npf_publish.specs.Protocol.{NeverFalls, SeesFirst, SeesNumber, renumbered, unseated};
 
 use atomic_table::{Join, Split};
 use crossbeam_utils::rule::{Outcome, Protocol};
@@ -47,14 +47,14 @@ impl Protocol<Published, SeatView> for Rule {
 pub struct FirstLook;
 
 impl Outcome<Published, SeatView> for FirstLook {
-    ghost then = { IsFirstLook };
+    ghost then = { SeesFirst };
 }
 
 /// A read, or a step of the publisher.
 pub struct Look;
 
 impl Outcome<Published, SeatView> for Look {
-    ghost then = { IsLook };
+    ghost then = { SeesNumber };
 }
 
 /// What one seat knows, known to a second one too.
