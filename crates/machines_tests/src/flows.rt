@@ -1,6 +1,14 @@
+use crate::segments::{ACK, FIN_ACK, RST, SYN, SYN_ACK, segment};
+use TcpPhase::{
+    CloseWait, Closed, Closing, Established, FinReceived, FinSent, FinWait, LastAck, SimsynSent,
+    SynReceived, SynSent, TimeWait,
+};
+use Way::{Backward, Forward, Port};
 use npf_core::Law;
-use npf_flow::{Flow, FlowArg, FlowKind, FlowLaw, FlowReply, due, open_flow};
+use npf_flow::{Flow, FlowArg, FlowKind, FlowLaw, FlowReply, due, laws, open_flow};
+use npf_tcp::{Known, TcpPhase, TcpSide, TcpState};
 use npf_types::{Action, Addr, Change, End, Segment, Way};
+use std::process::Abort;
 
 const SECOND: u64 = 1_000_000_000;
 
@@ -35,15 +43,16 @@ const ACTION: Action = Action {
     log: None,
 };
 
-fn opened() -> Flow {
-    open_flow(100 * SECOND, 7, THERE, BACK, ACTION)
-}
+/// Where a segment leads that is refused.
+const NO: Option<TcpPhase> = None;
 
-fn idle(answered: bool) -> Flow {
-    Flow {
-        kind: FlowKind::Other { answered },
-        ..opened()
-    }
+/// The flow that packet 7 opens at 100 s.
+fn opened(seg: Option<Segment>) -> Flow {
+    let arg = FlowArg {
+        now: 100 * SECOND,
+        seg,
+    };
+    open_flow(arg, 7, THERE, BACK, ACTION)
 }
 
 // The law as a table of connections asks it.
@@ -55,84 +64,361 @@ fn due_by<L: Law>(state: &L::State, now: u64) -> bool {
     L::due(state, now)
 }
 
-fn packet(now: u64) -> FlowArg {
-    FlowArg { now, seg: None }
+fn answer(pass: bool, change: Change) -> FlowReply {
+    FlowReply {
+        pass,
+        opener: 7,
+        change,
+        action: ACTION,
+    }
 }
 
-// Each packet in turn, by name: its way and its time in seconds, and then whether the flow is answered, its last time in
-// seconds, and the packet's change.
-#[test]
-fn a_flow_goes_on(rt: HostRuntime) {
-    let steps = [
-        ("forward", Way::Forward, 101, false, 101, THERE),
-        ("a port", Way::Port, 102, false, 102, THERE),
-        ("out of order", Way::Forward, 99, false, 102, THERE),
-        ("an answer", Way::Backward, 103, true, 103, BACK),
-        ("an early answer", Way::Backward, 98, true, 103, BACK),
-        ("forward again", Way::Forward, 104, true, 104, THERE),
-        ("a port again", Way::Port, 104, true, 104, THERE),
-    ];
-    let mut flow = opened();
-    assert_eq!(rt; flow, idle(false));
-    for (name, way, time, answered, last, change) in steps {
-        let (next, reply) = step_by::<FlowLaw>(&flow, way, &packet(time * SECOND));
-        let wanted = Flow {
-            last: last * SECOND,
-            ..idle(answered)
+fn phase_of(flow: &Flow) -> Option<TcpPhase> {
+    match flow.kind {
+        FlowKind::Tcp(state) => Some(state.phase),
+        FlowKind::Other { .. } => None,
+    }
+}
+
+/// A packet of TCP: its name, its way, its time in seconds, its segment, and the phase to which it leads, if it is accepted.
+type Row = (&'static str, Way, u64, Segment, Option<TcpPhase>);
+
+/// The flow after these packets, each of which is answered as its row says. A refused one changes nothing.
+fn follow(rt: &impl Abort, opened: Flow, rows: &[Row]) -> Flow {
+    let mut flow = opened;
+    for (name, way, time, seg, led) in rows {
+        let now = time.saturating_mul(SECOND);
+        let arg = FlowArg {
+            now,
+            seg: Some(*seg),
         };
-        let answer = FlowReply {
-            pass: true,
-            opener: 7,
-            change,
-            action: ACTION,
+        let (next, reply) = step_by::<FlowLaw>(&flow, *way, &arg);
+        let change = if *way == Backward { BACK } else { THERE };
+        assert_eq!(rt; reply, answer(led.is_some(), change), "{name}");
+        if led.is_none() {
+            assert_eq!(rt; next, flow, "{name}");
+        } else {
+            assert_eq!(rt; phase_of(&next), *led, "{name}");
+            assert_eq!(rt; next.last, flow.last.max(now), "{name}");
+        }
+        flow = next;
+    }
+    flow
+}
+
+// After the answer the backward side may send up to 5001 + 1000.
+#[test]
+fn a_handshake_to_its_end(rt: HostRuntime) {
+    let syn = opened(Some(segment(SYN, 1000, 0, 1000, 0)));
+    assert_eq!(rt; phase_of(&syn), Some(SynSent));
+    let past = segment(ACK, 5002, 1001, 2000, 1000);
+    let rows = [
+        (
+            "SYN+ACK",
+            Backward,
+            101,
+            segment(SYN_ACK, 5000, 1001, 2000, 0),
+            Some(SynReceived),
+        ),
+        (
+            "ACK",
+            Forward,
+            102,
+            segment(ACK, 1001, 5001, 1000, 0),
+            Some(Established),
+        ),
+        (
+            "100 bytes",
+            Port,
+            103,
+            segment(ACK, 1001, 5001, 1000, 100),
+            Some(Established),
+        ),
+        ("too many", Backward, 110, past, NO),
+        (
+            "late",
+            Backward,
+            99,
+            segment(ACK, 5001, 1101, 2000, 0),
+            Some(Established),
+        ),
+        (
+            "FIN",
+            Forward,
+            104,
+            segment(FIN_ACK, 1101, 5001, 1000, 0),
+            Some(FinSent),
+        ),
+        (
+            "its ACK",
+            Backward,
+            105,
+            segment(ACK, 5001, 1102, 2000, 0),
+            Some(FinWait),
+        ),
+        (
+            "the other",
+            Backward,
+            106,
+            segment(FIN_ACK, 5001, 1102, 2000, 0),
+            Some(LastAck),
+        ),
+        (
+            "its ACK too",
+            Forward,
+            107,
+            segment(ACK, 1102, 5002, 1000, 0),
+            Some(TimeWait),
+        ),
+    ];
+    let ended = follow(&rt, syn, &rows);
+    assert_eq!(rt; ended.last, 107 * SECOND);
+}
+
+/// Both sides sent SYN, at 100 and 300, and offer 1000 and 2000 bytes.
+fn opened_by_both(rt: &impl Abort) -> Flow {
+    let syn = opened(Some(segment(SYN, 100, 0, 1000, 0)));
+    let rows = [
+        (
+            "SYN",
+            Backward,
+            101,
+            segment(SYN, 300, 0, 2000, 0),
+            Some(SimsynSent),
+        ),
+        (
+            "SYN+ACK",
+            Forward,
+            102,
+            segment(SYN_ACK, 100, 301, 1000, 0),
+            Some(SynReceived),
+        ),
+        (
+            "too",
+            Backward,
+            103,
+            segment(SYN_ACK, 300, 101, 2000, 0),
+            Some(SynReceived),
+        ),
+        (
+            "ACK",
+            Forward,
+            104,
+            segment(ACK, 101, 301, 1000, 0),
+            Some(Established),
+        ),
+    ];
+    follow(rt, syn, &rows)
+}
+
+// With the handshake these are all the phases.
+#[test]
+fn the_other_ends(rt: HostRuntime) {
+    let backward_first = [
+        (
+            "FIN",
+            Backward,
+            105,
+            segment(FIN_ACK, 301, 101, 2000, 0),
+            Some(FinReceived),
+        ),
+        (
+            "its ACK",
+            Forward,
+            106,
+            segment(ACK, 101, 302, 1000, 0),
+            Some(CloseWait),
+        ),
+        (
+            "the other",
+            Forward,
+            107,
+            segment(FIN_ACK, 101, 302, 1000, 0),
+            Some(LastAck),
+        ),
+        (
+            "its ACK too",
+            Backward,
+            108,
+            segment(ACK, 302, 102, 2000, 0),
+            Some(TimeWait),
+        ),
+    ];
+    follow(&rt, opened_by_both(&rt), &backward_first);
+    let both_and_a_reset = [
+        (
+            "FIN",
+            Forward,
+            105,
+            segment(FIN_ACK, 101, 301, 1000, 0),
+            Some(FinSent),
+        ),
+        (
+            "the other",
+            Backward,
+            106,
+            segment(FIN_ACK, 301, 101, 2000, 0),
+            Some(Closing),
+        ),
+        (
+            "a reset",
+            Backward,
+            107,
+            segment(RST, 302, 0, 0, 0),
+            Some(Closed),
+        ),
+        ("an ACK", Forward, 108, segment(ACK, 102, 302, 1000, 0), NO),
+    ];
+    follow(&rt, opened_by_both(&rt), &both_and_a_reset);
+}
+
+// Both sides shift by 14, and both sequences pass 2^32. The backward side may send up to 0 + 65535 * 2^14, which is
+// 1073725440.
+#[test]
+fn a_window_of_scale_14(rt: HostRuntime) {
+    let scaled = |seg: Segment| Segment {
+        scale: Some(14),
+        ..seg
+    };
+    let syn = scaled(segment(SYN, 4294967290, 0, 65535, 0));
+    let syn_ack = scaled(segment(SYN_ACK, 4294967295, 4294967291, 65535, 0));
+    let first = segment(ACK, 4294967291, 0, 65535, 0);
+    let past = segment(ACK, 1073725341, 4294967291, 65535, 100);
+    let inside = segment(ACK, 1073725340, 4294967291, 65535, 100);
+    let rows = [
+        ("SYN+ACK", Backward, 101, syn_ack, Some(SynReceived)),
+        ("ACK", Forward, 102, first, Some(Established)),
+        ("one byte past the window", Backward, 103, past, NO),
+        (
+            "the window's last byte",
+            Backward,
+            104,
+            inside,
+            Some(Established),
+        ),
+    ];
+    follow(&rt, opened(Some(syn)), &rows);
+}
+
+#[test]
+fn tcp_refuses_what_has_no_segment(rt: HostRuntime) {
+    let syn = opened(Some(segment(SYN, 1000, 0, 1000, 0)));
+    let arg = FlowArg {
+        now: 101 * SECOND,
+        seg: None,
+    };
+    let (next, reply) = step_by::<FlowLaw>(&syn, Backward, &arg);
+    assert_eq!(rt; reply, answer(false, BACK));
+    assert_eq!(rt; next, syn);
+}
+
+fn other(answered: bool) -> FlowKind {
+    FlowKind::Other { answered }
+}
+
+// A flow of protocol 47, and packets of it. Each in turn, by name: its way and its time in seconds, and then whether the flow
+// is answered, its last time in seconds, and the packet's change.
+#[test]
+fn a_flow_of_another_protocol_goes_on(rt: HostRuntime) {
+    let steps = [
+        ("forward", Forward, 101, false, 101, THERE),
+        ("a port", Port, 102, false, 102, THERE),
+        ("out of order", Forward, 99, false, 102, THERE),
+        ("an answer", Backward, 103, true, 103, BACK),
+        ("an early answer", Backward, 98, true, 103, BACK),
+        ("forward again", Forward, 104, true, 104, THERE),
+        ("a port again", Port, 104, true, 104, THERE),
+    ];
+    let mut flow = opened(None);
+    assert_eq!(rt; flow.kind, other(false));
+    for (name, way, time, answered, last, change) in steps {
+        let arg = FlowArg {
+            now: time * SECOND,
+            seg: None,
+        };
+        let (next, reply) = step_by::<FlowLaw>(&flow, way, &arg);
+        let wanted = Flow {
+            kind: other(answered),
+            last: last * SECOND,
+            ..opened(None)
         };
         assert_eq!(rt; next, wanted, "{name}");
-        assert_eq!(rt; reply, answer, "{name}");
+        assert_eq!(rt; reply, answer(true, change), "{name}");
         flow = next;
     }
 }
 
 #[test]
-fn a_segment_changes_nothing(rt: HostRuntime) {
-    let reset = Segment {
-        flags: 4,
-        seq: 1,
-        ack: 0,
-        win: 0,
-        len: 0,
-        scale: None,
-    };
+fn another_protocol_looks_at_no_segment(rt: HostRuntime) {
     let arg = FlowArg {
         now: 105 * SECOND,
-        seg: Some(reset),
+        seg: Some(segment(RST, 1, 0, 0, 0)),
     };
-    let (next, reply) = step_by::<FlowLaw>(&opened(), Way::Forward, &arg);
+    let (next, reply) = step_by::<FlowLaw>(&opened(None), Forward, &arg);
     assert!(rt; reply.pass);
-    assert_eq!(rt; next.kind, FlowKind::Other { answered: false });
+    assert_eq!(rt; next.kind, other(false));
     assert_eq!(rt; next.last, 105 * SECOND);
 }
 
-// The flow's last time is 100 s; the times are in nanoseconds.
+/// A connection of TCP in this phase, of whose sides nothing is known.
+fn in_phase(phase: TcpPhase) -> FlowKind {
+    let side = TcpSide {
+        known: Known::Nothing,
+        end: 0,
+        maxend: 0,
+        maxwin: 0,
+        scale: None,
+    };
+    FlowKind::Tcp(TcpState {
+        phase,
+        forward: side,
+        backward: side,
+    })
+}
+
+// The flow's last time is 100 s. It is due after so many seconds, and not one nanosecond before.
 #[test]
 fn idle_flows_run_out(rt: HostRuntime) {
     let cases = [
-        ("at its last time", false, 100 * SECOND, false),
-        ("after 29.999999999 s", false, 129_999_999_999, false),
-        ("after 30 s", false, 130_000_000_000, true),
-        ("answered, after 30 s", true, 130_000_000_000, false),
-        (
-            "answered, after 59.999999999 s",
-            true,
-            159_999_999_999,
-            false,
-        ),
-        ("answered, after 60 s", true, 160_000_000_000, true),
-        ("1 ns before its last time", false, 99_999_999_999, false),
-        ("at the first time", true, 0, false),
-        ("at the last of all times", true, u64::MAX, true),
+        ("SYN_SENT", in_phase(SynSent), 30),
+        ("SIMSYN_SENT", in_phase(SimsynSent), 30),
+        ("SYN_RECEIVED", in_phase(SynReceived), 30),
+        ("ESTABLISHED", in_phase(Established), 86_400),
+        ("FIN_SENT", in_phase(FinSent), 3_600),
+        ("FIN_RECEIVED", in_phase(FinReceived), 3_600),
+        ("CLOSE_WAIT", in_phase(CloseWait), 3_600),
+        ("FIN_WAIT", in_phase(FinWait), 3_600),
+        ("CLOSING", in_phase(Closing), 3_600),
+        ("LAST_ACK", in_phase(LastAck), 3_600),
+        ("TIME_WAIT", in_phase(TimeWait), 240),
+        ("CLOSED", in_phase(Closed), 10),
+        ("not answered", other(false), 30),
+        ("answered", other(true), 60),
     ];
-    for (name, answered, now, runs_out) in cases {
-        assert_eq!(rt; due(&idle(answered), now), runs_out, "{name}");
-        assert_eq!(rt; due_by::<FlowLaw>(&idle(answered), now), runs_out, "{name}");
+    for (name, kind, seconds) in cases {
+        let flow = Flow {
+            kind,
+            ..opened(None)
+        };
+        let runs_out = (100 + seconds) * SECOND;
+        assert!(rt; due(&flow, runs_out), "{name}");
+        assert!(rt; !due(&flow, runs_out - 1), "{name}");
+        assert!(rt; due_by::<FlowLaw>(&flow, u64::MAX), "{name}");
+        assert!(rt; !due_by::<FlowLaw>(&flow, 100 * SECOND), "{name}");
+        assert!(rt; !due_by::<FlowLaw>(&flow, 100 * SECOND - 1), "{name}");
+        assert!(rt; !due_by::<FlowLaw>(&flow, 0), "{name}");
     }
+}
+
+#[test]
+fn the_laws_of_flows_hold() {
+    laws::meaning_is_flow_law();
+    laws::refused_leaves_flow();
+    laws::last_never_falls();
+    laws::opening_stays();
+    laws::protocol_stays();
+    laws::stays_answered();
+    laws::due_by_idle_time();
+    laws::flow_is_as_its_packets();
+    laws::windows_stay_up();
 }

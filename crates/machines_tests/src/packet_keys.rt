@@ -1,4 +1,4 @@
-use npf_key::{key_of, keys_of, port_key};
+use npf_key::{key_of, keys_of, laws, port_key};
 use npf_types::{Addr, Change, End, Facts, IfId, Key, L4, Segment};
 
 /// 10.0.0.1, 192.0.2.1 and 203.0.113.1.
@@ -210,4 +210,64 @@ fn ports_have_their_keys(rt: HostRuntime) {
     assert_eq!(rt; port_key(OUTSIDE, 1024), key);
     let key = Key([9655717601082408959, 0x2001_0db8_0000_0001, 2, 0, 0]);
     assert_eq!(rt; port_key(SERVER_6, 65535), key);
+}
+
+/// An echo of this family: a request goes to the server, and a reply comes back.
+fn echo(v6: bool, is_reply: bool, identifier: u16) -> Facts {
+    let id = Some(identifier);
+    match (v6, is_reply) {
+        (false, false) => packet(INSIDE, SERVER, 1, icmp(8, id)),
+        (false, true) => packet(SERVER, INSIDE, 1, icmp(0, id)),
+        (true, false) => packet(INSIDE_6, SERVER_6, 58, icmp6(128, id)),
+        (true, true) => packet(SERVER_6, INSIDE_6, 58, icmp6(129, id)),
+    }
+}
+
+// A reply is of the request's connection exactly where it has the request's identifier, or the one that a translation writes.
+#[test]
+fn echoes_come_back_by_their_identifiers(rt: HostRuntime) {
+    let cases = [
+        ("equal", None, 7, true),
+        ("different", None, 8, false),
+        ("0", None, 0, false),
+        ("translated", Some(1024), 1024, true),
+        ("not translated back", Some(1024), 7, false),
+    ];
+    for (name, drawn, identifier, comes_back) in cases {
+        for (v6, inside) in [(false, INSIDE), (true, INSIDE_6)] {
+            let there = match drawn {
+                None => UNCHANGED,
+                Some(port) => source(inside, Some(port)),
+            };
+            let (forward, backward) = keys_of(&echo(v6, false, 7), IfId(1), &there);
+            let reply = key_of(&echo(v6, true, identifier), IfId(1));
+            assert_eq!(rt; reply == backward, comes_back, "{name}");
+            assert!(rt; reply != forward, "{name}");
+            let request = key_of(&echo(v6, false, identifier), IfId(1));
+            assert_eq!(rt; request == forward, identifier == 7, "{name}");
+        }
+    }
+}
+
+// 2001:db8::1, port 5000, goes out as 2001:db8:0:1::2, port 1024, and asks 2001:db8::1 itself: both ends of one prefix.
+#[test]
+fn ipv6_is_translated(rt: HostRuntime) {
+    let query = packet(INSIDE_6, INSIDE_6, 17, QUERY);
+    let (_, backward) = keys_of(&query, IfId(1), &source(SERVER_6, Some(1024)));
+    let answered = L4::Udp {
+        sport: 53,
+        dport: 1024,
+    };
+    let reply = packet(INSIDE_6, SERVER_6, 17, answered);
+    assert_eq!(rt; backward, key_of(&reply, IfId(1)));
+    let (_, unmoved) = keys_of(&query, IfId(1), &source(OUTSIDE, Some(1024)));
+    assert_eq!(rt; unmoved, keys_of(&query, IfId(1), &UNCHANGED).1);
+}
+
+#[test]
+fn the_laws_of_keys_hold() {
+    laws::keys_tell_apart();
+    laws::port_keys_stand_apart();
+    laws::backward_keys_tell_apart();
+    laws::answers_come_back();
 }

@@ -7,19 +7,19 @@ use npf_tcp::{Known, TcpPhase, TcpSide, TcpState, laws, open_tcp, step_tcp};
 use npf_types::{Segment, Way};
 use std::process::Abort;
 
-const FIN: u8 = 0x01;
+pub(crate) const FIN: u8 = 0x01;
 
-const SYN: u8 = 0x02;
+pub(crate) const SYN: u8 = 0x02;
 
-const RST: u8 = 0x04;
+pub(crate) const RST: u8 = 0x04;
 
 const PSH: u8 = 0x08;
 
-const ACK: u8 = 0x10;
+pub(crate) const ACK: u8 = 0x10;
 
-const SYN_ACK: u8 = 0x12;
+pub(crate) const SYN_ACK: u8 = 0x12;
 
-const FIN_ACK: u8 = 0x11;
+pub(crate) const FIN_ACK: u8 = 0x11;
 
 const PSH_ACK: u8 = 0x18;
 
@@ -29,7 +29,7 @@ const NO: Option<TcpPhase> = None;
 /// A segment and its way, and the phase to which it leads, if it is accepted.
 type Step = (&'static str, (Way, Segment), Option<TcpPhase>);
 
-fn segment(flags: u8, seq: u32, ack: u32, win: u16, len: u32) -> Segment {
+pub(crate) fn segment(flags: u8, seq: u32, ack: u32, win: u16, len: u32) -> Segment {
     Segment {
         flags,
         seq,

@@ -58,7 +58,7 @@ backward_of packet = backward_key packet.facts cap0_id unchanged
 
 -- the flow of the connection that the packet opens
 abbrev pub opening_of : Packet → Flow
-opening_of packet = opening_flow packet.time packet.number unchanged unchanged no_action
+opening_of packet = opening_flow (arg_of packet) packet.number unchanged unchanged no_action
 
 -- A packet of a capture that was decoded: its time and what its bytes are.
 pub record Arrival : Type 0 where

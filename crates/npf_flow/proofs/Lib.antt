@@ -1,1 +1,3 @@
-pub mod ManyPackets
+pub mod FlowLemmas
+pub mod RunLemmas
+pub mod TimeoutLemmas

@@ -1,31 +1,61 @@
--- How a connection's flow goes on, for a protocol other than TCP (npf.conf(5), "Stateful"). The timeouts are this project's own,
--- after NetBSD's npf: one for a flow that is new, and a longer one once it is answered.
-use Rattle.std.specs.Prelude.{ℕ, ◌-◌, ◌*◌, ◌^◌, max, nat_le, Bool, true, false, ◌&&◌}
-use Rattle.npf_types.specs.declared.key.Way.{Way}
-use Rattle.npf_types.specs.declared.key.Way.TheVariants.{Forward, Backward, Port}
+-- How a connection's flow goes on (npf.conf(5), "Stateful"): one of TCP by the law of segments, and one of another protocol with
+-- every packet, as NetBSD's npf follows UDP and ICMP.
+use Rattle.std.specs.Prelude.{ℕ, max, Bool, true, false, ◌||◌, Option, Some, None, if◌then◌else◌}
 use Rattle.npf_types.specs.declared.action.Action.{Action}
 use Rattle.npf_types.specs.declared.change.Change.{Change}
+use Rattle.npf_types.specs.declared.facts.Segment.{Segment}
+use Rattle.npf_types.specs.declared.key.Way.{Way}
+use Rattle.npf_types.specs.declared.key.Way.TheVariants.{Forward, Backward, Port}
 use Rattle.npf_core.specs.Meaning.{Meaning}
+use Rattle.npf_tcp.specs.Laws.{next_state, is_accepted}
+use Rattle.npf_tcp.specs.Opening.{opening_state}
 use Rattle.npf_flow.specs.declared.flow.Flow.{Flow}
 use Rattle.npf_flow.specs.declared.flow.FlowKind.{FlowKind}
-use Rattle.npf_flow.specs.declared.flow.FlowKind.TheVariants.{Other}
+use Rattle.npf_flow.specs.declared.flow.FlowKind.TheVariants.{Tcp, Other}
 use Rattle.npf_flow.specs.declared.step.FlowArg.{FlowArg}
 use Rattle.npf_flow.specs.declared.step.FlowReply.{FlowReply}
+use Rattle.npf_flow.specs.Timeout.{is_due}
 
--- the flow that a packet opens at this time: nobody has answered it
-abbrev pub opening_flow : ℕ → ℕ → Change → Change → Action → Flow
-opening_flow now opener there back action =
-    record { kind = Other false; last = now; opener = opener; there = there; back = back; action = action }
+-- what a packet opens: a connection of TCP by its segment, and otherwise one that nobody has answered
+abbrev pub opening_kind : Option Segment → FlowKind
+opening_kind (Some seg) = Tcp (opening_state seg)
+opening_kind None = Other false
 
--- a backward packet answers; the way of a port counts as forward
-abbrev pub kind_after : Way → FlowKind → FlowKind
-kind_after Backward (Other _) = Other true
-kind_after Forward (Other answered) = Other answered
-kind_after Port (Other answered) = Other answered
+-- the flow that a packet opens, at the packet's time
+abbrev pub opening_flow : FlowArg → ℕ → Change → Change → Action → Flow
+opening_flow arg opener there back action = record {
+  kind = opening_kind arg.seg;
+  last = arg.now;
+  opener = opener;
+  there = there;
+  back = back;
+  action = action;
+}
 
--- the flow after a packet, of which there is none that isn't accepted: its last time is the greater of both
+-- a packet of this way goes back; the way of a port counts as forward
+abbrev pub is_backward : Way → Bool
+is_backward Forward = false
+is_backward Backward = true
+is_backward Port = false
+
+-- the packet is accepted: a flow of TCP goes by the law of segments, and refuses what has none; another accepts every packet
+abbrev pub accepts : FlowKind → Way → Option Segment → Bool
+accepts (Tcp state) way (Some seg) = is_accepted state way seg
+accepts (Tcp state) way None = false
+accepts (Other answered) way seg = true
+
+-- the kind after a packet: the next state of TCP, and otherwise one that a backward packet has answered
+abbrev pub kind_after : FlowKind → Way → Option Segment → FlowKind
+kind_after (Tcp state) way (Some seg) = Tcp (next_state state way seg)
+kind_after (Tcp state) way None = Tcp state
+kind_after (Other answered) way seg = Other (answered || is_backward way)
+
+-- the flow after a packet: an accepted one sets the last time to the greater of both, and a refused one changes nothing
 abbrev pub next_flow : Flow → Way → FlowArg → Flow
-next_flow flow way arg = record flow { kind = kind_after way flow.kind; last = max flow.last arg.now }
+next_flow flow way arg =
+    if accepts flow.kind way arg.seg
+    then record flow { kind = kind_after flow.kind way arg.seg; last = max flow.last arg.now }
+    else flow
 
 -- what translates a packet of this way
 abbrev pub change_of : Flow → Way → Change
@@ -33,18 +63,15 @@ change_of flow Forward = flow.there
 change_of flow Backward = flow.back
 change_of flow Port = flow.there
 
--- what a packet is answered: that it passes, who opened the flow, how the packet is translated, and what its rule does to it
-abbrev pub flow_reply : Flow → Way → FlowReply
-flow_reply flow way = record { pass = true; opener = flow.opener; change = change_of flow way; action = flow.action }
-
--- how long a flow may be idle, in nanoseconds: 30 s, and 60 s once it is answered
-abbrev pub timeout : FlowKind → ℕ
-timeout (Other false) = 30 * 10 ^ 9
-timeout (Other true) = 60 * 10 ^ 9
-
--- a flow is due where it was idle for its timeout or longer, and never at a time before its last packet's
-abbrev pub is_due : Flow → ℕ → Bool
-is_due flow now = nat_le flow.last now && nat_le (timeout flow.kind) (now - flow.last)
+-- what a packet is answered: whether it is accepted, who opened the flow, how the packet is translated, and what its rule does
+-- to it
+abbrev pub flow_reply : Flow → Way → FlowArg → FlowReply
+flow_reply flow way arg = record {
+  pass = accepts flow.kind way arg.seg;
+  opener = flow.opener;
+  change = change_of flow way;
+  action = flow.action;
+}
 
 abbrev pub flow_law : Meaning Flow FlowArg FlowReply
-flow_law = record { next = next_flow; answer = λ flow way _. flow_reply flow way; is_due = is_due }
+flow_law = record { next = next_flow; answer = flow_reply; is_due = is_due }

@@ -1,3 +1,4 @@
 pub mod Flows
 pub mod Laws
-pub mod Runs
+pub mod Run
+pub mod Timeout

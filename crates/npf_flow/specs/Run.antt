@@ -1,10 +1,9 @@
 -- A flow over many packets, the oldest first.
-use Rattle.std.specs.Prelude.{ℕ, max, Bool, true, false, ◌||◌, List, [], ◌∷◌}
+use Rattle.std.specs.Prelude.{ℕ, max, Bool, false, ◌||◌, List, [], ◌∷◌, if◌then◌else◌}
 use Rattle.npf_types.specs.declared.key.Way.{Way}
-use Rattle.npf_types.specs.declared.key.Way.TheVariants.{Forward, Backward, Port}
 use Rattle.npf_flow.specs.declared.flow.Flow.{Flow}
 use Rattle.npf_flow.specs.declared.step.FlowArg.{FlowArg}
-use Rattle.npf_flow.specs.Flows.{next_flow}
+use Rattle.npf_flow.specs.Flows.{next_flow, accepts, is_backward}
 
 abbrev pub Packets : Type 0
 Packets = List (Way × FlowArg)
@@ -14,12 +13,14 @@ abbrev pub flow_after : Flow → Packets → Flow
 flow_after flow [] = flow
 flow_after flow (packet ∷ packets) = flow_after (next_flow flow packet.0 packet.1) packets
 
--- some packet came backward
-abbrev pub is_backward : Way → Bool
-is_backward Forward = false
-is_backward Backward = true
-is_backward Port = false
+-- those of the packets that the flow accepts, each in its turn
+abbrev pub accepted : Flow → Packets → Packets
+accepted flow [] = []
+accepted flow (packet ∷ packets) =
+    let rest : Packets = accepted (next_flow flow packet.0 packet.1) packets in
+    if accepts flow.kind packet.0 packet.1.seg then packet ∷ rest else rest
 
+-- some packet came backward
 abbrev pub has_backward : Packets → Bool
 has_backward [] = false
 has_backward (packet ∷ packets) = is_backward packet.0 || has_backward packets

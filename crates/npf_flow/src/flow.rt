@@ -1,12 +1,16 @@
 ghost use Rattle.std.specs.Prelude.{◌≡◌};
-ghost use Rattle.npf_flow.specs.Flows.{opening_flow};
+ghost use Rattle.npf_flow.specs.Flows.{opening_flow, opening_kind};
 
-use npf_types::{Action, Change};
+use crate::step::FlowArg;
+use npf_tcp::{TcpState, open_tcp};
+use npf_types::{Action, Change, Segment};
 
 /// What a flow remembers of its packets, by protocol.
 #[derive(Clone, Copy, Debug, PartialEq, Eq)]
 pub enum FlowKind {
-    /// A protocol other than TCP, and whether a backward packet came.
+    /// A connection of TCP, and its state.
+    Tcp(TcpState),
+    /// Another protocol, and whether a backward packet came.
     Other { answered: bool },
 }
 
@@ -22,16 +26,26 @@ pub struct Flow {
     pub action: Action,
 }
 
-/// The flow that the packet with the number `opener` opens at the time `now`, in nanoseconds: it isn't answered.
-pub fn open_flow(now: u64, opener: u64, there: Change, back: Change, action: Action) -> Flow
-    ensures { result ≡ opening_flow now opener there back action }
+/// The flow that the packet with the number `opener` opens: a connection of TCP where the packet has a segment, and
+/// otherwise one that isn't answered.
+pub fn open_flow(arg: FlowArg, opener: u64, there: Change, back: Change, action: Action) -> Flow
+    ensures { result ≡ opening_flow arg opener there back action }
 {
     Flow {
-        kind: FlowKind::Other { answered: false },
-        last: now,
+        kind: opening_kind(arg.seg),
+        last: arg.now,
         opener,
         there,
         back,
         action,
+    }
+}
+
+fn opening_kind(seg: Option<Segment>) -> FlowKind
+    ensures { result ≡ opening_kind seg }
+{
+    match seg {
+        Some(seg) => FlowKind::Tcp(open_tcp(&seg)),
+        None => FlowKind::Other { answered: false },
     }
 }

@@ -1,7 +1,7 @@
 ghost use Rattle.npf_flow.specs.Flows.{flow_law};
 
 use crate::flow::Flow;
-use crate::step::{FlowArg, FlowReply, flow_reply, next_flow};
+use crate::step::{FlowArg, FlowReply, step_flow};
 use crate::timeout;
 use npf_core::Law;
 use npf_types::Way;
@@ -19,7 +19,7 @@ impl Law for FlowLaw {
     ghost meaning = { flow_law };
 
     fn step(state: &Flow, way: Way, arg: &FlowArg) -> (Flow, FlowReply) {
-        (next_flow(state, way, *arg), flow_reply(state, way))
+        step_flow(state, way, *arg)
     }
 
     fn due(state: &Flow, now: u64) -> bool {

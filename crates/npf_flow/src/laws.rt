@@ -2,19 +2,37 @@
 // `FlowLaw`, `due` and `open_flow` equal.
 ghost use Rattle.std.specs.Prelude.{◌≡◌};
 ghost use Rattle.npf_flow.specs.Flows.{flow_law};
-ghost use Rattle.npf_flow.specs.Laws.{LastNeverFalls, StaysAnswered, IsDueExactly, IsNotDueByLast, IsNotDueAtPacket, IsNotDueAtOpening, StaysDue, IsAsItsPackets};
+ghost use Rattle.npf_flow.specs.Laws.{RefusedLeavesFlow, RefusedLeaveNoTrace, LastNeverFalls, LastIsLatest, OpeningStays, ProtocolStays, StaysAnswered, IsDueExactly, IsNotDueByLast, IsNotDueAtPacket, IsNotDueAtOpening, StaysDue, IsAsItsPackets, ReachedIsQuiet, MaxwinStaysUp};
 
 use crate::law::FlowLaw;
 use npf_core::Law;
+use npf_tcp::laws::maxwin_never_falls;
 
 /// What `FlowLaw` means as a law of the machine of connections is the law of flows.
 pub fn meaning_is_flow_law()
     ensures { ⟦<FlowLaw as Law>⟧.meaning ≡ flow_law }
 {}
 
-/// No packet takes a flow's last time back.
+/// A refused packet leaves the flow as it is, and so a flow after any packets is what those make of it that it accepts.
+pub fn refused_leaves_flow()
+    ensures packet { RefusedLeavesFlow }
+    ensures packets { RefusedLeaveNoTrace }
+{}
+
+/// No packet takes a flow's last time back, and after any packets it is the latest of its own and of those that were accepted.
 pub fn last_never_falls()
-    ensures { LastNeverFalls }
+    ensures packet { LastNeverFalls }
+    ensures packets { LastIsLatest }
+{}
+
+/// A flow's opener, changes and action never change.
+pub fn opening_stays()
+    ensures { OpeningStays }
+{}
+
+/// A flow of TCP stays one of TCP, and one of another protocol doesn't become one.
+pub fn protocol_stays()
+    ensures { ProtocolStays }
 {}
 
 /// An answered flow stays answered.
@@ -32,8 +50,17 @@ pub fn due_by_idle_time()
     ensures stays { StaysDue }
 {}
 
-/// After any packets a flow is answered exactly where it was or one of them came backward, its last time is the latest of
-/// all, and all else is what its opening made it.
+/// After any packets a flow of a protocol other than TCP is answered exactly where it was or one of them came backward, its
+/// last time is the latest of all, and all else is what its opening made it.
 pub fn flow_is_as_its_packets()
     ensures { IsAsItsPackets }
 {}
+
+/// After any packets since the opening of a flow of TCP, a side that isn't seen has offered no window, as the laws of TCP ask;
+/// so no packet lowers the greatest window of a side.
+pub fn windows_stay_up()
+    ensures quiet { ReachedIsQuiet }
+    ensures packet { MaxwinStaysUp }
+{
+    maxwin_never_falls();
+}

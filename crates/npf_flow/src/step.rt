@@ -1,7 +1,8 @@
 ghost use Rattle.std.specs.Prelude.{◌≡◌};
-ghost use Rattle.npf_flow.specs.Flows.{kind_after, next_flow, change_of, flow_reply};
+ghost use Rattle.npf_flow.specs.Flows.{accepts, kind_after, is_backward, next_flow, change_of, flow_reply};
 
 use crate::flow::{Flow, FlowKind};
+use npf_tcp::step_tcp;
 use npf_types::{Action, Change, Segment, Way};
 
 /// What a packet brings to a step: its time in nanoseconds, and its TCP segment, if it has one. Flows of other protocols
@@ -12,8 +13,8 @@ pub struct FlowArg {
     pub seg: Option<Segment>,
 }
 
-/// What a step answers: whether the packet passes, the number of the packet that opened the flow, and what translates the
-/// packet and is done to it.
+/// What a step answers: whether the packet is accepted, the number of the packet that opened the flow, and what translates
+/// the packet and is done to it.
 #[derive(Clone, Copy, Debug, PartialEq, Eq)]
 pub struct FlowReply {
     pub pass: bool,
@@ -22,43 +23,62 @@ pub struct FlowReply {
     pub action: Action,
 }
 
-/// The flow after a packet that goes this way.
-pub fn next_flow(flow: &Flow, way: Way, arg: FlowArg) -> Flow
-    ensures { result ≡ next_flow flow.now way arg }
+/// The flow after a packet that goes this way, and what the packet is answered. A refused packet changes nothing.
+pub fn step_flow(flow: &Flow, way: Way, arg: FlowArg) -> (Flow, FlowReply)
+    ensures next { result.0 ≡ next_flow flow.now way arg }
+    ensures answer { result.1 ≡ flow_reply flow.now way arg }
 {
-    Flow {
-        kind: kind_after(way, flow.kind),
-        last: flow.last.max(arg.now),
-        ..*flow
-    }
-}
-
-/// What the packet is answered.
-pub fn flow_reply(flow: &Flow, way: Way) -> FlowReply
-    ensures { result ≡ flow_reply flow.now way }
-{
-    FlowReply {
-        pass: true,
+    let (kind, pass) = step_kind(flow.kind, way, arg.seg);
+    let reply = FlowReply {
+        pass,
         opener: flow.opener,
         change: change_of(flow, way),
         action: flow.action,
+    };
+    if !pass {
+        return (*flow, reply);
+    }
+    let last = flow.last.max(arg.now);
+    (
+        Flow {
+            kind,
+            last,
+            ..*flow
+        },
+        reply,
+    )
+}
+
+/// The kind after a packet, and whether the packet is accepted.
+fn step_kind(kind: FlowKind, way: Way, seg: Option<Segment>) -> (FlowKind, bool)
+    ensures kind { result.0 ≡ kind_after kind way seg }
+    ensures pass { result.1 ≡ accepts kind way seg }
+{
+    match (kind, seg) {
+        (FlowKind::Tcp(state), Some(seg)) => {
+            let (state, accepted) = step_tcp(&state, way, &seg);
+            (FlowKind::Tcp(state), accepted)
+        }
+        (FlowKind::Tcp(_), None) => (kind, false),
+        (FlowKind::Other { answered }, _) => {
+            let answered = answered || is_backward(way);
+            (FlowKind::Other { answered }, true)
+        }
     }
 }
 
-fn kind_after(way: Way, kind: FlowKind) -> FlowKind
-    ensures { result ≡ kind_after way kind }
+fn is_backward(way: Way) -> bool
+    ensures { result ≡ is_backward way }
 {
-    match way {
-        Way::Backward => FlowKind::Other { answered: true },
-        Way::Forward | Way::Port => kind,
-    }
+    matches!(way, Way::Backward)
 }
 
 fn change_of(flow: &Flow, way: Way) -> Change
     ensures { result ≡ change_of flow.now way }
 {
-    match way {
-        Way::Backward => flow.back,
-        Way::Forward | Way::Port => flow.there,
+    if is_backward(way) {
+        flow.back
+    } else {
+        flow.there
     }
 }

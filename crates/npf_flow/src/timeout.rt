@@ -1,7 +1,8 @@
-ghost use Rattle.std.specs.Prelude.{◌≡◌};
-ghost use Rattle.npf_flow.specs.Flows.{timeout, is_due};
+ghost use Rattle.std.specs.Prelude.{◌≡◌, ◌≤◌};
+ghost use Rattle.npf_flow.specs.Timeout.{tcp_timeout, timeout_seconds, timeout, is_due};
 
 use crate::flow::{Flow, FlowKind};
+use npf_tcp::TcpPhase;
 
 /// A second, in nanoseconds.
 const SECOND: u64 = 1_000_000_000;
@@ -17,8 +18,34 @@ pub fn due(flow: &Flow, now: u64) -> bool
 fn timeout(kind: FlowKind) -> u64
     ensures { result ≡ timeout kind }
 {
+    timeout_seconds(kind) * SECOND
+}
+
+fn timeout_seconds(kind: FlowKind) -> u64
+    ensures seconds { result ≡ timeout_seconds kind }
+    ensures most { result ≤ 86400 }
+{
     match kind {
-        FlowKind::Other { answered: false } => 30 * SECOND,
-        FlowKind::Other { answered: true } => 60 * SECOND,
+        FlowKind::Tcp(state) => tcp_timeout(state.phase),
+        FlowKind::Other { answered: false } => 30,
+        FlowKind::Other { answered: true } => 60,
+    }
+}
+
+fn tcp_timeout(phase: TcpPhase) -> u64
+    ensures seconds { result ≡ tcp_timeout phase }
+    ensures most { result ≤ 86400 }
+{
+    match phase {
+        TcpPhase::SynSent | TcpPhase::SimsynSent | TcpPhase::SynReceived => 30,
+        TcpPhase::Established => 86_400,
+        TcpPhase::FinSent
+        | TcpPhase::FinReceived
+        | TcpPhase::CloseWait
+        | TcpPhase::FinWait
+        | TcpPhase::Closing
+        | TcpPhase::LastAck => 3_600,
+        TcpPhase::TimeWait => 240,
+        TcpPhase::Closed => 10,
     }
 }

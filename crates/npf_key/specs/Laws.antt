@@ -5,7 +5,7 @@ use Rattle.npf_types.specs.declared.facts.Facts.{Facts}
 use Rattle.npf_types.specs.declared.change.Change.{Change}
 use Rattle.npf_key.specs.Key.{key_of, backward_key, port_key}
 use Rattle.npf_key.specs.Port.{source_port, destination_port}
-use Rattle.npf_key.specs.Translated.{about, shares_family}
+use Rattle.npf_key.specs.Translated.{about, facts_there, shares_family}
 
 -- a packet's numbers fit their fields, as a program's do by their types
 pub record FitsKey (facts : Facts) (ifid : IfId) : Type 0 where
@@ -44,6 +44,19 @@ abbrev pub PortKeysTellApart : Type 0
 PortKeysTellApart =
     (addr other : Addr) (port other_port : ℕ) → port < 2 ^ 16 → other_port < 2 ^ 16 →
     (port_key addr port ≡ port_key other other_port) ↔ ((addr ≡ other) × (port ≡ other_port))
+
+-- a translation keeps the family: an end of the other one names nothing
+abbrev pub TranslationKeepsFamily : Type 0
+TranslationKeepsFamily =
+    (facts : Facts) (there : Change) → IsOneFamily facts → IsOneFamily (facts_there there facts)
+
+-- So a packet has the backward key of a translated one exactly where it goes from that one's destination to its source, whatever
+-- was translated.
+abbrev pub BackwardKeysTellApart : Type 0
+BackwardKeysTellApart =
+    (facts : Facts) (ifid : IfId) (there : Change) (other : Facts) (other_ifid : IfId) →
+    FitsKey (about (facts_there there facts)) ifid → FitsKey other other_ifid → IsOneFamily facts → IsOneFamily other →
+    (backward_key facts ifid there ≡ key_of other other_ifid) ↔ GoesWith (about (facts_there there facts)) ifid other other_ifid
 
 -- a change that names nothing
 abbrev pub NamesNothing : Change → Type 0

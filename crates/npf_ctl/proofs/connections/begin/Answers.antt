@@ -6,4 +6,4 @@ use Rattle.npf_ctl.proofs.connections.begin.Goals as goal
 pub returns : goal.returns
 returns c = λ k reached building rep.
     begin_did c.args.packet.now c.args.place c.args.id k c.args.store.now c.start.new.self rep building
-    (subst (λ flow. Starts c.args.store.now c.start.new.self c.args.id flow) c.open_flow-flow.ensures c.start.ensures)
+    (subst (λ flow. Starts c.args.store.now c.start.new.self c.args.id flow) (rw c.arg_of.ensures at c.open_flow-flow.ensures) c.start.ensures)
