@@ -258,7 +258,13 @@ fn begin(packet: &Packet, place: u32, id: ConnId, store: &mut Store<Flow>) -> Ou
     requires { phase_of store.old id ≡ Phases.Building }
     ensures { DoesFrom (λ k. stage_of k id ≡ Stages.Building 0) (begin packet.now place id) store.old store.new result }
 {
-    let flow = open_flow(arg_of(packet), packet.number, UNCHANGED, UNCHANGED, NO_ACTION);
+    let flow = open_flow(
+        arg_of(packet),
+        packet.number,
+        UNCHANGED,
+        UNCHANGED,
+        NO_ACTION,
+    );
     store.start(id, flow);
     Outcome::ByRule {
         config: CONFIG,
