@@ -12,6 +12,11 @@ use std::process::Abort;
 
 const SECOND: u64 = 1_000_000_000;
 
+/// So many seconds, in nanoseconds.
+fn at(seconds: u64) -> u64 {
+    seconds.saturating_mul(SECOND)
+}
+
 const UNCHANGED: Change = Change {
     src: None,
     dst: None,
@@ -48,10 +53,7 @@ const NO: Option<TcpPhase> = None;
 
 /// The flow that packet 7 opens at 100 s.
 fn opened(seg: Option<Segment>) -> Flow {
-    let arg = FlowArg {
-        now: 100 * SECOND,
-        seg,
-    };
+    let arg = FlowArg { now: at(100), seg };
     open_flow(arg, 7, THERE, BACK, ACTION)
 }
 
@@ -87,7 +89,7 @@ type Row = (&'static str, Way, u64, Segment, Option<TcpPhase>);
 fn follow(rt: &impl Abort, opened: Flow, rows: &[Row]) -> Flow {
     let mut flow = opened;
     for (name, way, time, seg, led) in rows {
-        let now = time.saturating_mul(SECOND);
+        let now = at(*time);
         let arg = FlowArg {
             now,
             seg: Some(*seg),
@@ -172,7 +174,7 @@ fn a_handshake_to_its_end(rt: HostRuntime) {
         ),
     ];
     let ended = follow(&rt, syn, &rows);
-    assert_eq!(rt; ended.last, 107 * SECOND);
+    assert_eq!(rt; ended.last, at(107));
 }
 
 /// Both sides sent SYN, at 100 and 300, and offer 1000 and 2000 bytes.
@@ -304,7 +306,7 @@ fn a_window_of_scale_14(rt: HostRuntime) {
 fn tcp_refuses_what_has_no_segment(rt: HostRuntime) {
     let syn = opened(Some(segment(SYN, 1000, 0, 1000, 0)));
     let arg = FlowArg {
-        now: 101 * SECOND,
+        now: at(101),
         seg: None,
     };
     let (next, reply) = step_by::<FlowLaw>(&syn, Backward, &arg);
@@ -333,13 +335,13 @@ fn a_flow_of_another_protocol_goes_on(rt: HostRuntime) {
     assert_eq!(rt; flow.kind, other(false));
     for (name, way, time, answered, last, change) in steps {
         let arg = FlowArg {
-            now: time * SECOND,
+            now: at(time),
             seg: None,
         };
         let (next, reply) = step_by::<FlowLaw>(&flow, way, &arg);
         let wanted = Flow {
             kind: other(answered),
-            last: last * SECOND,
+            last: at(last),
             ..opened(None)
         };
         assert_eq!(rt; next, wanted, "{name}");
@@ -351,13 +353,13 @@ fn a_flow_of_another_protocol_goes_on(rt: HostRuntime) {
 #[test]
 fn another_protocol_looks_at_no_segment(rt: HostRuntime) {
     let arg = FlowArg {
-        now: 105 * SECOND,
+        now: at(105),
         seg: Some(segment(RST, 1, 0, 0, 0)),
     };
     let (next, reply) = step_by::<FlowLaw>(&opened(None), Forward, &arg);
     assert!(rt; reply.pass);
     assert_eq!(rt; next.kind, other(false));
-    assert_eq!(rt; next.last, 105 * SECOND);
+    assert_eq!(rt; next.last, at(105));
 }
 
 /// A connection of TCP in this phase, of whose sides nothing is known.
@@ -400,12 +402,15 @@ fn idle_flows_run_out(rt: HostRuntime) {
             kind,
             ..opened(None)
         };
-        let runs_out = (100 + seconds) * SECOND;
+        let runs_out = at(100).saturating_add(at(seconds));
         assert!(rt; due(&flow, runs_out), "{name}");
-        assert!(rt; !due(&flow, runs_out - 1), "{name}");
+        assert!(rt; !due(&flow, runs_out.saturating_sub(1)), "{name}");
         assert!(rt; due_by::<FlowLaw>(&flow, u64::MAX), "{name}");
-        assert!(rt; !due_by::<FlowLaw>(&flow, 100 * SECOND), "{name}");
-        assert!(rt; !due_by::<FlowLaw>(&flow, 100 * SECOND - 1), "{name}");
+        assert!(rt; !due_by::<FlowLaw>(&flow, at(100)), "{name}");
+        assert!(rt;
+            !due_by::<FlowLaw>(&flow, at(100).saturating_sub(1)),
+            "{name}"
+        );
         assert!(rt; !due_by::<FlowLaw>(&flow, 0), "{name}");
     }
 }
