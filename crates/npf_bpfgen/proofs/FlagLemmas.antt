@@ -7,13 +7,18 @@ use Rattle.npf_types.specs.declared.address.Addr.TheVariants.{V4, V6}
 use Rattle.npf_types.specs.declared.facts.Facts.{Facts}
 use Rattle.npf_types.specs.declared.facts.L4.{L4}
 use Rattle.npf_types.specs.declared.facts.L4.TheVariants.{Tcp, Udp, Icmp, Icmp6, Other}
-use Rattle.npf_model.specs.Describes.{opens_if_tcp, shows_flags}
+use Rattle.npf_types.specs.declared.decision.Decision.{Decision}
+use Rattle.npf_types.specs.declared.decision.Decision.TheVariants.{Pass, Block}
+use Rattle.npf_model.specs.declared.rule.StateOpt.{StateOpt}
+use Rattle.npf_model.specs.declared.rule.StateOpt.TheVariants.{Not, OnInterface, Everywhere}
+use Rattle.npf_model.specs.Describes.{fits_flags, opens_if_tcp, shows_flags}
 use Rattle.npf_packet.specs.PacketField.{HasProtocol, HasUpperFields}
 use Rattle.npf_packet.specs.Place.{least_upper_header}
 use Rattle.npf_bpf.specs.declared.insn.Insn.{Insn}
 use Rattle.npf_bpf.specs.declared.operation.Width.TheVariants.{Byte}
 use Rattle.npf_bpf.specs.Coprocessor.{Coprocessor}
 use Rattle.npf_bpf.specs.Load.{loaded}
+use Rattle.npf_bpfgen.specs.Condition.{asks_opening}
 use Rattle.npf_bpfgen.specs.Instruction.{if_equal, load_byte_behind, load_index, load_memory, mask_with, return_number}
 use Rattle.npf_bpfgen.specs.Premise.{GuardsPacket, header_words}
 use Rattle.npf_bpfgen.specs.Tail.{Yields}
@@ -111,3 +116,18 @@ opening_guards old new is = λ p cop tables facts seen x y.
     let h : ℕ × ℕ × ℕ = header_words facts in
     subst (λ (code : List Insn). Yields p cop h None code 0 (if opens_if_tcp facts.l4 then x else 0)) (sym is)
     (opening_yields p cop h old x y facts.src facts.l4 seen.packet.upper_header seen.packet.fields.upper seen.packet.protocol)
+
+-- a rule that asks for no flags itself
+pub opening_asked : (decision : Decision) (state : StateOpt) (l4 : L4) → asks_opening decision state ≡ true
+    → opens_if_tcp l4 ≡ fits_flags None decision state l4
+opening_asked (Block answer) state l4 asks = absurd (false≢true asks)
+opening_asked Pass Not l4 asks = absurd (false≢true asks)
+opening_asked Pass OnInterface l4 asks = refl
+opening_asked Pass Everywhere l4 asks = refl
+
+pub nothing_asked : (decision : Decision) (state : StateOpt) (l4 : L4) → asks_opening decision state ≡ false
+    → fits_flags None decision state l4 ≡ true
+nothing_asked (Block answer) state l4 asks = refl
+nothing_asked Pass Not l4 asks = refl
+nothing_asked Pass OnInterface l4 asks = absurd (false≢true (sym asks))
+nothing_asked Pass Everywhere l4 asks = absurd (false≢true (sym asks))

@@ -25,6 +25,13 @@ guards_both first second old mid new behind front = λ p cop tables facts seen x
     subst (Yields p cop (header_words facts) None new 0) (two_guards (first tables facts) (second tables facts) x)
     (front p cop tables facts seen (if second tables facts then x else 0) (behind p cop tables facts seen x y))
 
+-- a test by another name
+pub guards_alike : (first second : Tables → Facts → Bool) (old new : List Insn)
+    → ((tables : Tables) (facts : Facts) → first tables facts ≡ second tables facts)
+    → GuardsPacket first old new → GuardsPacket second old new
+guards_alike first second old new alike guards = λ p cop tables facts seen x y.
+    subst (λ (t : Bool). Yields p cop (header_words facts) None new 0 (if t then x else 0)) (alike tables facts) (guards p cop tables facts seen x y)
+
 pub no_guard : (test : Tables → Facts → Bool) (old : List Insn)
     → ((tables : Tables) (facts : Facts) → test tables facts ≡ true) → GuardsPacket test old old
 no_guard test old always = λ p cop tables facts seen x y.

@@ -1,3 +1,5 @@
+ghost use Rattle.std.specs.Prelude.{◌≡◌};
+
 use npf_types::NoMemory;
 use thiserror::Error;
 
@@ -13,6 +15,10 @@ pub enum GenFault {
 }
 
 impl From<NoMemory> for GenFault {
+    ghost use Rattle.npf_bpfgen.specs.declared.fault.GenFault.{GenFault};
+
+    ghost from_gives = { λ _ fault. fault ≡ GenFault.NoMemory };
+
     fn from(_error: NoMemory) -> GenFault {
         GenFault::NoMemory
     }

@@ -1,7 +1,7 @@
 // Tests of a segment's control bits (RFC 9293 section 3.1).
 ghost use Rattle.std.specs.Prelude.{◌≡◌, Bool, true, false, OnOk, Option, if◌then◌else◌};
 ghost use Rattle.npf_model.specs.Describes.{fits_flags, opens_if_tcp, shows_flags};
-ghost use Rattle.npf_bpfgen.specs.Condition.{asks_opening};
+ghost use Rattle.npf_bpfgen.specs.Condition as condition;
 ghost use Rattle.npf_bpfgen.specs.Premise.{GuardsPacket};
 ghost use Rattle.npf_bpfgen.specs.Tail.{Extends};
 
@@ -34,9 +34,18 @@ fn put_kept(tail: &mut Tail, decision: Decision, state: StateOpt) -> Result<(), 
     ensures front { OnOk result (Extends 7 1 tail.old tail.new) }
     ensures value { OnOk result (GuardsPacket (λ tables facts. fits_flags None decision state facts.l4) tail.old tail.new) }
 {
+    if asks_opening(decision, state) {
+        put_opening(tail)?;
+    }
+    Ok(())
+}
+
+fn asks_opening(decision: Decision, state: StateOpt) -> bool
+    ensures { result ≡ condition.asks_opening decision state }
+{
     match (decision, state) {
-        (Decision::Block(_), _) | (Decision::Pass, StateOpt::Not) => Ok(()),
-        (Decision::Pass, _) => put_opening(tail),
+        (Decision::Pass, StateOpt::OnInterface | StateOpt::Everywhere) => true,
+        (Decision::Pass, StateOpt::Not) | (Decision::Block(_), _) => false,
     }
 }
 

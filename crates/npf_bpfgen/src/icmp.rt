@@ -15,9 +15,18 @@ pub fn put_icmp(tail: &mut Tail, icmp: Option<(u8, Option<u8>)>) -> Result<(), N
     ensures value { OnOk result (GuardsPacket (λ tables facts. fits_icmp icmp facts.l4) tail.old tail.new) }
 {
     match icmp {
-        Some((kind, Some(code))) => put_type_and_code(tail, kind, code),
-        Some((kind, None)) => put_type(tail, kind),
+        Some((kind, code)) => put_message(tail, kind, code),
         None => Ok(()),
+    }
+}
+
+fn put_message(tail: &mut Tail, kind: u8, code: Option<u8>) -> Result<(), NoMemory>
+    ensures front { OnOk result (Extends 16 1 tail.old tail.new) }
+    ensures value { OnOk result (GuardsPacket (λ tables facts. fits_icmp (Some (kind, code)) facts.l4) tail.old tail.new) }
+{
+    match code {
+        Some(code) => put_type_and_code(tail, kind, code),
+        None => put_type(tail, kind),
     }
 }
 

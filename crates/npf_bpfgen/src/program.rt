@@ -75,7 +75,8 @@ fn put_ends(tail: &mut Tail, endpoint: Endpoint, ends: &Ends) -> Result<(), NoMe
     ensures value { OnOk result (GuardsPacket (λ tables facts. fits_ends ends.now tables (address_of endpoint facts) (port_of endpoint facts.l4)) tail.old tail.new) }
 {
     put_listed_ports(tail, endpoint, &ends.ports)?;
-    put_listed_addrs(tail, endpoint, &ends.addrs)
+    put_listed_addrs(tail, endpoint, &ends.addrs)?;
+    Ok(())
 }
 
 fn put_listed_ports(
