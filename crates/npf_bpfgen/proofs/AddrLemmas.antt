@@ -1,7 +1,7 @@
 -- The tests of addresses.
-use Rattle.std.proofs.Common.{◌≡◌, ℕ, suc, ◌+◌, ◌-◌, ◌<◌, ◌≤◌, Bool, true, false, List, [], ◌∷◌, ◌++◌, length, get_or, drop, Option, Some, None, refl, sym, ap, subst, ◌∙◌, arith}
+use Rattle.std.proofs.Common.{◌≡◌, ℕ, suc, ◌+◌, ◌-◌, ◌<◌, ◌≤◌, Bool, true, false, List, [], ◌∷◌, ◌++◌, length, get_or, drop, Some, None, refl, sym, ap, subst, ◌∙◌, arith}
 use Rattle.std.specs.List.{list_any, sum_by}
-use Rattle.std.specs.Prelude.{◌/◌, ◌%◌, ◌^◌, ◌*◌, ◌==◌, ◌&&◌, ◌||◌, if◌then◌else◌, min, nat_le, nat_lt}
+use Rattle.std.specs.Prelude.{◌/◌, ◌%◌, ◌^◌, ◌*◌, ◌==◌, ◌&&◌, if◌then◌else◌, min, nat_le, nat_lt}
 use Rattle.std.proofs.Math.Nat.{min-le_right}
 use Rattle.std.proofs.lemmas.Bool.{eq-eqb, le-leb, lt-leb}
 use Rattle.std.proofs.lemmas.List.Sums.{sum_by-drop_more}
@@ -16,18 +16,16 @@ use Rattle.npf_model.specs.Describes.{Tables, fits_addrs, item_has, table_has}
 use Rattle.npf_packet.specs.PacketField.{HasIpHeader}
 use Rattle.npf_packet.specs.Place.{least_ip_header}
 use Rattle.npf_bpf.specs.declared.insn.Insn.{Insn}
-use Rattle.npf_bpf.specs.declared.operation.Width.TheVariants.{Word}
 use Rattle.npf_bpf.specs.Coprocessor.{Coprocessor}
-use Rattle.npf_bpf.specs.Load.{loaded}
 use Rattle.npf_bpfgen.specs.declared.endpoint.Endpoint.{Endpoint}
 use Rattle.npf_bpfgen.specs.declared.endpoint.Endpoint.TheVariants.{Source, Destination}
 use Rattle.npf_bpfgen.specs.Endpoint.{address_of, asked_table, ipv4_place, ipv6_place}
-use Rattle.npf_bpfgen.specs.Instruction.{ask_member, first_bits_of_half, first_bits_of_word, if_equal, jump, load_constant, load_memory, load_word, shift_right}
-use Rattle.npf_bpfgen.specs.Premise.{AreBytes, BranchesOnPacket, GuardsPacket, IsSeen, Tells, header_words, ip_version}
+use Rattle.npf_bpfgen.specs.Instruction.{ask_member, first_bits_of_half, first_bits_of_word, if_equal, jump, load_constant, load_memory, shift_right}
+use Rattle.npf_bpfgen.specs.Premise.{AreBytes, BranchesOnPacket, GuardsPacket, Tells, header_words, ip_version}
 use Rattle.npf_bpfgen.specs.RuleWeight.{block_weight, item_weight}
 use Rattle.npf_bpfgen.specs.Tail.{Extends, Yields}
 use Rattle.npf_bpfgen.proofs.StepLemmas.{asks_member, equal, forget, is_equal, is_unequal, loads_version, loads_word, shifts}
-use Rattle.npf_bpfgen.proofs.TailLemmas.{any_more, extended, member_extended, member_guards}
+use Rattle.npf_bpfgen.proofs.TailLemmas.{any_more, member_extended, member_guards}
 use Rattle.npf_bpfgen.proofs.WordLemmas.{eq_turned, number32_below, number64_below, shared_by_words, shifted_word, word_loaded}
 
 both_chosen : (a b : Bool) (x y : ℕ) → (if a then (if b then x else y) else y) ≡ (if a && b then x else y)
@@ -250,9 +248,8 @@ items_more e items left more over d base tail new next within front guards dista
     let m : ℕ = item_weight (get_or items left d) - 1 in
     let some : 1 ≤ item_weight (get_or items left d) = weighs (get_or items left d) in
     let sum : sum_by item_weight (drop left items) ≡ item_weight (get_or items left d) + sum_by item_weight (drop more items) =
-        sum_by-drop_more item_weight items left d within
-        ∙ ap (λ (k : ℕ). item_weight (get_or items left d) + sum_by item_weight (drop k items)) (sym next) in
-    (
+    sum_by-drop_more item_weight items left d within
+    ∙ ap (λ (k : ℕ). item_weight (get_or items left d) + sum_by item_weight (drop k items)) (sym next) in (
       member_extended base tail new n m over front distance item _ (omega arith),
       λ p cop tables facts seen x y.
           subst (λ (t : Bool). Yields p cop (header_words facts) None new 0 (if t then x else 0))

@@ -1,16 +1,14 @@
 -- The tests of the header words: the family and the protocols.
-use Rattle.std.proofs.Common.{◌≡◌, ◌≢◌, ℕ, ◌+◌, Bool, true, false, List, [], ◌∷◌, ◌++◌, Option, Some, None, refl, sym, ap, subst, ◌∙◌, suc, ◌-◌, ◌<◌, length, get_or, drop, arith}
+use Rattle.std.proofs.Common.{◌≡◌, ◌≢◌, ℕ, ◌+◌, Bool, true, false, List, [], ◌∷◌, ◌++◌, Some, None, refl, sym, ap, subst, ◌∙◌, suc, ◌-◌, ◌<◌, length, get_or, drop, arith}
 use Rattle.std.specs.List.{list_any}
 use Rattle.std.specs.Prelude.{◌==◌, ◌*◌, if◌then◌else◌}
 use Rattle.npf_types.specs.declared.address.Addr.{Addr}
 use Rattle.npf_types.specs.declared.address.Addr.TheVariants.{V4, V6}
-use Rattle.npf_types.specs.declared.facts.Facts.{Facts}
-use Rattle.npf_model.specs.Describes.{Tables, fits_family, fits_protocol}
+use Rattle.npf_model.specs.Describes.{fits_family, fits_protocol}
 use Rattle.npf_bpf.specs.declared.insn.Insn.{Insn}
-use Rattle.npf_bpf.specs.Coprocessor.{Coprocessor}
 use Rattle.npf_bpfgen.specs.Instruction.{if_equal, jump, load_memory, return_number}
-use Rattle.npf_bpfgen.specs.Premise.{GuardsPacket, IsSeen, header_words, ip_version}
-use Rattle.npf_bpfgen.specs.Tail.{Yields, Extends, Branches, BranchesOnNumber, GuardsNumber}
+use Rattle.npf_bpfgen.specs.Premise.{GuardsPacket, header_words, ip_version}
+use Rattle.npf_bpfgen.specs.Tail.{Yields, Extends, BranchesOnNumber, GuardsNumber}
 use Rattle.npf_bpfgen.proofs.StepLemmas.{equal, forget, loads_protocol, loads_version, returns}
 use Rattle.npf_bpfgen.proofs.TailLemmas.{any_more, extended, member_extended, member_guards}
 use Rattle.npf_bpfgen.proofs.WordLemmas.{eq_turned}
@@ -76,8 +74,7 @@ pub protocols_more : (protos : List ℕ) (left more over : ℕ) (base tail new :
 protocols_more protos left more over base tail new next within e guards distance is =
     let proto : ℕ = get_or protos left 0 in
     let f : Extends 1 2 (jump over ∷ tail) new =
-        extended (if_equal proto 0 1 ∷ []) (jump over ∷ tail) new 1 2 is refl refl in
-    (
+    extended (if_equal proto 0 1 ∷ []) (jump over ∷ tail) new 1 2 is refl refl in (
       member_extended base tail new (1 + 2 * (length protos - more)) 1 over e distance f _ (omega arith),
       λ p cop header number x y.
           subst (λ (t : Bool). Yields p cop header (Some number) new 0 (if t then x else 0))

@@ -65,21 +65,21 @@ module _ (p : List ℕ) (cop : Coprocessor) (header : ℕ × ℕ × ℕ) (rest :
       loads_protocol p cop header (if_equal 58 0 2 ∷ tests_v6 rest) 0 None
       (⊎_elim
       (λ (is_58 : header.2 ≡ 58).
-        is_equal p cop header (tests_v6 rest) 0 header.2 58 0 2 (eq-eqb header.2 58 is_58)
-        (loads_version p cop header (if_equal 6 4 3 ∷ if_equal 1 0 2 ∷ tests_v4 rest) 0 (Some header.2)
-        (is_unequal p cop header (if_equal 1 0 2 ∷ tests_v4 rest) 0 header.0 6 4 3 (ne_eqb header.0 6 (not_v6 is_58))
-        (λ s ready known. refl))))
+      is_equal p cop header (tests_v6 rest) 0 header.2 58 0 2 (eq-eqb header.2 58 is_58)
+      (loads_version p cop header (if_equal 6 4 3 ∷ if_equal 1 0 2 ∷ tests_v4 rest) 0 (Some header.2)
+      (is_unequal p cop header (if_equal 1 0 2 ∷ tests_v4 rest) 0 header.0 6 4 3 (ne_eqb header.0 6 (not_v6 is_58))
+      (λ s ready known. refl))))
       (λ (not_58 : header.2 ≢ 58).
-        is_unequal p cop header (tests_v6 rest) 0 header.2 58 0 2 (ne_eqb header.2 58 not_58)
-        (⊎_elim
-        (λ (is_1 : header.2 ≡ 1).
-          is_equal p cop header (tests_v4 rest) 0 header.2 1 0 2 (eq-eqb header.2 1 is_1)
-          (loads_version p cop header (if_equal 4 1 0 ∷ return_number 0 ∷ rest) 0 (Some header.2)
-          (is_unequal p cop header (return_number 0 ∷ rest) 0 header.0 4 1 0 (ne_eqb header.0 4 (not_v4 is_1))
-          (λ s ready known. refl))))
-        (λ (not_1 : header.2 ≢ 1).
-          is_unequal p cop header (tests_v4 rest) 0 header.2 1 0 2 (ne_eqb header.2 1 not_1) (λ s ready known. refl))
-        (cases_eq header.2 1)))
+      is_unequal p cop header (tests_v6 rest) 0 header.2 58 0 2 (ne_eqb header.2 58 not_58)
+      (⊎_elim
+      (λ (is_1 : header.2 ≡ 1).
+      is_equal p cop header (tests_v4 rest) 0 header.2 1 0 2 (eq-eqb header.2 1 is_1)
+      (loads_version p cop header (if_equal 4 1 0 ∷ return_number 0 ∷ rest) 0 (Some header.2)
+      (is_unequal p cop header (return_number 0 ∷ rest) 0 header.0 4 1 0 (ne_eqb header.0 4 (not_v4 is_1))
+      (λ s ready known. refl))))
+      (λ (not_1 : header.2 ≢ 1).
+      is_unequal p cop header (tests_v4 rest) 0 header.2 1 0 2 (ne_eqb header.2 1 not_1) (λ s ready known. refl))
+      (cases_eq header.2 1)))
       (cases_eq header.2 58))
 
 module _ (p : List ℕ) (cop : Coprocessor) (header : ℕ × ℕ × ℕ) (old : List Insn) (x : ℕ)
@@ -112,7 +112,7 @@ module _ (p : List ℕ) (cop : Coprocessor) (header : ℕ × ℕ × ℕ) (old : 
 -- ICMP of either version, with a test of the message
 module _ (p : List ℕ) (cop : Coprocessor) (header : ℕ × ℕ × ℕ) (rest : List Insn) (x asked : ℕ) (number : Option ℕ)
     (test : (kind code : ℕ) → loaded p Byte (header.1 + 0) ≡ Some kind → loaded p Byte (header.1 + 1) ≡ Some code
-        → Yields p cop header None rest 0 (if is_message asked number kind code then x else 0)) where
+    → Yields p cop header None rest 0 (if is_message asked number kind code then x else 0)) where
   icmp_yields : (src : Addr) (l4 : L4) → header.0 ≡ ip_version src → header.1 + least_upper_header l4 ≤ length p
       → HasUpperFields p header.1 l4 → HasProtocol src header.2 l4
       → Yields p cop header None (icmp_front rest) 0 (if fits_icmp (Some (asked, number)) l4 then x else 0)

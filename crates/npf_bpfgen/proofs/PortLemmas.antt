@@ -1,16 +1,14 @@
 -- The tests of ports.
-use Rattle.std.proofs.Common.{◌≡◌, ◌≢◌, ℕ, ◌+◌, ◌<◌, ◌≤◌, Bool, true, false, List, [], ◌∷◌, ◌++◌, length, get_or, drop, suc, ◌-◌, Option, Some, None, refl, sym, ap, subst, ◌∙◌, arith}
+use Rattle.std.proofs.Common.{◌≡◌, ◌≢◌, ℕ, ◌+◌, ◌<◌, ◌≤◌, Bool, true, false, List, [], ◌∷◌, ◌++◌, length, get_or, drop, suc, ◌-◌, Some, None, refl, sym, ap, subst, ◌∙◌, arith}
 use Rattle.std.specs.List.{list_any}
 use Rattle.std.specs.Prelude.{◌==◌, ◌&&◌, not, ◌*◌, if◌then◌else◌, nat_lt, nat_le}
 use Rattle.std.proofs.lemmas.Bool.{eq-eqb, leb-true, le-leb, le-ltb, ltb-false, ne_eqb, not-true, not_from_false}
 use Rattle.npf_types.specs.declared.address.Addr.{Addr}
 use Rattle.npf_types.specs.declared.address.Addr.TheVariants.{V4, V6}
-use Rattle.npf_types.specs.declared.facts.Facts.{Facts}
 use Rattle.npf_types.specs.declared.facts.L4.{L4}
 use Rattle.npf_types.specs.declared.facts.L4.TheVariants.{Tcp, Udp, Icmp, Icmp6, Other}
-use Rattle.npf_fields.specs.Field.{number16}
 use Rattle.npf_model.specs.Describes.{fits_ports, in_range, source_of}
-use Rattle.npf_packet.specs.PacketField.{HasProtocol, HasUpperFields, upper_offset}
+use Rattle.npf_packet.specs.PacketField.{HasProtocol, HasUpperFields}
 use Rattle.npf_packet.specs.Place.{least_upper_header}
 use Rattle.npf_bpf.specs.declared.insn.Insn.{Insn}
 use Rattle.npf_bpf.specs.declared.operation.Width.TheVariants.{Half}
@@ -20,7 +18,7 @@ use Rattle.npf_bpfgen.specs.declared.endpoint.Endpoint.{Endpoint}
 use Rattle.npf_bpfgen.specs.declared.endpoint.Endpoint.TheVariants.{Source, Destination}
 use Rattle.npf_bpfgen.specs.Endpoint.{port_of, port_place}
 use Rattle.npf_bpfgen.specs.Instruction.{if_at_least, if_equal, if_greater, load_half_behind, load_index, load_memory, jump, return_number}
-use Rattle.npf_bpfgen.specs.Premise.{GuardsPacket, IsSeen, header_words}
+use Rattle.npf_bpfgen.specs.Premise.{GuardsPacket, header_words}
 use Rattle.npf_bpfgen.specs.Tail.{Yields, Extends, BranchesOnNumber, GuardsNumber}
 use Rattle.npf_bpfgen.proofs.StepLemmas.{at_least, forget, greater, is_equal, is_unequal, loads_half_behind, loads_protocol, returns}
 use Rattle.npf_bpfgen.proofs.TailLemmas.{any_more, extended, member_extended, member_guards}
@@ -187,8 +185,7 @@ pub ranges_more : (ranges : List (ℕ × ℕ)) (left more over : ℕ) (base tail
 ranges_more ranges left more over base tail new next within e guards distance is =
     let range : ℕ × ℕ = get_or ranges left (0, 0) in
     let f : Extends 2 2 (jump over ∷ tail) new =
-        extended (if_at_least range.0 0 2 ∷ if_greater range.1 1 0 ∷ []) (jump over ∷ tail) new 2 2 is refl refl in
-    (
+    extended (if_at_least range.0 0 2 ∷ if_greater range.1 1 0 ∷ []) (jump over ∷ tail) new 2 2 is refl refl in (
       member_extended base tail new (1 + 3 * (length ranges - more)) 2 over e distance f _ (omega arith),
       λ p cop header port x y.
           subst (λ (t : Bool). Yields p cop header (Some port) new 0 (if t then x else 0))

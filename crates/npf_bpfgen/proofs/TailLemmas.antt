@@ -1,9 +1,9 @@
 -- What is put in front of a program's end: whether it stays valid, and lists of members.
 use Rattle.std.proofs.Common.{◌≡◌, ℕ, zero, suc, ◌+◌, ◌-◌, ◌<◌, ◌≤◌, Bool, true, false, List, [], ◌∷◌, ◌++◌, length, Option, Some, None, IsSomeAnd, refl, sym, ap, subst, ◌∙◌, append_assoc, inl, inr, arith, get_or, drop}
 use Rattle.std.specs.List.{list_any}
-use Rattle.std.specs.Prelude.{◌==◌, ◌&&◌, ◌||◌, if◌then◌else◌, nat_lt, nat_le, slice_get, reverse, ⊤}
+use Rattle.std.specs.Prelude.{◌&&◌, ◌||◌, if◌then◌else◌, nat_lt, nat_le, slice_get}
 use Rattle.std.proofs.Math.Seq.{drop-cons}
-use Rattle.std.proofs.lemmas.List.{length-append, reverse-append}
+use Rattle.std.proofs.lemmas.List.{length-append}
 use Rattle.std.proofs.lemmas.Bool.{and_parts, false≢true, leb-true, ltb-true}
 use Rattle.npf_bpf.specs.declared.insn.Insn.{Insn}
 use Rattle.npf_bpf.specs.declared.operation.Arithmetic.TheVariants.{And, ShiftRight}
@@ -14,7 +14,6 @@ use Rattle.npf_bpf.specs.Coprocessor.{Coprocessor}
 use Rattle.npf_bpf.specs.Table.{decoded}
 use Rattle.npf_bpf.specs.Validity.{IsAllowed, IsInOrder, IsValid, KeepsRules}
 use Rattle.npf_bpf.specs.Value.{value_from}
-use Rattle.npf_bpf.specs.ValueLaw.{TellsValueBehind}
 use Rattle.npf_bpf.proofs.ValueLemmas.{value_behind}
 use Rattle.npf_bpfgen.specs.Instruction.{jump, return_number}
 use Rattle.npf_bpfgen.specs.Tail.{IsValidEnd, Extends, Yields, Guards, Branches}
@@ -80,8 +79,7 @@ pub fits_valid : (front old : List Insn) (least : ℕ) → fits front least ≡ 
     → IsValidEnd old → IsValidEnd (front ++ old)
 fits_valid [] old least is more valid = valid
 fits_valid (insn ∷ front) old least is more valid =
-    let parts = and_parts (some_keeps (decoded insn) (length front + least)) (fits front least) is in
-    (
+    let parts = and_parts (some_keeps (decoded insn) (length front + least)) (fits front least) is in (
       some_allowed (decoded insn) (length front + least) (length (front ++ old)) parts.0 (omega (arith, length-append front old)),
       fits_valid front old least parts.1 more valid,
     )

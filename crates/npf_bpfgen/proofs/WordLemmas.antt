@@ -1,12 +1,12 @@
 -- The first bits of a number of several words, by the first bits of its words; and the words of a
 -- packet.
 use Rattle.std.proofs.Common.{◌≡◌, ℕ, zero, suc, ◌+◌, ◌-◌, ◌<◌, ◌≤◌, Bool, true, false, List, Some, None, refl, sym, ap, subst, ◌∙◌, arith, ⊎_elim}
-use Rattle.std.specs.Prelude.{◌*◌, ◌/◌, ◌%◌, ◌^◌, ◌==◌, ◌&&◌, if◌then◌else◌, nat_lt, min, length, slice_index}
+use Rattle.std.specs.Prelude.{◌*◌, ◌/◌, ◌^◌, ◌==◌, ◌&&◌, if◌then◌else◌, nat_lt, min, length, slice_index}
 use Rattle.std.proofs.Math.Nat.{add-mul-div_left, div-div-eq-div-mul, mul_comm, mul_assoc, min-eq_left, min-eq_right}
 use Rattle.std.proofs.lemmas.Nat.{pow-add, pow_pos, div-mul-add, div_below, same_from_place, shr_below}
 use Rattle.std.proofs.lemmas.Bool.{and_from, and_parts, cases_lt, eq-eqb, eqb-true, false≢true, le-leb, lt-ltb}
 use Rattle.npf_types.specs.Address.{first_bits}
-use Rattle.npf_fields.specs.Field.{number16, number32, number64, number128}
+use Rattle.npf_fields.specs.Field.{number16, number32, number64}
 use Rattle.npf_bpf.specs.declared.operation.Width.TheVariants.{Word, Half, Byte}
 use Rattle.npf_bpf.specs.Load.{loaded}
 use Rattle.npf_bpfgen.specs.Premise.{AreBytes}
@@ -43,8 +43,8 @@ in_low w n h l within =
     let places : w + w - (w + n) ≡ w - n = omega arith in
     let parts : w ≡ (w - n) + n = omega arith in
     let product : 2 ^ w * h ≡ 2 ^ (w - n) * (h * 2 ^ n) =
-        ap (λ (k : ℕ). 2 ^ k * h) parts ∙ ap (λ (t : ℕ). t * h) (pow-add 2 (w - n) n)
-        ∙ mul_assoc (2 ^ (w - n)) (2 ^ n) h ∙ ap (λ (t : ℕ). 2 ^ (w - n) * t) (mul_comm (2 ^ n) h) in
+    ap (λ (k : ℕ). 2 ^ k * h) parts ∙ ap (λ (t : ℕ). t * h) (pow-add 2 (w - n) n)
+    ∙ mul_assoc (2 ^ (w - n)) (2 ^ n) h ∙ ap (λ (t : ℕ). 2 ^ (w - n) * t) (mul_comm (2 ^ n) h) in
     let turned : 2 ^ w * h + l ≡ l + 2 ^ (w - n) * (h * 2 ^ n) = omega (arith, product) in
     let sum : l / 2 ^ (w - n) + h * 2 ^ n ≡ h * 2 ^ n + l / 2 ^ (w - n) = omega arith in
     ap (λ (k : ℕ). (2 ^ w * h + l) / 2 ^ k) places
@@ -61,12 +61,12 @@ high_and_low : (m a b h k l j c d : ℕ) → l < m → j < m → a ≡ h * m + l
     → c ≡ h → d ≡ k → (a == b) ≡ ((c == d) && (l == j))
 high_and_low m a b h k l j c d lm jm ah bk ch dk = same_test (a == b) ((c == d) && (l == j))
     (λ e.
-      let parts = same_from_place h l k j m lm jm (sym ah ∙ eqb-true a b e ∙ bk) in
-      and_from (c == d) (l == j) (eq-eqb c d (ch ∙ parts.0 ∙ sym dk)) (eq-eqb l j parts.1))
+    let parts = same_from_place h l k j m lm jm (sym ah ∙ eqb-true a b e ∙ bk) in
+    and_from (c == d) (l == j) (eq-eqb c d (ch ∙ parts.0 ∙ sym dk)) (eq-eqb l j parts.1))
     (λ e.
-      let parts = and_parts (c == d) (l == j) e in
-      let highs : h ≡ k = sym ch ∙ eqb-true c d parts.0 ∙ dk in
-      eq-eqb a b (ah ∙ ap (λ (x : ℕ). x * m + l) highs ∙ ap (λ (x : ℕ). k * m + x) (eqb-true l j parts.1) ∙ sym bk))
+    let parts = and_parts (c == d) (l == j) e in
+    let highs : h ≡ k = sym ch ∙ eqb-true c d parts.0 ∙ dk in
+    eq-eqb a b (ah ∙ ap (λ (x : ℕ). x * m + l) highs ∙ ap (λ (x : ℕ). k * m + x) (eqb-true l j parts.1) ∙ sym bk))
 
 -- two numbers of two words each share their first n bits where both words share those that lie there
 pub shared_by_words : (w n h l k j : ℕ) → l < 2 ^ w → j < 2 ^ w → n ≤ w + w
@@ -74,30 +74,30 @@ pub shared_by_words : (w n h l k j : ℕ) → l < 2 ^ w → j < 2 ^ w → n ≤ 
     ≡ ((first_bits w (min n w) h == first_bits w (min n w) k) && (first_bits w (n - w) l == first_bits w (n - w) j))
 shared_by_words w n h l k j lw jw within = ⊎_elim
     (λ (beyond : w < n).
-      let m : n ≡ w + (n - w) = omega arith in
-      let small : n - w ≤ w = omega arith in
-      let full : min n w ≡ w = min-eq_right (omega arith) in
-      let bits : w ≡ (n - w) + (w - (n - w)) = omega arith in
-      let none : w - w ≡ 0 = omega arith in
-      let whole : (x : ℕ) → first_bits w (min n w) x ≡ x = λ x.
-          ap (λ (t : ℕ). first_bits w t x) full ∙ ap (λ (t : ℕ). x / 2 ^ t) none ∙ omega arith in
-      let low : (x : ℕ) → x < 2 ^ w → first_bits w (n - w) x < 2 ^ (n - w) = λ x lt.
-          shr_below x (n - w) (w - (n - w)) (subst (λ (t : ℕ). x < 2 ^ t) bits lt) in
-      high_and_low (2 ^ (n - w)) _ _ h k _ _ _ _ (low l lw) (low j jw)
-      (ap (λ (t : ℕ). first_bits (w + w) t (2 ^ w * h + l)) m ∙ in_low w (n - w) h l small)
-      (ap (λ (t : ℕ). first_bits (w + w) t (2 ^ w * k + j)) m ∙ in_low w (n - w) k j small)
-      (whole h) (whole k))
+    let m : n ≡ w + (n - w) = omega arith in
+    let small : n - w ≤ w = omega arith in
+    let full : min n w ≡ w = min-eq_right (omega arith) in
+    let bits : w ≡ (n - w) + (w - (n - w)) = omega arith in
+    let none : w - w ≡ 0 = omega arith in
+    let whole : (x : ℕ) → first_bits w (min n w) x ≡ x = λ x.
+    ap (λ (t : ℕ). first_bits w t x) full ∙ ap (λ (t : ℕ). x / 2 ^ t) none ∙ omega arith in
+    let low : (x : ℕ) → x < 2 ^ w → first_bits w (n - w) x < 2 ^ (n - w) = λ x lt.
+    shr_below x (n - w) (w - (n - w)) (subst (λ (t : ℕ). x < 2 ^ t) bits lt) in
+    high_and_low (2 ^ (n - w)) _ _ h k _ _ _ _ (low l lw) (low j jw)
+    (ap (λ (t : ℕ). first_bits (w + w) t (2 ^ w * h + l)) m ∙ in_low w (n - w) h l small)
+    (ap (λ (t : ℕ). first_bits (w + w) t (2 ^ w * k + j)) m ∙ in_low w (n - w) k j small)
+    (whole h) (whole k))
     (λ (inside : n ≤ w).
-      let full : min n w ≡ n = min-eq_left inside in
-      let no_bits : n - w ≡ 0 = omega arith in
-      let none : (x : ℕ) → x < 2 ^ w → first_bits w (n - w) x ≡ 0 = λ x lt.
-          let low : x / 2 ^ w < 1 = div_below x (2 ^ w) 1 (pow_pos w) (omega arith) in
-          let all : w - 0 ≡ w = omega arith in
-          ap (λ (t : ℕ). first_bits w t x) no_bits ∙ ap (λ (t : ℕ). x / 2 ^ t) all ∙ omega (arith, low) in
-      high_alone _ _ _ _ _ _
-      (in_high w n h l lw inside ∙ ap (λ (t : ℕ). first_bits w t h) (sym full))
-      (in_high w n k j jw inside ∙ ap (λ (t : ℕ). first_bits w t k) (sym full))
-      (none l lw) (none j jw))
+    let full : min n w ≡ n = min-eq_left inside in
+    let no_bits : n - w ≡ 0 = omega arith in
+    let none : (x : ℕ) → x < 2 ^ w → first_bits w (n - w) x ≡ 0 = λ x lt.
+    let low : x / 2 ^ w < 1 = div_below x (2 ^ w) 1 (pow_pos w) (omega arith) in
+    let all : w - 0 ≡ w = omega arith in
+    ap (λ (t : ℕ). first_bits w t x) no_bits ∙ ap (λ (t : ℕ). x / 2 ^ t) all ∙ omega (arith, low) in
+    high_alone _ _ _ _ _ _
+    (in_high w n h l lw inside ∙ ap (λ (t : ℕ). first_bits w t h) (sym full))
+    (in_high w n k j jw inside ∙ ap (λ (t : ℕ). first_bits w t k) (sym full))
+    (none l lw) (none j jw))
     (cases_lt w n)
 
 -- a shift by 32 leaves nothing of a word

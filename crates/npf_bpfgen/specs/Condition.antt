@@ -4,7 +4,6 @@ use Rattle.npf_types.specs.declared.decision.Decision.{Decision}
 use Rattle.npf_types.specs.declared.decision.Decision.TheVariants.{Pass, Block}
 use Rattle.npf_model.specs.declared.ends.AddrItem.{AddrItem}
 use Rattle.npf_model.specs.declared.ends.AddrItem.TheVariants.{Net, InTable}
-use Rattle.npf_model.specs.declared.ends.Ends.{Ends}
 use Rattle.npf_model.specs.declared.rule.Rule.{Rule}
 use Rattle.npf_model.specs.declared.rule.StateOpt.{StateOpt}
 use Rattle.npf_model.specs.declared.rule.StateOpt.TheVariants.{Not}

@@ -129,6 +129,10 @@ fn put_table(tail: &mut Tail, endpoint: Endpoint, table: u32) -> Result<(), NoMe
     ensures front { OnOk result (Extends 3 2 tail.old tail.new) }
     ensures value { OnOk result (BranchesOnPacket (λ tables facts. table_has tables table (address_of endpoint facts)) tail.old tail.new) }
 {
-    tail.put(&[load_constant(endpoint.asked_table(table)), ask_member(), if_equal(1, 0, 1)])?;
+    tail.put(&[
+        load_constant(endpoint.asked_table(table)),
+        ask_member(),
+        if_equal(1, 0, 1),
+    ])?;
     Ok(())
 }

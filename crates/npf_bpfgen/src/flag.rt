@@ -45,7 +45,8 @@ fn asks_opening(decision: Decision, state: StateOpt) -> bool
 {
     match (decision, state) {
         (Decision::Pass, StateOpt::OnInterface | StateOpt::Everywhere) => true,
-        (Decision::Pass, StateOpt::Not) | (Decision::Block(_), _) => false,
+        (Decision::Pass, StateOpt::Not) => false,
+        (Decision::Block(_), _) => false,
     }
 }
 

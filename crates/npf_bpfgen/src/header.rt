@@ -12,7 +12,9 @@ use npf_types::NoMemory;
 /// The word of the store that has the IP version, the one that has the offset of layer 4, and the one
 /// that has the protocol.
 pub const VERSION: u32 = 0;
+
 pub const UPPER: u32 = 1;
+
 pub const PROTOCOL: u32 = 2;
 
 /// Tests that the packet is of the family, where one is asked for.

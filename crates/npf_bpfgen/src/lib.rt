@@ -15,7 +15,6 @@
 #![tactic(auto)]
 
 mod addr;
-mod program;
 mod endpoint;
 mod fault;
 mod flag;
@@ -23,9 +22,10 @@ mod header;
 mod icmp;
 mod instruction;
 mod port;
-mod tail;
+mod program;
 mod rule_weight;
+mod tail;
 
-pub use program::compile;
 pub use fault::GenFault;
+pub use program::compile;
 pub use rule_weight::weight;

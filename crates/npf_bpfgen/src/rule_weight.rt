@@ -13,7 +13,9 @@ pub fn weight(rule: &Rule) -> u64
     requires { HasShortLists rule.now }
     ensures { result ≡ weight_of rule.now }
 {
-    64 + 2 * rule.protos.as_slice().len() as u64 + weight_of_ends(&rule.from) + weight_of_ends(&rule.to)
+    64 + 2 * rule.protos.as_slice().len() as u64
+        + weight_of_ends(&rule.from)
+        + weight_of_ends(&rule.to)
 }
 
 fn weight_of_ends(ends: &Ends) -> u64

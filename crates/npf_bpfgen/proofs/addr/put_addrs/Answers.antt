@@ -46,11 +46,11 @@ loop-left-preserved c =
     let distance : over ≡ length c.loop-left.tail - length c.args.tail.now = omega arith in
     let is : mid ≡ jump over ∷ c.loop-left.tail = rw (c.in_ok-put-2.ensures, c.jump.ensures) in
     let front = subst (λ (code : List Insn). Extends (item_weight (get_or items left item) - 1) 2 code new) is
-        (subst (λ (i : AddrItem). Extends (item_weight i - 1) 2 mid new) c.index-items-left.is c.in_ok-put_item.ensures.front) in
+    (subst (λ (i : AddrItem). Extends (item_weight i - 1) 2 mid new) c.index-items-left.is c.in_ok-put_item.ensures.front) in
     let branches = subst (λ (code : List Insn). BranchesOnPacket (λ tables facts. item_has tables (address_of c.args.endpoint facts) (get_or items left item)) code new) is
-        (subst (λ (i : AddrItem). BranchesOnPacket (λ tables facts. item_has tables (address_of c.args.endpoint facts) i) mid new) c.index-items-left.is c.in_ok-put_item.ensures.value) in
+    (subst (λ (i : AddrItem). BranchesOnPacket (λ tables facts. item_has tables (address_of c.args.endpoint facts) i) mid new) c.index-items-left.is c.in_ok-put_item.ensures.value) in
     let both = items_more c.args.endpoint items left c.loop-left.left over item c.args.tail.now c.loop-left.tail new next within
-        c.loop-left.invariant.front c.loop-left.invariant.value distance front branches in
+    c.loop-left.invariant.front c.loop-left.invariant.value distance front branches in
     record { left = omega arith; front = both.0; value = both.1 }
 
 pub returns-clause-front : goal.returns-clause-front

@@ -11,4 +11,4 @@ returns-clause-front c =
 pub returns-clause-value : goal.returns-clause-value
 returns-clause-value c =
     let is : c.put.new.self ≡ segment_test 5 23 2 ++ c.args.tail.now = rw (c.in_ok-put.ensures, c.load_memory.ensures, c.if_equal.ensures, c.load_index.ensures, c.load_byte_behind.ensures, c.mask_with.ensures, c.if_equal-2.ensures, c.return_number.ensures) in
-    opening_guards  c.args.tail.now c.put.new.self is
+    opening_guards c.args.tail.now c.put.new.self is

@@ -1,8 +1,8 @@
 use Rattle.std.proofs.Math.Seq.{drop-length}
-use Rattle.std.proofs.Common.{◌≡◌, ℕ, List, [], ◌∷◌, ◌+◌, ◌-◌, ◌*◌, ◌<◌, length, drop, get_or, suc, Some, refl, sym, subst, arith}
+use Rattle.std.proofs.Common.{◌≡◌, ℕ, List, [], ◌∷◌, ◌-◌, ◌<◌, length, drop, get_or, suc, Some, refl, sym, subst, arith}
 use Rattle.std.specs.List.{list_any}
 use Rattle.std.specs.Prelude.{◌==◌}
-use Rattle.npf_bpfgen.specs.Instruction.{if_equal, if_at_least, if_greater, jump, return_number}
+use Rattle.npf_bpfgen.specs.Instruction.{if_equal, jump, return_number}
 use Rattle.npf_bpfgen.specs.Tail.{Guards, GuardsNumber}
 use Rattle.npf_bpfgen.proofs.HeaderLemmas.{protocols_more}
 use Rattle.npf_bpfgen.proofs.TailLemmas.{extended, none_guards, wider}
@@ -31,9 +31,9 @@ loop-left-preserved c =
     let within : left < length protos = omega arith in
     let distance : over ≡ length c.loop-left.tail - length c.args.tail.now = omega arith in
     let is : c.put-in-loop-left.new.self ≡ if_equal (get_or protos left 0) 0 1 ∷ jump over ∷ c.loop-left.tail =
-        rw (c.in_ok-put-2.ensures, c.if_equal.ensures, c.from.ensures, c.jump.ensures) in
+    rw (c.in_ok-put-2.ensures, c.if_equal.ensures, c.from.ensures, c.jump.ensures) in
     let both = protocols_more protos left c.loop-left.left over c.args.tail.now c.loop-left.tail c.put-in-loop-left.new.self next within
-        c.loop-left.invariant.front c.loop-left.invariant.value distance is in
+    c.loop-left.invariant.front c.loop-left.invariant.value distance is in
     record { left = omega arith; front = both.0; value = both.1 }
 
 pub returns-clause-front : goal.returns-clause-front

@@ -1,4 +1,4 @@
-use Rattle.std.proofs.Common.{◌≡◌, ◌++◌, [], ◌∷◌, ◌≢◌, ap, length, sym, ◌∙◌, refl, arith}
+use Rattle.std.proofs.Common.{◌≡◌, [], ◌∷◌, ◌≢◌, ap, length, sym, ◌∙◌, refl, arith}
 use Rattle.std.proofs.lemmas.Bool.{eq-eqb, false≢true}
 use Rattle.npf_bpfgen.specs.Instruction.{load_memory}
 use Rattle.npf_bpfgen.proofs.HeaderLemmas.{protocols_guard}

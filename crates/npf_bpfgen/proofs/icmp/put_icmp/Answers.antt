@@ -1,4 +1,4 @@
-use Rattle.std.proofs.Common.{ℕ, Option, Some, sym, subst}
+use Rattle.std.proofs.Common.{ℕ, Option, sym, subst}
 use Rattle.std.specs.Prelude.{OnOk}
 use Rattle.npf_model.specs.Describes.{fits_icmp}
 use Rattle.npf_bpfgen.specs.Premise.{GuardsPacket}

@@ -1,6 +1,5 @@
-use Rattle.std.proofs.Common.{◌≤◌, List, length, sym, subst, arith}
+use Rattle.std.proofs.Common.{◌≤◌, length, sym, subst, arith}
 use Rattle.std.proofs.lemmas.Bool.{false≢true}
-use Rattle.npf_bpf.specs.declared.insn.Insn.{Insn}
 use Rattle.npf_bpf.specs.Validity.{IsValid}
 use Rattle.npf_bpfgen.proofs.TailLemmas.{valid_program}
 use Rattle.npf_bpfgen.proofs.program.compile.Goals as goal

@@ -1,8 +1,8 @@
-use Rattle.std.proofs.Common.{ℕ, Bool, Option, List, Some, None, sym, subst}
+use Rattle.std.proofs.Common.{Option, List, Some, sym, subst}
 use Rattle.std.specs.Prelude.{OnOk}
 use Rattle.npf_model.specs.declared.ends.AddrItem.{AddrItem}
-use Rattle.npf_model.specs.Describes.{fits_addrs, fits_family, fits_flags, fits_icmp, fits_ports}
-use Rattle.npf_bpfgen.specs.Endpoint.{address_of, port_of}
+use Rattle.npf_model.specs.Describes.{fits_addrs}
+use Rattle.npf_bpfgen.specs.Endpoint.{address_of}
 use Rattle.npf_bpfgen.specs.Premise.{GuardsPacket}
 use Rattle.npf_bpfgen.proofs.program.put_listed_addrs.Goals as goal
 

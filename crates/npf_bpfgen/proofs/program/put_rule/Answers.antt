@@ -1,4 +1,4 @@
-use Rattle.std.proofs.Common.{◌≡◌, ℕ, List, [], ◌∷◌, ◌+◌, ◌*◌, ◌≤◌, ap, length, subst, refl, sym, arith}
+use Rattle.std.proofs.Common.{◌≡◌, ℕ, List, [], ◌∷◌, ◌+◌, ap, length, subst, refl, sym, arith}
 use Rattle.npf_model.specs.Describes.{fits_protocol}
 use Rattle.npf_bpfgen.specs.Instruction.{ask_header, return_number}
 use Rattle.npf_bpfgen.specs.Premise.{GuardsPacket}
@@ -29,7 +29,7 @@ returns-clause-value c =
     let is : c.put.new.self ≡ return_number 4294967295 ∷ [] = rw (c.in_ok-put.ensures, c.return_number.ensures, c.requires.empty) in
     let begins : c.put-2.new.self ≡ ask_header ∷ c.put_family.new.tail = rw (c.in_ok-put-2.ensures, c.ask_header.ensures) in
     let protos = subst (λ (xs : List ℕ). GuardsPacket (λ tables facts. fits_protocol xs facts.proto) c.put_flags.new.tail c.put_protocols.new.tail)
-        c.as_slice.ensures c.in_ok-put_protocols.ensures.value in
+    c.as_slice.ensures c.in_ok-put_protocols.ensures.value in
     program_is c.args.rule.now c.put.new.self c.put_ends.new.tail c.put_ends-2.new.tail c.put_icmp.new.tail c.put_flags.new.tail
     c.put_protocols.new.tail c.put_family.new.tail c.put-2.new.self is c.in_ok-put_ends.ensures.value c.in_ok-put_ends-2.ensures.value
     c.in_ok-put_icmp.ensures.value c.in_ok-put_flags.ensures.value protos c.in_ok-put_family.ensures.value begins

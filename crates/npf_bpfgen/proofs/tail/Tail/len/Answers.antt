@@ -1,4 +1,4 @@
-use Rattle.std.proofs.Common.{◌∙◌, ap, length, arith}
+use Rattle.std.proofs.Common.{ap, length, arith}
 use Rattle.std.proofs.lemmas.List.{length-reverse}
 use Rattle.npf_bpfgen.proofs.tail.Tail.len.Goals as goal
 
