@@ -1,7 +1,6 @@
 -- The addresses of a rule: blocks, tables, and functions, of which every address counts.
 use Rattle.std.specs.Prelude.{ℕ, unwrap_or, Option, Some, None, List, [], ◌∷◌, ◌++◌, map}
 use Rattle.std.specs.List.{flat_map}
-use Rattle.std.specs.Str.{bytes_eq}
 use Rattle.npf_types.specs.declared.address.Addr.{Addr}
 use Rattle.npf_types.specs.Address.{width}
 use Rattle.npf_types.specs.Block.{block}

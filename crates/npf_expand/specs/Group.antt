@@ -1,5 +1,5 @@
 -- The groups of a configuration: those with names in the order of the text, the default group last.
-use Rattle.std.specs.Prelude.{ℕ, ◌+◌, Bool, true, false, Option, Some, None, List, [], ◌∷◌, ◌++◌, map}
+use Rattle.std.specs.Prelude.{ℕ, ◌+◌, true, false, None, List, [], ◌∷◌, ◌++◌, map}
 use Rattle.std.specs.Option.{option_map}
 use Rattle.npf_types.specs.Named.{named}
 use Rattle.npf_lexer.specs.declared.fault.ConfFault.{ConfFault}

@@ -3,6 +3,7 @@ pub mod Atom
 pub mod Elaborates
 pub mod Group
 pub mod Iface
+pub mod IfaceFile
 pub mod Map
 pub mod Port
 pub mod Procedure

@@ -1,13 +1,10 @@
 -- The procedures of a configuration: of calls and options that stand there more than once the last in the text counts.
-use Rattle.std.specs.Prelude.{ℕ, Bool, true, false, Option, Some, None, List, [], ◌∷◌}
+use Rattle.std.specs.Prelude.{ℕ, true, false, Some, None, List, [], ◌∷◌}
 use Rattle.npf_types.specs.declared.name.Name.{Name}
 use Rattle.npf_types.specs.Named.{named}
 use Rattle.npf_syntax.specs.declared.procedure.Call.{Call}
-use Rattle.npf_syntax.specs.declared.procedure.Call.TheVariants as Call
 use Rattle.npf_syntax.specs.declared.procedure.LogName.{LogName}
-use Rattle.npf_syntax.specs.declared.procedure.LogName.TheVariants as LogName
 use Rattle.npf_syntax.specs.declared.procedure.Opt.{Opt}
-use Rattle.npf_syntax.specs.declared.procedure.Opt.TheVariants as Opt
 use Rattle.npf_model.specs.declared.procedure.Procedure.{Procedure}
 
 abbrev pub log_name : LogName → Name

@@ -13,35 +13,24 @@ use Rattle.npf_lexer.specs.declared.fault.ConfFault.{ConfFault}
 use Rattle.npf_lexer.specs.declared.fault.Excess.TheVariants.{Elements}
 use Rattle.npf_lexer.specs.declared.fault.Fault.TheVariants.{TooMany}
 use Rattle.npf_syntax.specs.declared.filter.Detail.{Detail}
-use Rattle.npf_syntax.specs.declared.filter.Detail.TheVariants as Detail
 use Rattle.npf_syntax.specs.declared.filter.Ends.{Ends as WrittenEnds}
 use Rattle.npf_syntax.specs.declared.filter.Ends.TheVariants as EndsAre
 use Rattle.npf_syntax.specs.declared.filter.Family.{Family}
-use Rattle.npf_syntax.specs.declared.filter.Family.TheVariants as Family
 use Rattle.npf_syntax.specs.declared.filter.Filter.{Filter}
 use Rattle.npf_syntax.specs.declared.filter.ProtoPart.{ProtoPart}
 use Rattle.npf_syntax.specs.declared.filter.Where.{Where}
-use Rattle.npf_syntax.specs.declared.filter.Where.TheVariants as Where
 use Rattle.npf_syntax.specs.declared.rule.Answer.{Answer}
-use Rattle.npf_syntax.specs.declared.rule.Answer.TheVariants as Answer
 use Rattle.npf_syntax.specs.declared.rule.Direction.{Direction}
-use Rattle.npf_syntax.specs.declared.rule.Direction.TheVariants as Direction
 use Rattle.npf_syntax.specs.declared.rule.RuleAction.{RuleAction}
-use Rattle.npf_syntax.specs.declared.rule.RuleAction.TheVariants as RuleAction
 use Rattle.npf_syntax.specs.declared.rule.RuleTree.{RuleTree}
 use Rattle.npf_syntax.specs.declared.rule.Stateful.{Stateful}
-use Rattle.npf_syntax.specs.declared.rule.Stateful.TheVariants as Stateful
 use Rattle.npf_syntax.specs.declared.value.Iface.{Iface as WrittenIface}
-use Rattle.npf_syntax.specs.declared.word.Number.{Number}
-use Rattle.npf_syntax.specs.declared.word.Str.{Str}
 use Rattle.npf_syntax.specs.declared.word.Word.{Word}
 use Rattle.npf_model.specs.declared.ends.Ends.{Ends}
 use Rattle.npf_model.specs.declared.iface.Iface.{Iface}
-use Rattle.npf_model.specs.declared.rule.OnIf.{OnIf}
 use Rattle.npf_model.specs.declared.rule.Rule.{Rule}
 use Rattle.npf_model.specs.declared.rule.StateOpt.{StateOpt}
 use Rattle.npf_model.specs.declared.rule.StateOpt.TheVariants.{Not, OnInterface, Everywhere}
-use Rattle.npf_model.specs.Count.{elements_of}
 use Rattle.npf_faults.specs.First.{fault_if}
 use Rattle.npf_expand.specs.Address.{addresses_faults, address_items}
 use Rattle.npf_expand.specs.Atom.{Env}

@@ -1,12 +1,10 @@
 -- The tables and procedures of a configuration, by the places of their names in the text.
-use Rattle.std.specs.Prelude.{ℕ, Option, Some, None, List, [], ◌∷◌, unwrap_or}
+use Rattle.std.specs.Prelude.{ℕ, List, [], ◌∷◌, unwrap_or}
 use Rattle.std.specs.List.{flat_map}
 use Rattle.std.specs.Option.{option_map}
 use Rattle.std.specs.Str.{bytes_eq}
-use Rattle.npf_types.specs.declared.span.Span.{Span}
 use Rattle.npf_types.specs.Named.{named}
 use Rattle.npf_syntax.specs.declared.stmt.Stmt.{Stmt}
-use Rattle.npf_syntax.specs.declared.stmt.Stmt.TheVariants as Stmt
 use Rattle.npf_syntax.specs.declared.stmt.TableType.{TableType}
 use Rattle.npf_syntax.specs.declared.stmt.TableType.TheVariants as Written
 use Rattle.npf_model.specs.declared.table.Kind.{Kind}

@@ -5,4 +5,8 @@
 // its model, and any other is refused with its first fault in the text, of two at one place with that of the smaller number.
 #![tactic(auto)]
 
+mod iface_file;
 mod role;
+mod service;
+
+pub use iface_file::read_ifaces;
