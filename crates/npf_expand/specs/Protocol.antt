@@ -35,8 +35,11 @@ protocol_faults env one = each_use_faults AsProtocol (one_span one) (one_binding
 abbrev pub protocols_faults : Env → Protocols → List ConfFault
 protocols_faults env protos = flat_map (protocol_faults env) (written_ones protos)
 
+abbrev pub spliced_ones : Env → Protocols → List Atom
+spliced_ones env protos = flat_map (λ one. atoms_of (one_binding env one)) (written_ones protos)
+
 abbrev pub protocols_of : Env → Protocols → List ℕ
-protocols_of env protos = filter_map protocol_of (flat_map (λ one. atoms_of (one_binding env one)) (written_ones protos))
+protocols_of env protos = filter_map protocol_of (spliced_ones env protos)
 
 -- where one protocol stands: that of a map
 abbrev pub one_protocol_faults : Env → Option One → List ConfFault

@@ -32,11 +32,12 @@ use Rattle.npf_model.specs.declared.rule.Rule.{Rule}
 use Rattle.npf_model.specs.declared.rule.StateOpt.{StateOpt}
 use Rattle.npf_model.specs.declared.rule.StateOpt.TheVariants.{Not, OnInterface, Everywhere}
 use Rattle.npf_faults.specs.First.{fault_if}
-use Rattle.npf_expand.specs.Address.{addresses_faults, address_items}
+use Rattle.npf_expand.specs.Address.{addresses_count, addresses_faults, address_items}
 use Rattle.npf_expand.specs.Atom.{Env}
 use Rattle.npf_expand.specs.Iface.{iface_faults, on_iface}
-use Rattle.npf_expand.specs.Port.{ports_faults, ports_of}
-use Rattle.npf_expand.specs.Protocol.{protocols_faults, protocols_of}
+use Rattle.npf_expand.specs.Port.{ports_count, ports_faults, ports_of}
+use Rattle.npf_expand.specs.Protocol.{protocols_faults, protocols_of, spliced_ones}
+use Rattle.npf_expand.specs.Use.{element_count}
 use Rattle.npf_expand.specs.Table.{table_number}
 
 -- the names of a configuration's tables and procedures, in the order of the text
@@ -127,6 +128,19 @@ module _ (ifaces : List Iface) (env : Env) where
   abbrev pub filter_faults : Filter → List ConfFault
   filter_faults filter =
       part_faults filter.proto ++ ends_faults (source_ends filter.ends) ++ ends_faults (destination_ends filter.ends)
+
+  abbrev pub ends_count : Option WrittenEnds → ℕ
+  ends_count None = 0
+  ends_count (Some (EndsAre.Addresses addresses ports span)) = addresses_count ifaces env addresses + ports_count ifaces env ports
+  ends_count (Some (EndsAre.Ports ports span)) = ports_count ifaces env (Some ports)
+
+  abbrev pub part_count : Option ProtoPart → ℕ
+  part_count None = 0
+  part_count (Some part) = element_count (spliced_ones env part.protocols)
+
+  -- how many elements the lists of a filter have once they are spliced; where the filter has no fault they are those of its rule
+  abbrev pub filter_count : Filter → ℕ
+  filter_count filter = part_count filter.proto + ends_count (source_ends filter.ends) + ends_count (destination_ends filter.ends)
 
   abbrev pub on_faults : Option WrittenIface → List ConfFault
   on_faults None = []
