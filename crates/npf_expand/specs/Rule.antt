@@ -1,5 +1,5 @@
 -- What a written rule is: one rule, with its lists spliced, its words numbers and its functions addresses.
-use Rattle.std.specs.Prelude.{ℕ, ◌+◌, Bool, true, false, ◌==◌, ◌&&◌, nat_le, nat_lt, if◌then◌else◌, Option, Some, None, List, [], ◌∷◌, ◌++◌, bit_or}
+use Rattle.std.specs.Prelude.{ℕ, ◌+◌, Bool, true, false, ◌==◌, ◌&&◌, min, nat_le, nat_lt, if◌then◌else◌, Option, Some, None, List, [], ◌∷◌, ◌++◌, bit_or}
 use Rattle.std.specs.Option.{option_map}
 use Rattle.npf_types.specs.declared.decision.Decision.{Decision}
 use Rattle.npf_types.specs.declared.decision.Decision.TheVariants.{Pass, Block}
@@ -25,6 +25,7 @@ use Rattle.npf_syntax.specs.declared.rule.RuleAction.{RuleAction}
 use Rattle.npf_syntax.specs.declared.rule.RuleTree.{RuleTree}
 use Rattle.npf_syntax.specs.declared.rule.Stateful.{Stateful}
 use Rattle.npf_syntax.specs.declared.value.Iface.{Iface as WrittenIface}
+use Rattle.npf_syntax.specs.declared.word.Number.{Number}
 use Rattle.npf_syntax.specs.declared.word.Word.{Word}
 use Rattle.npf_model.specs.declared.ends.Ends.{Ends}
 use Rattle.npf_model.specs.declared.iface.Iface.{Iface}
@@ -93,8 +94,12 @@ abbrev pub flags_of_detail : Option Detail → Option (ℕ × ℕ)
 flags_of_detail (Some (Detail.Flags flags mask span)) = Some (flag_bits flags.text, mask_bits flags mask)
 flags_of_detail _ = None
 
+-- a number as a byte; a greater one, which no grammar accepts there, is taken for 255
+abbrev pub as_byte : Number → ℕ
+as_byte number = min number.value 255
+
 abbrev pub icmp_of_detail : Option Detail → Option (ℕ × Option ℕ)
-icmp_of_detail (Some (Detail.IcmpType number code span)) = Some (number.value, option_map (λ c. c.value) code)
+icmp_of_detail (Some (Detail.IcmpType number code span)) = Some (as_byte number, option_map as_byte code)
 icmp_of_detail _ = None
 
 abbrev pub detail_of_part : Option ProtoPart → Option Detail
