@@ -1,1 +1,3 @@
 pub mod IfaceFileLemmas
+pub mod NameLemmas
+pub mod PlaceLemmas

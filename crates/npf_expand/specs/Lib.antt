@@ -5,6 +5,7 @@ pub mod Group
 pub mod Iface
 pub mod IfaceFile
 pub mod Map
+pub mod Place
 pub mod Port
 pub mod Procedure
 pub mod Protocol

@@ -8,10 +8,13 @@
 mod atom;
 mod iface_file;
 mod map;
+mod name;
+mod place;
 mod procedure;
 mod role;
 mod rule;
 mod service;
+mod table;
 mod text;
 
 pub use iface_file::read_ifaces;
