@@ -4,7 +4,6 @@ use Rattle.std.specs.Prelude.{ℕ, Bool, Option, List}
 use Rattle.npf_types.specs.declared.address.Addr.{Addr}
 use Rattle.npf_types.specs.declared.span.Span.{Span}
 use Rattle.npf_expand.specs.declared.atom.Atom.{Atom as Kept}
-use Rattle.npf_expand.specs.declared.atom.Atom.TheVariants as Kept
 
 pub data Atom : Type 0 where
   NumberAtom : (number : ℕ) → Atom

@@ -6,6 +6,7 @@
 #![tactic(auto)]
 
 mod atom;
+mod iface;
 mod iface_file;
 mod map;
 mod name;
