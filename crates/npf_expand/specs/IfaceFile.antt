@@ -14,8 +14,8 @@ use Rattle.npf_model.specs.declared.iface.Iface.{Iface}
 use Rattle.npf_expand.specs.declared.iface_file.IfaceLine.{IfaceLine}
 use Rattle.npf_expand.specs.declared.iface_file.IfaceLine.TheVariants.{Blank, Interface, Bad}
 
-abbrev pub is_line_feed : ℕ → Bool
-is_line_feed byte = byte == 10
+abbrev pub ends_line : ℕ → Bool
+ends_line byte = byte == 10
 
 abbrev pub is_hash : ℕ → Bool
 is_hash byte = byte == 35
@@ -24,7 +24,7 @@ abbrev pub is_space : ℕ → Bool
 is_space byte = byte == 32
 
 abbrev pub lines : List ℕ → List (List ℕ)
-lines text = slice_split is_line_feed text
+lines text = slice_split ends_line text
 
 abbrev pub has_some : {X : Type 0} → List X → Bool
 has_some [] = false
