@@ -1,7 +1,6 @@
 -- The addresses of a rule: blocks, tables, and functions, of which every address counts.
 use Rattle.std.specs.Prelude.{ℕ, unwrap_or, Option, Some, None, List, [], ◌∷◌, ◌++◌, map}
 use Rattle.std.specs.List.{flat_map}
-use Rattle.std.specs.Str.{bytes_eq}
 use Rattle.npf_types.specs.declared.address.Addr.{Addr}
 use Rattle.npf_types.specs.Address.{width}
 use Rattle.npf_types.specs.Block.{block}
@@ -15,7 +14,7 @@ use Rattle.npf_model.specs.declared.iface.Iface.{Iface}
 use Rattle.npf_expand.specs.declared.role.Role.TheVariants.{AsAddress}
 use Rattle.npf_expand.specs.Atom.{Atom, BlockAtom, TableAtom, AddressesAtom, Env}
 use Rattle.npf_expand.specs.Table.{table_number}
-use Rattle.npf_expand.specs.Use.{use_faults, atoms_of}
+use Rattle.npf_expand.specs.Use.{use_faults, atoms_of, element_count}
 use Rattle.npf_expand.specs.Variable.{binding_of, own_faults, empty_list_at, spliced, value_span}
 
 -- one address as a block
@@ -38,6 +37,12 @@ module _ (ifaces : List Iface) (env : Env) where
   addresses_faults (Written.Any span) = []
   addresses_faults (Written.One value span) = address_value_faults value
   addresses_faults (Written.List list span) = empty_list_at list.span list.values ++ flat_map address_value_faults list.values
+
+  -- how many elements are listed
+  abbrev pub addresses_count : Addresses → ℕ
+  addresses_count (Written.Any span) = 0
+  addresses_count (Written.One value span) = element_count (atoms_of (binding_of ifaces env value))
+  addresses_count (Written.List list span) = element_count (spliced ifaces env list.values)
 
   -- none where any address is asked for
   abbrev pub address_items : List (List ℕ) → Addresses → Option (List AddrItem)

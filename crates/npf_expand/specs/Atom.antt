@@ -3,6 +3,7 @@
 use Rattle.std.specs.Prelude.{ℕ, Bool, Option, List}
 use Rattle.npf_types.specs.declared.address.Addr.{Addr}
 use Rattle.npf_types.specs.declared.span.Span.{Span}
+use Rattle.npf_expand.specs.declared.atom.Atom.{Atom as Kept}
 
 pub data Atom : Type 0 where
   NumberAtom : (number : ℕ) → Atom
@@ -22,3 +23,13 @@ pub record Binding : Type 0 where
 -- what a name is bound to, or none where it isn't defined
 abbrev pub Env : Type 0
 Env = List ℕ → Option Binding
+
+-- an atom as the code keeps it, whose texts stand in the tree and whose addresses in the list of interfaces
+abbrev pub kept_atom : Kept → Atom
+kept_atom (Kept.Number number) = NumberAtom number
+kept_atom (Kept.Range first last) = RangeAtom first last
+kept_atom (Kept.Word word) = WordAtom word.now.text word.now.span
+kept_atom (Kept.Str string) = StringAtom string.now.text
+kept_atom (Kept.Block addr len) = BlockAtom addr len
+kept_atom (Kept.Table name) = TableAtom name.now.text
+kept_atom (Kept.Addresses addrs) = AddressesAtom addrs.now

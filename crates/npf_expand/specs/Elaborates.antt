@@ -1,26 +1,22 @@
 -- What the tree of a configuration means: its model, and its faults, each as a function of the tree and of the run's interfaces.
 -- Statements are read from the front, each where the names mean what the definitions before it say.
-use Rattle.std.specs.Prelude.{◌≡◌, ℕ, ◌+◌, Bool, Option, Some, None, List, [], ◌∷◌, ◌++◌}
+use Rattle.std.specs.Prelude.{◌≡◌, ℕ, ◌+◌, Option, Some, None, List, [], ◌∷◌, ◌++◌}
 use Rattle.std.specs.List.{flat_map}
 use Rattle.npf_lexer.specs.declared.fault.ConfFault.{ConfFault}
 use Rattle.npf_syntax.specs.declared.filter.Filter.{Filter}
-use Rattle.npf_syntax.specs.declared.group.GroupHead.{GroupHead}
 use Rattle.npf_syntax.specs.declared.group.GroupHead.TheVariants as Head
 use Rattle.npf_syntax.specs.declared.stmt.Stmt.{Stmt}
-use Rattle.npf_syntax.specs.declared.stmt.Stmt.TheVariants as Stmt
 use Rattle.npf_syntax.specs.declared.stmt.Tree.{Tree}
 use Rattle.npf_model.specs.declared.group.Group.{Group}
 use Rattle.npf_model.specs.declared.iface.Iface.{Iface}
 use Rattle.npf_model.specs.declared.map.Map.{Map}
 use Rattle.npf_model.specs.declared.model.Model.{Model}
 use Rattle.npf_model.specs.declared.procedure.Procedure.{Procedure}
-use Rattle.npf_model.specs.Count.{elements_of}
-use Rattle.npf_faults.specs.First.{IsFirstFaultOf}
 use Rattle.npf_expand.specs.Atom.{Env}
 use Rattle.npf_expand.specs.Group.{group_of_tree, head_faults, items_elements, items_faults}
 use Rattle.npf_expand.specs.Map.{map_faults, map_of_tree}
 use Rattle.npf_expand.specs.Procedure.{procedure_of}
-use Rattle.npf_expand.specs.Rule.{Declared, filter_rule, passing_faults}
+use Rattle.npf_expand.specs.Rule.{Declared, filter_count, passing_faults}
 use Rattle.npf_expand.specs.Table.{table_names, tables_of}
 use Rattle.npf_expand.specs.Variable.{Definition, definition_faults, env_of}
 
@@ -44,7 +40,7 @@ behind older _ = older
 module _ (ifaces : List Iface) (declared : Declared) where
   abbrev pub filter_elements : Env → Option Filter → ℕ
   filter_elements env None = 0
-  filter_elements env (Some filter) = elements_of (filter_rule ifaces env declared.tables filter)
+  filter_elements env (Some filter) = filter_count ifaces env filter
 
   abbrev pub stmt_elements : Env → Stmt → ℕ
   stmt_elements env (Stmt.Map iface kind proto left arrow right pass span) = filter_elements env pass

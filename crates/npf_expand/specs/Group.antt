@@ -1,5 +1,5 @@
 -- The groups of a configuration: those with names in the order of the text, the default group last.
-use Rattle.std.specs.Prelude.{ℕ, ◌+◌, Bool, true, false, Option, Some, None, List, [], ◌∷◌, ◌++◌, map}
+use Rattle.std.specs.Prelude.{ℕ, ◌+◌, true, false, None, List, [], ◌∷◌, ◌++◌, map}
 use Rattle.std.specs.Option.{option_map}
 use Rattle.npf_types.specs.Named.{named}
 use Rattle.npf_lexer.specs.declared.fault.ConfFault.{ConfFault}
@@ -11,10 +11,9 @@ use Rattle.npf_model.specs.declared.group.Group.{Group}
 use Rattle.npf_model.specs.declared.group.Item.{Item}
 use Rattle.npf_model.specs.declared.group.Item.TheVariants.{One, Dynamic}
 use Rattle.npf_model.specs.declared.iface.Iface.{Iface}
-use Rattle.npf_model.specs.Count.{elements_of}
 use Rattle.npf_expand.specs.Atom.{Env}
 use Rattle.npf_expand.specs.Iface.{on_iface}
-use Rattle.npf_expand.specs.Rule.{Declared, dir_of, on_faults, passing_faults, rule_faults, rule_of_tree}
+use Rattle.npf_expand.specs.Rule.{Declared, dir_of, filter_count, on_faults, passing_faults, rule_faults, rule_of_tree}
 
 module _ (ifaces : List Iface) (env : Env) (declared : Declared) where
   abbrev pub item_of_tree : WrittenItem → Item
@@ -23,7 +22,7 @@ module _ (ifaces : List Iface) (env : Env) (declared : Declared) where
       Dynamic (named name.text) (option_map dir_of dir) (option_map (on_iface ifaces env) on) 1 []
 
   abbrev pub item_elements : WrittenItem → ℕ
-  item_elements (ItemIs.Rule rule span) = elements_of (rule_of_tree ifaces env declared rule)
+  item_elements (ItemIs.Rule rule span) = filter_count ifaces env rule.filter
   item_elements (ItemIs.Ruleset name dir on span) = 0
 
   -- the faults of an item in front of which so many elements stand

@@ -1,10 +1,9 @@
 -- Interfaces as a configuration names them, and the addresses that functions give of them.
-use Rattle.std.specs.Prelude.{ℕ, Bool, true, false, not, ◌&&◌, is_some, if◌then◌else◌, Option, Some, None, List, [], ◌∷◌, ◌++◌}
+use Rattle.std.specs.Prelude.{ℕ, Bool, true, false, if◌then◌else◌, Option, Some, None, List, [], ◌∷◌, ◌++◌}
 use Rattle.std.specs.List.{filter}
 use Rattle.std.specs.Str.{bytes_eq}
 use Rattle.npf_types.specs.declared.address.Addr.{Addr}
 use Rattle.npf_types.specs.declared.address.Addr.TheVariants.{V4, V6}
-use Rattle.npf_types.specs.declared.name.Name.{Name}
 use Rattle.npf_types.specs.declared.span.Span.{Span}
 use Rattle.npf_types.specs.Name.{name_bytes}
 use Rattle.npf_types.specs.Named.{named}
@@ -12,7 +11,6 @@ use Rattle.npf_types.specs.NameText.{is_name}
 use Rattle.npf_lexer.specs.declared.fault.ConfFault.{ConfFault}
 use Rattle.npf_lexer.specs.declared.fault.Fault.TheVariants.{UnknownInterface}
 use Rattle.npf_syntax.specs.declared.value.Function.{Function}
-use Rattle.npf_syntax.specs.declared.value.Function.TheVariants as Function
 use Rattle.npf_syntax.specs.declared.value.Iface.{Iface as WrittenIface}
 use Rattle.npf_syntax.specs.declared.value.Iface.TheVariants as IfaceIs
 use Rattle.npf_model.specs.declared.iface.Iface.{Iface}

@@ -3,7 +3,9 @@ pub mod Atom
 pub mod Elaborates
 pub mod Group
 pub mod Iface
+pub mod IfaceFile
 pub mod Map
+pub mod Place
 pub mod Port
 pub mod Procedure
 pub mod Protocol

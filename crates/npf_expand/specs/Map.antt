@@ -1,10 +1,10 @@
 -- The maps of a configuration. Of a side that isn't one block, as a table is, the block of every IPv4 address stands in the
 -- model, and of an algorithm that isn't known `netmap`: a check refuses both by the tree.
-use Rattle.std.specs.Prelude.{ℕ, Bool, if◌then◌else◌, unwrap_or, Option, Some, None, List, [], ◌∷◌, ◌++◌, codes}
+use Rattle.std.specs.Prelude.{ℕ, if◌then◌else◌, unwrap_or, Option, Some, None, List, [], ◌∷◌, ◌++◌, codes}
 use Rattle.std.specs.Option.{option_map}
 use Rattle.std.specs.Str.{bytes_eq}
 use Rattle.npf_types.specs.declared.address.Addr.{Addr}
-use Rattle.npf_types.specs.declared.address.Addr.TheVariants.{V4, V6}
+use Rattle.npf_types.specs.declared.address.Addr.TheVariants.{V4}
 use Rattle.npf_types.specs.declared.prefix.Prefix.{Prefix}
 use Rattle.npf_types.specs.Address.{width}
 use Rattle.npf_types.specs.Block.{block}
@@ -13,7 +13,6 @@ use Rattle.npf_syntax.specs.declared.filter.Filter.{Filter}
 use Rattle.npf_syntax.specs.declared.map.Arrow.{Arrow as WrittenArrow}
 use Rattle.npf_syntax.specs.declared.map.Arrow.TheVariants as ArrowIs
 use Rattle.npf_syntax.specs.declared.map.MapKind.{MapKind}
-use Rattle.npf_syntax.specs.declared.map.MapKind.TheVariants as MapKind
 use Rattle.npf_syntax.specs.declared.map.Side.{Side as WrittenSide}
 use Rattle.npf_syntax.specs.declared.value.Iface.{Iface as WrittenIface}
 use Rattle.npf_syntax.specs.declared.value.One.{One}
@@ -21,9 +20,7 @@ use Rattle.npf_syntax.specs.declared.value.Value.{Value}
 use Rattle.npf_syntax.specs.declared.word.Word.{Word}
 use Rattle.npf_model.specs.declared.iface.Iface.{Iface}
 use Rattle.npf_model.specs.declared.map.Algo.{Algo}
-use Rattle.npf_model.specs.declared.map.Algo.TheVariants as Algo
 use Rattle.npf_model.specs.declared.map.Arrow.{Arrow}
-use Rattle.npf_model.specs.declared.map.Arrow.TheVariants as Arrow
 use Rattle.npf_model.specs.declared.map.Map.{Map}
 use Rattle.npf_model.specs.declared.map.Side.{Side}
 use Rattle.npf_expand.specs.declared.role.Role.{Role}

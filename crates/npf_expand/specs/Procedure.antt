@@ -1,22 +1,20 @@
 -- The procedures of a configuration: of calls and options that stand there more than once the last in the text counts.
-use Rattle.std.specs.Prelude.{ℕ, Bool, true, false, Option, Some, None, List, [], ◌∷◌}
+use Rattle.std.specs.Prelude.{ℕ, true, false, Some, None, List, [], ◌∷◌, min}
 use Rattle.npf_types.specs.declared.name.Name.{Name}
 use Rattle.npf_types.specs.Named.{named}
 use Rattle.npf_syntax.specs.declared.procedure.Call.{Call}
-use Rattle.npf_syntax.specs.declared.procedure.Call.TheVariants as Call
 use Rattle.npf_syntax.specs.declared.procedure.LogName.{LogName}
-use Rattle.npf_syntax.specs.declared.procedure.LogName.TheVariants as LogName
 use Rattle.npf_syntax.specs.declared.procedure.Opt.{Opt}
-use Rattle.npf_syntax.specs.declared.procedure.Opt.TheVariants as Opt
 use Rattle.npf_model.specs.declared.procedure.Procedure.{Procedure}
 
 abbrev pub log_name : LogName → Name
 log_name (LogName.Word word span) = named word.text
 log_name (LogName.Str string span) = named string.text
 
+-- numbers past what an option may have, which no grammar accepts there, are taken for the greatest that it may
 abbrev pub with_option : Procedure → Opt → Procedure
-with_option procedure (Opt.MinTtl number span) = record procedure { min_ttl = Some number.value }
-with_option procedure (Opt.MaxMss number span) = record procedure { max_mss = Some number.value }
+with_option procedure (Opt.MinTtl number span) = record procedure { min_ttl = Some (min number.value 255) }
+with_option procedure (Opt.MaxMss number span) = record procedure { max_mss = Some (min number.value 65535) }
 with_option procedure (Opt.NoDf span) = record procedure { no_df = true }
 
 abbrev pub with_options : Procedure → List Opt → Procedure

@@ -1,12 +1,10 @@
 -- The protocols of a rule and of a map: numbers to 255 and names.
-use Rattle.std.specs.Prelude.{ℕ, Bool, true, false, nat_lt, if◌then◌else◌, Option, Some, None, List, [], ◌∷◌, ◌++◌}
+use Rattle.std.specs.Prelude.{ℕ, false, nat_lt, if◌then◌else◌, Option, Some, None, List, [], ◌∷◌}
 use Rattle.std.specs.List.{flat_map, filter_map}
 use Rattle.npf_types.specs.declared.span.Span.{Span}
 use Rattle.npf_lexer.specs.declared.fault.ConfFault.{ConfFault}
 use Rattle.npf_syntax.specs.declared.filter.Protocols.{Protocols}
-use Rattle.npf_syntax.specs.declared.filter.Protocols.TheVariants as Protocols
 use Rattle.npf_syntax.specs.declared.value.One.{One}
-use Rattle.npf_syntax.specs.declared.value.One.TheVariants as One
 use Rattle.npf_expand.specs.declared.role.Role.TheVariants.{AsProtocol}
 use Rattle.npf_expand.specs.Atom.{Atom, NumberAtom, WordAtom, Binding, Env}
 use Rattle.npf_expand.specs.Service.{protocols, number_named}
@@ -37,8 +35,11 @@ protocol_faults env one = each_use_faults AsProtocol (one_span one) (one_binding
 abbrev pub protocols_faults : Env → Protocols → List ConfFault
 protocols_faults env protos = flat_map (protocol_faults env) (written_ones protos)
 
+abbrev pub spliced_ones : Env → Protocols → List Atom
+spliced_ones env protos = flat_map (λ one. atoms_of (one_binding env one)) (written_ones protos)
+
 abbrev pub protocols_of : Env → Protocols → List ℕ
-protocols_of env protos = filter_map protocol_of (flat_map (λ one. atoms_of (one_binding env one)) (written_ones protos))
+protocols_of env protos = filter_map protocol_of (spliced_ones env protos)
 
 -- where one protocol stands: that of a map
 abbrev pub one_protocol_faults : Env → Option One → List ConfFault

@@ -1,5 +1,5 @@
 -- What a written rule is: one rule, with its lists spliced, its words numbers and its functions addresses.
-use Rattle.std.specs.Prelude.{ℕ, ◌+◌, Bool, true, false, ◌==◌, ◌&&◌, nat_le, nat_lt, if◌then◌else◌, Option, Some, None, List, [], ◌∷◌, ◌++◌, bit_or}
+use Rattle.std.specs.Prelude.{ℕ, ◌+◌, Bool, true, false, ◌==◌, ◌&&◌, min, nat_le, nat_lt, if◌then◌else◌, Option, Some, None, List, [], ◌∷◌, ◌++◌, bit_or}
 use Rattle.std.specs.Option.{option_map}
 use Rattle.npf_types.specs.declared.decision.Decision.{Decision}
 use Rattle.npf_types.specs.declared.decision.Decision.TheVariants.{Pass, Block}
@@ -13,41 +13,32 @@ use Rattle.npf_lexer.specs.declared.fault.ConfFault.{ConfFault}
 use Rattle.npf_lexer.specs.declared.fault.Excess.TheVariants.{Elements}
 use Rattle.npf_lexer.specs.declared.fault.Fault.TheVariants.{TooMany}
 use Rattle.npf_syntax.specs.declared.filter.Detail.{Detail}
-use Rattle.npf_syntax.specs.declared.filter.Detail.TheVariants as Detail
 use Rattle.npf_syntax.specs.declared.filter.Ends.{Ends as WrittenEnds}
 use Rattle.npf_syntax.specs.declared.filter.Ends.TheVariants as EndsAre
 use Rattle.npf_syntax.specs.declared.filter.Family.{Family}
-use Rattle.npf_syntax.specs.declared.filter.Family.TheVariants as Family
 use Rattle.npf_syntax.specs.declared.filter.Filter.{Filter}
 use Rattle.npf_syntax.specs.declared.filter.ProtoPart.{ProtoPart}
 use Rattle.npf_syntax.specs.declared.filter.Where.{Where}
-use Rattle.npf_syntax.specs.declared.filter.Where.TheVariants as Where
 use Rattle.npf_syntax.specs.declared.rule.Answer.{Answer}
-use Rattle.npf_syntax.specs.declared.rule.Answer.TheVariants as Answer
 use Rattle.npf_syntax.specs.declared.rule.Direction.{Direction}
-use Rattle.npf_syntax.specs.declared.rule.Direction.TheVariants as Direction
 use Rattle.npf_syntax.specs.declared.rule.RuleAction.{RuleAction}
-use Rattle.npf_syntax.specs.declared.rule.RuleAction.TheVariants as RuleAction
 use Rattle.npf_syntax.specs.declared.rule.RuleTree.{RuleTree}
 use Rattle.npf_syntax.specs.declared.rule.Stateful.{Stateful}
-use Rattle.npf_syntax.specs.declared.rule.Stateful.TheVariants as Stateful
 use Rattle.npf_syntax.specs.declared.value.Iface.{Iface as WrittenIface}
 use Rattle.npf_syntax.specs.declared.word.Number.{Number}
-use Rattle.npf_syntax.specs.declared.word.Str.{Str}
 use Rattle.npf_syntax.specs.declared.word.Word.{Word}
 use Rattle.npf_model.specs.declared.ends.Ends.{Ends}
 use Rattle.npf_model.specs.declared.iface.Iface.{Iface}
-use Rattle.npf_model.specs.declared.rule.OnIf.{OnIf}
 use Rattle.npf_model.specs.declared.rule.Rule.{Rule}
 use Rattle.npf_model.specs.declared.rule.StateOpt.{StateOpt}
 use Rattle.npf_model.specs.declared.rule.StateOpt.TheVariants.{Not, OnInterface, Everywhere}
-use Rattle.npf_model.specs.Count.{elements_of}
 use Rattle.npf_faults.specs.First.{fault_if}
-use Rattle.npf_expand.specs.Address.{addresses_faults, address_items}
+use Rattle.npf_expand.specs.Address.{addresses_count, addresses_faults, address_items}
 use Rattle.npf_expand.specs.Atom.{Env}
 use Rattle.npf_expand.specs.Iface.{iface_faults, on_iface}
-use Rattle.npf_expand.specs.Port.{ports_faults, ports_of}
-use Rattle.npf_expand.specs.Protocol.{protocols_faults, protocols_of}
+use Rattle.npf_expand.specs.Port.{ports_count, ports_faults, ports_of}
+use Rattle.npf_expand.specs.Protocol.{protocols_faults, protocols_of, spliced_ones}
+use Rattle.npf_expand.specs.Use.{element_count}
 use Rattle.npf_expand.specs.Table.{table_number}
 
 -- the names of a configuration's tables and procedures, in the order of the text
@@ -103,8 +94,12 @@ abbrev pub flags_of_detail : Option Detail → Option (ℕ × ℕ)
 flags_of_detail (Some (Detail.Flags flags mask span)) = Some (flag_bits flags.text, mask_bits flags mask)
 flags_of_detail _ = None
 
+-- a number as a byte; a greater one, which no grammar accepts there, is taken for 255
+abbrev pub as_byte : Number → ℕ
+as_byte number = min number.value 255
+
 abbrev pub icmp_of_detail : Option Detail → Option (ℕ × Option ℕ)
-icmp_of_detail (Some (Detail.IcmpType number code span)) = Some (number.value, option_map (λ c. c.value) code)
+icmp_of_detail (Some (Detail.IcmpType number code span)) = Some (as_byte number, option_map as_byte code)
 icmp_of_detail _ = None
 
 abbrev pub detail_of_part : Option ProtoPart → Option Detail
@@ -138,6 +133,19 @@ module _ (ifaces : List Iface) (env : Env) where
   abbrev pub filter_faults : Filter → List ConfFault
   filter_faults filter =
       part_faults filter.proto ++ ends_faults (source_ends filter.ends) ++ ends_faults (destination_ends filter.ends)
+
+  abbrev pub ends_count : Option WrittenEnds → ℕ
+  ends_count None = 0
+  ends_count (Some (EndsAre.Addresses addresses ports span)) = addresses_count ifaces env addresses + ports_count ifaces env ports
+  ends_count (Some (EndsAre.Ports ports span)) = ports_count ifaces env (Some ports)
+
+  abbrev pub part_count : Option ProtoPart → ℕ
+  part_count None = 0
+  part_count (Some part) = element_count (spliced_ones env part.protocols)
+
+  -- how many elements the lists of a filter have once they are spliced; where the filter has no fault they are those of its rule
+  abbrev pub filter_count : Filter → ℕ
+  filter_count filter = part_count filter.proto + ends_count (source_ends filter.ends) + ends_count (destination_ends filter.ends)
 
   abbrev pub on_faults : Option WrittenIface → List ConfFault
   on_faults None = []

@@ -1,5 +1,5 @@
 -- Names of services (the ports of TCP and UDP that IANA assigned) and of protocols (assigned Internet protocol numbers).
-use Rattle.std.specs.Prelude.{ℕ, Bool, if◌then◌else◌, Option, Some, None, List, [], ◌∷◌, codes}
+use Rattle.std.specs.Prelude.{ℕ, if◌then◌else◌, Option, Some, None, List, [], ◌∷◌, codes}
 use Rattle.std.specs.Str.{bytes_eq}
 
 abbrev pub Names : Type 0

@@ -1,12 +1,10 @@
 -- The tables and procedures of a configuration, by the places of their names in the text.
-use Rattle.std.specs.Prelude.{ℕ, Option, Some, None, List, [], ◌∷◌, unwrap_or}
+use Rattle.std.specs.Prelude.{ℕ, List, [], ◌∷◌, unwrap_or, min}
 use Rattle.std.specs.List.{flat_map}
 use Rattle.std.specs.Option.{option_map}
 use Rattle.std.specs.Str.{bytes_eq}
-use Rattle.npf_types.specs.declared.span.Span.{Span}
 use Rattle.npf_types.specs.Named.{named}
 use Rattle.npf_syntax.specs.declared.stmt.Stmt.{Stmt}
-use Rattle.npf_syntax.specs.declared.stmt.Stmt.TheVariants as Stmt
 use Rattle.npf_syntax.specs.declared.stmt.TableType.{TableType}
 use Rattle.npf_syntax.specs.declared.stmt.TableType.TheVariants as Written
 use Rattle.npf_model.specs.declared.table.Kind.{Kind}
@@ -18,9 +16,9 @@ use Rattle.npf_model.specs.Verdict.{first_where}
 abbrev pub no_number : ℕ
 no_number = 4294967295
 
--- a name's first place among the names, counted from 0
+-- a name's first place among the names, counted from 0; places past the greatest number have none
 abbrev pub table_number : List (List ℕ) → List ℕ → ℕ
-table_number names name = unwrap_or (first_where (bytes_eq name) 0 names) no_number
+table_number names name = min (unwrap_or (first_where (bytes_eq name) 0 names) no_number) no_number
 
 abbrev pub kind_of_type : TableType → Kind
 kind_of_type (Written.IpSet _) = Ipset

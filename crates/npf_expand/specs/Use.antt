@@ -1,12 +1,11 @@
 -- Where a value stands, and which values can stand there. A value that can't is told at the value as it is written where it is
 -- used: where it came through a variable, at that variable. A word that is no service or protocol is told at the word, also in the
 -- definition that it came from.
-use Rattle.std.specs.Prelude.{ℕ, Bool, true, false, not, ◌&&◌, ◌||◌, nat_lt, is_some, if◌then◌else◌, Option, Some, None, List, [], ◌∷◌, ◌++◌}
-use Rattle.std.specs.List.{flat_map, list_any}
+use Rattle.std.specs.Prelude.{ℕ, Bool, length, true, false, not, ◌&&◌, ◌||◌, nat_lt, is_some, if◌then◌else◌, Option, Some, None, List, [], ◌∷◌, ◌++◌}
+use Rattle.std.specs.List.{flat_map, list_any, sum_by}
 use Rattle.npf_types.specs.declared.span.Span.{Span}
 use Rattle.npf_types.specs.NameText.{is_name}
 use Rattle.npf_lexer.specs.declared.fault.ConfFault.{ConfFault}
-use Rattle.npf_lexer.specs.declared.fault.Fault.{Fault}
 use Rattle.npf_lexer.specs.declared.fault.Fault.TheVariants.{Expected, UnknownVariable, UnknownService}
 use Rattle.npf_faults.specs.First.{fault_at, fault_if}
 use Rattle.npf_expand.specs.declared.role.Role.{Role}
@@ -40,6 +39,14 @@ word_faults _ _ = []
 -- the faults of values that are used at this place, one or many
 abbrev pub use_faults : Role → Span → List Atom → List ConfFault
 use_faults role span atoms = fault_if (list_any (is_unfit role) atoms) span Expected ++ flat_map (word_faults role) atoms
+
+-- how many elements values are, fit or not: a function is as many as it gives addresses
+abbrev pub count_of : Atom → ℕ
+count_of (AddressesAtom addrs) = length addrs
+count_of _ = 1
+
+abbrev pub element_count : List Atom → ℕ
+element_count atoms = sum_by count_of atoms
 
 abbrev pub is_empty : List Atom → Bool
 is_empty [] = true

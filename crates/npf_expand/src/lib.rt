@@ -5,4 +5,17 @@
 // its model, and any other is refused with its first fault in the text, of two at one place with that of the smaller number.
 #![tactic(auto)]
 
+mod atom;
+mod iface;
+mod iface_file;
+mod map;
+mod name;
+mod place;
+mod procedure;
 mod role;
+mod rule;
+mod service;
+mod table;
+mod text;
+
+pub use iface_file::read_ifaces;
