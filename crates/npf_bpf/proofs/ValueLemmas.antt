@@ -1,4 +1,5 @@
--- One step of a program, how far it goes on, how many steps there are, and the value behind other instructions.
+-- One step of a program, how far it goes on, how many steps there are, and the value behind other
+-- instructions.
 use Rattle.std.proofs.Common.{◌≡◌, ℕ, zero, suc, ◌+◌, ◌-◌, ◌<◌, ◌≤◌, ◌⊎◌, List, [], ◌∷◌, ◌++◌, length, Option, Some, None, IsSomeAnd, refl, ap, subst, ◌∙◌, ⊎_elim, arith}
 use Rattle.std.specs.Prelude.{slice_get, ⊤}
 use Rattle.npf_bpf.specs.declared.insn.Insn.{Insn}
@@ -30,7 +31,8 @@ module _ (p : List ℕ) (cop : Coprocessor) where
   -- the value from a place on, by what the operation there leads to
   value-step : (code : List Insn) (at : ℕ) (s : BpfState) (operation : Operation) (e : Effect)
       → Does code at s operation e
-      → value_from code at s p cop ≡ followed e (λ n. n) (λ d t. value_from code (at + 1 + d) t p cop)
+      → value_from code at s p cop ≡ followed e (λ n. n)
+      (λ d t. value_from code (at + 1 + d) t p cop)
   value-step [] at s operation e does = absurd does.0
   value-step (insn ∷ rest) zero s operation e does =
       let next = λ (d : ℕ) (t : BpfState). value_from rest d t p cop in
@@ -50,7 +52,8 @@ module _ (p : List ℕ) (cop : Coprocessor) where
   value-returns code at s operation n does = value-step code at s operation (Returns n) does
 
   -- the value where it goes on
-  pub value-continues : (code : List Insn) (at : ℕ) (s : BpfState) (operation : Operation) (d : ℕ) (t : BpfState)
+  pub value-continues : (code : List Insn) (at : ℕ) (s : BpfState) (operation : Operation) (d : ℕ)
+      (t : BpfState)
       → Does code at s operation (Continues d t)
       → value_from code at s p cop ≡ value_from code (at + (1 + d)) t p cop
   value-continues code at s operation d t does =
@@ -75,13 +78,17 @@ module _ (p : List ℕ) (cop : Coprocessor) where
   effect-within : (operation : Operation) (s : BpfState) (after : ℕ)
       → IsAllowed operation after → IsWithin after (effect_of operation s p cop)
   effect-within (LoadAbsolute width k) s after a =
-      IsWithin-or_return_0 after (loaded p width k) (with_accumulator s) (λ n. falls_through after a.last_returns)
+      IsWithin-or_return_0 after (loaded p width k) (with_accumulator s)
+      (λ n. falls_through after a.last_returns)
   effect-within (LoadIndirect width k) s after a =
-      IsWithin-or_return_0 after (loaded p width (s.index + k)) (with_accumulator s) (λ n. falls_through after a.last_returns)
+      IsWithin-or_return_0 after (loaded p width (s.index + k)) (with_accumulator s)
+      (λ n. falls_through after a.last_returns)
   effect-within (LoadIndexHeader k) s after a =
-      IsWithin-or_return_0 after (header_length_at p k) (with_index s) (λ n. falls_through after a.last_returns)
+      IsWithin-or_return_0 after (header_length_at p k) (with_index s)
+      (λ n. falls_through after a.last_returns)
   effect-within (Calculate op o) s after a =
-      IsWithin-or_return_0 after (calculated op s.accumulator (operand_value o s)) (with_accumulator s) (λ n. falls_through after a.last_returns)
+      IsWithin-or_return_0 after (calculated op s.accumulator (operand_value o s))
+      (with_accumulator s) (λ n. falls_through after a.last_returns)
   effect-within (Jump k) s after a = a.jumps
   effect-within (JumpIf c o d) s after a = grind arith
   effect-within (ReturnConstant k) s after a = tt
@@ -90,7 +97,8 @@ module _ (p : List ℕ) (cop : Coprocessor) where
 
   pub distance-within : (operation : Operation) (s : BpfState) (after d : ℕ) (t : BpfState)
       → IsAllowed operation after → effect_of operation s p cop ≡ Continues d t → d < after
-  distance-within operation s after d t a e = subst (IsWithin after) e (effect-within operation s after a)
+  distance-within operation s after d t a e =
+      subst (IsWithin after) e (effect-within operation s after a)
 
 -- a step and the steps after it are no more than the instruction and those after it
 suc-followed : (after : ℕ) (e : Effect) (next : ℕ → BpfState → ℕ)
@@ -103,14 +111,20 @@ steps-bound : (p : List ℕ) (cop : Coprocessor) (code : List Insn) (i : ℕ) (s
 steps-bound p cop [] i s = omega arith
 steps-bound p cop (insn ∷ rest) (suc i) s = omega (arith, steps-bound p cop rest i s)
 steps-bound p cop (insn ∷ rest) zero s =
-    omega (arith, suc-followed (length rest) (executed (decoded insn) s p cop) (λ d t. steps_from rest d t p cop) (λ d t. steps-bound p cop rest d t))
+    omega (
+      arith,
+      suc-followed (length rest) (executed (decoded insn) s p cop)
+          (λ d t. steps_from rest d t p cop) (λ d t. steps-bound p cop rest d t),
+    )
 
 pub steps_within_length : StepsWithinLength
 steps_within_length code i s p cop = steps-bound p cop code i s
 
 -- instructions that a distance passes over tell nothing of the value
 pub value_behind : TellsValueBehind
-value_behind [] rest i s p cop = let n : 0 + i ≡ i = omega arith in ap (λ m. value_from rest m s p cop) n
+value_behind [] rest i s p cop =
+    let n : 0 + i ≡ i = omega arith in
+    ap (λ m. value_from rest m s p cop) n
 value_behind (insn ∷ front) rest i s p cop =
     let n : suc (length front) + i ≡ suc (length front + i) = omega arith in
     ap (λ m. value_from ((insn ∷ front) ++ rest) m s p cop) n ∙ value_behind front rest i s p cop

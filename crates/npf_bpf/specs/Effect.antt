@@ -1,5 +1,5 @@
--- What each operation does, in the order of bpf(4)'s table. The coprocessor's calls are those of NetBSD's bpf(4), with
--- the two functions that specs/Coprocessor.antt has.
+-- What each operation does, in the order of bpf(4)'s table. The coprocessor's calls are those of
+-- NetBSD's bpf(4), with the two functions that specs/Coprocessor.antt has.
 use Rattle.std.specs.Prelude.{ℕ, ◌+◌, ◌-◌, ◌%◌, ◌^◌, Bool, List, length, Option, Some, None, if◌then◌else◌, nat_le, slice_index, slice_set}
 use Rattle.npf_bpf.specs.declared.operation.Operand.{Operand}
 use Rattle.npf_bpf.specs.declared.operation.Operand.TheVariants.{Constant, Index}
@@ -12,8 +12,8 @@ use Rattle.npf_bpf.specs.Coprocessor.{Coprocessor}
 use Rattle.npf_bpf.specs.Load.{loaded, header_length_at}
 use Rattle.npf_bpf.specs.Arithmetic.{calculated, compared}
 
--- what an operation leads to: the program returns a number, or goes on at the instruction so far behind the next
--- one, in this state
+-- what an operation leads to: the program returns a number, or goes on at the instruction so far
+-- behind the next one, in this state
 pub data Effect : Type 0 where
   Returns : (number : ℕ) → Effect
   Continues : (distance : ℕ) (state : BpfState) → Effect
@@ -41,9 +41,11 @@ operand_value Index s = s.index
 -- on as far as the comparison of A with the operand says
 abbrev pub branched : Comparison → Operand → Distances → BpfState → Effect
 branched comparison operand distances s =
-    Continues (if compared comparison s.accumulator (operand_value operand s) then distances.on_true else distances.on_false) s
+    let is_so = compared comparison s.accumulator (operand_value operand s) in
+    Continues (if is_so then distances.on_true else distances.on_false) s
 
--- M[0], M[1] and M[2] are the packet's IP version, offset of layer 4 and protocol, and A is the version
+-- M[0], M[1] and M[2] are the packet's IP version, offset of layer 4 and protocol, and A is the
+-- version
 abbrev pub with_ip_header : BpfState → ℕ × ℕ × ℕ → Effect
 with_ip_header s header =
     Continues 0 (record s {
@@ -51,15 +53,18 @@ with_ip_header s header =
       memory = slice_set (slice_set (slice_set s.memory 0 header.0) 1 header.1) 2 header.2;
     })
 
--- A is 1 where the table that A's low 31 bits name has the packet's address: the source where A's top bit is set
+-- A is 1 where the table that A's low 31 bits name has the packet's address: the source where A's
+-- top bit is set
 abbrev pub with_member : BpfState → (ℕ → Bool → Bool) → Effect
 with_member s member =
-    with_accumulator s (if member (s.accumulator % 2 ^ 31) (nat_le (2 ^ 31) s.accumulator) then 1 else 0)
+    let is_member = member (s.accumulator % 2 ^ 31) (nat_le (2 ^ 31) s.accumulator) in
+    with_accumulator s (if is_member then 1 else 0)
 
 -- what each operation does to a packet p
 abbrev pub effect_of : Operation → BpfState → List ℕ → Coprocessor → Effect
 effect_of (LoadAbsolute width k) s p cop = or_return_0 (loaded p width k) (with_accumulator s)
-effect_of (LoadIndirect width k) s p cop = or_return_0 (loaded p width (s.index + k)) (with_accumulator s)
+effect_of (LoadIndirect width k) s p cop =
+    or_return_0 (loaded p width (s.index + k)) (with_accumulator s)
 effect_of (LoadConstant k) s p cop = with_accumulator s k
 effect_of (LoadMemory k) s p cop = with_accumulator s (slice_index s.memory k)
 effect_of LoadLength s p cop = with_accumulator s (length p % 2 ^ 32)

@@ -1,5 +1,5 @@
--- What a program's instructions read and write: the accumulator A, the index register X, and the scratch memory store M,
--- a list of 16 words (McCanne and Jacobson 1993, section 3.3; bpf(4)).
+-- What a program's instructions read and write: the accumulator A, the index register X, and the
+-- scratch memory store M, a list of 16 words (McCanne and Jacobson 1993; bpf(4)).
 use Rattle.std.specs.Prelude.{ℕ, List, replicate}
 
 pub record BpfState : Type 0 where

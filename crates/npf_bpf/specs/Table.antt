@@ -1,5 +1,5 @@
--- The table of bpf(4): the code of each instruction, and what it does. The coprocessor's call is that of
--- NetBSD's bpf(4), with the two functions that NPF gives it.
+-- The table of bpf(4): the code of each instruction, and what it does. The coprocessor's call is
+-- that of NetBSD's bpf(4), with the two functions that NPF gives it.
 use Rattle.std.specs.Prelude.{ℕ, List, [], ◌∷◌, ◌++◌, Option, Some, None, if◌then◌else◌, ◌==◌}
 use Rattle.npf_bpf.specs.declared.insn.Insn.{Insn}
 use Rattle.npf_bpf.specs.declared.operation.Width.TheVariants.{Word, Half, Byte}
@@ -85,4 +85,5 @@ coprocessor_call k = if k == 0 then Some AskHeader else (if k == 1 then Some Ask
 -- what an instruction does, or none where the table doesn't have it
 abbrev pub decoded : Insn → Option Operation
 decoded i =
-    if i.code == 0x27 then coprocessor_call i.k else lookup i.code (with_one_code i ++ with_operand i)
+    if i.code == 0x27 then coprocessor_call i.k else lookup i.code
+    (with_one_code i ++ with_operand i)

@@ -1,4 +1,5 @@
--- The programs that are valid: the rules of bpf(4), and the number of instructions that this profile allows.
+-- The programs that are valid: the rules of bpf(4), and the number of instructions that this
+-- profile allows.
 use Rattle.std.specs.Prelude.{◌≢◌, ℕ, ◌-◌, ◌<◌, ◌≤◌, ◌⊎◌, List, length, slice_get, IsSomeAnd, ⊤}
 use Rattle.npf_bpf.specs.declared.insn.Insn.{Insn}
 use Rattle.npf_bpf.specs.declared.operation.Operand.TheVariants.{Constant}
@@ -52,8 +53,8 @@ pub record IsValid (code : List Insn) : Type 0 where
   pub not_long : length code ≤ 4096
   pub each : (at : ℕ) → at < length code → IsInOrder code at
 
--- the first place where a program isn't in order, or has an instruction too many. An empty program isn't in order
--- at 0, and one instruction too many stands at 4,096.
+-- the first place where a program isn't in order, or has an instruction too many. An empty program
+-- isn't in order at 0, and one instruction too many stands at 4,096.
 pub record IsFirstFault (code : List Insn) (at : ℕ) : Type 0 where
   pub before : (k : ℕ) → k < at → (k < 4096) × IsInOrder code k
   pub here : (at < 4096) × IsInOrder code at → ⊥

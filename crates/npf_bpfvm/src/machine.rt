@@ -4,7 +4,7 @@ ghost use Rattle.npf_bpf.specs.Effect.{branched, effect_of, operand_value, or_re
 ghost use Rattle.npf_bpf.specs.State.{initial};
 ghost use Rattle.npf_bpf.specs.Validity.{IsValid, StaysInMemory};
 ghost use Rattle.npf_bpf.specs.Value.{program_value};
-ghost use Rattle.npf_bpfvm.specs.Machine.{IsOperationAt, effect_told, state_in};
+ghost use Rattle.npf_bpfvm.specs.Machine.{IsOperationAt, effect_told, bpf_state};
 
 use crate::arithmetic::{calculate, compare};
 use crate::cop::Cop;
@@ -62,7 +62,7 @@ struct Registers {
 
 impl Registers {
     fn new() -> Self
-        ensures { state_in result ≡ initial }
+        ensures { bpf_state result ≡ initial }
     {
         Registers {
             accumulator: 0,
@@ -74,7 +74,7 @@ impl Registers {
     fn step<C: Cop>(&mut self, operation: Operation, packet: &[u8], cop: &C) -> Next
         requires { StaysInMemory operation }
         ensures { effect_told result self.new
-            ≡ effect_of operation (state_in self.old) packet.now (C.tells cop.now) }
+            ≡ effect_of operation (bpf_state self.old) packet.now (C.tells cop.now) }
     {
         match operation {
             LoadAbsolute(width, k) => self.load(load(packet, width, u64::from(k))),
@@ -104,14 +104,14 @@ impl Registers {
     }
 
     fn set_accumulator(&mut self, value: u32) -> Next
-        ensures { effect_told result self.new ≡ with_accumulator (state_in self.old) value }
+        ensures { effect_told result self.new ≡ with_accumulator (bpf_state self.old) value }
     {
         self.accumulator = value;
         Next::Onward(0)
     }
 
     fn set_index(&mut self, value: u32) -> Next
-        ensures { effect_told result self.new ≡ with_index (state_in self.old) value }
+        ensures { effect_told result self.new ≡ with_index (bpf_state self.old) value }
     {
         self.index = value;
         Next::Onward(0)
@@ -119,7 +119,7 @@ impl Registers {
 
     // Without a number to load the program returns 0.
     fn load(&mut self, value: Option<u32>) -> Next
-        ensures { effect_told result self.new ≡ or_return_0 value (with_accumulator (state_in self.old)) }
+        ensures { effect_told result self.new ≡ or_return_0 value (with_accumulator (bpf_state self.old)) }
     {
         match value {
             Some(value) => self.set_accumulator(value),
@@ -128,7 +128,7 @@ impl Registers {
     }
 
     fn load_index(&mut self, value: Option<u32>) -> Next
-        ensures { effect_told result self.new ≡ or_return_0 value (with_index (state_in self.old)) }
+        ensures { effect_told result self.new ≡ or_return_0 value (with_index (bpf_state self.old)) }
     {
         match value {
             Some(value) => self.set_index(value),
@@ -139,7 +139,7 @@ impl Registers {
     fn store(&mut self, k: u32, value: u32) -> Next
         requires { k < 16 }
         ensures { effect_told result self.new
-            ≡ with_memory (state_in self.old) (slice_set self.old.memory k value) }
+            ≡ with_memory (bpf_state self.old) (slice_set self.old.memory k value) }
     {
         self.memory[k as usize] = value;
         Next::Onward(0)
@@ -153,7 +153,7 @@ impl Registers {
     }
 
     fn value_of(&self, operand: Operand) -> u32
-        ensures { result ≡ operand_value operand (state_in self.now) }
+        ensures { result ≡ operand_value operand (bpf_state self.now) }
     {
         match operand {
             Operand::Constant(k) => k,
@@ -162,7 +162,7 @@ impl Registers {
     }
 
     fn branch(&self, comparison: Comparison, operand: Operand, distances: Distances) -> Next
-        ensures { effect_told result self.now ≡ branched comparison operand distances (state_in self.now) }
+        ensures { effect_told result self.now ≡ branched comparison operand distances (bpf_state self.now) }
     {
         if compare(comparison, self.accumulator, self.value_of(operand)) {
             Next::Onward(u32::from(distances.on_true))
@@ -172,7 +172,7 @@ impl Registers {
     }
 
     fn ask_header<C: Cop>(&mut self, cop: &C) -> Next
-        ensures { effect_told result self.new ≡ with_ip_header (state_in self.old) (C.tells cop.now).header }
+        ensures { effect_told result self.new ≡ with_ip_header (bpf_state self.old) (C.tells cop.now).header }
     {
         let (version, offset, protocol) = cop.header();
         self.memory[0] = version;
@@ -182,7 +182,7 @@ impl Registers {
     }
 
     fn ask_member<C: Cop>(&mut self, cop: &C) -> Next
-        ensures { effect_told result self.new ≡ with_member (state_in self.old) (C.tells cop.now).member }
+        ensures { effect_told result self.new ≡ with_member (bpf_state self.old) (C.tells cop.now).member }
     {
         let table = self.accumulator & 0x7fff_ffff;
         let source = self.accumulator & 0x8000_0000 != 0;

@@ -1,15 +1,16 @@
 -- What the program answers, from what a run did and what was said of it.
 use Rattle.std.proofs.Common.{◌≡◌, ℕ, inl, inr, List, arith}
 use Rattle.npf_outside.specs.Counts.{Rose}
+use Rattle.npf_outside.specs.Sink.{SinkMoment}
 use Rattle.npf_ctl.specs.declared.fault.Fault.{Fault}
 use Rattle.npf_ctl.specs.declared.fault.Fault.TheVariants.{Usage, Unread, Long, Unbuilt, BadCapture, Unwritten, NoMemory}
 use Rattle.npf_ctl.specs.declared.fault.Input.TheVariants.{Conf, Capture}
 use Rattle.npf_ctl.specs.Message.{status_of}
 use Rattle.npf_ctl.specs.Run.{Outside, HasFault}
-use Rattle.npf_ctl.specs.Top.{Words, Errors, HasCause, IsAnswered, SaysFault, RefusesCapture, FrontOfReport}
+use Rattle.npf_ctl.specs.Top.{Words, HasCause, IsAnswered, SaysFault, RefusesCapture, FrontOfReport}
 use Rattle.npf_ctl.specs.Words.{IsRun}
 
-module _ (words : Words) (before after : Outside) (old new : Errors) where
+module _ (words : Words) (before after : Outside) (old new : SinkMoment) where
   -- the cause of a fault says that nothing or a front of the report was put
   memory_cause : (conf capture : List ℕ) (fault : Fault) → HasCause words before after conf capture fault → HasCause words before after conf capture NoMemory
   memory_cause conf capture Usage h = inl h.1
@@ -47,10 +48,10 @@ module _ (words : Words) (before after : Outside) (conf capture : List ℕ) wher
   Cause = HasCause words before after conf capture
 
   -- a put that failed, and a capture that was refused
-  pub write_cause : (fault : Fault) → Cause fault → status_of fault ≡ 5 → Rose before.puts after.puts × FrontOfReport words before.contents before.held after.held
+  pub write_cause : (fault : Fault) → Cause fault → status_of fault ≡ 5 → Rose before.out.faults after.out.faults × FrontOfReport words before.files.contents before.out.held after.out.held
   write_cause Unwritten h is = (h.1.0, record { conf = conf; capture = capture; words_are = h.0; front = h.1.1 })
   write_cause _ h is = absurd (omega arith)
 
-  pub capture_cause : (fault : Fault) → Cause fault → status_of fault ≡ 7 → RefusesCapture words before.contents
+  pub capture_cause : (fault : Fault) → Cause fault → status_of fault ≡ 7 → RefusesCapture words before.files.contents
   capture_cause (BadCapture f) h is = record { conf = conf; capture = capture; fault = f; words_are = h.0; accepted = h.1.0; refused = h.1.1 }
   capture_cause _ h is = absurd (omega arith)

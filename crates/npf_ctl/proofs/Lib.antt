@@ -1,6 +1,7 @@
 pub mod Phrasing
 pub mod Configs
 pub mod Items
+pub mod Reports
 pub mod RunTokens
 pub mod TokenSteps
 pub mod RawCaptures
@@ -15,8 +16,9 @@ pub mod Doing
 pub mod Explaining
 pub mod Taking
 pub mod Told
-pub mod ShortPackets
+pub mod CapturedLemmas
 pub mod Lines
 pub mod Clauses
 pub mod CommandLines
 pub mod Answering
+pub mod VerdictLemmas

@@ -7,8 +7,8 @@ use Rattle.npf_pcap.specs.declared.capture.Record.{Record}
 use Rattle.npf_pcap.specs.declared.fault.CaptureFault.{CaptureFault}
 use Rattle.npf_pcap.specs.declared.fault.CaptureFault.TheVariants.{ShortHeader, BadMagic, BadVersion, BadLink, CutRecord, LongRecord, NoMemory}
 use Rattle.npf_pcap.specs.Capture.{IsCapture, HasHeader, HasVersion, HasLink, HasCaptureFault}
-use Rattle.npf_pcap.proofs.FormatLaws.{same_format, same_link}
-use Rattle.npf_pcap.proofs.CaptureLaws.{captures_have_no_fault}
+use Rattle.npf_pcap.proofs.FormatLemmas.{same_format, same_link}
+use Rattle.npf_pcap.proofs.CaptureLemmas.{captures_have_no_fault}
 use Rattle.npf_ctl.specs.RawCapture.{classic, IsRawCapture, HasRawFault}
 
 pub raw_capture : (b : List ℕ) (link : Link) (records : List Record) → HasHeader classic Raw b → IsCapture b link records → IsRawCapture b records

@@ -2,6 +2,7 @@
 -- a relation between the tokens from a place on, what they say, and the tokens that follow.
 use Rattle.std.specs.Prelude.{◌≡◌, ℕ, ◌≤◌, Bool, true, false, IsTrue, Some, None, List, [], ◌∷◌, length, map}
 use Rattle.std.specs.List.{list_all}
+use Rattle.npf_types.specs.declared.limits.TheConstants.{MAX_RULES}
 use Rattle.npf_types.specs.declared.decision.Decision.{Decision}
 use Rattle.npf_types.specs.declared.decision.Decision.TheVariants as Decides
 use Rattle.npf_types.specs.declared.decision.Return.TheVariants.{Nothing}
@@ -73,7 +74,7 @@ pub record IsFile (tokens : List Token) (rules : List Written) : Type 0 where
 
 -- the most items of a default group
 abbrev pub most_rules : ℕ
-most_rules = 4096
+most_rules = MAX_RULES
 
 -- the text is one default group of these rules
 pub record IsConfig (text : List ℕ) (rules : List Rule) : Type 0 where

@@ -7,6 +7,7 @@ pub mod Phrases
 pub mod PhraseViews
 pub mod Verdict
 pub mod RawCapture
+pub mod Captured
 pub mod Histories
 pub mod Packets
 pub mod Work

@@ -1,6 +1,7 @@
 -- The status and the line of each fault.
 use Rattle.std.specs.Prelude.{ℕ, Option, Some, None, List, ◌++◌, codes}
 use Rattle.std.specs.Fmt.{decimal}
+use Rattle.npf_types.specs.declared.limits.TheConstants.{MAX_CAPTURE_BYTES, MAX_TEXT_BYTES}
 use Rattle.npf_pcap.specs.declared.fault.CaptureFault.{CaptureFault}
 use Rattle.npf_pcap.specs.Fault.{number_of, name_of, record_of}
 use Rattle.npf_ctl.specs.declared.fault.Fault.{Fault}
@@ -10,8 +11,8 @@ use Rattle.npf_ctl.specs.declared.fault.Input.TheVariants.{Conf, Capture}
 
 -- the most bytes of a configuration, and of a capture
 abbrev pub most_bytes : Input → ℕ
-most_bytes Conf = 4194304
-most_bytes Capture = 268435456
+most_bytes Conf = MAX_TEXT_BYTES
+most_bytes Capture = MAX_CAPTURE_BYTES
 
 abbrev pub status_of : Fault → ℕ
 status_of NoMemory = 1

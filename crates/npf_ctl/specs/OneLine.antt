@@ -1,6 +1,7 @@
 -- The history of a run on one thread: what each packet in turn asks of the machine of connections, from the opening state on, each
 -- claim in the lowest slot that isn't claimed.
 use Rattle.std.specs.Prelude.{ℕ, zero, suc, ◌+◌, Bool, true, false, if◌then◌else◌, Option, Some, None, List, [], ◌∷◌, slice_get}
+use Rattle.npf_types.specs.declared.limits.TheConstants.{MAX_CONNECTIONS}
 use Rattle.npf_types.specs.declared.key.Key.{Key}
 use Rattle.npf_types.specs.declared.key.Way.{Way}
 use Rattle.npf_types.specs.declared.key.Way.TheVariants.{Forward, Backward, Port}
@@ -32,7 +33,7 @@ use Rattle.npf_ctl.specs.Work.{Work, finds, ◌>>=◌, look, claim, hold, step, 
 
 -- how many connections there can be at a time
 abbrev pub most_connections : ℕ
-most_connections = 65536
+most_connections = MAX_CONNECTIONS
 
 abbrev pub is_vacant : {S : Type 0} → Stage S → Bool
 is_vacant Vacant = true

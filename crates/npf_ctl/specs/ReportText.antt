@@ -1,5 +1,5 @@
 -- The text of a report: a line for each packet, in order, and then the total line.
-use Rattle.std.specs.Prelude.{ℕ, ◌+◌, Bool, true, false, not, Option, Some, None, List, [], ◌∷◌, ◌++◌, length, count_by, codes}
+use Rattle.std.specs.Prelude.{◌≡◌, ◌<◌, ℕ, ◌+◌, ◌-◌, ◌^◌, if◌then◌else◌, Bool, true, false, not, Option, Some, None, List, [], ◌∷◌, ◌++◌, length, count_by, codes}
 use Rattle.std.specs.Fmt.{decimal}
 use Rattle.npf_types.specs.declared.decision.Decision.{Decision}
 use Rattle.npf_types.specs.declared.decision.Decision.TheVariants.{Pass, Block}
@@ -13,6 +13,7 @@ use Rattle.npf_ctl.specs.declared.outcome.Outcome.{Outcome}
 use Rattle.npf_ctl.specs.declared.outcome.Outcome.TheVariants.{Skip, Malformed, ByConn, ByRule}
 use Rattle.npf_ctl.specs.declared.outcome.Unkept.{Unkept}
 use Rattle.npf_ctl.specs.declared.outcome.Unkept.TheVariants.{Kept, Full, NoNode, Taken}
+use Rattle.npf_ctl.specs.declared.report.Counts.{Counts}
 use Rattle.npf_core.specs.declared.conn_id.ConnId.{ConnId}
 
 abbrev pub dir_text : Dir → List ℕ
@@ -81,20 +82,33 @@ abbrev pub is_malformed : Outcome → Bool
 is_malformed (Malformed _ _) = true
 is_malformed _ = false
 
-abbrev pub passed_text : List Outcome → List ℕ
-passed_text outcomes =
-    codes "packets " ++ (decimal (length outcomes) ++ (codes " pass " ++ (decimal (count_by is_passed outcomes)
-    ++ (codes " block " ++ decimal (count_by is_blocked outcomes)))))
+-- how many packets had each outcome
+pub record CountsOutcomes (outcomes : List Outcome) (counts : Counts) : Type 0 where
+  pub passed : counts.passed ≡ count_by is_passed outcomes
+  pub blocked : counts.blocked ≡ count_by is_blocked outcomes
+  pub skipped : counts.skipped ≡ count_by is_skipped outcomes
+  pub malformed : counts.malformed ≡ count_by is_malformed outcomes
 
-abbrev pub refused_text : List Outcome → List ℕ
-refused_text outcomes =
-    codes " drop 0 skip " ++ (decimal (count_by is_skipped outcomes)
-    ++ (codes " malformed " ++ (decimal (count_by is_malformed outcomes) ++ codes "\n")))
+-- one packet more was counted
+pub record AddsOutcome (outcome : Outcome) (before now : Counts) : Type 0 where
+  pub passed : now.passed ≡ before.passed + (if is_passed outcome then 1 else 0)
+  pub blocked : now.blocked ≡ before.blocked + (if is_blocked outcome then 1 else 0)
+  pub skipped : now.skipped ≡ before.skipped + (if is_skipped outcome then 1 else 0)
+  pub malformed : now.malformed ≡ before.malformed + (if is_malformed outcome then 1 else 0)
+
+-- no count stands at its greatest value
+pub record HasRoom (counts : Counts) : Type 0 where
+  pub passed : counts.passed < 2 ^ 64 - 1
+  pub blocked : counts.blocked < 2 ^ 64 - 1
+  pub skipped : counts.skipped < 2 ^ 64 - 1
+  pub malformed : counts.malformed < 2 ^ 64 - 1
 
 -- how many packets there were, and how many had each outcome; none is dropped
 unfoldable pub total_text : List Outcome → List ℕ
 total_text outcomes =
-    passed_text outcomes ++ refused_text outcomes
+    (codes "packets " ++ decimal (length outcomes)) ++ (codes " pass " ++ decimal (count_by is_passed outcomes))
+    ++ (codes " block " ++ decimal (count_by is_blocked outcomes)) ++ (codes " drop 0 skip " ++ decimal (count_by is_skipped outcomes))
+    ++ (codes " malformed " ++ decimal (count_by is_malformed outcomes)) ++ codes "\n"
 
 -- the lines of packets that are numbered from n on
 abbrev pub lines_from : ℕ → List ℕ → Dir → List Outcome → List ℕ

@@ -1,8 +1,8 @@
 -- What a run of one configuration over one capture does, and the cause of each fault.
 use Rattle.std.specs.Prelude.{◌≡◌, ◌≢◌, ℕ, ◌≤◌, ◌⊎◌, List, [], Option, Some, None, length}
 use Rattle.npf_outside.specs.Counts.{Rose}
-use Rattle.npf_outside.specs.Put.{Appends, AppendsFront}
-use Rattle.npf_outside.specs.Tree.{Tree, IsLonger}
+use Rattle.npf_outside.specs.Files.{Tree, FilesMoment, IsLonger}
+use Rattle.npf_outside.specs.Sink.{SinkMoment, Appends, AppendsFront}
 use Rattle.npf_pcap.specs.declared.capture.Record.{Record}
 use Rattle.npf_pcap.specs.declared.fault.CaptureFault.{CaptureFault}
 use Rattle.npf_pcap.specs.declared.fault.CaptureFault.TheVariants as Captures
@@ -18,10 +18,10 @@ use Rattle.npf_ctl.specs.Message.{most_bytes}
 use Rattle.npf_ctl.specs.RawCapture.{IsRawCapture, HasRawFault}
 use Rattle.npf_ctl.specs.ReportText.{report_text}
 
--- the file of this name has bytes of which this holds, where contents are told
-abbrev pub OfFile : Option Tree → List ℕ → (List ℕ → Type 0) → Type 0
-OfFile None name P = Unit {0}
-OfFile (Some tree) name P = (bytes : List ℕ) × (tree name ≡ Some bytes) × P bytes
+-- the file of this name has bytes of which this holds; where contents aren't told, there are such bytes
+abbrev pub IfTold : Option Tree → List ℕ → (List ℕ → Type 0) → Type 0
+IfTold None name P = (bytes : List ℕ) × P bytes
+IfTold (Some tree) name P = (bytes : List ℕ) × (tree name ≡ Some bytes) × P bytes
 
 -- the text is a configuration of these rules, within its limit
 pub record Accepts (text : List ℕ) (rules : List Rule) : Type 0 where
@@ -63,18 +63,13 @@ pub record IsReport (conf capture text : List ℕ) : Type 0 where
   pub explained : AreExplained rules packets outcomes
   pub said : text ≡ report_text outcomes
 
--- What the outside shows at a moment: the files, how many reads failed, how many bytes reads took, how many puts on
--- the output failed, and what the output holds.
+-- what the outside shows at a moment: the files and the output
 pub record Outside : Type 0 where
-  pub contents : Option Tree
-  pub reads : ℕ
-  pub taken : ℕ
-  pub puts : ℕ
-  pub held : Option (List ℕ)
+  pub files : FilesMoment
+  pub out : SinkMoment
 
-abbrev pub outside : Option Tree → ℕ → ℕ → ℕ → Option (List ℕ) → Outside
-outside contents reads taken puts held =
-    record { contents = contents; reads = reads; taken = taken; puts = puts; held = held }
+abbrev pub outside : FilesMoment → SinkMoment → Outside
+outside files out = record { files = files; out = out }
 
 -- nothing was put on a sink
 abbrev pub PutsNothing : Option (List ℕ) → Option (List ℕ) → Type 0
@@ -83,55 +78,64 @@ PutsNothing held held' = Appends held held' []
 module _ (contents : Option Tree) (conf capture : List ℕ) (held held' : Option (List ℕ)) where
   -- the report was put on the output
   abbrev pub PutsReport : Type 0
-  PutsReport = OfFile contents conf (λ text. OfFile contents capture (λ bytes.
+  PutsReport = IfTold contents conf (λ text. IfTold contents capture (λ bytes.
       (report : List ℕ) × IsReport text bytes report × Appends held held' report))
 
   -- a front of the report was put on the output
   abbrev pub PutsFront : Type 0
-  PutsFront = OfFile contents conf (λ text. OfFile contents capture (λ bytes.
+  PutsFront = IfTold contents conf (λ text. IfTold contents capture (λ bytes.
       (report : List ℕ) × IsReport text bytes report × AppendsFront held held' report))
 
 -- the configuration is one
 abbrev pub HasConf : Option Tree → List ℕ → Type 0
-HasConf contents conf = OfFile contents conf IsAccepted
+HasConf contents conf = IfTold contents conf IsAccepted
+
+-- a read of the file of this name failed
+abbrev pub FailsToRead : FilesMoment → FilesMoment → List ℕ → Type 0
+FailsToRead before after name = Rose (before.read_faults_of name) (after.read_faults_of name)
+
+-- the file of this name is longer than its kind may be
+abbrev pub IsTooLong : FilesMoment → FilesMoment → List ℕ → Input → Type 0
+IsTooLong before after name input = IsLonger before.contents name (most_bytes input) before.taken after.taken
 
 module _ (before after : Outside) (conf capture : List ℕ) where
+  abbrev Quiet : Type 0
+  Quiet = PutsNothing before.out.held after.out.held
+
   -- why this is the first fault that the run met, in the order of its work: the configuration, the capture, the report
   abbrev pub HasFault : Fault → Type 0
   HasFault Usage = ⊥
-  HasFault (Unread Conf) = Rose before.reads after.reads × PutsNothing before.held after.held
-  HasFault (Long Conf) = IsLonger before.contents conf (most_bytes Conf) before.taken after.taken × PutsNothing before.held after.held
-  HasFault Unbuilt = OfFile before.contents conf IsRefused × PutsNothing before.held after.held
-  HasFault (Unread Capture) = HasConf before.contents conf × Rose before.reads after.reads × PutsNothing before.held after.held
-  HasFault (Long Capture) =
-      HasConf before.contents conf × IsLonger before.contents capture (most_bytes Capture) before.taken after.taken × PutsNothing before.held after.held
+  HasFault (Unread Conf) = FailsToRead before.files after.files conf × Quiet
+  HasFault (Long Conf) = IsTooLong before.files after.files conf Conf × Quiet
+  HasFault Unbuilt = IfTold before.files.contents conf IsRefused × Quiet
+  HasFault (Unread Capture) = HasConf before.files.contents conf × FailsToRead before.files after.files capture × Quiet
+  HasFault (Long Capture) = HasConf before.files.contents conf × IsTooLong before.files after.files capture Capture × Quiet
   HasFault (BadCapture fault) =
-      HasConf before.contents conf × OfFile before.contents capture (λ bytes. IsBadCapture bytes fault) × PutsNothing before.held after.held
-  HasFault Unwritten = Rose before.puts after.puts × PutsFront before.contents conf capture before.held after.held
-  HasFault NoMemory = PutsNothing before.held after.held ⊎ PutsFront before.contents conf capture before.held after.held
+      HasConf before.files.contents conf × IfTold before.files.contents capture (λ bytes. IsBadCapture bytes fault) × Quiet
+  HasFault Unwritten =
+      Rose before.out.faults after.out.faults × PutsFront before.files.contents conf capture before.out.held after.out.held
+  HasFault NoMemory = Quiet ⊎ PutsFront before.files.contents conf capture before.out.held after.out.held
 
--- why a file of this kind and name is not read
-abbrev pub HasReadFault : Option Tree → List ℕ → Input → ℕ → ℕ → ℕ → ℕ → Fault → Type 0
-HasReadFault contents name input reads reads' taken taken' (Unread other) = (other ≡ input) × Rose reads reads'
-HasReadFault contents name input reads reads' taken taken' (Long other) =
-    (other ≡ input) × IsLonger contents name (most_bytes input) taken taken'
-HasReadFault contents name input reads reads' taken taken' NoMemory = Unit {0}
-HasReadFault contents name input reads reads' taken taken' _ = ⊥
+module _ (before after : FilesMoment) (name : List ℕ) where
+  -- why a file of this kind is not read
+  abbrev pub HasReadFault : Input → Fault → Type 0
+  HasReadFault input (Unread other) = (other ≡ input) × FailsToRead before after name
+  HasReadFault input (Long other) = (other ≡ input) × IsTooLong before after name input
+  HasReadFault input NoMemory = Unit {0}
+  HasReadFault input _ = ⊥
 
--- why no rules are read from the file of this name
-abbrev pub HasConfFault : Option Tree → List ℕ → ℕ → ℕ → ℕ → ℕ → Fault → Type 0
-HasConfFault contents name reads reads' taken taken' Unbuilt = OfFile contents name IsRefused
-HasConfFault contents name reads reads' taken taken' fault = HasReadFault contents name Conf reads reads' taken taken' fault
+  -- why no rules are read
+  abbrev pub HasConfFault : Fault → Type 0
+  HasConfFault Unbuilt = IfTold before.contents name IsRefused
+  HasConfFault fault = HasReadFault Conf fault
 
--- why no packets are read from the file of this name
-abbrev pub HasCaptureFileFault : Option Tree → List ℕ → ℕ → ℕ → ℕ → ℕ → Fault → Type 0
-HasCaptureFileFault contents name reads reads' taken taken' (BadCapture fault) =
-    OfFile contents name (λ bytes. IsBadCapture bytes fault)
-HasCaptureFileFault contents name reads reads' taken taken' fault =
-    HasReadFault contents name Capture reads reads' taken taken' fault
+  -- why no packets are read
+  abbrev pub HasCaptureFileFault : Fault → Type 0
+  HasCaptureFileFault (BadCapture fault) = IfTold before.contents name (λ bytes. IsBadCapture bytes fault)
+  HasCaptureFileFault fault = HasReadFault Capture fault
 
 -- why a report is not put
 abbrev pub HasPutFault : ℕ → ℕ → Fault → Type 0
-HasPutFault puts puts' Unwritten = Rose puts puts'
-HasPutFault puts puts' NoMemory = Unit {0}
-HasPutFault puts puts' _ = ⊥
+HasPutFault faults faults' Unwritten = Rose faults faults'
+HasPutFault faults faults' NoMemory = Unit {0}
+HasPutFault faults faults' _ = ⊥

@@ -1,14 +1,15 @@
 // Captures as a run takes them so far: microseconds, the lowest byte of a number first, and no link header.
-ghost use Rattle.std.specs.Prelude.{◌≡◌, ◌≤◌, ◌↔◌, List as Seq, MatchOption, MatchResult, IfOk, IfErr, IsTrue, length};
-ghost use Rattle.npf_pcap.specs.declared.capture.Record.{Record as RecordType};
+ghost use Rattle.std.specs.Prelude.{◌≡◌, ◌≤◌, ◌↔◌, List as Seq, MatchOption, MatchResult, IfOk, IfErr, IsTrue, All, length};
 ghost use Rattle.npf_pcap.specs.Capture.{HasHeader, HasVersion};
+ghost use Rattle.npf_pcap.specs.Extent.{records_at, EndsWithin, IsShort};
 ghost use Rattle.npf_types.specs.declared.link.Link.TheVariants.{Raw};
 ghost use Rattle.npf_ctl.specs.RawCapture.{classic, IsRawCapture, HasRawFault};
 
 use byteorder::{ByteOrder, LittleEndian};
 use npf_fields::get32;
-use npf_pcap::{CaptureFault, Record, read_capture};
+use npf_pcap::{CaptureFault, Extent, read_extents};
 use npf_types::List;
+use npf_types::limits::MAX_CAPTURE_BYTES;
 use std::alloc::Global;
 
 /// The file header, in bytes, and the places of its fields (pcap-savefile(5)).
@@ -25,10 +26,12 @@ const MAGIC: u32 = 0xd4c3_b2a1;
 
 const LINKTYPE_RAW: u32 = 101;
 
-/// The records of a capture, or its first fault. It takes at most 268,435,456 bytes.
-pub(crate) fn read_raw(alloc: Global, bytes: &[u8]) -> Result<List<Record>, CaptureFault>
-    requires { length bytes.now ≤ 268435456 }
-    ensures read { IfOk result (λ records. IsRawCapture bytes.now records) }
+/// Where the packets of a capture are, or its first fault. It takes at most `MAX_CAPTURE_BYTES`.
+pub(crate) fn read_raw(alloc: Global, bytes: &[u8]) -> Result<List<Extent>, CaptureFault>
+    requires { length bytes.now ≤ MAX_CAPTURE_BYTES }
+    ensures read { IfOk result (λ extents. IsRawCapture bytes.now (records_at bytes.now extents)) }
+    ensures within { IfOk result (λ extents. All (EndsWithin (length bytes.now)) extents) }
+    ensures short { IfOk result (λ extents. All IsShort extents) }
     ensures fault { IfErr result (λ fault. HasRawFault bytes.now fault) }
 {
     match header_fault(bytes) {
@@ -37,14 +40,16 @@ pub(crate) fn read_raw(alloc: Global, bytes: &[u8]) -> Result<List<Record>, Capt
     }
 }
 
-fn read_records(alloc: Global, bytes: &[u8]) -> Result<List<Record>, CaptureFault>
-    requires size { length bytes.now ≤ 268435456 }
+fn read_records(alloc: Global, bytes: &[u8]) -> Result<List<Extent>, CaptureFault>
+    requires size { length bytes.now ≤ MAX_CAPTURE_BYTES }
     requires header { HasHeader classic Raw bytes.now }
-    ensures read { IfOk result (λ records. IsRawCapture bytes.now records) }
+    ensures read { IfOk result (λ extents. IsRawCapture bytes.now (records_at bytes.now extents)) }
+    ensures within { IfOk result (λ extents. All (EndsWithin (length bytes.now)) extents) }
+    ensures short { IfOk result (λ extents. All IsShort extents) }
     ensures fault { IfErr result (λ fault. HasRawFault bytes.now fault) }
 {
-    match read_capture(alloc, bytes) {
-        Ok(capture) => Ok(capture.records),
+    match read_extents(alloc, bytes) {
+        Ok(capture) => Ok(capture.extents),
         Err(fault) => Err(fault),
     }
 }

@@ -7,10 +7,8 @@ use crate::lexer::lex;
 use crate::parser::parse;
 use crate::rule::Rule;
 use npf_types::NoMemory;
+use npf_types::limits::MAX_RULES;
 use std::alloc::Global;
-
-/// The most rules of a default group.
-const MOST_RULES: usize = 4096;
 
 /// The rules of the text's one default group, or None where the text isn't one.
 pub(crate) fn read_rules(alloc: Global, text: &[u8]) -> Result<Option<Vec<Rule>>, NoMemory>
@@ -23,7 +21,7 @@ pub(crate) fn read_rules(alloc: Global, text: &[u8]) -> Result<Option<Vec<Rule>>
     };
     match parse(alloc, tokens.as_slice())? {
         Some(rules) => {
-            if rules.len() > MOST_RULES {
+            if rules.len() > MAX_RULES {
                 return Ok(None);
             }
             Ok(Some(rules))

@@ -17,6 +17,7 @@ use npf_core::{ConnId, Found, Held, Stepped};
 use npf_flow::{Flow, FlowArg, FlowLaw, FlowReply, open_flow};
 use npf_key::{key_of, keys_of};
 use npf_store::{Store, step};
+use npf_types::limits::MAX_RULES;
 use npf_types::{Action, Change, Decision, IfId, Key, L4, NoMemory, Return, Segment, Way};
 
 /// The number of the one configuration.
@@ -50,7 +51,7 @@ pub(crate) fn handle(
     packet: &Packet,
     store: &mut Store<Flow>,
 ) -> Result<Outcome, NoMemory>
-    requires { length rules.now ≤ 4096 }
+    requires { length rules.now ≤ MAX_RULES }
     ensures { IfOk result (λ outcome. Does (handle packet.now rules.now) store.old store.new outcome) }
 {
     if let Some(outcome) = look_for(packet, key_of(&packet.facts, CAP0), store) {
@@ -126,7 +127,7 @@ fn segment_of(l4: L4) -> Option<Segment>
 
 /// The outcome that the rule gives which decides.
 fn ask_rules(rules: &[Rule], packet: &Packet, store: &mut Store<Flow>) -> Result<Outcome, NoMemory>
-    requires { length rules.now ≤ 4096 }
+    requires { length rules.now ≤ MAX_RULES }
     ensures { IfOk result (λ outcome. Does (ask_rules packet.now rules.now) store.old store.new outcome) }
 {
     let Some(place) = verdict(rules, &packet.facts) else {
@@ -257,7 +258,13 @@ fn begin(packet: &Packet, place: u32, id: ConnId, store: &mut Store<Flow>) -> Ou
     requires { phase_of store.old id ≡ Phases.Building }
     ensures { DoesFrom (λ k. stage_of k id ≡ Stages.Building 0) (begin packet.now place id) store.old store.new result }
 {
-    let flow = open_flow(arg_of(packet), packet.number, UNCHANGED, UNCHANGED, NO_ACTION);
+    let flow = open_flow(
+        arg_of(packet),
+        packet.number,
+        UNCHANGED,
+        UNCHANGED,
+        NO_ACTION,
+    );
     store.start(id, flow);
     Outcome::ByRule {
         config: CONFIG,

@@ -1,37 +1,37 @@
 // What happens to each packet under the one configuration.
-ghost use Rattle.std.specs.Prelude.{◌≡◌, ◌≤◌, length, IfOk, All};
+ghost use Rattle.std.specs.Prelude.{◌≡◌, ◌≤◌, length, IfOk};
+ghost use Rattle.npf_ctl.specs.Captured.{packets_of, captured_at};
 ghost use Rattle.npf_ctl.specs.Doing.{Arrives};
 ghost use Rattle.npf_ctl.specs.Explained.{AreExplained};
 ghost use Rattle.npf_ctl.specs.OneLine.{most_connections};
 
+use crate::captured::Captured;
 use crate::connections::handle;
 use crate::outcome::Outcome;
 use crate::packet::Packet;
 use crate::rule::Rule;
 use npf_flow::Flow;
 use npf_packet::{Decoded, decode};
-use npf_pcap::Record;
 use npf_store::Store;
+use npf_types::limits::{MAX_CONNECTIONS, MAX_PACKET_BYTES, MAX_RULES};
 use npf_types::{Link, NoMemory};
 use std::alloc::Global;
-
-/// How many connections there can be at a time.
-const MOST_CONNECTIONS: u32 = 65_536;
 
 /// The outcome of each packet, in order: the packets are numbered from 1.
 pub(crate) fn explain(
     alloc: Global,
     rules: &[Rule],
-    packets: &[Record],
+    captured: &Captured,
 ) -> Result<Vec<Outcome>, NoMemory>
-    requires few { length rules.now ≤ 4096 }
-    requires short { All (λ packet. length packet.bytes ≤ 262144) packets.now }
-    ensures { IfOk result (λ outcomes. AreExplained rules.now packets.now outcomes.items) }
+    requires { length rules.now ≤ MAX_RULES }
+    ensures { IfOk result (λ outcomes. AreExplained rules.now (packets_of captured.now) outcomes.items) }
 {
-    let mut store = Store::new(alloc, MOST_CONNECTIONS);
-    let mut outcomes = Vec::with_capacity(alloc, packets.len())?;
-    for (place, packet) in packets.iter().enumerate() {
-        let outcome = outcome_of(rules, place as u64 + 1, packet, &mut store)?;
+    let mut store = Store::new(alloc, MAX_CONNECTIONS as u32);
+    let capture = captured.bytes.as_slice();
+    let mut outcomes = Vec::with_capacity(alloc, captured.extents.len())?;
+    for (place, extent) in captured.extents.iter().enumerate() {
+        let bytes = extent.bytes_in(capture);
+        let outcome = outcome_of(rules, place as u64 + 1, extent.time, bytes, &mut store)?;
         outcomes.push(outcome)?;
     }
     Ok(outcomes)
@@ -40,20 +40,21 @@ pub(crate) fn explain(
 fn outcome_of(
     rules: &[Rule],
     number: u64,
-    packet: &Record,
+    time: u64,
+    bytes: &[u8],
     store: &mut Store<Flow>,
 ) -> Result<Outcome, NoMemory>
-    requires few { length rules.now ≤ 4096 }
-    requires short { length packet.now.bytes ≤ 262144 }
-    ensures { IfOk result (λ outcome. Arrives rules.now number packet.now store.old store.new outcome) }
+    requires few { length rules.now ≤ MAX_RULES }
+    requires short { length bytes.now ≤ MAX_PACKET_BYTES }
+    ensures { IfOk result (Arrives rules.now number (captured_at time bytes.now) store.old store.new) }
 {
-    match decode(Link::Raw, packet.bytes.as_slice()) {
+    match decode(Link::Raw, bytes) {
         Decoded::Skip => Ok(Outcome::Skip),
         Decoded::Malformed { why, at } => Ok(Outcome::Malformed { why, at }),
         Decoded::Ip(facts) => {
             let packet = Packet {
                 number,
-                time: packet.time,
+                time,
                 facts,
             };
             handle(rules, &packet, store)

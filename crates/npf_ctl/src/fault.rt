@@ -2,6 +2,7 @@ ghost use Rattle.std.specs.Prelude.{◌≡◌};
 
 use npf_pcap::CaptureFault;
 use npf_types::NoMemory;
+use npf_types::limits::{MAX_CAPTURE_BYTES, MAX_TEXT_BYTES};
 
 /// A file that a command reads.
 #[derive(Clone, Copy, Debug, PartialEq, Eq)]
@@ -18,8 +19,8 @@ impl Input {
         ensures { result ≡ most_bytes self }
     {
         match self {
-            Input::Conf => 4_194_304,
-            Input::Capture => 268_435_456,
+            Input::Conf => MAX_TEXT_BYTES as u64,
+            Input::Capture => MAX_CAPTURE_BYTES as u64,
         }
     }
 }

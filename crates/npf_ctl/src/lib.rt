@@ -13,12 +13,14 @@
 #![tactic(auto)]
 
 mod capture;
+mod captured;
 mod class;
 mod config;
 mod connections;
 mod engine;
 mod fault;
 mod input;
+pub mod laws;
 mod lexer;
 mod messages;
 mod outcome;
@@ -35,6 +37,3 @@ mod verdicts;
 mod words;
 
 pub use top::{Status, npfctl_top};
-
-#[cfg(test)]
-mod tests;

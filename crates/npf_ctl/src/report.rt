@@ -1,17 +1,17 @@
-// The lines of a report.
-ghost use Rattle.std.specs.Prelude.{◌≡◌, ◌+◌, ◌<◌, ◌^◌, length, IfOk, count_by, codes, string_bytes};
+// The lines of a report, written behind what a buffer has.
+ghost use Rattle.std.specs.Prelude.{◌≡◌, ◌+◌, ◌<◌, ◌^◌, ◌++◌, [], length, OnOk, IfOk, codes};
 ghost use Rattle.std.specs.Fmt.{decimal};
 ghost use Rattle.npf_types.specs.Name.{name_bytes};
-ghost use Rattle.npf_ctl.specs.ReportText.{line_text, total_text, outcome_text, conn_text, kept_text, rule_text, decision_text, malformed_text, return_text, dir_text, passed_text, refused_text, is_passed, is_blocked, is_skipped, is_malformed};
+ghost use Rattle.npf_ctl.specs.ReportText.{line_text, total_text, outcome_text, conn_text, kept_text, rule_text, decision_text, malformed_text, return_text, dir_text, CountsOutcomes, AddsOutcome, HasRoom, is_passed, is_blocked, is_skipped, is_malformed};
 
 use crate::outcome::{Outcome, Unkept};
+use itoa::Buffer;
 use npf_core::ConnId;
 use npf_packet::BadPacket;
 use npf_types::{Decision, Dir, Name, NoMemory, Return};
-use std::alloc::{AllocError, Global};
+use std::alloc::Global;
 
 /// The line of the packet of this number, with its line feed.
-#[tactic(auto, unfolding(crate::specs::ReportText::line_text))]
 pub(crate) fn line(
     alloc: Global,
     n: u64,
@@ -21,13 +21,56 @@ pub(crate) fn line(
 ) -> Result<Vec<u8>, NoMemory>
     ensures { IfOk result (λ line. line.items ≡ line_text n (name_bytes name) dir outcome.now) }
 {
-    let text = outcome_text(alloc, outcome)?;
-    let mut line = format!(in alloc; "{n} ")?.into_bytes();
-    line.extend_from_slice(name.as_bytes())?;
-    line.extend_from_slice(dir_text(dir).as_bytes())?;
-    line.extend_from_slice(text.as_bytes())?;
-    line.push(b'\n')?;
+    let mut line = Vec::new(alloc);
+    write_line(&mut line, n, name, dir, outcome)?;
     Ok(line)
+}
+
+/// Appends the line of the packet of this number, with its line feed.
+#[tactic(auto, unfolding(crate::specs::ReportText::line_text))]
+pub(crate) fn write_line(
+    into: &mut Vec<u8>,
+    n: u64,
+    name: Name,
+    dir: Dir,
+    outcome: &Outcome,
+) -> Result<(), NoMemory>
+    ensures { OnOk result (into.new.items ≡ into.old.items ++ line_text n (name_bytes name) dir outcome.now) }
+{
+    write_number(into, n)?;
+    into.push(b' ')?;
+    into.extend_from_slice(name.as_bytes())?;
+    write_text(into, dir_text(dir))?;
+    write_outcome(into, outcome)?;
+    into.push(b'\n')?;
+    Ok(())
+}
+
+fn write_text(into: &mut Vec<u8>, text: &str) -> Result<(), NoMemory>
+    ensures { OnOk result (into.new.items ≡ into.old.items ++ text.now) }
+{
+    into.extend_from_slice(text.as_bytes())?;
+    Ok(())
+}
+
+fn write_number(into: &mut Vec<u8>, number: u64) -> Result<(), NoMemory>
+    ensures { OnOk result (into.new.items ≡ into.old.items ++ decimal number) }
+{
+    if number < 10 {
+        into.push(b'0' + number as u8)?;
+        return Ok(());
+    }
+    let mut digits = Buffer::new();
+    into.extend_from_slice(digits.format(number).as_bytes())?;
+    Ok(())
+}
+
+/// Appends a text and then a number.
+fn write_counted(into: &mut Vec<u8>, text: &str, number: u64) -> Result<(), NoMemory>
+    ensures { OnOk result (into.new.items ≡ into.old.items ++ (text.now ++ decimal number)) }
+{
+    write_text(into, text)?;
+    write_number(into, number)
 }
 
 fn dir_text(dir: Dir) -> &'static str
@@ -39,18 +82,18 @@ fn dir_text(dir: Dir) -> &'static str
     }
 }
 
-fn outcome_text(alloc: Global, outcome: &Outcome) -> Result<String, AllocError>
-    ensures { IfOk result (λ text. string_bytes text ≡ outcome_text outcome.now) }
+fn write_outcome(into: &mut Vec<u8>, outcome: &Outcome) -> Result<(), NoMemory>
+    ensures { OnOk result (into.new.items ≡ into.old.items ++ outcome_text outcome.now) }
 {
     match outcome {
-        Outcome::Skip => String::from_str(alloc, "skip"),
-        Outcome::Malformed { why, at } => malformed_text(alloc, *why, *at),
+        Outcome::Skip => write_text(into, "skip"),
+        Outcome::Malformed { why, at } => write_malformed(into, *why, *at),
         Outcome::ByConn {
             opener,
             place,
             pass,
             ..
-        } => conn_text(alloc, *opener, *place, *pass),
+        } => write_conn(into, *opener, *place, *pass),
         Outcome::ByRule {
             config,
             rule,
@@ -58,21 +101,28 @@ fn outcome_text(alloc: Global, outcome: &Outcome) -> Result<String, AllocError>
             opened,
             unkept,
         } => {
-            let mut text = rule_text(alloc, *config, *rule, *decision)?;
-            text.push_str(kept_text(*opened, *unkept))?;
-            Ok(text)
+            write_rule(into, *config, *rule, *decision)?;
+            write_text(into, kept_text(*opened, *unkept))
         }
     }
 }
 
-fn conn_text(alloc: Global, opener: u64, place: u64, pass: bool) -> Result<String, AllocError>
-    ensures { IfOk result (λ text. string_bytes text ≡ conn_text opener place pass) }
+fn write_conn(into: &mut Vec<u8>, opener: u64, place: u64, pass: bool) -> Result<(), NoMemory>
+    ensures { OnOk result (into.new.items ≡ into.old.items ++ conn_text opener place pass) }
 {
     if pass {
-        format!(in alloc; "pass conn {opener} step {place}")
-    } else {
-        format!(in alloc; "block conn {opener} step {place} state")
+        return write_step(into, "pass conn ", opener, place);
     }
+    write_step(into, "block conn ", opener, place)?;
+    write_text(into, " state")
+}
+
+fn write_step(into: &mut Vec<u8>, text: &str, opener: u64, place: u64) -> Result<(), NoMemory>
+    ensures { OnOk result (into.new.items
+        ≡ into.old.items ++ (text.now ++ (decimal opener ++ (codes " step " ++ decimal place)))) }
+{
+    write_counted(into, text, opener)?;
+    write_counted(into, " step ", place)
 }
 
 fn kept_text(opened: Option<ConnId>, unkept: Unkept) -> &'static str
@@ -89,44 +139,56 @@ fn kept_text(opened: Option<ConnId>, unkept: Unkept) -> &'static str
     }
 }
 
-fn malformed_text(alloc: Global, why: BadPacket, at: u32) -> Result<String, AllocError>
-    ensures { IfOk result (λ text. string_bytes text ≡ malformed_text why at) }
+fn write_malformed(into: &mut Vec<u8>, why: BadPacket, at: u32) -> Result<(), NoMemory>
+    ensures { OnOk result (into.new.items ≡ into.old.items ++ malformed_text why at) }
 {
     match why {
-        BadPacket::Cut => format!(in alloc; "malformed cut {at}"),
-        BadPacket::Bad => format!(in alloc; "malformed bad {at}"),
+        BadPacket::Cut => write_counted(into, "malformed cut ", u64::from(at)),
+        BadPacket::Bad => write_counted(into, "malformed bad ", u64::from(at)),
     }
 }
 
-fn rule_text(
-    alloc: Global,
+fn write_rule(
+    into: &mut Vec<u8>,
     config: u64,
     rule: Option<u32>,
     decision: Decision,
-) -> Result<String, AllocError>
-    ensures { IfOk result (λ text. string_bytes text ≡ rule_text config rule decision) }
+) -> Result<(), NoMemory>
+    ensures { OnOk result (into.new.items ≡ into.old.items ++ rule_text config rule decision) }
 {
     match rule {
-        None => format!(in alloc; "block config {config} none"),
-        Some(place) => decision_text(alloc, config, u64::from(place) + 1, decision),
+        None => {
+            write_counted(into, "block config ", config)?;
+            write_text(into, " none")
+        }
+        Some(place) => write_decision(into, config, u64::from(place) + 1, decision),
     }
 }
 
-fn decision_text(
-    alloc: Global,
+fn write_decision(
+    into: &mut Vec<u8>,
     config: u64,
     rule: u64,
     decision: Decision,
-) -> Result<String, AllocError>
-    ensures { IfOk result (λ text. string_bytes text ≡ decision_text config rule decision) }
+) -> Result<(), NoMemory>
+    ensures { OnOk result (into.new.items ≡ into.old.items ++ decision_text config rule decision) }
 {
     match decision {
-        Decision::Pass => format!(in alloc; "pass config {config} rule {rule}"),
+        Decision::Pass => write_by_rule(into, "pass config ", config, rule),
         Decision::Block(answer) => {
-            let answer = return_text(answer);
-            format!(in alloc; "block config {config} rule {rule}{answer}")
+            write_by_rule(into, "block config ", config, rule)?;
+            write_text(into, return_text(answer))?;
+            Ok(())
         }
     }
+}
+
+fn write_by_rule(into: &mut Vec<u8>, text: &str, config: u64, rule: u64) -> Result<(), NoMemory>
+    ensures { OnOk result (into.new.items
+        ≡ into.old.items ++ (text.now ++ (decimal config ++ (codes " rule " ++ decimal rule)))) }
+{
+    write_counted(into, text, config)?;
+    write_counted(into, " rule ", rule)
 }
 
 fn return_text(answer: Return) -> &'static str
@@ -140,68 +202,56 @@ fn return_text(answer: Return) -> &'static str
     }
 }
 
-/// The last line: how many packets there were, and how many had each outcome.
-#[tactic(auto, unfolding(crate::specs::ReportText::total_text))]
-pub(crate) fn total(alloc: Global, outcomes: &[Outcome]) -> Result<Vec<u8>, NoMemory>
-    ensures { IfOk result (λ line. line.items ≡ total_text outcomes.now) }
+/// Appends the last line: how many packets there were, and how many had each outcome.
+pub(crate) fn write_total(
+    into: &mut Vec<u8>,
+    outcomes: &[Outcome],
+    counts: Counts,
+) -> Result<(), NoMemory>
+    requires { CountsOutcomes outcomes.now counts }
+    ensures { OnOk result (into.new.items ≡ into.old.items ++ total_text outcomes.now) }
 {
-    let mut line = passed_text(alloc, outcomes)?;
-    let rest = refused_text(alloc, outcomes)?;
-    line.push_str(rest.as_str())?;
-    Ok(line.into_bytes())
+    write_counted(into, "packets ", outcomes.len() as u64)?;
+    write_counted(into, " pass ", counts.passed)?;
+    write_counted(into, " block ", counts.blocked)?;
+    write_counted(into, " drop 0 skip ", counts.skipped)?;
+    write_counted(into, " malformed ", counts.malformed)?;
+    into.push(b'\n')?;
+    Ok(())
 }
 
-fn passed_text(alloc: Global, outcomes: &[Outcome]) -> Result<String, AllocError>
-    ensures { IfOk result (λ text. string_bytes text ≡ passed_text outcomes.now) }
-{
-    let packets = outcomes.len();
-    let passed = passed(outcomes);
-    let blocked = blocked(outcomes);
-    format!(in alloc; "packets {packets} pass {passed} block {blocked}")
+/// How many packets had each outcome.
+#[derive(Clone, Copy)]
+pub(crate) struct Counts {
+    passed: u64,
+    blocked: u64,
+    skipped: u64,
+    malformed: u64,
 }
 
-fn refused_text(alloc: Global, outcomes: &[Outcome]) -> Result<String, AllocError>
-    ensures { IfOk result (λ text. string_bytes text ≡ refused_text outcomes.now) }
-{
-    let skipped = skipped(outcomes);
-    let malformed = malformed(outcomes);
-    format!(in alloc; " drop 0 skip {skipped} malformed {malformed}\n")
-}
+impl Counts {
+    /// Of no packets.
+    pub(crate) fn new() -> Counts
+        ensures { CountsOutcomes [] result }
+    {
+        Counts {
+            passed: 0,
+            blocked: 0,
+            skipped: 0,
+            malformed: 0,
+        }
+    }
 
-fn passed(outcomes: &[Outcome]) -> usize
-    ensures { result ≡ count_by is_passed outcomes.now }
-{
-    outcomes
-        .iter()
-        .filter(|outcome| is_passed(**outcome))
-        .count()
-}
-
-fn blocked(outcomes: &[Outcome]) -> usize
-    ensures { result ≡ count_by is_blocked outcomes.now }
-{
-    outcomes
-        .iter()
-        .filter(|outcome| is_blocked(**outcome))
-        .count()
-}
-
-fn skipped(outcomes: &[Outcome]) -> usize
-    ensures { result ≡ count_by is_skipped outcomes.now }
-{
-    outcomes
-        .iter()
-        .filter(|outcome| is_skipped(**outcome))
-        .count()
-}
-
-fn malformed(outcomes: &[Outcome]) -> usize
-    ensures { result ≡ count_by is_malformed outcomes.now }
-{
-    outcomes
-        .iter()
-        .filter(|outcome| is_malformed(**outcome))
-        .count()
+    /// Counts one packet more.
+    pub(crate) fn add(&mut self, outcome: &Outcome)
+        requires { HasRoom self.old }
+        ensures { AddsOutcome outcome.now self.old self.new }
+    {
+        self.passed += u64::from(is_passed(*outcome));
+        self.blocked += u64::from(is_blocked(*outcome));
+        self.skipped += u64::from(is_skipped(*outcome));
+        self.malformed += u64::from(is_malformed(*outcome));
+    }
 }
 
 fn is_passed(outcome: Outcome) -> bool

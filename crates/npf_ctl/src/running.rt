@@ -1,6 +1,6 @@
 // A run of one configuration over one capture.
-ghost use Rattle.std.specs.Prelude.{OnOk, IfErr};
-ghost use Rattle.npf_outside.specs.Tree.{SameFiles};
+ghost use Rattle.std.specs.Prelude.{◌≡◌, OnOk, IfErr};
+ghost use Rattle.npf_outside.specs.Files.{SameFiles};
 ghost use Rattle.npf_ctl.specs.Run.{outside, PutsReport, HasFault};
 
 use crate::engine::explain;
@@ -10,7 +10,7 @@ use crate::output::put_report;
 use npf_outside::{Files, Sink};
 use std::alloc::Global;
 
-/// Reads the configuration and then the capture, and puts the report. An error is the first fault met.
+/// Reads the configuration and then the capture, and puts the report and flushes it. An error is the first fault met.
 pub(crate) fn run<F: Files, O: Sink>(
     alloc: Global,
     conf: &str,
@@ -18,15 +18,19 @@ pub(crate) fn run<F: Files, O: Sink>(
     files: &mut F,
     out: &mut O,
 ) -> Result<(), Fault>
-    ensures done { OnOk result (PutsReport (F.contents files.old) conf.now capture.now (O.held out.old) (O.held out.new)) }
+    ensures done { OnOk result (PutsReport (F.moment files.old).contents conf.now capture.now
+        (O.moment out.old).held (O.moment out.new).held) }
+    ensures flushed { OnOk result ((O.moment out.new).waiting ≡ 0) }
     ensures fault { IfErr result (HasFault
-        (outside (F.contents files.old) (F.read_faults files.old) (F.taken files.old) (O.faults out.old) (O.held out.old))
-        (outside (F.contents files.new) (F.read_faults files.new) (F.taken files.new) (O.faults out.new) (O.held out.new))
+        (outside (F.moment files.old) (O.moment out.old)) (outside (F.moment files.new) (O.moment out.new))
         conf.now capture.now) }
-    ensures files { SameFiles (F.contents files.old) (F.contents files.new) }
+    ensures files { SameFiles (F.moment files.old).contents (F.moment files.new).contents }
 {
     let rules = load(alloc, conf, files)?;
     let packets = read_packets(alloc, capture, files)?;
-    let outcomes = explain(alloc, rules.as_slice(), packets.as_slice())?;
-    put_report(alloc, outcomes.as_slice(), out)
+    let outcomes = explain(alloc, rules.as_slice(), &packets)?;
+    match put_report(alloc, outcomes.as_slice(), out) {
+        Ok(()) => Ok(()),
+        Err(fault) => Err(fault),
+    }
 }

@@ -3,11 +3,12 @@ ghost use Rattle.std.specs.Prelude.{◌≡◌, ◌<◌, ◌≤◌, length, IfSom
 ghost use Rattle.npf_ctl.specs.Verdict.{verdict, describes, has_proto, lies_in};
 
 use crate::rule::Rule;
+use npf_types::limits::MAX_RULES;
 use npf_types::{Addr, Facts, Prefix};
 
 /// The place, from 0, of the rule that decides on the packet; None where no rule describes it.
 pub(crate) fn verdict(rules: &[Rule], facts: &Facts) -> Option<u32>
-    requires { length rules.now ≤ 4096 }
+    requires { length rules.now ≤ MAX_RULES }
     ensures verdict { result ≡ verdict 0 rules.now facts.now }
     ensures within { IfSome result (λ place. place < length rules.now) }
 {

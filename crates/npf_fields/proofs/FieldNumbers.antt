@@ -2,13 +2,13 @@ use Rattle.std.proofs.Common.{ℕ, ◌≡◌, ◌<◌, ◌≤◌, ◌+◌, ◌-�
 use Rattle.std.proofs.lemmas.List.{get_or-drop}
 use Rattle.byteorder.specs.Endian.{big_number, big_bytes}
 use Rattle.byteorder.specs.Numbers.{big_number-reads_back}
-use Rattle.npf_fields.specs.Fields.{number16, number32, number64, number128}
+use Rattle.npf_fields.specs.Field.{number16, number32, number64, number128}
 use Rattle.npf_fields.proofs.FieldBytes.{drop-put}
 use borrow.Rule.Slice.PartMut.{put_mid}
 
 -- a number at a place k of what lies behind `at` stands at the place p of all bytes
 module _ (bytes : List ℕ) (at : ℕ) where
-  byte-drop : (k p : ℕ) → p ≡ at + k → get_or (drop at bytes) k 0 ≡ get_or bytes p 0
+  pub byte-drop : (k p : ℕ) → p ≡ at + k → get_or (drop at bytes) k 0 ≡ get_or bytes p 0
   byte-drop k p e = get_or-drop at bytes k 0 ∙ ap (λ (i : ℕ). get_or bytes i 0) (sym e)
 
   number16-drop : (k p : ℕ) → p ≡ at + k → number16 (drop at bytes) k ≡ number16 bytes p

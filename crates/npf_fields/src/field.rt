@@ -1,5 +1,5 @@
 ghost use Rattle.std.specs.Prelude.{◌≡◌, ◌+◌, ◌≤◌, length};
-ghost use Rattle.npf_fields.specs.Fields.{number16, number32, number128};
+ghost use Rattle.npf_fields.specs.Field.{number16, number32, number128};
 ghost use Rattle.std.specs.List.{SameBelow, SameFrom};
 
 use byteorder::{BigEndian, ByteOrder};

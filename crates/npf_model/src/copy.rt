@@ -146,6 +146,7 @@ impl Duplicate for TableDecl {
             name: self.name,
             kind: self.kind,
             file: self.file.duplicate(alloc)?,
+            file_span: self.file_span,
             span: self.span,
         })
     }

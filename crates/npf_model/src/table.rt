@@ -11,12 +11,13 @@ pub enum Kind {
     Const,
 }
 
-/// A table as it is declared: its name and kind, the file of its first entries where it has one, and where the
-/// declaration stands. Rules name a table by its place in the model's list, counted from 0.
+/// A table as it is declared: its name and kind, the file of its first entries and where its name stands where it has one,
+/// and where the declaration stands. Rules name a table by its place in the model's list, counted from 0.
 #[derive(Debug, Drop)]
 pub struct TableDecl {
     pub name: Name,
     pub kind: Kind,
     pub file: Option<Text>,
+    pub file_span: Option<Span>,
     pub span: Span,
 }

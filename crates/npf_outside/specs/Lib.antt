@@ -1,5 +1,7 @@
 pub mod Counts
-pub mod Tree
-pub mod Put
+pub mod Files
+pub mod Sink
+pub mod Calls
 pub mod MemFiles
 pub mod MemSink
+pub mod StdoutSink

@@ -1,6 +1,6 @@
-ghost use Rattle.std.specs.Prelude.{◌≡◌, ℕ, ◌≤◌, List, Option, length, IfOk, OnOk, OnErr, IsErrOf};
-ghost use Rattle.npf_outside.specs.Counts.{Rose};
-ghost use Rattle.npf_outside.specs.Tree.{Tree, Has, IsLonger, SameFiles, SameOthers};
+ghost use Rattle.std.specs.Prelude.{◌≡◌, ℕ, ◌≤◌, List, length, IfOk, OnOk, IsErrOf};
+ghost use Rattle.npf_outside.specs.Counts.{Rose, count_after};
+ghost use Rattle.npf_outside.specs.Files.{FilesMoment, Has, IsLonger, SameFiles, SameOthers, SameReadFaults};
 
 use std::alloc::Global;
 
@@ -14,37 +14,42 @@ pub enum FileFault {
     NoMemory,
 }
 
-/// Files by name, read and written whole. `contents` are what the object tells of them, if it tells anything;
-/// `read_faults` and `write_faults` count its failures, and `taken` the bytes that reads took.
+/// Files by name, read and written whole. `moment` is what the object shows: the contents, if it tells them, the counts of its
+/// failures, and the bytes that reads took. No count falls.
 pub trait Files {
-    ghost contents: { Self → Option Tree };
-
-    ghost read_faults: { Self → ℕ };
-
-    ghost write_faults: { Self → ℕ };
-
-    ghost taken: { Self → ℕ };
+    ghost moment: { Self → FilesMoment };
 
     /// The whole file, of at most `most` bytes.
     fn read(&mut self, alloc: Global, name: &str, most: u64) -> Result<Vec<u8>, FileFault>
-        ensures whole { IfOk result (λ v. Has (contents self.old) name.now v.items) }
-        ensures fits { IfOk result (λ v. length v.items ≤ most) }
-        ensures long { IsErrOf result FileFault.Long
-            → IsLonger (contents self.old) name.now most (taken self.old) (taken self.new) }
-        ensures failed { IsErrOf result FileFault.Failed → Rose (read_faults self.old) (read_faults self.new) }
-        ensures reads { read_faults self.old ≤ read_faults self.new }
-        ensures writes { write_faults self.new ≡ write_faults self.old }
-        ensures taken { taken self.old ≤ taken self.new }
-        ensures same { SameFiles (contents self.old) (contents self.new) };
+        ensures whole { IfOk result (λ bytes. Has (moment self.old).contents name.now bytes.items) }
+        ensures fits { IfOk result (λ bytes. length bytes.items ≤ most) }
+        ensures took { IfOk result (λ bytes. (moment self.new).taken
+            ≡ count_after (moment self.old).taken (length bytes.items)) }
+        ensures faultless { OnOk result (SameReadFaults (moment self.old) (moment self.new)) }
+        ensures long { IsErrOf result FileFault.Long → IsLonger (moment self.old).contents name.now
+            most (moment self.old).taken (moment self.new).taken }
+        ensures failed { IsErrOf result FileFault.Failed
+            → Rose (moment self.old).read_faults (moment self.new).read_faults }
+        ensures failed_of { IsErrOf result FileFault.Failed → Rose
+            ((moment self.old).read_faults_of name.now) ((moment self.new).read_faults_of name.now) }
+        ensures reads { (moment self.old).read_faults ≤ (moment self.new).read_faults }
+        ensures reads_of { (other : List ℕ) →
+            (moment self.old).read_faults_of other ≤ (moment self.new).read_faults_of other }
+        ensures writes { (moment self.new).write_faults ≡ (moment self.old).write_faults }
+        ensures taken { (moment self.old).taken ≤ (moment self.new).taken }
+        ensures same { SameFiles (moment self.old).contents (moment self.new).contents };
 
     /// Replaces the file's contents. After `Failed` they are unknown, and all other files are as before; `Long` never comes.
     fn write(&mut self, name: &str, bytes: &[u8]) -> Result<(), FileFault>
-        ensures whole { OnOk result (Has (contents self.new) name.now bytes.now) }
+        ensures whole { OnOk result (Has (moment self.new).contents name.now bytes.now) }
+        ensures faultless { OnOk result ((moment self.new).write_faults ≡ (moment self.old).write_faults) }
         ensures short { IsErrOf result FileFault.Long → ⊥ }
-        ensures failed { IsErrOf result FileFault.Failed → Rose (write_faults self.old) (write_faults self.new) }
-        ensures memory { IsErrOf result FileFault.NoMemory → SameFiles (contents self.old) (contents self.new) }
-        ensures others { SameOthers (contents self.old) (contents self.new) name.now }
-        ensures writes { write_faults self.old ≤ write_faults self.new }
-        ensures reads { read_faults self.new ≡ read_faults self.old }
-        ensures taken { taken self.new ≡ taken self.old };
+        ensures failed { IsErrOf result FileFault.Failed
+            → Rose (moment self.old).write_faults (moment self.new).write_faults }
+        ensures memory { IsErrOf result FileFault.NoMemory
+            → SameFiles (moment self.old).contents (moment self.new).contents }
+        ensures others { SameOthers (moment self.old).contents (moment self.new).contents name.now }
+        ensures writes { (moment self.old).write_faults ≤ (moment self.new).write_faults }
+        ensures reads { SameReadFaults (moment self.old) (moment self.new) }
+        ensures taken { (moment self.new).taken ≡ (moment self.old).taken };
 }

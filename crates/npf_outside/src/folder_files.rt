@@ -1,12 +1,13 @@
-ghost use Rattle.std.specs.Prelude.{ℕ, List, Option, None, ◌≡◌, ◌≢◌};
-ghost use Rattle.npf_outside.specs.Tree.{Tree};
+ghost use Rattle.std.specs.Prelude.{◌≡◌, ◌≢◌, None};
 
 use crate::files::{FileFault, Files};
 use std::alloc::Global;
+use std::fs::{self, OpenFile};
 use std::io::{Error, ErrorKind, Read, Result as IoResult};
-use std::{fs, rt};
+use std::rt;
 
-/// The files of the system, by paths from the current folder. It tells no contents.
+/// The files of the system, by paths from the current folder. It tells no contents, and counts the reads that failed for
+/// all names together.
 #[derive(Drop)]
 pub struct FolderFiles<'a, R: rt::Files> {
     rt: &'a R,
@@ -32,13 +33,13 @@ impl<'a, R: rt::Files> FolderFiles<'a, R> {
 }
 
 impl<'a, R: rt::Files> Files for FolderFiles<'a, R> {
-    ghost contents = { λ _. None };
-
-    ghost read_faults = { λ files. files.read_faults };
-
-    ghost write_faults = { λ files. files.write_faults };
-
-    ghost taken = { λ files. files.taken };
+    ghost moment = { λ files. record {
+      contents = None;
+      read_faults = files.read_faults;
+      read_faults_of = λ _. files.read_faults;
+      write_faults = files.write_faults;
+      taken = files.taken;
+    } };
 
     fn read(&mut self, alloc: Global, name: &str, most: u64) -> Result<Vec<u8>, FileFault> {
         let mut bytes = Vec::new(alloc);
@@ -67,10 +68,13 @@ impl<'a, R: rt::Files> Files for FolderFiles<'a, R> {
     }
 }
 
-/// Appends the file's bytes, of which it takes at most one more than `most`.
+/// Appends the file's bytes, of which it takes at most one more than `most`. The room for them is made at once.
 fn append_file<R: rt::Files>(rt: &R, name: &str, most: u64, bytes: &mut Vec<u8>) -> IoResult<()> {
     let file = fs::open(rt, name)?;
-    file.take(most.saturating_add(1)).read_to_end(bytes)?;
+    let most = most.saturating_add(1);
+    let size = file.metadata()?.len().min(most);
+    bytes.reserve_exact(size.saturating_add(1) as usize)?;
+    file.take(most).read_to_end(bytes)?;
     Ok(())
 }
 

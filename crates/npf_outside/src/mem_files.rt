@@ -1,7 +1,9 @@
-ghost use Rattle.std.specs.Prelude.{◌≡◌, ◌↔◌, ◌⊎◌, ◌++◌, [], ◌∷◌, ℕ, ◌≤◌, List, Option, Some, None, length, IsTrue, IfOk, OnOk, OnErr, IsErrOf, Contains};
+ghost use Rattle.std.specs.Prelude.{◌≡◌, ◌↔◌, ◌⊎◌, ◌++◌, [], ◌∷◌, ℕ, ◌<◌, ◌≤◌, ◌≢◌, List, Some, None, length, IfOk, OnOk, OnErr, IsErrOf, Contains};
+ghost use Rattle.npf_outside.specs.Calls.{planned, next_call};
 ghost use Rattle.npf_outside.specs.Counts.{Rose, count_after};
-ghost use Rattle.npf_outside.specs.Tree.{Tree, Has, IsLonger, SameFiles, SameOthers};
+ghost use Rattle.npf_outside.specs.Files.{Has, IsLonger, SameFiles, SameOthers, SameReadFaults};
 
+use crate::calls::Calls;
 use crate::files::{FileFault, Files};
 use npf_types::NoMemory;
 use std::alloc::Global;
@@ -13,26 +15,25 @@ use std::collections::BTreeMap;
 pub struct MemFiles {
     alloc: Global,
     files: BTreeMap<String, Vec<u8>>,
-    failing: Vec<u64>,
-    calls: u64,
-    read_faults: u64,
+    calls: Calls,
+    /// The name of each read that failed.
+    unread: Vec<String>,
     write_faults: u64,
     taken: u64,
 }
 
 impl MemFiles {
-    ghost use Rattle.npf_outside.specs.MemFiles.{tree_of, planned, next_call, FailsRead, IsFresh, SameCounts, SamePlan};
+    ghost use Rattle.npf_outside.specs.MemFiles.{tree_of, unread_names, times, IsNewFiles, SameCounts};
 
     /// No files, no faults and no calls that are to fail.
     pub fn new(alloc: Global) -> Result<MemFiles, NoMemory>
-        ensures { IfOk result IsFresh }
+        ensures { IfOk result IsNewFiles }
     {
         Ok(MemFiles {
             alloc,
             files: BTreeMap::new(alloc),
-            failing: Vec::new(alloc),
-            calls: 0,
-            read_faults: 0,
+            calls: Calls::new(alloc),
+            unread: Vec::new(alloc),
             write_faults: 0,
             taken: 0,
         })
@@ -44,7 +45,7 @@ impl MemFiles {
         ensures others { SameOthers (Some (tree_of self.old)) (Some (tree_of self.new)) name.now }
         ensures err { OnErr result (SameFiles (Some (tree_of self.old)) (Some (tree_of self.new))) }
         ensures counts { SameCounts self.old self.new }
-        ensures plan { SamePlan self.old self.new }
+        ensures plan { planned self.new.calls ≡ planned self.old.calls }
     {
         let name = String::from_str(self.alloc, name)?;
         let bytes = Vec::from_slice(self.alloc, bytes)?;
@@ -54,86 +55,89 @@ impl MemFiles {
 
     /// Makes the call of this number fail.
     pub fn fail(&mut self, call: u64) -> Result<(), NoMemory>
-        ensures planned { OnOk result (planned self.new ≡ planned self.old ++ call ∷ []) }
-        ensures err { OnErr result (planned self.new ≡ planned self.old) }
+        ensures planned { OnOk result (planned self.new.calls ≡ planned self.old.calls ++ call ∷ []) }
+        ensures err { OnErr result (planned self.new.calls ≡ planned self.old.calls) }
         ensures files { SameFiles (Some (tree_of self.old)) (Some (tree_of self.new)) }
         ensures counts { SameCounts self.old self.new }
     {
-        self.failing.push(call)?;
-        Ok(())
+        self.calls.plan(call)
     }
 
-    /// Counts a call, and tells whether it is to fail.
-    fn begin_call(&mut self) -> bool
-        ensures fails { IsTrue result ↔ Contains (planned self.old) (next_call self.old) }
-        ensures others { self.new ≡ record self.old { calls = next_call self.old } }
+    /// Notes that a read of this name failed.
+    fn note_unread(&mut self, name: &str) -> Result<(), NoMemory>
+        ensures noted { OnOk result (unread_names self.new ≡ unread_names self.old ++ name.now ∷ []) }
+        ensures rose { OnOk result
+            (Rose (times (unread_names self.old) name.now) (times (unread_names self.new) name.now)) }
+        ensures err { OnErr result (unread_names self.new ≡ unread_names self.old) }
+        ensures others { self.new ≡ record self.old { unread = self.new.unread } }
     {
-        self.calls = self.calls.saturating_add(1);
-        self.failing.contains(&self.calls)
+        let name = String::from_str(self.alloc, name)?;
+        self.unread.push(name)?;
+        Ok(())
     }
 }
 
 impl Files for MemFiles {
-    ghost use Rattle.npf_outside.specs.MemFiles.{tree_of, planned, next_call, FailsRead};
+    ghost use Rattle.npf_outside.specs.MemFiles.{tree_of, unread_names, times, files_moment, FailsRead};
 
-    ghost contents = { λ files. Some (tree_of files) };
-
-    ghost read_faults = { λ files. files.read_faults };
-
-    ghost write_faults = { λ files. files.write_faults };
-
-    ghost taken = { λ files. files.taken };
+    ghost moment = { files_moment };
 
     fn read(&mut self, alloc: Global, name: &str, most: u64) -> Result<Vec<u8>, FileFault>
-        ensures whole { IfOk result (λ v. Has (Some (tree_of self.old)) name.now v.items) }
-        ensures fits { IfOk result (λ v. length v.items ≤ most) }
+        ensures whole { IfOk result (λ bytes. Has (Some (tree_of self.old)) name.now bytes.items) }
+        ensures fits { IfOk result (λ bytes. length bytes.items ≤ most) }
+        ensures took { IfOk result (λ bytes. self.new.taken ≡ count_after self.old.taken (length bytes.items)) }
+        ensures faultless { OnOk result (SameReadFaults (files_moment self.old) (files_moment self.new)) }
         ensures long { IsErrOf result FileFault.Long
-            → IsLonger (Some (tree_of self.old)) name.now most (self.old.taken) (self.new.taken) }
-        ensures failed { IsErrOf result FileFault.Failed → Rose (self.old.read_faults) (self.new.read_faults) }
-        ensures reads { self.old.read_faults ≤ self.new.read_faults }
+            → IsLonger (Some (tree_of self.old)) name.now most self.old.taken self.new.taken }
+        ensures failed { IsErrOf result FileFault.Failed
+            → Rose (length (unread_names self.old)) (length (unread_names self.new)) }
+        ensures failed_of { IsErrOf result FileFault.Failed
+            → Rose (times (unread_names self.old) name.now) (times (unread_names self.new) name.now) }
+        ensures reads { length (unread_names self.old) ≤ length (unread_names self.new) }
+        ensures reads_of { (other : List ℕ)
+            → times (unread_names self.old) other ≤ times (unread_names self.new) other }
         ensures writes { self.new.write_faults ≡ self.old.write_faults }
         ensures taken { self.old.taken ≤ self.new.taken }
         ensures same { SameFiles (Some (tree_of self.old)) (Some (tree_of self.new)) }
-        ensures listed { Contains (planned self.old) (next_call self.old) → IsErrOf result FileFault.Failed }
-        ensures missing { tree_of self.old name.now ≡ None → IsErrOf result FileFault.Failed }
+        ensures noted { IsErrOf result FileFault.Failed
+            → unread_names self.new ≡ unread_names self.old ++ name.now ∷ [] }
+        ensures unnoted { (IsErrOf result FileFault.Failed → ⊥) → unread_names self.new ≡ unread_names self.old }
+        ensures refuses { FailsRead self.old name.now
+            → IsErrOf result FileFault.Failed ⊎ IsErrOf result FileFault.NoMemory }
         ensures only { IsErrOf result FileFault.Failed → FailsRead self.old name.now }
-        ensures plan { planned self.new ≡ planned self.old }
-        ensures calls { self.new.calls ≡ next_call self.old }
+        ensures plan { planned self.new.calls ≡ planned self.old.calls }
+        ensures calls { self.new.calls.made ≡ next_call self.old.calls }
     {
-        let failing = self.begin_call();
-        let Some(bytes) = self.files.get(name) else {
-            self.read_faults = self.read_faults.saturating_add(1);
-            return Err(FileFault::Failed);
-        };
-        if failing {
-            self.read_faults = self.read_faults.saturating_add(1);
-            return Err(FileFault::Failed);
-        }
-        self.taken = self.taken.saturating_add(bytes.len() as u64);
-        if bytes.len() as u64 > most {
-            return Err(FileFault::Long);
-        }
-        match Vec::from_slice(alloc, bytes) {
-            Ok(copy) => Ok(copy),
-            Err(_) => Err(FileFault::NoMemory),
+        let failing = self.calls.begin();
+        match self.files.get(name) {
+            Some(bytes) if !failing => {
+                self.taken = self.taken.saturating_add(bytes.len() as u64);
+                copy_of(alloc, bytes.as_slice(), most)
+            }
+            _ => match self.note_unread(name) {
+                Ok(()) => Err(FileFault::Failed),
+                Err(NoMemory) => Err(FileFault::NoMemory),
+            },
         }
     }
 
     fn write(&mut self, name: &str, bytes: &[u8]) -> Result<(), FileFault>
         ensures whole { OnOk result (Has (Some (tree_of self.new)) name.now bytes.now) }
+        ensures faultless { OnOk result (self.new.write_faults ≡ self.old.write_faults) }
         ensures short { IsErrOf result FileFault.Long → ⊥ }
-        ensures failed { IsErrOf result FileFault.Failed → Rose (self.old.write_faults) (self.new.write_faults) }
+        ensures failed { IsErrOf result FileFault.Failed → Rose self.old.write_faults self.new.write_faults }
         ensures memory { IsErrOf result FileFault.NoMemory
             → SameFiles (Some (tree_of self.old)) (Some (tree_of self.new)) }
         ensures others { SameOthers (Some (tree_of self.old)) (Some (tree_of self.new)) name.now }
         ensures writes { self.old.write_faults ≤ self.new.write_faults }
-        ensures reads { self.new.read_faults ≡ self.old.read_faults }
+        ensures reads { SameReadFaults (files_moment self.old) (files_moment self.new) }
         ensures taken { self.new.taken ≡ self.old.taken }
-        ensures exactly { IsErrOf result FileFault.Failed ↔ Contains (planned self.old) (next_call self.old) }
-        ensures plan { planned self.new ≡ planned self.old }
-        ensures calls { self.new.calls ≡ next_call self.old }
+        ensures exactly { IsErrOf result FileFault.Failed
+            ↔ Contains (planned self.old.calls) (next_call self.old.calls) }
+        ensures plan { planned self.new.calls ≡ planned self.old.calls }
+        ensures calls { self.new.calls.made ≡ next_call self.old.calls }
     {
-        if self.begin_call() {
+        if self.calls.begin() {
             self.write_faults = self.write_faults.saturating_add(1);
             return Err(FileFault::Failed);
         }
@@ -141,5 +145,21 @@ impl Files for MemFiles {
             Ok(()) => Ok(()),
             Err(NoMemory) => Err(FileFault::NoMemory),
         }
+    }
+}
+
+/// The bytes, of at most `most`.
+fn copy_of(alloc: Global, bytes: &[u8], most: u64) -> Result<Vec<u8>, FileFault>
+    ensures whole { IfOk result (λ copy. copy.items ≡ bytes.now) }
+    ensures fits { OnOk result (length bytes.now ≤ most) }
+    ensures long { IsErrOf result FileFault.Long → most < length bytes.now }
+    ensures failed { IsErrOf result FileFault.Failed → ⊥ }
+{
+    if bytes.len() as u64 > most {
+        return Err(FileFault::Long);
+    }
+    match Vec::from_slice(alloc, bytes) {
+        Ok(copy) => Ok(copy),
+        Err(_) => Err(FileFault::NoMemory),
     }
 }

@@ -1,44 +1,48 @@
-ghost use Rattle.std.specs.Prelude.{◌≡◌, ◌↔◌, ◌++◌, [], ◌∷◌, ℕ, ◌≤◌, List, Option, Some, IfOk, OnOk, OnErr, IsErrOf, Contains};
+ghost use Rattle.std.specs.Prelude.{◌≡◌, ◌↔◌, ◌++◌, [], ◌∷◌, ℕ, ◌≤◌, Some, IfOk, OnOk, OnErr, IsErrOf, Contains};
+ghost use Rattle.npf_outside.specs.Calls.{planned, next_call};
 ghost use Rattle.npf_outside.specs.Counts.{Rose};
-ghost use Rattle.npf_outside.specs.Put.{Appends, AppendsFront};
+ghost use Rattle.npf_outside.specs.Sink.{Appends, AppendsFront};
 
+use crate::calls::Calls;
 use crate::sink::{Sink, SinkFault};
 use npf_types::NoMemory;
 use std::alloc::Global;
 
-/// A sink in memory. Calls are numbered from 1, and those that were named to `fail` do so and put nothing.
+/// A sink in memory. Calls, of puts and flushes together, are numbered from 1, and those that were named to `fail` do so and
+/// put nothing. What was put waits until it is flushed.
 #[derive(Drop)]
 pub struct MemSink {
     bytes: Vec<u8>,
-    failing: Vec<u64>,
-    calls: u64,
+    /// How many of the bytes were flushed.
+    flushed: usize,
+    calls: Calls,
     faults: u64,
 }
 
 impl MemSink {
-    ghost use Rattle.npf_outside.specs.MemSink.{bytes_of, planned, next_call, IsFresh, SameCounts};
+    ghost use Rattle.npf_outside.specs.MemSink.{bytes_of, IsNewSink};
 
     /// Nothing put, no faults and no calls that are to fail.
     pub fn new(alloc: Global) -> Result<MemSink, NoMemory>
-        ensures { IfOk result IsFresh }
+        ensures { IfOk result IsNewSink }
     {
         Ok(MemSink {
             bytes: Vec::new(alloc),
-            failing: Vec::new(alloc),
-            calls: 0,
+            flushed: 0,
+            calls: Calls::new(alloc),
             faults: 0,
         })
     }
 
     /// Makes the call of this number fail.
     pub fn fail(&mut self, call: u64) -> Result<(), NoMemory>
-        ensures planned { OnOk result (planned self.new ≡ planned self.old ++ call ∷ []) }
-        ensures err { OnErr result (planned self.new ≡ planned self.old) }
+        ensures planned { OnOk result (planned self.new.calls ≡ planned self.old.calls ++ call ∷ []) }
+        ensures err { OnErr result (planned self.new.calls ≡ planned self.old.calls) }
         ensures bytes { bytes_of self.new ≡ bytes_of self.old }
-        ensures counts { SameCounts self.old self.new }
+        ensures faults { self.new.faults ≡ self.old.faults }
+        ensures calls { self.new.calls.made ≡ self.old.calls.made }
     {
-        self.failing.push(call)?;
-        Ok(())
+        self.calls.plan(call)
     }
 
     /// What was put.
@@ -50,26 +54,25 @@ impl MemSink {
 }
 
 impl Sink for MemSink {
-    ghost use Rattle.npf_outside.specs.MemSink.{bytes_of, planned, next_call};
+    ghost use Rattle.npf_outside.specs.MemSink.{bytes_of, sink_moment};
 
-    ghost held = { λ sink. Some (bytes_of sink) };
-
-    ghost faults = { λ sink. sink.faults };
+    ghost moment = { sink_moment };
 
     fn put(&mut self, bytes: &[u8]) -> Result<(), SinkFault>
         ensures whole { OnOk result (Appends (Some (bytes_of self.old)) (Some (bytes_of self.new)) bytes.now) }
+        ensures faultless { OnOk result (self.new.faults ≡ self.old.faults) }
         ensures front { AppendsFront (Some (bytes_of self.old)) (Some (bytes_of self.new)) bytes.now }
         ensures memory { IsErrOf result SinkFault.NoMemory
             → Appends (Some (bytes_of self.old)) (Some (bytes_of self.new)) [] }
         ensures failed { IsErrOf result SinkFault.Failed → Rose self.old.faults self.new.faults }
         ensures counted { self.old.faults ≤ self.new.faults }
-        ensures exactly { IsErrOf result SinkFault.Failed ↔ Contains (planned self.old) (next_call self.old) }
+        ensures exactly { IsErrOf result SinkFault.Failed
+            ↔ Contains (planned self.old.calls) (next_call self.old.calls) }
         ensures nothing { OnErr result (bytes_of self.new ≡ bytes_of self.old) }
-        ensures plan { planned self.new ≡ planned self.old }
-        ensures calls { self.new.calls ≡ next_call self.old }
+        ensures plan { planned self.new.calls ≡ planned self.old.calls }
+        ensures calls { self.new.calls.made ≡ next_call self.old.calls }
     {
-        self.calls = self.calls.saturating_add(1);
-        if self.failing.contains(&self.calls) {
+        if self.calls.begin() {
             self.faults = self.faults.saturating_add(1);
             return Err(SinkFault::Failed);
         }
@@ -77,5 +80,25 @@ impl Sink for MemSink {
             Ok(()) => Ok(()),
             Err(_) => Err(SinkFault::NoMemory),
         }
+    }
+
+    fn flush(&mut self) -> Result<(), SinkFault>
+        ensures flushed { OnOk result ((sink_moment self.new).waiting ≡ 0) }
+        ensures faultless { OnOk result (self.new.faults ≡ self.old.faults) }
+        ensures stays { Appends (Some (bytes_of self.old)) (Some (bytes_of self.new)) [] }
+        ensures failed { IsErrOf result SinkFault.Failed → Rose self.old.faults self.new.faults }
+        ensures counted { self.old.faults ≤ self.new.faults }
+        ensures exactly { IsErrOf result SinkFault.Failed
+            ↔ Contains (planned self.old.calls) (next_call self.old.calls) }
+        ensures memory { IsErrOf result SinkFault.NoMemory → ⊥ }
+        ensures plan { planned self.new.calls ≡ planned self.old.calls }
+        ensures calls { self.new.calls.made ≡ next_call self.old.calls }
+    {
+        if self.calls.begin() {
+            self.faults = self.faults.saturating_add(1);
+            return Err(SinkFault::Failed);
+        }
+        self.flushed = self.bytes.len();
+        Ok(())
     }
 }

@@ -1,8 +1,8 @@
-ghost use Rattle.std.specs.Prelude.{ℕ, ◌≤◌, List, [], Option, OnOk, IsErrOf};
+ghost use Rattle.std.specs.Prelude.{◌≡◌, ℕ, ◌≤◌, List, [], OnOk, IsErrOf};
 ghost use Rattle.npf_outside.specs.Counts.{Rose};
-ghost use Rattle.npf_outside.specs.Put.{Appends, AppendsFront};
+ghost use Rattle.npf_outside.specs.Sink.{SinkMoment, Appends, AppendsFront};
 
-/// Why bytes were not put.
+/// Why bytes were not put, or not flushed.
 #[derive(Clone, Copy, Debug, PartialEq, Eq)]
 pub enum SinkFault {
     /// The outside refused: the object's count of faults rose.
@@ -10,18 +10,27 @@ pub enum SinkFault {
     NoMemory,
 }
 
-/// Where bytes are put, one after the other. `held` is what was put so far, where the object tells it, and
-/// `faults` counts its failures.
+/// Where bytes are put, one after the other. `moment` is what the object shows: what was put so far, if it tells it, the count
+/// of its failures, which never falls, and how many of the bytes wait in a buffer of its own.
 pub trait Sink {
-    ghost held: { Self → Option (List ℕ) };
+    ghost moment: { Self → SinkMoment };
 
-    ghost faults: { Self → ℕ };
-
-    /// Appends the bytes. After an error a front of them may have been appended, and after `NoMemory` nothing was.
+    /// Appends the bytes, which may then wait. After an error a front of them may have been appended, and after `NoMemory`
+    /// nothing was.
     fn put(&mut self, bytes: &[u8]) -> Result<(), SinkFault>
-        ensures whole { OnOk result (Appends (held self.old) (held self.new) bytes.now) }
-        ensures front { AppendsFront (held self.old) (held self.new) bytes.now }
-        ensures memory { IsErrOf result SinkFault.NoMemory → Appends (held self.old) (held self.new) [] }
-        ensures failed { IsErrOf result SinkFault.Failed → Rose (faults self.old) (faults self.new) }
-        ensures counted { faults self.old ≤ faults self.new };
+        ensures whole { OnOk result (Appends (moment self.old).held (moment self.new).held bytes.now) }
+        ensures faultless { OnOk result ((moment self.new).faults ≡ (moment self.old).faults) }
+        ensures front { AppendsFront (moment self.old).held (moment self.new).held bytes.now }
+        ensures memory { IsErrOf result SinkFault.NoMemory
+            → Appends (moment self.old).held (moment self.new).held [] }
+        ensures failed { IsErrOf result SinkFault.Failed → Rose (moment self.old).faults (moment self.new).faults }
+        ensures counted { (moment self.old).faults ≤ (moment self.new).faults };
+
+    /// Passes on what waits. After an error some of it may have been passed on.
+    fn flush(&mut self) -> Result<(), SinkFault>
+        ensures flushed { OnOk result ((moment self.new).waiting ≡ 0) }
+        ensures faultless { OnOk result ((moment self.new).faults ≡ (moment self.old).faults) }
+        ensures stays { Appends (moment self.old).held (moment self.new).held [] }
+        ensures failed { IsErrOf result SinkFault.Failed → Rose (moment self.old).faults (moment self.new).faults }
+        ensures counted { (moment self.old).faults ≤ (moment self.new).faults };
 }

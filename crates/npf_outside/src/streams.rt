@@ -1,31 +1,68 @@
-ghost use Rattle.std.specs.Prelude.{◌≡◌, ℕ, List, Option, None};
+ghost use Rattle.std.specs.Prelude.{◌≡◌, None};
 
 use crate::sink::{Sink, SinkFault};
-use std::io::{self, Error, ErrorKind, Stderr, Write};
+use std::io::{self, BufWriter, Error, ErrorKind, Printer, Stderr, Write};
 
-/// Standard output, one or more writes a call and no buffer. It tells nothing of what was put.
+/// How many bytes wait at most before they are written.
+const BUFFER: usize = 65_536;
+
+/// Standard output, behind a buffer that is made at the first put. It tells nothing of what was put.
 #[derive(Drop)]
-pub struct StdoutSink<'a, P: Print> {
+pub struct StdoutSink<'a, P: Print + AllocGlobal> {
     rt: &'a P,
+    writer: Option<BufWriter<Printer<'a, P>>>,
     faults: u64,
 }
 
-impl<'a, P: Print> StdoutSink<'a, P> {
-    /// No faults yet.
+impl<'a, P: Print + AllocGlobal> StdoutSink<'a, P> {
+    ghost use Rattle.npf_outside.specs.StdoutSink.{waiting_of};
+
+    /// No faults yet, and nothing put.
     pub fn new(rt: &'a P) -> StdoutSink<'a, P>
-        ensures { result.faults ≡ 0 }
+        ensures faults { result.faults ≡ 0 }
+        ensures empty { waiting_of result ≡ 0 }
     {
-        StdoutSink { rt, faults: 0 }
+        StdoutSink {
+            rt,
+            writer: None,
+            faults: 0,
+        }
+    }
+
+    /// Puts the bytes into the buffer, and writes what it holds where it is full.
+    fn write(&mut self, bytes: &[u8]) -> io::Result<()>
+        ensures { self.new.faults ≡ self.old.faults }
+    {
+        if let Some(writer) = &mut self.writer {
+            return writer.write_all(bytes);
+        }
+        let mut writer = BufWriter::with_capacity(self.rt.alloc(), BUFFER, io::writer(self.rt))?;
+        let written = writer.write_all(bytes);
+        self.writer = Some(writer);
+        written
     }
 }
 
-impl<'a, P: Print> Sink for StdoutSink<'a, P> {
-    ghost held = { λ _. None };
+impl<'a, P: Print + AllocGlobal> Sink for StdoutSink<'a, P> {
+    ghost use Rattle.npf_outside.specs.StdoutSink.{waiting_of};
 
-    ghost faults = { λ sink. sink.faults };
+    ghost moment = { λ sink. record { held = None; faults = sink.faults; waiting = waiting_of sink } };
 
     fn put(&mut self, bytes: &[u8]) -> Result<(), SinkFault> {
-        match io::writer(self.rt).write_all(bytes) {
+        match self.write(bytes) {
+            Ok(()) => Ok(()),
+            Err(error) => {
+                self.faults = self.faults.saturating_add(1);
+                Err(fault_of(&error))
+            }
+        }
+    }
+
+    fn flush(&mut self) -> Result<(), SinkFault> {
+        let Some(writer) = &mut self.writer else {
+            return Ok(());
+        };
+        match writer.flush() {
             Ok(()) => Ok(()),
             Err(error) => {
                 self.faults = self.faults.saturating_add(1);
@@ -35,7 +72,7 @@ impl<'a, P: Print> Sink for StdoutSink<'a, P> {
     }
 }
 
-/// Standard error, as `StdoutSink` is standard output.
+/// Standard error, one or more writes a call and no buffer. It tells nothing of what was put.
 #[derive(Drop)]
 pub struct StderrSink {
     err: Stderr,
@@ -55,9 +92,7 @@ impl StderrSink {
 }
 
 impl Sink for StderrSink {
-    ghost held = { λ _. None };
-
-    ghost faults = { λ sink. sink.faults };
+    ghost moment = { λ sink. record { held = None; faults = sink.faults; waiting = 0 } };
 
     fn put(&mut self, bytes: &[u8]) -> Result<(), SinkFault> {
         match self.err.write_all(bytes) {
@@ -67,6 +102,10 @@ impl Sink for StderrSink {
                 Err(fault_of(&error))
             }
         }
+    }
+
+    fn flush(&mut self) -> Result<(), SinkFault> {
+        Ok(())
     }
 }
 

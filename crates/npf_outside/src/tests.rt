@@ -27,9 +27,12 @@ fn memory_files_hold_what_was_put_and_written(rt: HostRuntime) -> Result<(), Fai
 fn a_memory_sink_holds_what_was_put(rt: HostRuntime) -> Result<(), Fail> {
     let mut sink = MemSink::new(rt.alloc()).map_err(|_| "memory")?;
     sink.fail(2).map_err(|_| "memory")?;
+    sink.fail(4).map_err(|_| "memory")?;
     assert_eq!(rt; sink.put(b"one\n"), Ok(()));
     assert_eq!(rt; sink.put(b"two\n"), Err(SinkFault::Failed));
     assert_eq!(rt; sink.put(b"three\n"), Ok(()));
+    assert_eq!(rt; sink.flush(), Err(SinkFault::Failed));
+    assert_eq!(rt; sink.flush(), Ok(()));
     assert!(rt; sink.bytes() == b"one\nthree\n".as_slice());
     Ok(())
 }
@@ -60,16 +63,14 @@ fn folder_files_are_those_of_the_current_folder(rt: HostRuntime) -> Result<(), F
 
 #[test]
 fn standard_output_takes_bytes(rt: HostRuntime) {
-    assert_eq!(rt;
-        StdoutSink::new(&rt).put(b"npf_outside: standard output\n"),
-        Ok(())
-    );
+    let mut out = StdoutSink::new(&rt);
+    assert_eq!(rt; out.put(b"npf_outside: standard output\n"), Ok(()));
+    assert_eq!(rt; out.flush(), Ok(()));
 }
 
 #[test]
 fn standard_error_takes_bytes(rt: HostRuntime) {
-    assert_eq!(rt;
-        StderrSink::new(&rt).put(b"npf_outside: standard error\n"),
-        Ok(())
-    );
+    let mut err = StderrSink::new(&rt);
+    assert_eq!(rt; err.put(b"npf_outside: standard error\n"), Ok(()));
+    assert_eq!(rt; err.flush(), Ok(()));
 }

@@ -1,3 +1,6 @@
-pub mod ChainLaws
-pub mod DecodingLaws
-pub mod OptionLaws
+pub mod ChainLemmas
+pub mod DecodingLemmas
+pub mod HeaderLemmas
+pub mod PacketFieldLemmas
+pub mod TcpOptionLemmas
+pub mod UpperLemmas

@@ -3,8 +3,8 @@ use Rattle.std.specs.Prelude.{◌≡◌, ℕ, Result, MatchResult, List}
 use Rattle.npf_types.specs.declared.link.Link.{Link}
 use Rattle.npf_types.specs.declared.link.Link.TheVariants.{Ethernet, Raw}
 use Rattle.npf_packet.specs.declared.decoded.Decoded.{Decoded}
-use Rattle.npf_packet.specs.declared.link.Version.{Version}
-use Rattle.npf_packet.specs.declared.link.Version.TheVariants.{V4, V6}
+use Rattle.npf_packet.specs.declared.version.Version.{Version}
+use Rattle.npf_packet.specs.declared.version.Version.TheVariants.{V4, V6}
 use Rattle.npf_packet.specs.declared.packet.Packet.{Packet}
 use Rattle.npf_packet.specs.Ethernet.{version_in_frame}
 use Rattle.npf_packet.specs.Version.{version_of_packet}
@@ -37,7 +37,3 @@ pub record DecodesIp (version : Version) (bytes : List ℕ) (ip_at : ℕ) (decod
 abbrev pub Decodes : Link → List ℕ → Decoded → Type 0
 Decodes link bytes decoded =
     MatchResult (version_behind link bytes) (λ version. DecodesIp version bytes (packet_at link) decoded) (λ answer. decoded ≡ answer)
-
--- for each link and bytes there is one decoding
-abbrev pub OneDecoding : Type 0
-OneDecoding = (link : Link) (bytes : List ℕ) (one other : Decoded) → Decodes link bytes one → Decodes link bytes other → one ≡ other

@@ -9,8 +9,9 @@ use Rattle.npf_types.specs.declared.address.Addr.TheVariants.{V4}
 use Rattle.npf_packet.specs.declared.decoded.Decoded.{Decoded}
 use Rattle.npf_packet.specs.declared.decoded.Decoded.TheVariants.{Skip}
 use Rattle.npf_packet.specs.declared.packet.Packet.{Packet}
-use Rattle.npf_fields.specs.Fields.{number16, number32}
-use Rattle.npf_packet.specs.Answers.{cut, bad}
+use Rattle.npf_fields.specs.Field.{number16, number32}
+use Rattle.npf_packet.specs.Field.{ipv4_total_length, ipv4_fragment, ipv4_protocol, ipv4_source, ipv4_destination}
+use Rattle.npf_packet.specs.Decoded.{cut, bad}
 
 module _ (bytes : List ℕ) (ip_at : ℕ) where
   -- the header's length in bytes: its field counts words of four
@@ -19,18 +20,18 @@ module _ (bytes : List ℕ) (ip_at : ℕ) where
 
   -- the packet's length in bytes, its header with it
   abbrev pub total_len : ℕ
-  total_len = number16 bytes (ip_at + 2)
+  total_len = number16 bytes (ip_at + ipv4_total_length)
 
   -- more fragments follow, or the offset isn't 0: the field's lower 14 bits
   abbrev pub is_fragment : Bool
-  is_fragment = not (number16 bytes (ip_at + 6) % 0x4000 == 0)
+  is_fragment = not (number16 bytes (ip_at + ipv4_fragment) % 0x4000 == 0)
 
   -- a whole packet's fields; what it carries begins behind the header
   abbrev pub fields_v4 : Packet
   fields_v4 = record {
-    src = V4 (number32 bytes (ip_at + 12));
-    dst = V4 (number32 bytes (ip_at + 16));
-    proto = slice_index bytes (ip_at + 9);
+    src = V4 (number32 bytes (ip_at + ipv4_source));
+    dst = V4 (number32 bytes (ip_at + ipv4_destination));
+    proto = slice_index bytes (ip_at + ipv4_protocol);
     ip_at = ip_at;
     l4_at = ip_at + header_len;
     end = ip_at + total_len;
@@ -40,6 +41,6 @@ module _ (bytes : List ℕ) (ip_at : ℕ) where
   packet_v4 =
       if nat_lt (length bytes) (ip_at + 20) then Err (cut (length bytes))
       else (if nat_lt header_len 20 then Err (bad ip_at)
-      else (if nat_lt total_len header_len then Err (bad (ip_at + 2))
+      else (if nat_lt total_len header_len then Err (bad (ip_at + ipv4_total_length))
       else (if nat_lt (length bytes) (ip_at + total_len) then Err (cut (length bytes))
       else (if is_fragment then Err Skip else Ok fields_v4))))

@@ -12,8 +12,9 @@ use Rattle.npf_packet.specs.declared.decoded.Decoded.{Decoded}
 use Rattle.npf_packet.specs.declared.decoded.Decoded.TheVariants.{Skip}
 use Rattle.npf_packet.specs.declared.packet.Packet.{Packet}
 use Rattle.npf_packet.specs.declared.ipv6.Header.{Header}
-use Rattle.npf_fields.specs.Fields.{number16, number128}
-use Rattle.npf_packet.specs.Answers.{cut}
+use Rattle.npf_fields.specs.Field.{number16, number128}
+use Rattle.npf_packet.specs.Field.{ipv6_payload_length, ipv6_next_header, ipv6_source, ipv6_destination}
+use Rattle.npf_packet.specs.Decoded.{cut}
 use Rattle.npf_packet.specs.Chain.{IsChain}
 
 -- hop-by-hop options (0), routing (43), authentication (51) and destination options (60)
@@ -39,13 +40,13 @@ module _ (bytes : List ℕ) (ip_at : ℕ) where
   -- where the packet ends, whose payload's length doesn't count the header
   abbrev pub end_v6 : Result ℕ Decoded
   end_v6 =
-      let end = ip_at + 40 + number16 bytes (ip_at + 4) in
+      let end = ip_at + 40 + number16 bytes (ip_at + ipv6_payload_length) in
       if nat_lt (length bytes) (ip_at + 40) then Err (cut (length bytes))
       else (if nat_lt (length bytes) end then Err (cut (length bytes)) else Ok end)
 
   -- the header behind this one
   abbrev pub first_header : Header
-  first_header = record { kind = slice_index bytes (ip_at + 6); at = ip_at + 40 }
+  first_header = record { kind = slice_index bytes (ip_at + ipv6_next_header); at = ip_at + 40 }
 
   -- the headers from the first on are a chain of kinds and offsets, of which this is the last
   pub record HasLast (end : ℕ) (last : Header) : Type 0 where
@@ -59,8 +60,8 @@ module _ (bytes : List ℕ) (ip_at : ℕ) where
       if is_extension last.kind then Err (cut end)
       else (if last.kind == 44 then Err Skip
       else Ok (record {
-        src = V6 (number128 bytes (ip_at + 8));
-        dst = V6 (number128 bytes (ip_at + 24));
+        src = V6 (number128 bytes (ip_at + ipv6_source));
+        dst = V6 (number128 bytes (ip_at + ipv6_destination));
         proto = last.kind;
         ip_at = ip_at;
         l4_at = last.at;

@@ -5,7 +5,7 @@ use Rattle.npf_types.specs.declared.facts.L4.{L4}
 use Rattle.npf_packet.specs.declared.decoded.Decoded.{Decoded}
 use Rattle.npf_packet.specs.declared.decoded.Decoded.TheVariants.{Ip}
 use Rattle.npf_packet.specs.declared.packet.Packet.{Packet}
-use Rattle.npf_packet.specs.Answers.{cut}
+use Rattle.npf_packet.specs.Decoded.{cut}
 
 -- the packet's parts stand in order within the bytes
 pub record IsPlaced (bytes : List ℕ) (packet : Packet) : Type 0 where

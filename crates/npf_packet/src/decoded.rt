@@ -18,7 +18,7 @@ pub enum Decoded {
 
 impl Decoded {
     ghost use Rattle.std.specs.Prelude.{◌≡◌, ◌<◌, ◌^◌};
-    ghost use Rattle.npf_packet.specs.Answers.{cut, bad};
+    ghost use Rattle.npf_packet.specs.Decoded.{cut, bad};
 
     /// The packet should go on at this place.
     pub(crate) fn cut(at: usize) -> Decoded

@@ -1,12 +1,13 @@
 // ICMPv6 (RFC 4443); specs/Icmpv6.antt has the picture of its header.
 ghost use Rattle.std.specs.Prelude.{◌≡◌, ◌+◌, ◌≤◌, length};
-ghost use Rattle.npf_packet.specs.Icmpv6.{decoding_icmpv6, echo_of};
+ghost use Rattle.npf_packet.specs.Icmpv6.{decoding_icmpv6, echo_in_icmpv6};
 ghost use Rattle.npf_packet.specs.Packet.{IsPlaced};
 
 use crate::decoded::Decoded;
 use crate::packet::Packet;
 use npf_fields::get16;
 use npf_types::L4;
+use npf_types::limits::MAX_PACKET_BYTES;
 
 /// The offsets of the header's fields, in bytes.
 mod field {
@@ -27,7 +28,7 @@ const ECHO_REQUEST: u8 = 128;
 
 /// What a packet says that carries ICMPv6.
 pub(crate) fn decode_icmpv6(bytes: &[u8], packet: Packet) -> Decoded
-    requires size { length bytes.now ≤ 262144 }
+    requires size { length bytes.now ≤ MAX_PACKET_BYTES }
     requires placed { IsPlaced bytes.now packet }
     ensures { result ≡ decoding_icmpv6 bytes.now packet }
 {
@@ -44,8 +45,8 @@ pub(crate) fn decode_icmpv6(bytes: &[u8], packet: Packet) -> Decoded
 /// The identifier of an echo message.
 fn echo_at(bytes: &[u8], at: usize) -> Option<u16>
     requires whole { at + 8 ≤ length bytes.now }
-    requires size { length bytes.now ≤ 262144 }
-    ensures { result ≡ echo_of bytes.now at }
+    requires size { length bytes.now ≤ MAX_PACKET_BYTES }
+    ensures { result ≡ echo_in_icmpv6 bytes.now at }
 {
     match bytes[at + field::TYPE] {
         ECHO_REQUEST | ECHO_REPLY => Some(get16(bytes, at + field::IDENTIFIER)),

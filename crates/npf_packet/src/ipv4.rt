@@ -7,6 +7,7 @@ use crate::decoded::Decoded;
 use crate::packet::Packet;
 use npf_fields::{get16, get32};
 use npf_types::Addr;
+use npf_types::limits::MAX_PACKET_BYTES;
 
 /// The offsets of the header's fields, in bytes.
 mod field {
@@ -26,7 +27,7 @@ const HEADER: usize = 20;
 
 /// What the header says that begins at `ip_at`, or the answer where one of its tests fits.
 pub(crate) fn packet_v4(bytes: &[u8], ip_at: usize) -> Result<Packet, Decoded>
-    requires size { length bytes.now ≤ 262144 }
+    requires size { length bytes.now ≤ MAX_PACKET_BYTES }
     requires place { ip_at ≤ 14 }
     ensures value { result ≡ packet_v4 bytes.now ip_at }
     ensures placed { IfOk result (IsPlaced bytes.now) }

@@ -7,6 +7,7 @@ use crate::decoded::Decoded;
 use crate::packet::Packet;
 use npf_fields::{get16, get128};
 use npf_types::Addr;
+use npf_types::limits::MAX_PACKET_BYTES;
 
 /// The offsets of the header's fields, in bytes.
 mod field {
@@ -44,7 +45,7 @@ struct Header {
 
 /// What the headers say of which the first begins at `ip_at`, or the answer where one of their tests fits.
 pub(crate) fn packet_v6(bytes: &[u8], ip_at: usize) -> Result<Packet, Decoded>
-    requires size { length bytes.now ≤ 262144 }
+    requires size { length bytes.now ≤ MAX_PACKET_BYTES }
     requires place { ip_at ≤ 14 }
     ensures value { IsPacketV6 bytes.now ip_at result }
     ensures placed { IfOk result (IsPlaced bytes.now) }
@@ -72,7 +73,7 @@ pub(crate) fn packet_v6(bytes: &[u8], ip_at: usize) -> Result<Packet, Decoded>
 
 /// Where the packet ends whose header begins at `ip_at`.
 fn end_v6(bytes: &[u8], ip_at: usize) -> Result<usize, Decoded>
-    requires size { length bytes.now ≤ 262144 }
+    requires size { length bytes.now ≤ MAX_PACKET_BYTES }
     requires place { ip_at ≤ 14 }
     ensures value { result ≡ end_v6 bytes.now ip_at }
     ensures header { IfOk result (λ end. ip_at + 40 ≤ end) }
@@ -93,7 +94,7 @@ fn end_v6(bytes: &[u8], ip_at: usize) -> Result<usize, Decoded>
 fn last_header(bytes: &[u8], ip_at: usize, end: usize) -> Header
     requires header { ip_at + 40 ≤ end }
     requires whole { end ≤ length bytes.now }
-    requires size { length bytes.now ≤ 262144 }
+    requires size { length bytes.now ≤ MAX_PACKET_BYTES }
     ensures last { HasLast bytes.now ip_at end result }
     ensures after { ip_at + 40 ≤ result.at }
     ensures before { result.at ≤ end }
@@ -111,7 +112,7 @@ fn last_header(bytes: &[u8], ip_at: usize, end: usize) -> Header
 /// The header behind a whole extension header.
 fn next_header(bytes: &[u8], end: usize, header: Header) -> Option<Header>
     requires whole { end ≤ length bytes.now }
-    requires size { length bytes.now ≤ 262144 }
+    requires size { length bytes.now ≤ MAX_PACKET_BYTES }
     requires place { header.at ≤ end }
     ensures value { result ≡ next_header bytes.now end header }
     ensures after { IfSome result (λ next. header.at < next.at) }

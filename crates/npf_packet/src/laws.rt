@@ -1,6 +1,26 @@
-ghost use Rattle.npf_packet.specs.Decoding.{OneDecoding};
+// What holds of every packet that is decoded. The functions do nothing: each is a theorem.
+ghost use Rattle.npf_packet.specs.DecodingLaw.{DecodedHasFields, DecodedHasPlaces, DecodedHasProtocol, DecodedIsPacket, OneDecoding};
 
-/// A law: for each link and bytes there is one decoding, so `decode` answers a decoding exactly where it is the one.
+/// For each link and bytes there is one decoding, so `decode` answers a decoding exactly where it
+/// is the one.
 pub fn one_decoding()
     ensures { OneDecoding }
+{}
+
+/// The parts of a packet follow one another within its record's bytes, each with room for its
+/// header, and the number of a maximum segment size lies in its segment's header.
+pub fn decoded_has_places()
+    ensures { DecodedHasPlaces }
+{}
+
+/// A packet's facts are fields of its record's bytes, at the offsets of the RFCs, and what it
+/// carries is told apart by its protocol.
+pub fn decoded_has_fields()
+    ensures fields { DecodedHasFields }
+    ensures protocol { DecodedHasProtocol }
+{}
+
+/// A packet's facts are fields of its own bytes, from the IP header to its end.
+pub fn decoded_is_packet()
+    ensures { DecodedIsPacket }
 {}

@@ -1,5 +1,6 @@
 ghost use Rattle.std.specs.Prelude.{◌≡◌, ◌≤◌, length};
 
+use npf_types::limits::MAX_PACKET_BYTES;
 use npf_types::{Addr, Facts, L4};
 
 /// What the headers of IP say: the addresses, the protocol of what is carried, and where the IP header, what is
@@ -21,7 +22,7 @@ impl Packet {
     pub(crate) fn facts(self, l4: L4) -> Facts
         requires ip { self.ip_at ≤ self.l4_at }
         requires upper { self.l4_at ≤ self.end }
-        requires end { self.end ≤ 262144 }
+        requires end { self.end ≤ MAX_PACKET_BYTES }
         ensures { result ≡ facts_of self l4 }
     {
         Facts {

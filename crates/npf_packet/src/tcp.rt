@@ -4,9 +4,10 @@ ghost use Rattle.npf_packet.specs.Packet.{IsPlaced};
 ghost use Rattle.npf_packet.specs.Tcp.{CarriesTcp, header_end, segment_of};
 
 use crate::decoded::Decoded;
-use crate::options::{Options, options_between};
 use crate::packet::Packet;
+use crate::tcp_option::{Options, options_between};
 use npf_fields::{get16, get32};
+use npf_types::limits::MAX_PACKET_BYTES;
 use npf_types::{L4, Segment};
 
 /// The offsets of the header's fields, in bytes.
@@ -31,7 +32,7 @@ const HEADER: usize = 20;
 
 /// What a packet says that carries TCP.
 pub(crate) fn decode_tcp(bytes: &[u8], packet: Packet) -> Decoded
-    requires size { length bytes.now ≤ 262144 }
+    requires size { length bytes.now ≤ MAX_PACKET_BYTES }
     requires placed { IsPlaced bytes.now packet }
     ensures { CarriesTcp bytes.now packet result }
 {
@@ -46,7 +47,7 @@ pub(crate) fn decode_tcp(bytes: &[u8], packet: Packet) -> Decoded
 
 /// Where the header ends, or the answer where one of its tests fits.
 fn header_end(bytes: &[u8], packet: Packet) -> Result<usize, Decoded>
-    requires size { length bytes.now ≤ 262144 }
+    requires size { length bytes.now ≤ MAX_PACKET_BYTES }
     requires placed { IsPlaced bytes.now packet }
     ensures value { result ≡ header_end bytes.now packet }
     ensures after { IfOk result (λ header_end. packet.l4_at + 20 ≤ header_end) }
@@ -74,7 +75,7 @@ fn header_len(byte: u8) -> usize
 
 /// What a segment says whose header is whole.
 fn segment(bytes: &[u8], packet: Packet, header_end: usize, options: Options) -> L4
-    requires size { length bytes.now ≤ 262144 }
+    requires size { length bytes.now ≤ MAX_PACKET_BYTES }
     requires placed { IsPlaced bytes.now packet }
     requires after { packet.l4_at + 20 ≤ header_end }
     requires before { header_end ≤ packet.end }

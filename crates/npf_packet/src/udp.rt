@@ -7,6 +7,7 @@ use crate::decoded::Decoded;
 use crate::packet::Packet;
 use npf_fields::get16;
 use npf_types::L4;
+use npf_types::limits::MAX_PACKET_BYTES;
 
 /// The offsets of the header's fields, in bytes.
 mod field {
@@ -20,7 +21,7 @@ const HEADER: usize = 8;
 
 /// What a packet says that carries UDP.
 pub(crate) fn decode_udp(bytes: &[u8], packet: Packet) -> Decoded
-    requires size { length bytes.now ≤ 262144 }
+    requires size { length bytes.now ≤ MAX_PACKET_BYTES }
     requires placed { IsPlaced bytes.now packet }
     ensures { result ≡ decoding_udp bytes.now packet }
 {

@@ -9,6 +9,7 @@ use crate::icmpv6::decode_icmpv6;
 use crate::packet::Packet;
 use crate::tcp::decode_tcp;
 use crate::udp::decode_udp;
+use npf_types::limits::MAX_PACKET_BYTES;
 use npf_types::{Addr, L4};
 
 /// The protocols that are told apart.
@@ -31,7 +32,7 @@ const ICMPV6: u8 = 58;
 
 /// What a packet says whose IP headers say this.
 pub(crate) fn decode_upper(bytes: &[u8], packet: Packet) -> Decoded
-    requires size { length bytes.now ≤ 262144 }
+    requires size { length bytes.now ≤ MAX_PACKET_BYTES }
     requires placed { IsPlaced bytes.now packet }
     ensures { Carries bytes.now packet result }
 {

@@ -1,4 +1,4 @@
-pub mod FormatLaws
-pub mod RecordLaws
-pub mod CaptureLaws
-pub mod SpellingLaws
+pub mod FormatLemmas
+pub mod RecordLemmas
+pub mod CaptureLemmas
+pub mod SpellingLemmas

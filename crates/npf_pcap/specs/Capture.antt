@@ -2,7 +2,7 @@
 -- length and the link type, and then the records (pcap-savefile(5)).
 use Rattle.std.specs.Prelude.{◌≡◌, ◌<◌, ◌≤◌, ℕ, List, length, drop}
 use Rattle.npf_types.specs.declared.link.Link.{Link}
-use Rattle.npf_fields.specs.Fields.{number32}
+use Rattle.npf_fields.specs.Field.{number32}
 use Rattle.npf_pcap.specs.declared.format.Format.{Format}
 use Rattle.npf_pcap.specs.declared.capture.Record.{Record}
 use Rattle.npf_pcap.specs.declared.fault.CaptureFault.{CaptureFault}

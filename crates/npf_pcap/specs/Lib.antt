@@ -4,3 +4,4 @@ pub mod Reading
 pub mod Capture
 pub mod Fault
 pub mod Spelling
+pub mod Extent

@@ -1,6 +1,7 @@
 -- The records of a capture: each has a header of 16 bytes, with the seconds, the fraction of a second, the number of
 -- bytes stored and the number that the packet had, and then the stored bytes (pcap-savefile(5)).
 use Rattle.std.specs.Prelude.{◌≡◌, ◌≢◌, ℕ, zero, suc, ◌+◌, ◌*◌, ◌^◌, ◌<◌, ◌≤◌, ◌⊎◌, List, [], ◌∷◌, length, take, drop}
+use Rattle.npf_types.specs.declared.limits.TheConstants.{MAX_PACKET_BYTES}
 use Rattle.npf_pcap.specs.declared.format.Format.{Format}
 use Rattle.npf_pcap.specs.declared.capture.Record.{Record}
 use Rattle.npf_pcap.specs.Format.{number_at, nanoseconds}
@@ -13,20 +14,20 @@ stored_len format bytes = number_at format.order 4 bytes 8
 abbrev pub record_len : Format → List ℕ → ℕ
 record_len format bytes = 16 + stored_len format bytes
 
--- a record stores at most 262,144 bytes
+-- a record stores at most as many bytes as a packet may have
 abbrev pub IsTooLong : Format → List ℕ → Type 0
-IsTooLong format bytes = (16 ≤ length bytes) × (262144 < stored_len format bytes)
+IsTooLong format bytes = (16 ≤ length bytes) × (MAX_PACKET_BYTES < stored_len format bytes)
 
 -- the bytes end inside the first record, in its header or behind it
 abbrev pub EndsInside : Format → List ℕ → Type 0
 EndsInside format bytes =
     (bytes ≢ [])
-    × ((length bytes < 16) ⊎ ((stored_len format bytes ≤ 262144) × (length bytes < record_len format bytes)))
+    × ((length bytes < 16) ⊎ ((stored_len format bytes ≤ MAX_PACKET_BYTES) × (length bytes < record_len format bytes)))
 
 -- the bytes begin with a whole record
 pub record HasRecord (format : Format) (bytes : List ℕ) : Type 0 where
   pub header : 16 ≤ length bytes
-  pub short : stored_len format bytes ≤ 262144
+  pub short : stored_len format bytes ≤ MAX_PACKET_BYTES
   pub whole : record_len format bytes ≤ length bytes
 
 -- the first record's time, in nanoseconds

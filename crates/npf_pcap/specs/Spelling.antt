@@ -2,13 +2,15 @@
 use Rattle.std.specs.Prelude.{ℕ, ◌*◌, ◌^◌, ◌<◌, ◌≤◌, ◌++◌, ◌/◌, ◌%◌, List, length}
 use Rattle.std.specs.List.{flat_map}
 use Rattle.byteorder.specs.Endian.{little_bytes}
+use Rattle.npf_types.specs.declared.limits.TheConstants.{MAX_PACKET_BYTES}
 use Rattle.npf_pcap.specs.declared.capture.Record.{Record}
 
--- the magic number of nanoseconds, version 2.4, time zone 0, accuracy 0, snap length 262,144 and link type 101
+-- the magic number of nanoseconds, version 2.4, time zone 0, accuracy 0, a snap length as long as a packet may be, and
+-- link type 101
 abbrev pub header_bytes : List ℕ
 header_bytes =
     little_bytes 4 0xa1b23c4d ++ little_bytes 2 2 ++ little_bytes 2 4 ++ little_bytes 4 0 ++ little_bytes 4 0
-    ++ little_bytes 4 262144 ++ little_bytes 4 101
+    ++ little_bytes 4 MAX_PACKET_BYTES ++ little_bytes 4 101
 
 -- seconds and nanoseconds, twice the number of the bytes, and the bytes
 abbrev pub record_bytes : Record → List ℕ
@@ -20,7 +22,7 @@ record_bytes r =
 abbrev pub capture_bytes : List Record → List ℕ
 capture_bytes records = header_bytes ++ flat_map record_bytes records
 
--- what a capture can hold: at most 262,144 bytes, and a time whose seconds have 32 bits
+-- what a capture can hold: no more bytes than a packet may have, and a time whose seconds have 32 bits
 pub record FitsCapture (r : Record) : Type 0 where
-  pub short : length r.bytes ≤ 262144
+  pub short : length r.bytes ≤ MAX_PACKET_BYTES
   pub time : r.time < 4294967296 * 10 ^ 9

@@ -1,6 +1,7 @@
 ghost use Rattle.std.specs.Prelude.{◌≡◌};
 ghost use Rattle.npf_pcap.specs.Fault.{number_of, name_of, record_of};
 
+use npf_types::limits::MAX_PACKET_BYTES;
 use std::alloc::{AllocError, AllocFailed};
 use thiserror::Error;
 
@@ -22,8 +23,8 @@ pub enum CaptureFault {
     /// The bytes end inside this record.
     #[error("the bytes end inside record {0}")]
     CutRecord(u32),
-    /// This record says that it stores more than 262,144 bytes.
-    #[error("record {0} is longer than 262144 bytes")]
+    /// This record says that it stores more than `MAX_PACKET_BYTES` bytes.
+    #[error("record {0} is longer than {most} bytes", most = MAX_PACKET_BYTES)]
     LongRecord(u32),
     /// Memory ran out, which says nothing of the bytes.
     #[error("out of memory")]

@@ -10,15 +10,14 @@
 #![tactic(auto)]
 
 mod capture;
+mod extent;
 mod fault;
 mod format;
 mod read;
 mod write;
 
 pub use capture::{Capture, Record};
+pub use extent::{Extent, Extents};
 pub use fault::CaptureFault;
-pub use read::read_capture;
+pub use read::{read_capture, read_extents};
 pub use write::write_capture;
-
-#[cfg(test)]
-mod tests;

@@ -1,16 +1,19 @@
-ghost use Rattle.std.specs.Prelude.{◌≡◌, ◌≢◌, ◌+◌, ◌≤◌, ◌<◌, ◌↔◌, ◌⊎◌, List as Seq, length, drop, IsTrue, IfOk, IfErr, IfSome, IfNone, MatchResult, IsErrAnd};
+ghost use Rattle.std.specs.Prelude.{◌≡◌, ◌≢◌, ◌+◌, ◌≤◌, ◌<◌, ◌↔◌, ◌⊎◌, List as Seq, length, drop, IsTrue, IfOk, IfErr, IfSome, IfNone, MatchResult, IsErrAnd, All};
 ghost use Rattle.npf_types.specs.declared.link.Link.{Link as LinkType};
 ghost use Rattle.npf_pcap.specs.declared.capture.Record.{Record as RecordType};
 ghost use Rattle.npf_pcap.specs.declared.fault.CaptureFault.{CaptureFault as FaultType};
 ghost use Rattle.npf_pcap.specs.Capture.{IsCapture, HasCaptureFault, HasHeader, HasVersion};
+ghost use Rattle.npf_pcap.specs.Extent.{record_at, records_at, EndsWithin, IsShort};
 ghost use Rattle.npf_pcap.specs.Format.{link_number};
 ghost use Rattle.npf_pcap.specs.Record.{AreRecords, Spells, record_len, time_of as time_said, HasRecord};
 ghost use Rattle.npf_pcap.specs.Reading.{HasRecordFault, FailsRecord};
 
 use crate::capture::{Capture, Record};
+use crate::extent::{Extent, Extents};
 use crate::fault::CaptureFault;
 use crate::format::Format;
 use npf_fields::get32;
+use npf_types::limits::{MAX_CAPTURE_BYTES, MAX_PACKET_BYTES};
 use npf_types::{Link, List};
 use std::alloc::Global;
 
@@ -19,18 +22,15 @@ const HEADER_LEN: usize = 24;
 
 const RECORD_HEADER_LEN: usize = 16;
 
-// The most bytes that a record may store, as libpcap has it.
-const MAX_STORED_LEN: usize = 262_144;
-
 const LINKTYPE_ETHERNET: u32 = 1;
 
 const LINKTYPE_RAW: u32 = 101;
 
-/// Reads a capture, whose bytes must be at most 268,435,456. The answer is the capture, or the first test that the
+/// Reads a capture, whose bytes must be at most `MAX_CAPTURE_BYTES`. The answer is the capture, or the first test that the
 /// bytes fail: those of the header in the order of `CaptureFault`, and then each record's. Of a record whose header is
 /// whole, `LongRecord` is tested before `CutRecord`. Zone, accuracy, snap length and a packet's own length aren't used.
 pub fn read_capture(alloc: Global, bytes: &[u8]) -> Result<Capture, CaptureFault>
-    requires { length bytes.now ≤ 268435456 }
+    requires { length bytes.now ≤ MAX_CAPTURE_BYTES }
     // What is read is spelled so.
     ensures read { IfOk result (λ c. IsCapture bytes.now c.link c.records) }
     // A fault is that of the first test that fails.
@@ -47,13 +47,26 @@ pub fn read_capture(alloc: Global, bytes: &[u8]) -> Result<Capture, CaptureFault
 
 // What is read and refused, from which the two clauses more of `read_capture` follow by the laws of captures.
 fn read_all(alloc: Global, bytes: &[u8]) -> Result<Capture, CaptureFault>
-    requires { length bytes.now ≤ 268435456 }
+    requires { length bytes.now ≤ MAX_CAPTURE_BYTES }
     ensures read { IfOk result (λ c. IsCapture bytes.now c.link c.records) }
     ensures fault { IfErr result (λ e. HasCaptureFault bytes.now e) }
 {
-    let (format, link) = read_header(bytes)?;
-    let records = read_records(alloc, format, bytes.split_at(HEADER_LEN).1)?;
+    let Extents { link, extents } = read_extents(alloc, bytes)?;
+    let records = records_at(alloc, bytes, extents.as_slice())?;
     Ok(Capture { link, records })
+}
+
+/// Reads a capture as `read_capture` does, and tells where its packets are in place of copying them.
+pub fn read_extents(alloc: Global, bytes: &[u8]) -> Result<Extents, CaptureFault>
+    requires { length bytes.now ≤ MAX_CAPTURE_BYTES }
+    ensures read { IfOk result (λ c. IsCapture bytes.now c.link (records_at bytes.now c.extents)) }
+    ensures within { IfOk result (λ c. All (EndsWithin (length bytes.now)) c.extents) }
+    ensures short { IfOk result (λ c. All IsShort c.extents) }
+    ensures fault { IfErr result (λ e. HasCaptureFault bytes.now e) }
+{
+    let (format, link) = read_header(bytes)?;
+    let extents = extents_of(alloc, format, bytes)?;
+    Ok(Extents { link, extents })
 }
 
 fn read_header(bytes: &[u8]) -> Result<(Format, Link), CaptureFault>
@@ -93,50 +106,70 @@ fn link_with(number: u32) -> Option<Link>
     }
 }
 
-fn read_records(alloc: Global, format: Format, bytes: &[u8]) -> Result<List<Record>, CaptureFault>
-    requires { length bytes.now ≤ 268435456 }
-    ensures read { IfOk result (λ records. AreRecords format bytes.now records) }
-    ensures fault { IfErr result (λ e. HasRecordFault format bytes.now e) }
+// Where the records behind the file's header have their packets.
+fn extents_of(alloc: Global, format: Format, bytes: &[u8]) -> Result<List<Extent>, CaptureFault>
+    requires size { length bytes.now ≤ MAX_CAPTURE_BYTES }
+    requires header { 24 ≤ length bytes.now }
+    ensures read { IfOk result (λ extents. AreRecords format (drop 24 bytes.now) (records_at bytes.now extents)) }
+    ensures within { IfOk result (λ extents. All (EndsWithin (length bytes.now)) extents) }
+    ensures short { IfOk result (λ extents. All IsShort extents) }
+    ensures fault { IfErr result (λ e. HasRecordFault format (drop 24 bytes.now) e) }
 {
-    let mut records = Vec::new(alloc);
-    let mut rest = bytes;
+    let mut extents = Vec::new(alloc);
+    let mut at = HEADER_LEN;
     let mut number = 0;
-    while !rest.is_empty() {
+    while at < bytes.len() {
         number += 1;
-        let (record, behind) = read_record(alloc, format, rest, number)?;
-        records.push(record)?;
-        rest = behind;
+        let extent = extent_at(format, bytes, at, number)?;
+        extents.push(extent)?;
+        at = (extent.at + extent.len) as usize;
     }
-    Ok(List::of_vec(records))
+    Ok(List::of_vec(extents))
 }
 
-// The first record, whose number is told, and the bytes behind it.
-fn read_record(
-    alloc: Global,
-    format: Format,
-    bytes: &[u8],
-    number: u32,
-) -> Result<(Record, &[u8]), CaptureFault>
-    requires { 0 < length bytes.now }
-    ensures read { IfOk result (λ r. Spells format bytes.now r.0) }
-    ensures behind { IfOk result (λ r. r.1.now ≡ drop (record_len format bytes.now) bytes.now) }
-    ensures fault { IfErr result (λ e. FailsRecord format number bytes.now e) }
+// Where the record at this place, whose number is told, has its packet. The next record is behind the packet.
+fn extent_at(format: Format, bytes: &[u8], at: usize, number: u32) -> Result<Extent, CaptureFault>
+    requires size { length bytes.now ≤ MAX_CAPTURE_BYTES }
+    requires inside { at < length bytes.now }
+    ensures read { IfOk result (λ extent. Spells format (drop at bytes.now) (record_at bytes.now extent)) }
+    ensures behind { IfOk result (λ extent. extent.at + extent.len ≡ at + record_len format (drop at bytes.now)) }
+    ensures within { IfOk result (λ extent. EndsWithin (length bytes.now) extent) }
+    ensures short { IfOk result IsShort }
+    ensures fault { IfErr result (λ e. FailsRecord format number (drop at bytes.now) e) }
 {
-    if bytes.len() < RECORD_HEADER_LEN {
+    let record = bytes.split_at(at).1;
+    if record.len() < RECORD_HEADER_LEN {
         return Err(CaptureFault::CutRecord(number));
     }
-    let stored_len = format.order.number32(bytes, 8) as usize;
-    if stored_len > MAX_STORED_LEN {
+    let stored_len = format.order.number32(record, 8) as usize;
+    if stored_len > MAX_PACKET_BYTES {
         return Err(CaptureFault::LongRecord(number));
     }
-    let behind_header = bytes.split_at(RECORD_HEADER_LEN).1;
-    if behind_header.len() < stored_len {
+    if record.len() - RECORD_HEADER_LEN < stored_len {
         return Err(CaptureFault::CutRecord(number));
     }
-    let (stored, behind) = behind_header.split_at(stored_len);
-    let time = time_of(format, bytes);
-    let bytes = List::of_vec(Vec::from_slice(alloc, stored)?);
-    Ok((Record { time, bytes }, behind))
+    Ok(Extent {
+        time: time_of(format, record),
+        at: (at + RECORD_HEADER_LEN) as u32,
+        len: stored_len as u32,
+    })
+}
+
+// The packets themselves, copied.
+fn records_at(alloc: Global, bytes: &[u8], extents: &[Extent]) -> Result<List<Record>, CaptureFault>
+    requires { All (EndsWithin (length bytes.now)) extents.now }
+    ensures copied { IfOk result (λ records. records ≡ records_at bytes.now extents.now) }
+    ensures memory { IfErr result (λ e. e ≡ CaptureFault.NoMemory) }
+{
+    let mut records = Vec::with_capacity(alloc, extents.len())?;
+    for extent in extents {
+        let stored = Vec::from_slice(alloc, extent.bytes_in(bytes))?;
+        records.push(Record {
+            time: extent.time,
+            bytes: List::of_vec(stored),
+        })?;
+    }
+    Ok(List::of_vec(records))
 }
 
 // The time of the first record.

@@ -4,11 +4,12 @@ ghost use Rattle.npf_pcap.specs.Capture.{IsCapture};
 ghost use Rattle.npf_pcap.specs.Spelling.{FitsCapture, capture_bytes, header_bytes, record_bytes};
 
 use crate::capture::Record;
+use npf_types::limits::MAX_PACKET_BYTES;
 use npf_types::{Link, NoMemory};
 use std::alloc::Global;
 
 /// Writes a capture of these records with link `Raw`: the lowest byte first, in nanoseconds, zone and accuracy 0, and
-/// a snap length of 262,144. Each record must have at most that many bytes, and a time below 4,294,967,296 seconds; its
+/// a snap length of `MAX_PACKET_BYTES`. Each record must have at most that many bytes, and a time below 4,294,967,296 seconds; its
 /// two lengths are both the number of its bytes.
 pub fn write_capture(alloc: Global, records: &[Record]) -> Result<Vec<u8>, NoMemory>
     requires { All FitsCapture records.now }
@@ -31,7 +32,7 @@ fn write_header(out: &mut Vec<u8>) -> Result<(), NoMemory>
     out.extend_from_slice(&[2, 0, 4, 0])?;
     write_u32(out, 0)?;
     write_u32(out, 0)?;
-    write_u32(out, 262_144)?;
+    write_u32(out, MAX_PACKET_BYTES as u32)?;
     write_u32(out, 101)
 }
 

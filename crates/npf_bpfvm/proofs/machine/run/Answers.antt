@@ -2,7 +2,7 @@ use Rattle.std.proofs.Common.{◌-◌, ◌<◌, length, sym, ap, ◌∙◌, arit
 use Rattle.npf_bpf.specs.Effect.{Returns, Continues}
 use Rattle.npf_bpf.specs.Value.{program_value}
 use Rattle.npf_bpf.proofs.ValueLemmas.{Does, value-returns, value-continues, distance-within}
-use Rattle.npf_bpfvm.specs.Machine.{state_in}
+use Rattle.npf_bpfvm.specs.Machine.{bpf_state}
 use Rattle.npf_bpfvm.proofs.machine.run.Goals as goal
 
 pub returns-in-Returned : goal.returns-in-Returned
@@ -11,9 +11,12 @@ returns-in-Returned g c =
     let packet = c.args.packet.now in
     let code = c.insns-insns.result.now in
     let operation = c.operation_at-operation in
-    let does : Does packet cop code c.steps.at (state_in c.steps.registers) operation.result (Returns c.in-Returned.number) = (operation.ensures.found, sym c.in-Returned.ensures) in
-    let returned = value-returns packet cop code c.steps.at (state_in c.steps.registers) operation.result c.in-Returned.number does in
-    sym returned ∙ c.steps.invariant.same ∙ ap (λ insns. program_value insns packet cop) c.insns-insns.ensures.value
+    let does : Does packet cop code c.steps.at (bpf_state c.steps.registers) operation.result
+    (Returns c.in-Returned.number) = (operation.ensures.found, sym c.in-Returned.ensures) in
+    let returned = value-returns packet cop code c.steps.at (bpf_state c.steps.registers)
+    operation.result c.in-Returned.number does in
+    sym returned ∙ c.steps.invariant.same
+    ∙ ap (λ insns. program_value insns packet cop) c.insns-insns.ensures.value
 
 pub steps-preserved : goal.steps-preserved
 steps-preserved g c =
@@ -22,9 +25,13 @@ steps-preserved g c =
     let code = c.insns-insns.result.now in
     let operation = c.operation_at-operation in
     let distance = c.in-Onward.distance in
-    let before = state_in c.steps.registers in
-    let behind = state_in c.step.new.self in
-    let does : Does packet cop code c.steps.at before operation.result (Continues distance behind) = (operation.ensures.found, sym c.in-Onward.ensures) in
-    let on = value-continues packet cop code c.steps.at before operation.result distance behind does in
-    let within : distance < length code - 1 - c.steps.at = distance-within packet cop operation.result before _ distance behind operation.ensures.allowed (sym c.in-Onward.ensures) in
+    let before = bpf_state c.steps.registers in
+    let behind = bpf_state c.step.new.self in
+    let does : Does packet cop code c.steps.at before operation.result (Continues distance behind) =
+    (operation.ensures.found, sym c.in-Onward.ensures) in
+    let on = value-continues packet cop code c.steps.at before operation.result distance behind does
+    in
+    let within : distance < length code - 1 - c.steps.at =
+    distance-within packet cop operation.result before _ distance behind
+    operation.ensures.allowed (sym c.in-Onward.ensures) in
     record { within = omega arith; same = sym on ∙ c.steps.invariant.same }

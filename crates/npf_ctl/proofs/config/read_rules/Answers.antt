@@ -7,8 +7,8 @@ use Rattle.npf_ctl.specs.Written.{written_of}
 use Rattle.npf_ctl.proofs.Configs.{no_file, too_many}
 use Rattle.npf_ctl.proofs.config.read_rules.Goals as goal
 
-pub returns-then-len-gt-MOST_RULES : goal.returns-then-len-gt-MOST_RULES
-returns-then-len-gt-MOST_RULES c =
+pub returns-then-len-gt-MAX_RULES : goal.returns-then-len-gt-MAX_RULES
+returns-then-len-gt-MAX_RULES c =
     let lexed : IsOnly Spells c.args.text.now c.in-Some.tokens.items =
     subst (λ o. IsReading Spells c.args.text.now (option_map (λ v. v.items) o)) c.in-Some.is c.in_ok-tokens.ensures in
     let parsed : IsOnly IsFile c.in-Some.tokens.items (map written_of c.in-Some-2.rules.items) =

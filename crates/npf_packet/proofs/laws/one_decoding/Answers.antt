@@ -1,4 +1,4 @@
-use Rattle.npf_packet.proofs.DecodingLaws.{one_decoding_lem}
+use Rattle.npf_packet.proofs.DecodingLemmas.{one_decoding_lem}
 use Rattle.npf_packet.proofs.laws.one_decoding.Goals as goal
 
 pub returns : goal.returns

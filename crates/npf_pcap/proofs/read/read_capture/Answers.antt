@@ -1,4 +1,4 @@
-use Rattle.npf_pcap.proofs.CaptureLaws.{accepts, refuses}
+use Rattle.npf_pcap.proofs.CaptureLemmas.{accepts, refuses}
 use Rattle.npf_pcap.proofs.read.read_capture.Goals as goal
 
 pub returns-clause-accepted : goal.returns-clause-accepted

@@ -3,7 +3,7 @@ use Rattle.std.proofs.lemmas.List.{flat_map_more, take_all, take_more}
 use Rattle.std.specs.List.{flat_map}
 use Rattle.npf_pcap.specs.declared.capture.Record.{Record}
 use Rattle.npf_pcap.specs.Spelling.{header_bytes, record_bytes}
-use Rattle.npf_pcap.proofs.SpellingLaws.{written_is_capture}
+use Rattle.npf_pcap.proofs.SpellingLemmas.{written_is_capture}
 use Rattle.npf_pcap.proofs.write.write_capture.Goals as goal
 
 pub loop-record-preserved : goal.loop-record-preserved

@@ -1,6 +1,6 @@
 use Rattle.std.proofs.Common.{◌/◌, ◌%◌, ◌^◌, length, rules}
 use Rattle.byteorder.specs.Endian.{little_bytes}
-use Rattle.npf_pcap.proofs.SpellingLaws.{five_appended}
+use Rattle.npf_pcap.proofs.SpellingLemmas.{five_appended}
 use Rattle.npf_pcap.proofs.write.write_record.Goals as goal
 
 pub returns : goal.returns

@@ -1,0 +1,9 @@
+pub mod StepLemmas
+pub mod TailLemmas
+pub mod WordLemmas
+pub mod HeaderLemmas
+pub mod PortLemmas
+pub mod FlagLemmas
+pub mod IcmpLemmas
+pub mod AddrLemmas
+pub mod ProgramLemmas

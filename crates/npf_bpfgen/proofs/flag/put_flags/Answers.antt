@@ -1,0 +1,15 @@
+use Rattle.std.proofs.Common.{ℕ, Option, sym, subst}
+use Rattle.std.specs.Prelude.{OnOk}
+use Rattle.npf_model.specs.Describes.{fits_flags}
+use Rattle.npf_bpfgen.specs.Premise.{GuardsPacket}
+use Rattle.npf_bpfgen.proofs.flag.put_flags.Goals as goal
+
+pub returns-in-Some-clause-value : goal.returns-in-Some-clause-value
+returns-in-Some-clause-value c =
+    subst (λ (f : Option (ℕ × ℕ)). OnOk c.put_segment.result (GuardsPacket (λ tables facts. fits_flags f c.args.decision c.args.state facts.l4) c.args.tail.now c.put_segment.new.tail))
+    (sym c.in-Some.is) c.put_segment.ensures.value
+
+pub returns-in-None-clause-value : goal.returns-in-None-clause-value
+returns-in-None-clause-value c =
+    subst (λ (f : Option (ℕ × ℕ)). OnOk c.put_kept.result (GuardsPacket (λ tables facts. fits_flags f c.args.decision c.args.state facts.l4) c.args.tail.now c.put_kept.new.tail))
+    (sym c.in-None.is) c.put_kept.ensures.value

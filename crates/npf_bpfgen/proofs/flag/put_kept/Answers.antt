@@ -1,0 +1,14 @@
+use Rattle.std.proofs.Common.{None, sym, ◌∙◌}
+use Rattle.npf_model.specs.Describes.{fits_flags, opens_if_tcp}
+use Rattle.npf_bpfgen.proofs.FlagLemmas.{opening_asked}
+use Rattle.npf_bpfgen.proofs.ProgramLemmas.{guards_alike}
+use Rattle.npf_bpfgen.proofs.flag.put_kept.Goals as goal
+
+pub returns-in_ok-put_opening-clause-value : goal.returns-in_ok-put_opening-clause-value
+returns-in_ok-put_opening-clause-value c =
+    let decision = c.args.decision in
+    let state = c.args.state in
+    guards_alike (λ tables facts. opens_if_tcp facts.l4) (λ tables facts. fits_flags None decision state facts.l4)
+    c.args.tail.now c.put_opening.new.tail
+    (λ tables facts. opening_asked decision state facts.l4 (sym c.asks_opening.ensures ∙ c.if-asks_opening.true))
+    c.in_ok-put_opening.ensures.value

@@ -1,0 +1,46 @@
+use Rattle.std.proofs.Math.Seq.{drop-length}
+use Rattle.std.proofs.Common.{◌≡◌, ℕ, List, [], ◌∷◌, ◌-◌, ◌<◌, length, drop, get_or, suc, Some, refl, sym, subst, arith}
+use Rattle.std.specs.List.{list_any}
+use Rattle.std.specs.Prelude.{◌==◌}
+use Rattle.npf_bpfgen.specs.Instruction.{if_equal, jump, return_number}
+use Rattle.npf_bpfgen.specs.Tail.{Guards, GuardsNumber}
+use Rattle.npf_bpfgen.proofs.HeaderLemmas.{protocols_more}
+use Rattle.npf_bpfgen.proofs.TailLemmas.{extended, none_guards, wider}
+use Rattle.npf_bpfgen.proofs.header.put_numbers.Goals as goal
+
+pub loop-left-init : goal.loop-left-init
+loop-left-init c =
+    let protos = c.args.protos.now in
+    let old = c.args.tail.now in
+    let new = c.put.new.self in
+    let is : new ≡ return_number 0 ∷ old = rw (c.in_ok-put.ensures, c.return_number.ensures) in
+    record {
+      left = omega arith;
+      front = wider old new 1 1 _ (extended (return_number 0 ∷ []) old new 1 1 is refl refl) (omega arith);
+      value = λ p cop header number.
+          subst (λ (xs : List (ℕ)). Guards p cop header (Some number) (list_any (λ listed. listed == number) xs) old new)
+          (sym (drop-length protos)) (none_guards p cop header (Some number) old new is);
+    }
+
+pub loop-left-preserved : goal.loop-left-preserved
+loop-left-preserved c =
+    let protos = c.args.protos.now in
+    let left : ℕ = c.loop-left.left - 1 in
+    let over : ℕ = c.len.result - c.len-behind.result in
+    let next : c.loop-left.left ≡ suc left = omega arith in
+    let within : left < length protos = omega arith in
+    let distance : over ≡ length c.loop-left.tail - length c.args.tail.now = omega arith in
+    let is : c.put-in-loop-left.new.self ≡ if_equal (get_or protos left 0) 0 1 ∷ jump over ∷ c.loop-left.tail =
+    rw (c.in_ok-put-2.ensures, c.if_equal.ensures, c.from.ensures, c.jump.ensures) in
+    let both = protocols_more protos left c.loop-left.left over c.args.tail.now c.loop-left.tail c.put-in-loop-left.new.self next within
+    c.loop-left.invariant.front c.loop-left.invariant.value distance is in
+    record { left = omega arith; front = both.0; value = both.1 }
+
+pub returns-clause-front : goal.returns-clause-front
+returns-clause-front c =
+    wider c.args.tail.now c.loop-left.tail 1 _ _ c.loop-left.invariant.front (omega arith)
+
+pub returns-clause-value : goal.returns-clause-value
+returns-clause-value c =
+    let done : c.loop-left.left ≡ 0 = omega arith in
+    subst (λ (n : ℕ). GuardsNumber (λ proto. list_any (λ listed. listed == proto) (drop n c.args.protos.now)) c.args.tail.now c.loop-left.tail) done c.loop-left.invariant.value

@@ -1,0 +1,10 @@
+use Rattle.std.proofs.Common.{ℕ, Option, sym, subst}
+use Rattle.std.specs.Prelude.{OnOk}
+use Rattle.npf_model.specs.Describes.{fits_icmp}
+use Rattle.npf_bpfgen.specs.Premise.{GuardsPacket}
+use Rattle.npf_bpfgen.proofs.icmp.put_icmp.Goals as goal
+
+pub returns-in-Some-clause-value : goal.returns-in-Some-clause-value
+returns-in-Some-clause-value c =
+    subst (λ (f : Option (ℕ × Option ℕ)). OnOk c.put_message.result (GuardsPacket (λ tables facts. fits_icmp f facts.l4) c.args.tail.now c.put_message.new.tail))
+    (sym c.in-Some.is) c.put_message.ensures.value

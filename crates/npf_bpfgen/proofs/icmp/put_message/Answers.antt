@@ -1,0 +1,15 @@
+use Rattle.std.proofs.Common.{ℕ, Option, Some, sym, subst}
+use Rattle.std.specs.Prelude.{OnOk}
+use Rattle.npf_model.specs.Describes.{fits_icmp}
+use Rattle.npf_bpfgen.specs.Premise.{GuardsPacket}
+use Rattle.npf_bpfgen.proofs.icmp.put_message.Goals as goal
+
+pub returns-in-Some-clause-value : goal.returns-in-Some-clause-value
+returns-in-Some-clause-value c =
+    subst (λ (f : Option ℕ). OnOk c.put_type_and_code.result (GuardsPacket (λ tables facts. fits_icmp (Some (c.args.kind, f)) facts.l4) c.args.tail.now c.put_type_and_code.new.tail))
+    (sym c.in-Some.is) c.put_type_and_code.ensures.value
+
+pub returns-in-None-clause-value : goal.returns-in-None-clause-value
+returns-in-None-clause-value c =
+    subst (λ (f : Option ℕ). OnOk c.put_type.result (GuardsPacket (λ tables facts. fits_icmp (Some (c.args.kind, f)) facts.l4) c.args.tail.now c.put_type.new.tail))
+    (sym c.in-None.is) c.put_type.ensures.value

@@ -1,0 +1,71 @@
+-- The instructions that compiled rules are made of, by their codes in the table of bpf(4).
+use Rattle.std.specs.Prelude.{ℕ, ◌+◌, ◌-◌, ◌/◌, ◌%◌, ◌^◌, List, ◌∷◌, min}
+use Rattle.npf_types.specs.Address.{first_bits}
+use Rattle.npf_bpf.specs.declared.insn.Insn.{Insn}
+
+-- A <- P[at:4]
+abbrev pub load_word : ℕ → Insn
+load_word at = record { code = 0x20; jt = 0; jf = 0; k = at }
+
+-- A <- P[X+at:2], A <- P[X+at:1]
+abbrev pub load_half_behind : ℕ → Insn
+load_half_behind at = record { code = 0x48; jt = 0; jf = 0; k = at }
+
+abbrev pub load_byte_behind : ℕ → Insn
+load_byte_behind at = record { code = 0x50; jt = 0; jf = 0; k = at }
+
+-- A <- number
+abbrev pub load_constant : ℕ → Insn
+load_constant number = record { code = 0x00; jt = 0; jf = 0; k = number }
+
+-- A <- M[place], X <- M[place]
+abbrev pub load_memory : ℕ → Insn
+load_memory place = record { code = 0x60; jt = 0; jf = 0; k = place }
+
+abbrev pub load_index : ℕ → Insn
+load_index place = record { code = 0x61; jt = 0; jf = 0; k = place }
+
+-- A <- A & mask, A <- A >> bits
+abbrev pub mask_with : ℕ → Insn
+mask_with mask = record { code = 0x54; jt = 0; jf = 0; k = mask }
+
+abbrev pub shift_right : ℕ → Insn
+shift_right bits = record { code = 0x74; jt = 0; jf = 0; k = bits }
+
+-- pc += distance
+abbrev pub jump : ℕ → Insn
+jump distance = record { code = 0x05; jt = 0; jf = 0; k = distance }
+
+-- pc += (A == number) ? on_true : on_false, and the same for > and >=
+abbrev pub if_equal : ℕ → ℕ → ℕ → Insn
+if_equal number on_true on_false = record { code = 0x15; jt = on_true; jf = on_false; k = number }
+
+abbrev pub if_greater : ℕ → ℕ → ℕ → Insn
+if_greater number on_true on_false = record { code = 0x25; jt = on_true; jf = on_false; k = number }
+
+abbrev pub if_at_least : ℕ → ℕ → ℕ → Insn
+if_at_least number on_true on_false =
+    record { code = 0x35; jt = on_true; jf = on_false; k = number }
+
+-- return the number
+abbrev pub return_number : ℕ → Insn
+return_number number = record { code = 0x06; jt = 0; jf = 0; k = number }
+
+-- the coprocessor's functions 0 and 1
+abbrev pub ask_header : Insn
+ask_header = record { code = 0x27; jt = 0; jf = 0; k = 0 }
+
+abbrev pub ask_member : Insn
+ask_member = record { code = 0x27; jt = 0; jf = 0; k = 1 }
+
+-- in front of `old`: on to it where the word at a place has these first bits, or else as far as `far`
+-- says
+abbrev pub first_bits_of_word : ℕ → ℕ → ℕ → ℕ → List Insn → List Insn
+first_bits_of_word at bits word far old =
+    load_word at ∷ shift_right (32 - bits) ∷ if_equal (first_bits 32 bits word) 0 far ∷ old
+
+-- the same of the two words of a half, each by those of the first bits that lie in it
+abbrev pub first_bits_of_half : ℕ → ℕ → ℕ → ℕ → List Insn → List Insn
+first_bits_of_half at bits half far old =
+    first_bits_of_word at (min bits 32) (half / 2 ^ 32) (far + 3)
+    (first_bits_of_word (at + 4) (bits - 32) (half % 2 ^ 32) far old)

@@ -1,0 +1,7 @@
+pub mod RuleWeight
+pub mod Instruction
+pub mod Tail
+pub mod Premise
+pub mod Condition
+pub mod Endpoint
+pub mod Program

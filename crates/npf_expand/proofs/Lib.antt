@@ -1,0 +1,4 @@
+pub mod IfaceFileLemmas
+pub mod IfaceLemmas
+pub mod NameLemmas
+pub mod PlaceLemmas

@@ -1,0 +1,51 @@
+-- The addresses of a rule: blocks, tables, and functions, of which every address counts.
+use Rattle.std.specs.Prelude.{ℕ, unwrap_or, Option, Some, None, List, [], ◌∷◌, ◌++◌, map}
+use Rattle.std.specs.List.{flat_map}
+use Rattle.npf_types.specs.declared.address.Addr.{Addr}
+use Rattle.npf_types.specs.Address.{width}
+use Rattle.npf_types.specs.Block.{block}
+use Rattle.npf_lexer.specs.declared.fault.ConfFault.{ConfFault}
+use Rattle.npf_syntax.specs.declared.filter.Addresses.{Addresses}
+use Rattle.npf_syntax.specs.declared.filter.Addresses.TheVariants as Written
+use Rattle.npf_syntax.specs.declared.value.Value.{Value}
+use Rattle.npf_model.specs.declared.ends.AddrItem.{AddrItem}
+use Rattle.npf_model.specs.declared.ends.AddrItem.TheVariants.{Net, InTable}
+use Rattle.npf_model.specs.declared.iface.Iface.{Iface}
+use Rattle.npf_expand.specs.declared.role.Role.TheVariants.{AsAddress}
+use Rattle.npf_expand.specs.Atom.{Atom, BlockAtom, TableAtom, AddressesAtom, Env}
+use Rattle.npf_expand.specs.Table.{table_number}
+use Rattle.npf_expand.specs.Use.{use_faults, atoms_of, element_count}
+use Rattle.npf_expand.specs.Variable.{binding_of, own_faults, empty_list_at, spliced, value_span}
+
+-- one address as a block
+abbrev pub host_item : Addr → AddrItem
+host_item addr = Net (block addr (width addr))
+
+-- what a value is among the addresses of a rule; `tables` are the names of the configuration's tables
+abbrev pub items_of : List (List ℕ) → Atom → List AddrItem
+items_of tables (BlockAtom addr len) = Net (block addr (unwrap_or len (width addr))) ∷ []
+items_of tables (TableAtom name) = InTable (table_number tables name) ∷ []
+items_of tables (AddressesAtom addrs) = map host_item addrs
+items_of tables _ = []
+
+module _ (ifaces : List Iface) (env : Env) where
+  abbrev pub address_value_faults : Value → List ConfFault
+  address_value_faults value =
+      own_faults ifaces env value ++ use_faults AsAddress (value_span value) (atoms_of (binding_of ifaces env value))
+
+  abbrev pub addresses_faults : Addresses → List ConfFault
+  addresses_faults (Written.Any span) = []
+  addresses_faults (Written.One value span) = address_value_faults value
+  addresses_faults (Written.List list span) = empty_list_at list.span list.values ++ flat_map address_value_faults list.values
+
+  -- how many elements are listed
+  abbrev pub addresses_count : Addresses → ℕ
+  addresses_count (Written.Any span) = 0
+  addresses_count (Written.One value span) = element_count (atoms_of (binding_of ifaces env value))
+  addresses_count (Written.List list span) = element_count (spliced ifaces env list.values)
+
+  -- none where any address is asked for
+  abbrev pub address_items : List (List ℕ) → Addresses → Option (List AddrItem)
+  address_items tables (Written.Any span) = None
+  address_items tables (Written.One value span) = Some (flat_map (items_of tables) (atoms_of (binding_of ifaces env value)))
+  address_items tables (Written.List list span) = Some (flat_map (items_of tables) (spliced ifaces env list.values))

@@ -1,0 +1,16 @@
+pub mod Address
+pub mod Atom
+pub mod Elaborates
+pub mod Group
+pub mod Iface
+pub mod IfaceFile
+pub mod Map
+pub mod Place
+pub mod Port
+pub mod Procedure
+pub mod Protocol
+pub mod Rule
+pub mod Service
+pub mod Table
+pub mod Use
+pub mod Variable

@@ -1,0 +1,39 @@
+-- The ports of a rule: numbers, ranges and services.
+use Rattle.std.specs.Prelude.{ℕ, ◌||◌, nat_lt, if◌then◌else◌, Option, Some, None, List, [], ◌++◌}
+use Rattle.std.specs.List.{flat_map, filter_map}
+use Rattle.npf_lexer.specs.declared.fault.ConfFault.{ConfFault}
+use Rattle.npf_syntax.specs.declared.value.Value.{Value}
+use Rattle.npf_syntax.specs.declared.value.Values.{Values}
+use Rattle.npf_model.specs.declared.iface.Iface.{Iface}
+use Rattle.npf_expand.specs.declared.role.Role.TheVariants.{AsPort}
+use Rattle.npf_expand.specs.Atom.{Atom, NumberAtom, RangeAtom, WordAtom, Env}
+use Rattle.npf_expand.specs.Service.{services, number_named}
+use Rattle.npf_expand.specs.Use.{use_faults, atoms_of, element_count}
+use Rattle.npf_expand.specs.Variable.{binding_of, own_faults, empty_list_faults, listed_values, spliced, value_span}
+
+abbrev pub same_port : Option ℕ → Option (ℕ × ℕ)
+same_port None = None
+same_port (Some port) = Some (port, port)
+
+-- the ports that a value is, where it is some
+abbrev pub port_of : Atom → Option (ℕ × ℕ)
+port_of (NumberAtom number) = if nat_lt 65535 number then None else Some (number, number)
+port_of (RangeAtom first last) = if nat_lt 65535 first || nat_lt 65535 last then None else Some (first, last)
+port_of (WordAtom text span) = same_port (number_named services text)
+port_of _ = None
+
+module _ (ifaces : List Iface) (env : Env) where
+  abbrev pub port_value_faults : Value → List ConfFault
+  port_value_faults value = own_faults ifaces env value ++ use_faults AsPort (value_span value) (atoms_of (binding_of ifaces env value))
+
+  abbrev pub ports_faults : Option Values → List ConfFault
+  ports_faults None = []
+  ports_faults (Some values) = empty_list_faults values ++ flat_map port_value_faults (listed_values values)
+
+  abbrev pub ports_count : Option Values → ℕ
+  ports_count None = 0
+  ports_count (Some values) = element_count (spliced ifaces env (listed_values values))
+
+  abbrev pub ports_of : Option Values → Option (List (ℕ × ℕ))
+  ports_of None = None
+  ports_of (Some values) = Some (filter_map port_of (spliced ifaces env (listed_values values)))

@@ -1,0 +1,21 @@
+// Elaboration: what the tree of a configuration means (npf.conf(5)), once its variables are replaced by what they stand for, its
+// lists spliced, its functions replaced by the addresses of interfaces and its words by numbers.
+//
+// Values and faults are two total functions of the tree (specs/Elaborates). The contract of `expand`: a tree without a fault is
+// its model, and any other is refused with its first fault in the text, of two at one place with that of the smaller number.
+#![tactic(auto)]
+
+mod atom;
+mod iface;
+mod iface_file;
+mod map;
+mod name;
+mod place;
+mod procedure;
+mod role;
+mod rule;
+mod service;
+mod table;
+mod text;
+
+pub use iface_file::read_ifaces;

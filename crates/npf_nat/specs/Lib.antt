@@ -1,0 +1,7 @@
+pub mod Answer
+pub mod Draw
+pub mod Laws
+pub mod MapPlan
+pub mod Netmap
+pub mod Npt
+pub mod Prefixes

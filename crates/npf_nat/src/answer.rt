@@ -1,0 +1,51 @@
+ghost use Rattle.std.specs.Prelude.{◌≡◌};
+ghost use Rattle.std.specs.Option.{option_map};
+ghost use Rattle.npf_key.specs.Port.{source_port, destination_port};
+ghost use Rattle.npf_nat.specs.Answer.{own_end, answer_change};
+
+use npf_types::{Addr, Change, End, Facts, L4};
+
+/// The change of the answers to a packet that `there` translates: back to the packet's own ends.
+pub fn answer_change(facts: &Facts, there: &Change) -> Change
+    ensures { result ≡ answer_change facts.now there.now }
+{
+    Change {
+        src: own_end(facts.dst, destination_port(&facts.l4), there.dst),
+        dst: own_end(facts.src, source_port(&facts.l4), there.src),
+        neutral: there.neutral,
+    }
+}
+
+/// The packet's own end where the change names one there, with its port where the change names a port.
+fn own_end(addr: Addr, port: u16, named: Option<End>) -> Option<End>
+    ensures { result ≡ option_map (own_end addr port) named }
+{
+    match named {
+        Some(End { port: Some(_), .. }) => Some(End {
+            addr,
+            port: Some(port),
+        }),
+        Some(End { port: None, .. }) => Some(End { addr, port: None }),
+        None => None,
+    }
+}
+
+fn source_port(l4: &L4) -> u16
+    ensures { result ≡ source_port l4.now }
+{
+    match *l4 {
+        L4::Tcp { sport, .. } | L4::Udp { sport, .. } => sport,
+        L4::Icmp { echo, .. } | L4::Icmp6 { echo, .. } => echo.unwrap_or(0),
+        L4::Other => 0,
+    }
+}
+
+fn destination_port(l4: &L4) -> u16
+    ensures { result ≡ destination_port l4.now }
+{
+    match *l4 {
+        L4::Tcp { dport, .. } | L4::Udp { dport, .. } => dport,
+        L4::Icmp { echo, .. } | L4::Icmp6 { echo, .. } => echo.unwrap_or(0),
+        L4::Other => 0,
+    }
+}

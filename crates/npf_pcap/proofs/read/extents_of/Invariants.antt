@@ -1,0 +1,15 @@
+use Rattle.std.proofs.Common.{◌-◌, ◌≤◌, length, drop, All}
+use Rattle.npf_pcap.specs.Extent.{records_at, EndsWithin, IsShort}
+use Rattle.npf_pcap.proofs.RecordLemmas.{Progress}
+use Rattle.npf_pcap.proofs.read.extents_of.Given as goal
+
+abbrev pub invariant-loop-at : goal.invariant-loop-at
+invariant-loop-at l = record {
+  progress : Progress l.format (drop 24 l.bytes) (drop l.at l.bytes) l.number (records_at l.bytes l.extents.items);
+  inside : l.at ≤ length l.bytes;
+  within : All (EndsWithin (length l.bytes)) l.extents.items;
+  short : All IsShort l.extents.items;
+}
+
+abbrev pub decreases-loop-at : goal.decreases-loop-at
+decreases-loop-at l = length l.bytes - l.at

@@ -1,0 +1,95 @@
+ghost use Rattle.std.specs.Prelude.{◌≡◌, ◌≤◌};
+ghost use Rattle.left_right.specs.Sides.{view};
+ghost use Rattle.npf_publish.specs.NumberRange.{IsInRange};
+
+use crate::number_range::NumberRange;
+use crate::protocol::{Look, Published, Rule, SeatView};
+use crate::told::Told;
+use core::mem::replace_with;
+use left_right::reader::Reader;
+use std::sync::Wait;
+
+/// A reader of the published number, for one thread.
+#[derive(Drop)]
+pub struct ConfReader {
+    pub(crate) reader: Reader<Published, SeatView, Rule>,
+    // The last number that it read, or the first one.
+    pub(crate) seen: u64,
+    // The greatest number that it was told, or the first one.
+    pub(crate) told: u64,
+    pub(crate) range: NumberRange,
+    ghost knows: { (seen ≤ (view reader.place).seen) × ((view reader.place).last ≡ range.last) },
+    pub ghost seen_within: { IsInRange seen range },
+    pub ghost told_within: { IsInRange told range },
+}
+
+impl ConfReader {
+    ghost use Rattle.std.specs.Prelude.{IfSome, IfNone, max};
+    ghost use Rattle.npf_publish.specs.ConfReader.{reader_range, least_number, Reads};
+    ghost use Rattle.npf_publish.specs.Told.{told_number};
+
+    /// A number that was published, in the publisher's range and no less than what this reader read before or was told; it then
+    /// counts as read. The reader waits only for a number that it was told, and for ever once its publisher is closed.
+    pub fn read<R: Wait>(&mut self, rt: &R) -> u64
+        ensures { Reads self.old self.new result }
+    {
+        replace_with(self, rt, |reader, rt| reader.read_next(rt))
+    }
+
+    fn read_next<R: Wait>(self, rt: &R) -> (ConfReader, u64)
+        ensures { Reads self result.0 result.1 }
+    {
+        let mut reader = self;
+        for _ in rt.forever() {
+            let (next, number) = reader.look();
+            if let Some(number) = number {
+                return (next, number);
+            }
+            reader = next;
+        }
+        unreachable!()
+    }
+
+    // One look. None where the publisher is closed, or what it shows is below what the reader was told.
+    pub(crate) fn look(self) -> (ConfReader, Option<u64>)
+        ensures range { reader_range result.0 ≡ reader_range self }
+        ensures read { IfSome result.1 (Reads self result.0) }
+        ensures same { IfNone result.1 (least_number result.0 ≡ least_number self) }
+    {
+        let ConfReader {
+            reader,
+            mut seen,
+            told,
+            range,
+        } = self;
+        let (reader, number) = match reader.enter_as::<Look>() {
+            Ok(reading) => {
+                let number = reading.get().number;
+                (reading.leave(), Some(number))
+            }
+            Err(same) => (same, None),
+        };
+        let number = number.filter(|number| told <= *number);
+        if let Some(number) = number {
+            seen = number;
+        }
+        (
+            ConfReader {
+                reader,
+                seen,
+                told,
+                range,
+            },
+            number,
+        )
+    }
+
+    /// Tells the reader a number of its publisher: from then on it reads none below.
+    pub fn learn(&mut self, told: &Told)
+        requires { told_number told.now ≤ (reader_range self.old).last }
+        ensures range { reader_range self.new ≡ reader_range self.old }
+        ensures least { least_number self.new ≡ max (least_number self.old) (told_number told.now) }
+    {
+        self.told = self.told.max(told.number);
+    }
+}

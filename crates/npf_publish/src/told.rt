@@ -1,0 +1,5 @@
+/// A number that was published, to tell a reader of the same publisher.
+#[derive(Clone, Copy, Debug)]
+pub struct Told {
+    pub(crate) number: u64,
+}
