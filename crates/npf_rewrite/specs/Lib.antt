@@ -1,0 +1,7 @@
+pub mod Address
+pub mod Normalised
+pub mod Room
+pub mod Sent
+pub mod Sum
+pub mod Translated
+pub mod Word

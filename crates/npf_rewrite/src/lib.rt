@@ -1,0 +1,23 @@
+// Translation and normalisation: a packet's addresses, ports, time to live, fragment field and
+// maximum segment size are written in place, and the sums over them follow.
+//
+// Translation is that of RFC 3022 and, where a change keeps the sum of the addresses, of RFC 6296;
+// normalisation is that of npf.conf(5), "Procedures": `min-ttl`, `no-df` and `max-mss`. A sum is
+// adjusted by the 16-bit words that change (RFC 1624), never computed anew, so the payload isn't
+// read and a wrong sum stays as wrong as it was. Where fields stand is npf_packet's to say.
+//
+// The contract: each call writes the words that `Translated` and `Normalised` name, with the
+// values that these name, and changes no other byte. Neither takes memory nor can be refused; each
+// asks that the packet's parts lie within its bytes, which those of a decoded packet do.
+#![tactic(auto)]
+
+mod address;
+mod laws;
+mod normalised;
+mod sum;
+mod translated;
+mod word;
+
+pub use laws::decoded_has_room;
+pub use normalised::normalize;
+pub use translated::translate;
