@@ -26,7 +26,7 @@ use Rattle.std.specs.Str.{bytes_eq}
 use Rattle.npf_model.specs.declared.iface.Iface.{Iface}
 use Rattle.npf_lexer.specs.declared.fault.ConfFault.{ConfFault}
 use Rattle.npf_lexer.specs.declared.fault.Fault.TheVariants.{BadIfaceFile}
-use Rattle.npf_expand.specs.IfaceFile.{Each, AreInterfaces, IsBadBehind, IsFirstBadIfaceLine, IsInterface, bytes_of_lines, has_some, iface_names, line_words, lines, written_lines}
+use Rattle.npf_expand.specs.IfaceFile.{Each, AreInterfaces, IsBadBehind, IsFirstBadIfaceLine, IsInterface, bytes_of_lines, has_some, iface_names, line_words, file_lines, written_lines}
 
 -- the place that `position` finds ends what stands before it
 pub before_place : (p : ℕ → Bool) (xs : List ℕ) (at : ℕ) → position p xs ≡ Some at → take at xs ≡ before_first p xs
@@ -138,10 +138,10 @@ split_bytes p (x ∷ xs) = by (split_bytes p xs) (p x) where
       omega (arith, rest, more)
 
 -- a line and those before it lie within the text
-pub within_text : (text : List ℕ) (n : ℕ) (line : List ℕ) → n < length (lines text) → line ≡ get_or (lines text) n line
-    → bytes_of_lines (take n (lines text)) + length line ≤ length text
+pub within_text : (text : List ℕ) (n : ℕ) (line : List ℕ) → n < length (file_lines text) → line ≡ get_or (file_lines text) n line
+    → bytes_of_lines (take n (file_lines text)) + length line ≤ length text
 within_text text n line within is =
-    let all = lines text in
+    let all = file_lines text in
     let whole : bytes_of_lines (take n all ++ drop n all) ≡ bytes_of_lines all = ap bytes_of_lines (take-append-drop n all) in
     let split = bytes_of_lines-append (take n all) (drop n all) in
     let left : bytes_of_lines (drop n all) ≡ length line + 1 + bytes_of_lines (drop (n + 1) all) =
@@ -228,23 +228,23 @@ after_interface all n m line ifaces iface within is more good says absent =
     }
 
 -- a line that isn't good behind good ones is the first
-pub first_bad : (text : List ℕ) (n number at : ℕ) (line : List ℕ) (ifaces : List Iface) (fault : ConfFault) → n < length (lines text)
-    → line ≡ get_or (lines text) n line → AreInterfaces (take n (lines text)) ifaces → IsBadBehind ifaces line → number ≡ n + 1
-    → at ≡ bytes_of_lines (take n (lines text)) → fault ≡ record { span = record { line = number; col = 1; at = at; len = 1 }; fault = BadIfaceFile }
+pub first_bad : (text : List ℕ) (n number at : ℕ) (line : List ℕ) (ifaces : List Iface) (fault : ConfFault) → n < length (file_lines text)
+    → line ≡ get_or (file_lines text) n line → AreInterfaces (take n (file_lines text)) ifaces → IsBadBehind ifaces line → number ≡ n + 1
+    → at ≡ bytes_of_lines (take n (file_lines text)) → fault ≡ record { span = record { line = number; col = 1; at = at; len = 1 }; fault = BadIfaceFile }
     → IsFirstBadIfaceLine text fault
 first_bad text n number at line ifaces fault within is good bad counted start stands =
-    let long : length (take n (lines text)) ≡ n = length-take-le n (lines text) (omega (arith, within)) in
-    let counts : number ≡ length (take n (lines text)) + 1 = counted ∙ ap (λ k. k + 1) (sym long) in
+    let long : length (take n (file_lines text)) ≡ n = length-take-le n (file_lines text) (omega (arith, within)) in
+    let counts : number ≡ length (take n (file_lines text)) + 1 = counted ∙ ap (λ k. k + 1) (sym long) in
     record {
       before = n;
       line = line;
       earlier = ifaces;
-      there = slice_get_read (lines text) (length (lines text)) n line refl within is;
+      there = slice_get_read (file_lines text) (length (file_lines text)) n line refl within is;
       good = good;
       bad = bad;
       stands = stands
           ∙ ap (λ k. record { span = record { line = k; col = 1; at = at; len = 1 }; fault = BadIfaceFile }) counts
-          ∙ ap (λ k. record { span = record { line = length (take n (lines text)) + 1; col = 1; at = k; len = 1 }; fault = BadIfaceFile }) start;
+          ∙ ap (λ k. record { span = record { line = length (take n (file_lines text)) + 1; col = 1; at = k; len = 1 }; fault = BadIfaceFile }) start;
     }
 
 -- two addresses of one text are one, and so are two interfaces' names of one line

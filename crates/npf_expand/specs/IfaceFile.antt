@@ -23,8 +23,8 @@ is_hash byte = byte == 35
 abbrev pub is_space : ℕ → Bool
 is_space byte = byte == 32
 
-abbrev pub lines : List ℕ → List (List ℕ)
-lines text = slice_split ends_line text
+abbrev pub file_lines : List ℕ → List (List ℕ)
+file_lines text = slice_split ends_line text
 
 abbrev pub has_some : {X : Type 0} → List X → Bool
 has_some [] = false
@@ -64,7 +64,7 @@ pub record AreInterfaces (all : List (List ℕ)) (ifaces : List Iface) : Type 0 
   pub once : AllPairs (λ one other. one ≢ other) (iface_names ifaces)
 
 abbrev pub IsIfaceFile : List ℕ → List Iface → Type 0
-IsIfaceFile text ifaces = AreInterfaces (lines text) ifaces
+IsIfaceFile text ifaces = AreInterfaces (file_lines text) ifaces
 
 -- behind lines with these interfaces: the line isn't blank, and is no interface or one of their names again
 abbrev pub IsBadBehind : List Iface → List ℕ → Type 0
@@ -85,10 +85,10 @@ pub record IsFirstBadIfaceLine (text : List ℕ) (fault : ConfFault) : Type 0 wh
   pub before : ℕ
   pub line : List ℕ
   pub earlier : List Iface
-  pub there : slice_get (lines text) before ≡ Some line
-  pub good : AreInterfaces (take before (lines text)) earlier
+  pub there : slice_get (file_lines text) before ≡ Some line
+  pub good : AreInterfaces (take before (file_lines text)) earlier
   pub bad : IsBadBehind earlier line
-  pub stands : fault ≡ record { span = line_start (take before (lines text)); fault = BadIfaceFile }
+  pub stands : fault ≡ record { span = line_start (take before (file_lines text)); fault = BadIfaceFile }
 
 -- why the file isn't read; want of memory says nothing of it
 abbrev pub RefusesIfaces : List ℕ → Refused → Type 0

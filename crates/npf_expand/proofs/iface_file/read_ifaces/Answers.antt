@@ -3,14 +3,14 @@ use Rattle.std.proofs.lemmas.List.{length_push, take_all, map-append}
 use Rattle.std.proofs.lemmas.Iterator.Consumers.{YieldsList-turn, YieldsList-end}
 use Rattle.std.proofs.lemmas.Iterator.Splits.{YieldsList-from_slice_split}
 use Rattle.npf_model.specs.declared.iface.Iface.{Iface}
-use Rattle.npf_expand.specs.IfaceFile.{ends_line, iface_names, line_words, lines, AreInterfaces, IsIfaceLine, RefusesIfaces}
+use Rattle.npf_expand.specs.IfaceFile.{ends_line, iface_names, line_words, file_lines, AreInterfaces, IsIfaceLine, RefusesIfaces}
 use Rattle.npf_expand.proofs.IfaceFileLemmas.{after_blank, after_interface, bytes_more, first_bad, has_name, known_again, name_more, was_known, was_new, within_text}
 use Rattle.npf_expand.proofs.iface_file.read_ifaces.Goals as goal
 
 pub overflow_add-at-in-loop-line : goal.overflow_add-at-in-loop-line
 overflow_add-at-in-loop-line c =
     let t = YieldsList-turn (YieldsList-from_slice_split _ ends_line c.args.text.now (cc) (cc) (cc) (λ x b q k. search (rules, tests))) c.loop-line.yielded _ c.loop-line.yielded_by _ _ c.in-Some.line c.in-Some.is c.next.ensures.steps in
-    let all = lines c.args.text.now in
+    let all = file_lines c.args.text.now in
     let n = length c.loop-line.yielded in
     let line = c.in-Some.line.now in
     let room = within_text c.args.text.now n line t.0 t.1 in
@@ -20,7 +20,7 @@ overflow_add-at-in-loop-line c =
 pub returns-then-not-branch-clause-err : goal.returns-then-not-branch-clause-err
 returns-then-not-branch-clause-err c =
     let t = YieldsList-turn (YieldsList-from_slice_split _ ends_line c.args.text.now (cc) (cc) (cc) (λ x b q k. search (rules, tests))) c.loop-line.yielded _ c.loop-line.yielded_by _ _ c.in-Some.line c.in-Some.is c.next.ensures.steps in
-    let all = lines c.args.text.now in
+    let all = file_lines c.args.text.now in
     let n = length c.loop-line.yielded in
     let line = c.in-Some.line.now in
     let iface = c.in-Interface.iface in
@@ -33,7 +33,7 @@ returns-then-not-branch-clause-err c =
 pub returns-in-Bad-clause-err : goal.returns-in-Bad-clause-err
 returns-in-Bad-clause-err c =
     let t = YieldsList-turn (YieldsList-from_slice_split _ ends_line c.args.text.now (cc) (cc) (cc) (λ x b q k. search (rules, tests))) c.loop-line.yielded _ c.loop-line.yielded_by _ _ c.in-Some.line c.in-Some.is c.next.ensures.steps in
-    let all = lines c.args.text.now in
+    let all = file_lines c.args.text.now in
     let n = length c.loop-line.yielded in
     let line = c.in-Some.line.now in
     let bad = subst (IsIfaceLine (line_words line)) c.in-Bad.is c.in_ok-read_line.ensures in
@@ -44,7 +44,7 @@ returns-in-Bad-clause-err c =
 pub loop-line-preserved-in-Blank : goal.loop-line-preserved-in-Blank
 loop-line-preserved-in-Blank c =
     let t = YieldsList-turn (YieldsList-from_slice_split _ ends_line c.args.text.now (cc) (cc) (cc) (λ x b q k. search (rules, tests))) c.loop-line.yielded _ c.loop-line.yielded_by _ _ c.in-Some.line c.in-Some.is c.next.ensures.steps in
-    let all = lines c.args.text.now in
+    let all = file_lines c.args.text.now in
     let n = length c.loop-line.yielded in
     let line = c.in-Some.line.now in
     let m = length (c.loop-line.yielded ++ c.in-Some.line ∷ []) in
@@ -62,7 +62,7 @@ loop-line-preserved-in-Blank c =
 pub loop-line-preserved : goal.loop-line-preserved
 loop-line-preserved c =
     let t = YieldsList-turn (YieldsList-from_slice_split _ ends_line c.args.text.now (cc) (cc) (cc) (λ x b q k. search (rules, tests))) c.loop-line.yielded _ c.loop-line.yielded_by _ _ c.in-Some.line c.in-Some.is c.next.ensures.steps in
-    let all = lines c.args.text.now in
+    let all = file_lines c.args.text.now in
     let n = length c.loop-line.yielded in
     let line = c.in-Some.line.now in
     let m = length (c.loop-line.yielded ++ c.in-Some.line ∷ []) in
@@ -85,5 +85,5 @@ loop-line-preserved c =
 pub returns-clause-ok : goal.returns-clause-ok
 returns-clause-ok c =
     let e = YieldsList-end (YieldsList-from_slice_split _ ends_line c.args.text.now (cc) (cc) (cc) (λ x b q k. search (rules, tests))) c.loop-line.yielded _ c.loop-line.yielded_by _ _ c.in-None.is c.next.ensures.steps in
-    subst (AreInterfaces (lines c.args.text.now)) (sym c.of_vec.ensures)
-    (subst (λ (ls : List (List ℕ)). AreInterfaces ls c.loop-line.ifaces.items) (take_all (length c.loop-line.yielded) (lines c.args.text.now) (omega (arith, e.1))) c.loop-line.invariant.good)
+    subst (AreInterfaces (file_lines c.args.text.now)) (sym c.of_vec.ensures)
+    (subst (λ (ls : List (List ℕ)). AreInterfaces ls c.loop-line.ifaces.items) (take_all (length c.loop-line.yielded) (file_lines c.args.text.now) (omega (arith, e.1))) c.loop-line.invariant.good)

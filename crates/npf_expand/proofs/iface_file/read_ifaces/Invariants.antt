@@ -1,6 +1,6 @@
 use Rattle.std.proofs.Common.{◌≡◌, length, take}
 use Rattle.npf_types.specs.declared.name.Name.{Name}
-use Rattle.npf_expand.specs.IfaceFile.{lines, bytes_of_lines, iface_names, AreInterfaces}
+use Rattle.npf_expand.specs.IfaceFile.{file_lines, bytes_of_lines, iface_names, AreInterfaces}
 use Rattle.npf_expand.proofs.IfaceFileLemmas.{has_name}
 use Rattle.npf_expand.proofs.iface_file.read_ifaces.Given as goal
 
@@ -9,7 +9,7 @@ invariant-loop-line l = record {
   can : (goal.iterator-loop-line).can_next l.line-iterator;
   finite : (goal.iterator-loop-line).is_finite l.line-iterator;
   counted : l.number ≡ length l.yielded;
-  passed : l.at ≡ bytes_of_lines (take (length l.yielded) (lines l.fn.text));
-  good : AreInterfaces (take (length l.yielded) (lines l.fn.text)) l.ifaces.items;
+  passed : l.at ≡ bytes_of_lines (take (length l.yielded) (file_lines l.fn.text));
+  good : AreInterfaces (take (length l.yielded) (file_lines l.fn.text)) l.ifaces.items;
   known : (name : Name) → has_name l.names.keys name ≡ has_name (iface_names l.ifaces.items) name;
 }
