@@ -27,7 +27,7 @@ use Rattle.npf_expand.specs.declared.role.Role.{Role}
 use Rattle.npf_expand.specs.declared.role.Role.TheVariants.{AsAddress, AsPort}
 use Rattle.npf_expand.specs.Atom.{Atom, BlockAtom, AddressesAtom, Binding, Env}
 use Rattle.npf_expand.specs.Iface.{iface_faults, on_iface}
-use Rattle.npf_expand.specs.Port.{port_of}
+use Rattle.npf_expand.specs.Port.{atom_ports}
 use Rattle.npf_expand.specs.Protocol.{one_protocol, one_protocol_faults}
 use Rattle.npf_expand.specs.Rule.{filter_faults, filter_rule}
 use Rattle.npf_expand.specs.Use.{atoms_of, single_faults}
@@ -66,7 +66,7 @@ first_block (atom ∷ _) = side_block atom
 
 abbrev pub first_port : List Atom → Option (ℕ × ℕ)
 first_port [] = None
-first_port (atom ∷ _) = port_of atom
+first_port (atom ∷ _) = atom_ports atom
 
 -- the faults of one value by itself and in its place; a name that isn't defined has only its own
 abbrev pub bound_faults : Role → Value → Option Binding → List ConfFault

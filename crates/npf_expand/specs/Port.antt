@@ -16,11 +16,11 @@ same_port None = None
 same_port (Some port) = Some (port, port)
 
 -- the ports that a value is, where it is some
-abbrev pub port_of : Atom → Option (ℕ × ℕ)
-port_of (NumberAtom number) = if nat_lt 65535 number then None else Some (number, number)
-port_of (RangeAtom first last) = if nat_lt 65535 first || nat_lt 65535 last then None else Some (first, last)
-port_of (WordAtom text span) = same_port (number_named services text)
-port_of _ = None
+abbrev pub atom_ports : Atom → Option (ℕ × ℕ)
+atom_ports (NumberAtom number) = if nat_lt 65535 number then None else Some (number, number)
+atom_ports (RangeAtom first last) = if nat_lt 65535 first || nat_lt 65535 last then None else Some (first, last)
+atom_ports (WordAtom text span) = same_port (number_named services text)
+atom_ports _ = None
 
 module _ (ifaces : List Iface) (env : Env) where
   abbrev pub port_value_faults : Value → List ConfFault
@@ -36,4 +36,4 @@ module _ (ifaces : List Iface) (env : Env) where
 
   abbrev pub ports_of : Option Values → Option (List (ℕ × ℕ))
   ports_of None = None
-  ports_of (Some values) = Some (filter_map port_of (spliced ifaces env (listed_values values)))
+  ports_of (Some values) = Some (filter_map atom_ports (spliced ifaces env (listed_values values)))

@@ -4,7 +4,7 @@ ghost use Rattle.npf_faults.specs.First.{first_fault};
 ghost use Rattle.npf_expand.specs.Atom.{kept_atom};
 ghost use Rattle.npf_expand.specs.Iface.{name_text};
 ghost use Rattle.npf_expand.specs.Map.{side_block};
-ghost use Rattle.npf_expand.specs.Port.{port_of};
+ghost use Rattle.npf_expand.specs.Port.{atom_ports};
 ghost use Rattle.npf_expand.specs.Protocol.{protocol_of};
 ghost use Rattle.npf_expand.specs.Use.{count_of, is_unfit, word_faults};
 
@@ -89,7 +89,7 @@ impl Atom<'_> {
 
     /// The ports that it is, first and last.
     pub(crate) fn ports(&self) -> Option<(u16, u16)>
-        ensures { result ≡ port_of (kept_atom self.now) }
+        ensures { result ≡ atom_ports (kept_atom self.now) }
     {
         match self {
             Atom::Number(number) => {
