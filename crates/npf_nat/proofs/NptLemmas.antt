@@ -47,8 +47,8 @@ words_sum_is n =
     ∙ carried_on n (2 ^ 80) (2 ^ 96) w4 (div-div-eq-div-mul n (2 ^ 80) 65536)
     ∙ carried_on n (2 ^ 96) (2 ^ 112) w5 (div-div-eq-div-mul n (2 ^ 96) 65536)
     ∙ ap (λ (s : ℕ). s % 65535)
-      (in_order (n / 2 ^ 112) (n / 2 ^ 96 % 65536) (n / 2 ^ 80 % 65536) (n / 2 ^ 64 % 65536) (n / 2 ^ 48 % 65536) (n / 2 ^ 32 % 65536) (n / 2 ^ 16 % 65536)
-      (n % 65536))
+    (in_order (n / 2 ^ 112) (n / 2 ^ 96 % 65536) (n / 2 ^ 80 % 65536) (n / 2 ^ 64 % 65536) (n / 2 ^ 48 % 65536) (n / 2 ^ 32 % 65536) (n / 2 ^ 16 % 65536)
+    (n % 65536))
 
 prefix_parts : (m : ℕ) → m % 65535 ≡ (m / 2 ^ 32 + m / 2 ^ 16 % 65536 + m % 65536) % 65535
 prefix_parts m = first_carried m ∙ carried_on m (2 ^ 16) (2 ^ 32) (m % 65536) (div-div-eq-div-mul m (2 ^ 16) 65536) ∙ ap (λ (s : ℕ). s % 65535) (omega arith)
@@ -129,7 +129,7 @@ module _ (n f t a : ℕ) (short : n ≤ 48) (zf : f ≡ kept_bits 128 n f) (zt :
       sym (words_sum_is (npt66_number f t n a)) ∙ ap (λ (v : ℕ). v % 65535) translated
       ∙ weighed (front n t + subnet n a) word (a % 2 ^ 64)
       ∙ balanced (front n t) (front n f) (subnet n a) (fourth_word a) (a % 2 ^ 64) (prefix_sum f) (prefix_sum t)
-        (prefix_sum_is f (front n f) (front_is n f short zf)) (prefix_sum_is t (front n t) (front_is n t short zt)) (prefix_sum_bound t fits)
+      (prefix_sum_is f (front n f) (front_is n f short zf)) (prefix_sum_is t (front n t) (front_is n t short zt)) (prefix_sum_bound t fits)
       ∙ sym (weighed (front n f + subnet n a) (fourth_word a) (a % 2 ^ 64))
       ∙ ap (λ (v : ℕ). v % 65535) (sym original)
       ∙ words_sum_is a
@@ -140,13 +140,13 @@ module _ (n f t a : ℕ) (short : n ≤ 48) (zf : f ≡ kept_bits 128 n f) (zt :
       let low : a % 2 ^ 64 < 2 ^ 64 = omega arith in
       let small : fourth_word a < 65536 = omega arith in
       let found = three (npt66_number f t n a) (front n t + subnet n a) word (a % 2 ^ 64) translated
-        (word_bound (fourth_word a + prefix_sum f + (3 * 65535 - prefix_sum t))) low in
+      (word_bound (fourth_word a + prefix_sum f + (3 * 65535 - prefix_sum t))) low in
       let again = parts (in_block 128 f n x) (front n f + subnet n x) x (adjusted_word (fourth_word x) (prefix_sum t) (prefix_sum f)) (placed n f x short zf) in
       let inner : subnet n x ≡ subnet n a =
-        ap (λ (v : ℕ). v % 2 ^ (48 - n)) found.0 ∙ mul-add-mod_self_right (t / 2 ^ (128 - n)) (2 ^ (48 - n)) (subnet n a) ∙ mod-mod (a / 2 ^ 80) (2 ^ (48 - n)) in
+      ap (λ (v : ℕ). v % 2 ^ (48 - n)) found.0 ∙ mul-add-mod_self_right (t / 2 ^ (128 - n)) (2 ^ (48 - n)) (subnet n a) ∙ mod-mod (a / 2 ^ 80) (2 ^ (48 - n)) in
       let fourth : adjusted_word (fourth_word x) (prefix_sum t) (prefix_sum f) ≡ fourth_word a =
-        ap (λ (v : ℕ). adjusted_word v (prefix_sum t) (prefix_sum f)) found.1
-        ∙ returned (fourth_word a) (prefix_sum f) (prefix_sum t) small other (prefix_sum_bound f f_fits) (prefix_sum_bound t t_fits) in
+      ap (λ (v : ℕ). adjusted_word v (prefix_sum t) (prefix_sum f)) found.1
+      ∙ returned (fourth_word a) (prefix_sum f) (prefix_sum t) small other (prefix_sum_bound f f_fits) (prefix_sum_bound t t_fits) in
       again ∙ (λ i. (front n f + inner i) * 2 ^ 80 + fourth i * 2 ^ 64 + found.2 i) ∙ sym original
 
 pub npt66_neutral : Npt66IsNeutral

@@ -1,6 +1,6 @@
 ghost use Rattle.std.specs.Prelude.{◌≡◌, ◌≤◌, ◌+◌, ◌-◌, ◌*◌, ◌%◌};
 ghost use Rattle.npf_nat.specs.Npt.{prefix_sum, fourth_word, adjusted_word, with_fourth_word, npt66, npt66_address, number_of};
-ghost use Rattle.npf_nat.specs.Prefixes.{ArePrefixes};
+ghost use Rattle.npf_nat.specs.PrefixPair.{ArePrefixes};
 
 use crate::netmap::in_block_v6;
 use npf_types::{Addr, Prefix};
