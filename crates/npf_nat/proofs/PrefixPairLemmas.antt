@@ -1,9 +1,9 @@
 -- The blocks of a map fit the way back too.
-use Rattle.std.proofs.Common.{◌≡◌, ◌≤◌, ℕ, sym, subst}
+use Rattle.std.proofs.Common.{◌≤◌, ℕ, sym, subst}
 use Rattle.npf_types.specs.declared.prefix.Prefix.{Prefix}
 use Rattle.npf_model.specs.declared.map.Algo.{Algo}
 use Rattle.npf_model.specs.declared.map.Algo.TheVariants.{Dynamic, Netmap, Npt66}
-use Rattle.npf_nat.specs.PrefixPair.{ArePrefixes, FitsAlgo}
+use Rattle.npf_nat.specs.PrefixPair.{FitsAlgo}
 
 pub fits_back : (algo : Algo) (from to : Prefix) → FitsAlgo algo from to → FitsAlgo algo to from
 fits_back Npt66 from to are = record {

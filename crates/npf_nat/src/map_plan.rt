@@ -11,8 +11,9 @@ use crate::segment::{fits_protocol, fits_segment};
 use npf_model::{Algo, Map};
 use npf_types::{Addr, Change, Dir, End, Facts, Prefix};
 
-/// What a map makes of a packet: the changes of the packet and of its answers; or the address and the range of ports, or of
-/// identifiers of echoes, from which one is to be drawn, `first` before all others.
+/// What a map makes of a packet: the changes of the packet and of its answers; or the address and
+/// the range of ports, or of identifiers of echoes, from which one is to be drawn, `first` before
+/// all others.
 #[derive(Clone, Copy, Debug, PartialEq, Eq)]
 pub enum MapPlan {
     Fixed {
@@ -27,8 +28,9 @@ pub enum MapPlan {
     },
 }
 
-/// What the map makes of a packet that crosses its interface this way. None exactly where the packet's protocol or direction, or
-/// its end on the map's side, isn't the map's. Interface and filter are not looked at.
+/// What the map makes of a packet that crosses its interface this way. None exactly where the
+/// packet's protocol or direction, or its end on the map's side, isn't the map's. Interface and
+/// filter are not looked at.
 pub fn plan(map: &Map, facts: &Facts, dir: Dir) -> Option<MapPlan>
     requires ports { IsOrdered map.now.outside.ports }
     requires prefixes { FitsAlgo map.now.algo map.now.inside.net map.now.outside.net }
