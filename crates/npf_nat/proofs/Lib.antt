@@ -1,3 +1,4 @@
 pub mod AnswerLemmas
 pub mod NetmapLemmas
 pub mod NptLemmas
+pub mod PrefixPairLemmas

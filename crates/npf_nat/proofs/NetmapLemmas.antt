@@ -1,5 +1,5 @@
 -- An address of a block that has other host bits is a number of as many bits, and comes back.
-use Rattle.std.proofs.Common.{◌≡◌, ◌≤◌, ◌<◌, ◌+◌, ◌-◌, ◌*◌, ◌/◌, ◌%◌, ◌^◌, ℕ, true, refl, ap, sym, subst, ◌∙◌, arith}
+use Rattle.std.proofs.Common.{◌≡◌, ◌≤◌, ◌<◌, ◌+◌, ◌-◌, ◌*◌, ◌/◌, ◌%◌, ◌^◌, ℕ, true, ap, sym, subst, ◌∙◌, arith}
 use Rattle.std.proofs.Math.Nat.{add-sub_of_le, lt_of_mul-lt-mul_right, mul-le-mul_right, mod-lt, mod-mod, mul-add-mod_self_right, mod-add-div}
 use Rattle.std.proofs.lemmas.Nat.{pow_pos, pow-add}
 use Rattle.npf_types.specs.declared.address.Addr.{Addr}
@@ -7,7 +7,7 @@ use Rattle.npf_types.specs.declared.address.Addr.TheVariants.{V4, V6}
 use Rattle.npf_types.specs.Address.{kept_bits, first_bits, cleared, SharesFirst}
 use Rattle.npf_key.specs.Translated.{shares_family}
 use Rattle.npf_nat.specs.Laws.{NetmapComesBack}
-use Rattle.npf_nat.specs.Netmap.{host_bits, in_block, moved}
+use Rattle.npf_nat.specs.Netmap.{in_block, moved}
 use Rattle.npf_nat.specs.Npt.{number_of}
 
 below_multiple : (q m p block top r : ℕ) → block ≡ q * p → top ≡ m * p → block < top → r < p → block + r < top

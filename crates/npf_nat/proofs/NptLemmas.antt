@@ -1,6 +1,7 @@
--- Prefix translation, word by word: an address is what is in front of 80 bits, its fourth word and 64 bits.
-use Rattle.std.proofs.Common.{◌≡◌, ◌≢◌, ◌≤◌, ◌<◌, ◌+◌, ◌-◌, ◌*◌, ◌/◌, ◌%◌, ◌^◌, ℕ, IsTrue, refl, ap, sym, subst, ◌∙◌, arith}
-use Rattle.std.proofs.Math.Nat.{div-div-eq-div-mul, mod-lt, mod-mod, mul-add-mod_self_right}
+-- Prefix translation, word by word: an address is what is in front of 80 bits, its fourth word and
+-- 64 bits.
+use Rattle.std.proofs.Common.{◌≡◌, ◌≢◌, ◌≤◌, ◌<◌, ◌+◌, ◌-◌, ◌*◌, ◌/◌, ◌%◌, ◌^◌, ℕ, IsTrue, ap, sym, subst, ◌∙◌, arith}
+use Rattle.std.proofs.Math.Nat.{div-div-eq-div-mul, mod-mod, mul-add-mod_self_right}
 use Rattle.std.proofs.lemmas.Nat.{pow-add, mod-pow-add}
 use Rattle.npf_types.specs.declared.address.Addr.{Addr}
 use Rattle.npf_types.specs.declared.address.Addr.TheVariants.{V4, V6}

@@ -1,5 +1,5 @@
 -- The change of the answers to a packet that a change translates.
-use Rattle.std.specs.Prelude.{ℕ, Option, Some, None}
+use Rattle.std.specs.Prelude.{ℕ}
 use Rattle.std.specs.Option.{option_map}
 use Rattle.npf_types.specs.declared.address.Addr.{Addr}
 use Rattle.npf_types.specs.declared.change.Change.{Change}
@@ -11,8 +11,8 @@ use Rattle.npf_key.specs.Port.{source_port, destination_port}
 abbrev pub own_end : Addr → ℕ → End → End
 own_end addr port named = record { addr = addr; port = option_map (λ _. port) named.port }
 
--- An answer goes to where the packet came from: its destination is the packet's own source where the source was translated, and
--- its source the packet's own destination where the destination was.
+-- An answer goes to where the packet came from: its destination is the packet's own source where
+-- the source was translated, and its source the packet's own destination where the destination was.
 abbrev pub answer_change : Facts → Change → Change
 answer_change facts there = record {
   src = option_map (own_end facts.dst (destination_port facts.l4)) there.dst;

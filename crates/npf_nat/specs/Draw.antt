@@ -1,5 +1,5 @@
 -- For which packets a port or an identifier is drawn, and from which numbers.
-use Rattle.std.specs.Prelude.{ℕ, ◌+◌, ◌-◌, ◌%◌, Bool, if◌then◌else◌, Option, Some, None}
+use Rattle.std.specs.Prelude.{ℕ, ◌+◌, ◌-◌, ◌%◌, if◌then◌else◌, Option, Some, None}
 use Rattle.npf_types.specs.declared.facts.L4.{L4}
 use Rattle.npf_types.specs.declared.facts.L4.TheVariants.{Tcp, Udp, Icmp, Icmp6, Other}
 use Rattle.npf_model.specs.Describes.{in_range}
@@ -25,6 +25,7 @@ abbrev pub drawn_range : Option (ℕ × ℕ) → ℕ × ℕ
 drawn_range (Some range) = range
 drawn_range None = (1024, 65535)
 
--- the number that is tried first: the packet's own where it may be drawn, and otherwise one that is its own modulo the count
+-- the number that is tried first: the packet's own where it may be drawn, and otherwise one that is
+-- its own modulo the count
 abbrev pub first_candidate : ℕ × ℕ → ℕ → ℕ
 first_candidate range number = if in_range number range then number else range.0 + number % (range.1 - range.0 + 1)

@@ -11,7 +11,7 @@ use Rattle.npf_key.specs.Translated.{about, facts_there, shares_family}
 use Rattle.npf_nat.specs.Answer.{answer_change}
 use Rattle.npf_nat.specs.Netmap.{netmap}
 use Rattle.npf_nat.specs.Npt.{fourth_word, npt66, number_of, prefix_sum}
-use Rattle.npf_nat.specs.Prefixes.{ArePrefixes}
+use Rattle.npf_nat.specs.PrefixPair.{ArePrefixes}
 
 -- the answer to a translated packet, translated in its turn, is the answer to the packet as it came
 abbrev pub AnswerIsRestored : Type 0

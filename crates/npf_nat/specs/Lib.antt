@@ -4,4 +4,4 @@ pub mod Laws
 pub mod MapPlan
 pub mod Netmap
 pub mod Npt
-pub mod Prefixes
+pub mod PrefixPair

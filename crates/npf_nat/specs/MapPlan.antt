@@ -1,10 +1,10 @@
--- What a map changes (npf.conf(5), "Map"; RFC 3022). The left side is the inside: a packet that goes out gets its source from the
--- right side, and one that comes in its destination from the left.
+-- What a map changes (npf.conf(5), "Map"; RFC 3022). The left side is the inside: a packet that
+-- goes out gets its source from the right side, and one that comes in its destination from the
+-- left.
 use Rattle.std.specs.Prelude.{◌≤◌, ℕ, Bool, true, false, ◌&&◌, if◌then◌else◌, Option, Some, None}
 use Rattle.std.specs.Option.{option_map}
 use Rattle.npf_types.specs.declared.address.Addr.{Addr}
 use Rattle.npf_types.specs.declared.change.Change.{Change}
-use Rattle.npf_types.specs.declared.change.End.{End}
 use Rattle.npf_types.specs.declared.direction.Dir.{Dir}
 use Rattle.npf_types.specs.declared.direction.Dir.TheVariants.{In, Out}
 use Rattle.npf_types.specs.declared.facts.Facts.{Facts}

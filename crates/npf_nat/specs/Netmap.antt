@@ -1,4 +1,5 @@
--- A block for a block of the same length: the prefix is replaced and the host bits stay (npf.conf(5), "Map", `netmap`).
+-- A block for a block of the same length: the prefix is replaced and the host bits stay
+-- (npf.conf(5), "Map", `netmap`).
 use Rattle.std.specs.Prelude.{ℕ, ◌+◌, ◌-◌, ◌%◌, ◌^◌}
 use Rattle.npf_types.specs.declared.address.Addr.{Addr}
 use Rattle.npf_types.specs.declared.address.Addr.TheVariants.{V4, V6}

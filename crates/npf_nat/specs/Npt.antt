@@ -1,5 +1,5 @@
--- Prefix translation of IPv6 that keeps checksums (RFC 6296): the prefix is replaced, and the first word behind 48 bits takes
--- up what the sum of the address's words would change by.
+-- Prefix translation of IPv6 that keeps checksums (RFC 6296): the prefix is replaced, and the first
+-- word behind 48 bits takes up what the sum of the address's words would change by.
 use Rattle.std.specs.Prelude.{ℕ, ◌+◌, ◌-◌, ◌*◌, ◌/◌, ◌%◌, ◌^◌}
 use Rattle.npf_types.specs.declared.address.Addr.{Addr}
 use Rattle.npf_types.specs.declared.address.Addr.TheVariants.{V4, V6}
@@ -13,8 +13,9 @@ prefix_sum a = a / 2 ^ 112 + a / 2 ^ 96 % 2 ^ 16 + a / 2 ^ 80 % 2 ^ 16
 abbrev pub fourth_word : ℕ → ℕ
 fourth_word a = a / 2 ^ 64 % 2 ^ 16
 
--- A word to which the old prefix's sum less the new one's is added in one's complement. Numbers of 16 bits in one's complement
--- are those modulo 65,535, in which 0xFFFF and 0 are one number (RFC 1071 section 2); it is written as 0.
+-- A word to which the old prefix's sum less the new one's is added in one's complement. Numbers of
+-- 16 bits in one's complement are those modulo 65,535, in which 0xFFFF and 0 are one number (RFC
+-- 1071 section 2); it is written as 0.
 abbrev pub adjusted_word : ℕ → ℕ → ℕ → ℕ
 adjusted_word word old_sum new_sum = (word + old_sum + (3 * 65535 - new_sum)) % 65535
 

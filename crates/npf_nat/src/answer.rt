@@ -16,7 +16,8 @@ pub fn answer_change(facts: &Facts, there: &Change) -> Change
     }
 }
 
-/// The packet's own end where the change names one there, with its port where the change names a port.
+/// The packet's own end where the change names one there, with its port where the change names a
+/// port.
 fn own_end(addr: Addr, port: u16, named: Option<End>) -> Option<End>
     ensures { result ≡ option_map (own_end addr port) named }
 {

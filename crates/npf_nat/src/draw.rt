@@ -10,7 +10,8 @@ use npf_types::{Addr, Change, End, Facts, L4};
 /// The ports that a map draws from where its outside names none: all behind the well-known ones.
 const DEFAULT_RANGE: (u16, u16) = (1024, 65535);
 
-/// The change of a packet for which this port, or identifier of an echo, was drawn at this address, and that of its answers.
+/// The change of a packet for which this port, or identifier of an echo, was drawn at this address,
+/// and that of its answers.
 pub fn drawn(facts: &Facts, addr: Addr, port: u16) -> (Change, Change)
     ensures there { result.0 ≡ drawn_change addr port }
     ensures back { result.1 ≡ answer_change facts.now (drawn_change addr port) }

@@ -1,7 +1,9 @@
-// What follows of the definitions of a map's change: each is a theorem about what `plan`, `drawn` and `npt66` equal.
+// What follows of the definitions of a map's change: each is a theorem about what `plan`, `drawn`
+// and `npt66` equal.
 ghost use Rattle.npf_nat.specs.Laws.{AnswerIsRestored, NetmapComesBack, Npt66ComesBack, Npt66IsNeutral};
 
-/// The answer to a translated packet, translated by the change of the answers, goes to the ends of the packet as it came.
+/// The answer to a translated packet, translated by the change of the answers, goes to the ends of
+/// the packet as it came.
 pub fn answer_is_restored()
     ensures { AnswerIsRestored }
 {}

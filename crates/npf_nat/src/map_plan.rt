@@ -1,7 +1,7 @@
 ghost use Rattle.std.specs.Prelude.{◌≡◌, ◌≤◌, IfSome};
 ghost use Rattle.npf_nat.specs.Draw.{drawn_range};
 ghost use Rattle.npf_nat.specs.MapPlan.{plan, plan_by, outward, outward_change, inward_change, translated_address, is_neutral, fixed, draw, TriesWithin};
-ghost use Rattle.npf_nat.specs.Prefixes.{FitsAlgo, IsOrdered};
+ghost use Rattle.npf_nat.specs.PrefixPair.{FitsAlgo, IsOrdered};
 
 use crate::answer::answer_change;
 use crate::draw::{drawn_for, drawn_range, first_candidate};
@@ -11,8 +11,9 @@ use crate::segment::{fits_protocol, fits_segment};
 use npf_model::{Algo, Map};
 use npf_types::{Addr, Change, Dir, End, Facts, Prefix};
 
-/// What a map makes of a packet: the changes of the packet and of its answers; or the address and the range of ports, or of
-/// identifiers of echoes, from which one is to be drawn, `first` before all others.
+/// What a map makes of a packet: the changes of the packet and of its answers; or the address and
+/// the range of ports, or of identifiers of echoes, from which one is to be drawn, `first` before
+/// all others.
 #[derive(Clone, Copy, Debug, PartialEq, Eq)]
 pub enum MapPlan {
     Fixed {
@@ -27,12 +28,12 @@ pub enum MapPlan {
     },
 }
 
-/// What the map makes of a packet that crosses its interface this way. None exactly where the packet's protocol or direction, or
-/// its end on the map's side, isn't the map's. Interface and filter are not looked at.
+/// What the map makes of a packet that crosses its interface this way. None exactly where the
+/// packet's protocol or direction, or its end on the map's side, isn't the map's. Interface and
+/// filter are not looked at.
 pub fn plan(map: &Map, facts: &Facts, dir: Dir) -> Option<MapPlan>
     requires ports { IsOrdered map.now.outside.ports }
-    requires there { FitsAlgo map.now.algo map.now.inside.net map.now.outside.net }
-    requires back { FitsAlgo map.now.algo map.now.outside.net map.now.inside.net }
+    requires prefixes { FitsAlgo map.now.algo map.now.inside.net map.now.outside.net }
     ensures value { result ≡ plan map.now facts.now dir }
     ensures first { IfSome result TriesWithin }
 {
@@ -47,7 +48,7 @@ pub fn plan(map: &Map, facts: &Facts, dir: Dir) -> Option<MapPlan>
 
 fn outward(map: &Map, facts: &Facts) -> MapPlan
     requires ports { IsOrdered map.now.outside.ports }
-    requires there { FitsAlgo map.now.algo map.now.inside.net map.now.outside.net }
+    requires prefixes { FitsAlgo map.now.algo map.now.inside.net map.now.outside.net }
     ensures value { result ≡ plan_by Dir.Out map.now facts.now }
     ensures first { TriesWithin result }
 {
@@ -94,7 +95,7 @@ fn outward_change(map: &Map, facts: &Facts) -> Change
 }
 
 fn inward_change(map: &Map, facts: &Facts) -> Change
-    requires { FitsAlgo map.now.algo map.now.outside.net map.now.inside.net }
+    requires { FitsAlgo map.now.algo map.now.inside.net map.now.outside.net }
     ensures { result ≡ inward_change map.now facts.now }
 {
     let addr = translated_address(map.algo, map.outside.net, map.inside.net, facts.dst);

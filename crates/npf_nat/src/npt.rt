@@ -1,12 +1,12 @@
 ghost use Rattle.std.specs.Prelude.{◌≡◌, ◌≤◌, ◌+◌, ◌-◌, ◌*◌, ◌%◌};
 ghost use Rattle.npf_nat.specs.Npt.{prefix_sum, fourth_word, adjusted_word, with_fourth_word, npt66, npt66_address, number_of};
-ghost use Rattle.npf_nat.specs.Prefixes.{ArePrefixes};
+ghost use Rattle.npf_nat.specs.PrefixPair.{ArePrefixes};
 
 use crate::netmap::in_block_v6;
 use npf_types::{Addr, Prefix};
 
-/// The address translated from one prefix to another, both of IPv6 and of one length of at most 48 bits, so that the sum of its
-/// words stays (RFC 6296 section 3).
+/// The address translated from one prefix to another, both of IPv6 and of one length of at most 48
+/// bits, so that the sum of its words stays (RFC 6296 section 3).
 pub fn npt66(from: Prefix, to: Prefix, addr: u128) -> u128
     requires { ArePrefixes from to }
     ensures { result ≡ npt66 from to addr }
@@ -54,7 +54,8 @@ fn fourth_word(a: u128) -> u16
     ((a >> 64) % 65536) as u16
 }
 
-/// A word to which the old prefix's sum less the new one's is added in one's complement; 0xFFFF is written as 0.
+/// A word to which the old prefix's sum less the new one's is added in one's complement; 0xFFFF is
+/// written as 0.
 fn adjusted_word(word: u16, old_sum: u32, new_sum: u32) -> u16
     requires old { old_sum ≤ 3 * 65535 }
     requires new { new_sum ≤ 3 * 65535 }

@@ -1,4 +1,5 @@
--- How often a port stands among consecutive ones, and what is left of these once the first is taken.
+-- How often a port stands among consecutive ones, and what is left of these once the first is
+-- taken.
 use Rattle.std.proofs.Common.{◌≡◌, ◌≤◌, ◌<◌, ◌==◌, ◌&&◌, ◌+◌, ◌-◌, ℕ, zero, suc, Bool, drop, if◌then◌else◌, nat_le, nat_lt, refl, arith}
 use Rattle.std.specs.Prelude.{count_by}
 use Rattle.std.specs.List.{range_with_len}

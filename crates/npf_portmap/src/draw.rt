@@ -17,8 +17,8 @@ impl Model for PortDraw {
     ghost view = { λ draw. draw.above ++ draw.below };
 }
 
-/// The ports of the range from `min` to `max`, both of which belong to it, in the order in which they are tried: `first` to
-/// `max`, then `min` up to the port before `first`.
+/// The ports of the range from `min` to `max`, both of which belong to it, in the order in which
+/// they are tried: `first` to `max`, then `min` up to the port before `first`.
 pub fn candidates(min: u16, max: u16, first: u16) -> PortDraw
     requires low { min ≤ first }
     requires high { first ≤ max }

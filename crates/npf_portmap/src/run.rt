@@ -3,7 +3,8 @@ ghost use Rattle.std.specs.List.{range_with_len};
 
 use std::marker::Model;
 
-/// Ports one behind the other, from `next` up to `end`, which doesn't belong to them. Contracts see their list.
+/// Ports one behind the other, from `next` up to `end`, which doesn't belong to them. Contracts see
+/// their list.
 #[derive(Debug, Drop)]
 pub struct Run {
     next: u32,

@@ -1,7 +1,8 @@
 use super::*;
 use std::test::Fail;
 
-/// A range, the port that is tried first, and the ports in the order in which they are tried, listed by hand.
+/// A range, the port that is tried first, and the ports in the order in which they are tried,
+/// listed by hand.
 const DRAWS: [(&str, (u16, u16, u16), &[u16]); 7] = [
     ("one port", (80, 80, 80), &[80]),
     (

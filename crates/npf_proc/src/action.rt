@@ -3,8 +3,8 @@ ghost use Rattle.std.specs.Prelude.{◌≡◌};
 use npf_model::Procedure;
 use npf_types::Action;
 
-/// What a procedure does to a packet (npf.conf(5), "Procedures"): the options of its normalisation, and the interface that it
-/// logs to.
+/// What a procedure does to a packet (npf.conf(5), "Procedures"): the options of its normalisation,
+/// and the interface that it logs to.
 pub fn action_of(procedure: &Procedure) -> Action
     ensures min_ttl { result.min_ttl ≡ procedure.now.min_ttl }
     ensures max_mss { result.max_mss ≡ procedure.now.max_mss }

@@ -5,7 +5,8 @@ use Rattle.npf_model.specs.Describes.{is_v6}
 use Rattle.npf_model.specs.declared.map.Algo.{Algo}
 use Rattle.npf_model.specs.declared.map.Algo.TheVariants.{Dynamic, Netmap, Npt66}
 
--- prefixes that RFC 6296's checksum-neutral translation with the fourth word takes: IPv6, of one length up to 48 bits
+-- prefixes that RFC 6296's checksum-neutral translation with the fourth word takes: IPv6, of one
+-- length up to 48 bits
 pub record ArePrefixes (from : Prefix) (to : Prefix) : Type 0 where
   pub from_ipv6 : IsTrue (is_v6 from.addr)
   pub to_ipv6 : IsTrue (is_v6 to.addr)
