@@ -8,7 +8,7 @@ use Rattle.npf_types.specs.Address.{kept_bits, first_bits, cleared, SharesFirst}
 use Rattle.npf_key.specs.Translated.{shares_family}
 use Rattle.npf_nat.specs.Laws.{NetmapComesBack}
 use Rattle.npf_nat.specs.Netmap.{in_block, moved}
-use Rattle.npf_nat.specs.Npt.{number_of}
+use Rattle.npf_nat.specs.Npt.{address_number}
 
 below_multiple : (q m p block top r : ℕ) → block ≡ q * p → top ≡ m * p → block < top → r < p → block + r < top
 below_multiple q m p block top r e f h k =
@@ -24,8 +24,8 @@ in_block_fits bits n block a short zeroed fits =
     below_multiple (block / 2 ^ (bits - n)) (2 ^ n) (2 ^ (bits - n)) block (2 ^ bits) (a % 2 ^ (bits - n)) zeroed whole fits (mod-lt a (pow_pos (bits - n)))
 
 -- the bits of a block of this family, whose host bits are zero
-pub zeroed_number : (addr block : Addr) (n : ℕ) → addr ≡ block → addr ≡ cleared addr n → number_of block ≡ number_of (cleared block n)
-zeroed_number addr block n is zeroed = ap number_of (subst (λ (x : Addr). x ≡ cleared x n) is zeroed)
+pub zeroed_number : (addr block : Addr) (n : ℕ) → addr ≡ block → addr ≡ cleared addr n → address_number block ≡ address_number (cleared block n)
+zeroed_number addr block n is zeroed = ap address_number (subst (λ (x : Addr). x ≡ cleared x n) is zeroed)
 
 -- with host bits of their own both blocks' addresses are the same
 host_back : (p q t r : ℕ) → t ≡ q * p → (t + r % p) % p ≡ r % p
@@ -47,8 +47,8 @@ number_back bits n f t a zf zt same =
 
 moved_back : (f t addr : Addr) (n : ℕ) → f ≡ cleared f n → t ≡ cleared t n → shares_family f t ≡ true → SharesFirst n f addr
     → moved f n (moved t n addr) ≡ addr
-moved_back (V4 f) (V4 t) (V4 a) n zf zt one has = ap V4 (number_back 32 n f t a (ap number_of zf) (ap number_of zt) has)
-moved_back (V6 f) (V6 t) (V6 a) n zf zt one has = ap V6 (number_back 128 n f t a (ap number_of zf) (ap number_of zt) has)
+moved_back (V4 f) (V4 t) (V4 a) n zf zt one has = ap V4 (number_back 32 n f t a (ap address_number zf) (ap address_number zt) has)
+moved_back (V6 f) (V6 t) (V6 a) n zf zt one has = ap V6 (number_back 128 n f t a (ap address_number zf) (ap address_number zt) has)
 moved_back (V4 f) (V6 t) addr n zf zt one has = cc
 moved_back (V6 f) (V4 t) addr n zf zt one has = cc
 moved_back (V4 f) (V4 t) (V6 a) n zf zt one has = absurd has

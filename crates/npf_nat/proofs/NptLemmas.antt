@@ -9,15 +9,15 @@ use Rattle.npf_types.specs.Address.{kept_bits, first_bits, cleared, SharesFirst}
 use Rattle.npf_model.specs.Describes.{is_v6}
 use Rattle.npf_nat.specs.Laws.{Npt66ComesBack, Npt66IsNeutral, words_sum}
 use Rattle.npf_nat.specs.Netmap.{in_block}
-use Rattle.npf_nat.specs.Npt.{adjusted_word, fourth_word, npt66_number, number_of, prefix_sum}
+use Rattle.npf_nat.specs.Npt.{adjusted_word, fourth_word, npt66_number, address_number, prefix_sum}
 use Rattle.npf_nat.proofs.NetmapLemmas.{itself}
 
 -- a prefix of IPv6 as a number
-pub zeroed_ipv6 : (addr : Addr) (n : ℕ) → IsTrue (is_v6 addr) → addr ≡ cleared addr n → number_of addr ≡ kept_bits 128 n (number_of addr)
-zeroed_ipv6 (V6 a) n six zeroed = ap number_of zeroed
+pub zeroed_ipv6 : (addr : Addr) (n : ℕ) → IsTrue (is_v6 addr) → addr ≡ cleared addr n → address_number addr ≡ kept_bits 128 n (address_number addr)
+zeroed_ipv6 (V6 a) n six zeroed = ap address_number zeroed
 zeroed_ipv6 (V4 a) n six zeroed = cc
 
-shares_number : (addr : Addr) (n a : ℕ) → SharesFirst n addr (V6 a) → first_bits 128 n (number_of addr) ≡ first_bits 128 n a
+shares_number : (addr : Addr) (n a : ℕ) → SharesFirst n addr (V6 a) → first_bits 128 n (address_number addr) ≡ first_bits 128 n a
 shares_number (V6 f) n a h = h
 shares_number (V4 f) n a h = absurd h
 
@@ -152,16 +152,16 @@ module _ (n f t a : ℕ) (short : n ≤ 48) (zf : f ≡ kept_bits 128 n f) (zt :
 
 pub npt66_neutral : Npt66IsNeutral
 npt66_neutral from to a are fits has =
-    neutral to.len (number_of from.addr) (number_of to.addr) a are.short
+    neutral to.len (address_number from.addr) (address_number to.addr) a are.short
     (zeroed_ipv6 from.addr to.len are.from_ipv6 (subst (λ (k : ℕ). from.addr ≡ cleared from.addr k) are.one_length from.zeroed))
     (zeroed_ipv6 to.addr to.len are.to_ipv6 to.zeroed)
     (shares_number from.addr to.len a (subst (λ (k : ℕ). SharesFirst k from.addr (V6 a)) are.one_length has)) fits
 
 pub npt66_back : Npt66ComesBack
 npt66_back from to a are from_fits to_fits has other =
-    subst (λ (k : ℕ). npt66_number (number_of to.addr) (number_of from.addr) k (npt66_number (number_of from.addr) (number_of to.addr) to.len a) ≡ a)
+    subst (λ (k : ℕ). npt66_number (address_number to.addr) (address_number from.addr) k (npt66_number (address_number from.addr) (address_number to.addr) to.len a) ≡ a)
     (sym are.one_length)
-    (back to.len (number_of from.addr) (number_of to.addr) a are.short
+    (back to.len (address_number from.addr) (address_number to.addr) a are.short
     (zeroed_ipv6 from.addr to.len are.from_ipv6 (subst (λ (k : ℕ). from.addr ≡ cleared from.addr k) are.one_length from.zeroed))
     (zeroed_ipv6 to.addr to.len are.to_ipv6 to.zeroed)
     (shares_number from.addr to.len a (subst (λ (k : ℕ). SharesFirst k from.addr (V6 a)) are.one_length has)) from_fits to_fits other)

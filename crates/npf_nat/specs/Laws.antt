@@ -10,7 +10,7 @@ use Rattle.npf_key.specs.Laws.{IsOneFamily}
 use Rattle.npf_key.specs.Translated.{about, facts_there, shares_family}
 use Rattle.npf_nat.specs.Answer.{answer_change}
 use Rattle.npf_nat.specs.Netmap.{netmap}
-use Rattle.npf_nat.specs.Npt.{fourth_word, npt66, number_of, prefix_sum}
+use Rattle.npf_nat.specs.Npt.{fourth_word, npt66, address_number, prefix_sum}
 use Rattle.npf_nat.specs.PrefixPair.{ArePrefixes}
 
 -- the answer to a translated packet, translated in its turn, is the answer to the packet as it came
@@ -27,7 +27,7 @@ NetmapComesBack =
 
 -- a prefix's number fits its bits, as a program's does by its type
 abbrev pub Is128Bits : Prefix → Type 0
-Is128Bits prefix = number_of prefix.addr < 2 ^ 128
+Is128Bits prefix = address_number prefix.addr < 2 ^ 128
 
 -- the same of a prefix translation, but for the word 0xFFFF, which none makes (RFC 6296 section 3)
 abbrev pub Npt66ComesBack : Type 0

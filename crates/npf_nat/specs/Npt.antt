@@ -27,12 +27,12 @@ abbrev pub npt66_number : ℕ → ℕ → ℕ → ℕ → ℕ
 npt66_number from to n a = with_fourth_word (in_block 128 to n a) (adjusted_word (fourth_word a) (prefix_sum from) (prefix_sum to))
 
 -- an address as a number
-abbrev pub number_of : Addr → ℕ
-number_of (V4 a) = a
-number_of (V6 a) = a
+abbrev pub address_number : Addr → ℕ
+address_number (V4 a) = a
+address_number (V6 a) = a
 
 abbrev pub npt66 : Prefix → Prefix → ℕ → ℕ
-npt66 from to a = npt66_number (number_of from.addr) (number_of to.addr) to.len a
+npt66 from to a = npt66_number (address_number from.addr) (address_number to.addr) to.len a
 
 -- an address of IPv6 translated; IPv4 has no such translation
 abbrev pub npt66_address : Prefix → Prefix → Addr → Addr

@@ -1,5 +1,5 @@
 ghost use Rattle.std.specs.Prelude.{◌≡◌, ◌≤◌, ◌+◌, ◌-◌, ◌*◌, ◌%◌};
-ghost use Rattle.npf_nat.specs.Npt.{prefix_sum, fourth_word, adjusted_word, with_fourth_word, npt66, npt66_address, number_of};
+ghost use Rattle.npf_nat.specs.Npt.{prefix_sum, fourth_word, adjusted_word, with_fourth_word, npt66, npt66_address, address_number};
 ghost use Rattle.npf_nat.specs.PrefixPair.{ArePrefixes};
 
 use crate::netmap::in_block_v6;
@@ -11,8 +11,8 @@ pub fn npt66(from: Prefix, to: Prefix, addr: u128) -> u128
     requires { ArePrefixes from to }
     ensures { result ≡ npt66 from to addr }
 {
-    let old = number_of(from.addr);
-    let new = number_of(to.addr);
+    let old = address_number(from.addr);
+    let new = address_number(to.addr);
     let word = adjusted_word(fourth_word(addr), prefix_sum(old), prefix_sum(new));
     with_fourth_word(in_block_v6(new, to.len, addr), word)
 }
@@ -28,8 +28,8 @@ pub fn npt66_address(from: Prefix, to: Prefix, addr: Addr) -> Addr
     }
 }
 
-fn number_of(addr: Addr) -> u128
-    ensures { result ≡ number_of addr }
+fn address_number(addr: Addr) -> u128
+    ensures { result ≡ address_number addr }
 {
     match addr {
         Addr::V4(a) => u128::from(a),

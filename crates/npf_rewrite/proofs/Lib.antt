@@ -1,1 +1,3 @@
+pub mod TotalLemmas
+pub mod VerifiedLemmas
 pub mod WordLemmas

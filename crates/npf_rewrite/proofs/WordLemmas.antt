@@ -4,7 +4,7 @@ use Rattle.std.specs.Prelude.{slice_index}
 use Rattle.npf_rewrite.specs.declared.word.WordAt.{WordAt}
 use Rattle.npf_rewrite.specs.Word.{AllWithin, Rewrites, byte_after, byte_there}
 
-byte_there-append : (ws vs : List WordAt) (at byte : ℕ)
+pub byte_there-append : (ws vs : List WordAt) (at byte : ℕ)
     → byte_there (ws ++ vs) at byte ≡ byte_there vs at (byte_there ws at byte)
 byte_there-append [] vs at byte = refl
 byte_there-append (w ∷ ws) vs at byte = byte_there-append ws vs at (byte_after w at byte)

@@ -4,4 +4,5 @@ pub mod Room
 pub mod Sent
 pub mod Sum
 pub mod Translated
+pub mod Verified
 pub mod Word

@@ -81,7 +81,7 @@ upper_sum_at at (Icmp6 _ _ _) = Some (at + icmp_checksum)
 upper_sum_at at Other = None
 
 -- what is named of this packet lies within `size` bytes
-pub record EndsWithin (size : ℕ) (facts : Facts) (ends : NewEnds) : Type 0 where
+pub record FitsWithin (size : ℕ) (facts : Facts) (ends : NewEnds) : Type 0 where
   pub room : HasRoom size facts
   pub src : AllWithin size (end_words (source_at facts.ip_at facts.src) ends.src)
   pub dst : AllWithin size (end_words (destination_at facts.ip_at facts.src) ends.dst)

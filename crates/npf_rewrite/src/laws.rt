@@ -1,5 +1,6 @@
 // What holds of packets that are rewritten. The functions do nothing: each is a theorem.
 ghost use Rattle.npf_rewrite.specs.Room.{DecodedHasRoom};
+ghost use Rattle.npf_rewrite.specs.Verified.{HeaderSumFollows};
 
 use npf_packet::decoded_has_places;
 
@@ -9,3 +10,8 @@ pub fn decoded_has_room()
 {
     decoded_has_places();
 }
+
+/// Where a change isn't neutral, the sum of an IPv4 header that verified still verifies.
+pub fn header_sum_follows()
+    ensures { HeaderSumFollows }
+{}

@@ -8,7 +8,8 @@
 //
 // The contract: each call writes the words that `Translated` and `Normalised` name, with the
 // values that these name, and changes no other byte. Neither takes memory nor can be refused; each
-// asks that the packet's parts lie within its bytes, which those of a decoded packet do.
+// asks that the packet's parts lie within its bytes, which those of a decoded packet do. A law says
+// that the sum of an IPv4 header follows a translation.
 #![tactic(auto)]
 
 mod address;
@@ -18,6 +19,6 @@ mod sum;
 mod translated;
 mod word;
 
-pub use laws::decoded_has_room;
+pub use laws::{decoded_has_room, header_sum_follows};
 pub use normalised::normalize;
 pub use translated::translate;

@@ -3,7 +3,7 @@ ghost use Rattle.std.specs.Prelude.{◌≡◌, ◌<◌, ◌^◌, ◌++◌, lengt
 ghost use Rattle.npf_key.specs.Translated.{fitting, named_port, shares_family};
 ghost use Rattle.npf_rewrite.specs.Room.{HasRoom};
 ghost use Rattle.npf_rewrite.specs.Sum.{sum_after};
-ghost use Rattle.npf_rewrite.specs.Translated.{EndsWithin, Translated, address_writes, destination_at, destination_write, header_sum, identifier_write, named_writes, new_ends, port_writes, source_at, source_write, sum_writes, upper_sum, upper_sum_after, upper_sum_at};
+ghost use Rattle.npf_rewrite.specs.Translated.{FitsWithin, Translated, address_writes, destination_at, destination_write, header_sum, identifier_write, named_writes, new_ends, port_writes, source_at, source_write, sum_writes, upper_sum, upper_sum_after, upper_sum_at};
 ghost use Rattle.npf_rewrite.specs.Word.{Rewrites, word_list};
 
 use crate::address::{sum_after_end, write_end};
@@ -91,7 +91,7 @@ fn shares_family(a: Addr, b: Addr) -> bool
 
 /// Writes the ends, and the sums of what they were written over.
 fn write_ends_and_sums(bytes: &mut [u8], facts: Facts, ends: NewEnds)
-    requires { EndsWithin (length bytes.old) facts ends }
+    requires { FitsWithin (length bytes.old) facts ends }
     ensures { Rewrites bytes.old (named_writes facts ends ++ sum_writes bytes.old facts ends) bytes.new }
 {
     let header = header_sum(bytes, facts, ends);
@@ -102,7 +102,7 @@ fn write_ends_and_sums(bytes: &mut [u8], facts: Facts, ends: NewEnds)
 }
 
 fn write_ends(bytes: &mut [u8], facts: Facts, ends: NewEnds)
-    requires { EndsWithin (length bytes.old) facts ends }
+    requires { FitsWithin (length bytes.old) facts ends }
     ensures { Rewrites bytes.old (named_writes facts ends) bytes.new }
 {
     write_end(bytes, source_at(facts), ends.src);
@@ -186,7 +186,7 @@ fn named_port(end: Option<End>) -> Option<u16>
 
 /// The sum of a header of IPv4 once the addresses are written.
 fn header_sum(bytes: &[u8], facts: Facts, ends: NewEnds) -> Option<WordAt>
-    requires { EndsWithin (length bytes.now) facts ends }
+    requires { FitsWithin (length bytes.now) facts ends }
     ensures { result ≡ header_sum bytes.now facts.ip_at facts.src (address_writes facts ends) }
 {
     match facts.src {
@@ -201,7 +201,7 @@ fn header_sum(bytes: &[u8], facts: Facts, ends: NewEnds) -> Option<WordAt>
 
 /// The sum of what is carried once addresses and ports are written.
 fn upper_sum(bytes: &[u8], facts: Facts, ends: NewEnds) -> Option<WordAt>
-    requires { EndsWithin (length bytes.now) facts ends }
+    requires { FitsWithin (length bytes.now) facts ends }
     ensures { result ≡ upper_sum bytes.now facts ends }
 {
     match upper_sum_at(facts) {
@@ -228,7 +228,7 @@ fn upper_sum_at(facts: Facts) -> Option<usize>
 
 /// The sum of what is carried, by its protocol.
 fn upper_sum_after(bytes: &[u8], facts: Facts, ends: NewEnds, sum: u16) -> u16
-    requires { EndsWithin (length bytes.now) facts ends }
+    requires { FitsWithin (length bytes.now) facts ends }
     ensures { result ≡ upper_sum_after bytes.now facts.src facts.l4 (address_writes facts ends) (port_writes facts ends) sum }
 {
     match (facts.l4, facts.src) {
@@ -242,7 +242,7 @@ fn upper_sum_after(bytes: &[u8], facts: Facts, ends: NewEnds, sum: u16) -> u16
 
 /// A sum that counts addresses and ports.
 fn sum_after_both(zero: u16, bytes: &[u8], facts: Facts, ends: NewEnds, sum: u16) -> u16
-    requires { EndsWithin (length bytes.now) facts ends }
+    requires { FitsWithin (length bytes.now) facts ends }
     ensures { result ≡ sum_after zero bytes.now (address_writes facts ends ++ port_writes facts ends) sum }
 {
     let sum = sum_after_addresses(zero, bytes, facts, ends, sum);
@@ -250,7 +250,7 @@ fn sum_after_both(zero: u16, bytes: &[u8], facts: Facts, ends: NewEnds, sum: u16
 }
 
 fn sum_after_addresses(zero: u16, bytes: &[u8], facts: Facts, ends: NewEnds, sum: u16) -> u16
-    requires { EndsWithin (length bytes.now) facts ends }
+    requires { FitsWithin (length bytes.now) facts ends }
     ensures { result ≡ sum_after zero bytes.now (address_writes facts ends) sum }
 {
     let sum = sum_after_end(zero, bytes, source_at(facts), ends.src, sum);
@@ -258,7 +258,7 @@ fn sum_after_addresses(zero: u16, bytes: &[u8], facts: Facts, ends: NewEnds, sum
 }
 
 fn sum_after_ports(zero: u16, bytes: &[u8], facts: Facts, ends: NewEnds, sum: u16) -> u16
-    requires { EndsWithin (length bytes.now) facts ends }
+    requires { FitsWithin (length bytes.now) facts ends }
     ensures { result ≡ sum_after zero bytes.now (port_writes facts ends) sum }
 {
     let sum = sum_after_named(zero, bytes, source_write(facts, ends), sum);
