@@ -1,3 +1,5 @@
+pub mod CarriedLemmas
 pub mod TotalLemmas
+pub mod UpperLemmas
 pub mod VerifiedLemmas
 pub mod WordLemmas

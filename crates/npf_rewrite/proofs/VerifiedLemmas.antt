@@ -1,5 +1,5 @@
 -- The sum of a header of IPv4 after a translation.
-use Rattle.std.proofs.Common.{◌≡◌, ℕ, ◌+◌, ◌-◌, ◌*◌, ◌/◌, ◌%◌, ◌^◌, ◌<◌, ◌≤◌, Bool, true, false, cond, Option, Some, None, List, [], ◌∷◌, ◌++◌, length, refl, sym, ap, ◌∙◌, inl, inr, subst, arith}
+use Rattle.std.proofs.Common.{◌≡◌, ℕ, ◌+◌, ◌-◌, ◌*◌, ◌/◌, ◌%◌, ◌^◌, ◌<◌, ◌≤◌, Bool, true, false, cond, Option, Some, None, List, [], ◌∷◌, ◌++◌, refl, ap, ◌∙◌, inl, inr, subst, arith}
 use Rattle.std.specs.Prelude.{if◌then◌else◌, slice_index}
 use Rattle.npf_fields.specs.Field.{number16}
 use Rattle.npf_types.specs.declared.address.Addr.{Addr}
@@ -14,23 +14,22 @@ use Rattle.npf_packet.specs.Place.{least_ip_header}
 use Rattle.npf_rewrite.specs.declared.translated.NewEnds.{NewEnds}
 use Rattle.npf_rewrite.specs.declared.word.WordAt.{WordAt}
 use Rattle.npf_rewrite.specs.Address.{address_words, end_words, words_v4}
-use Rattle.npf_rewrite.specs.Room.{HasRoom}
 use Rattle.npf_rewrite.specs.Sum.{sum_after}
-use Rattle.npf_rewrite.specs.Translated.{Translated, destination_at, destination_write, header_sum, identifier_write, new_ends, port_writes, source_at, source_write, sum_write, upper_sum, upper_sum_at}
+use Rattle.npf_rewrite.specs.Translated.{destination_at, destination_write, header_sum, identifier_write, new_ends, port_writes, source_at, source_write, sum_write, upper_sum, upper_sum_at}
 use Rattle.npf_rewrite.specs.Verified.{HasBytes, HeaderSumFollows, HeaderVerifies, words_total}
 use Rattle.npf_rewrite.specs.Word.{byte_there, named_word, word, word_list}
-use Rattle.npf_rewrite.proofs.TotalLemmas.{AllFit, Between, Inside, after, after-elsewhere, news, olds, olds-same, sum_after-follows, value_at, words_total-after, words_total-same}
+use Rattle.npf_rewrite.proofs.TotalLemmas.{AllFit, Between, Inside, after, after-elsewhere, news, olds, olds-same, sum_after-follows, words_total-after, words_total-same}
 use Rattle.npf_rewrite.proofs.WordLemmas.{byte_there-append}
 
-olds-append : (f : ℕ → ℕ) (ws vs : List WordAt) → olds f (ws ++ vs) ≡ olds f ws + olds f vs
+pub olds-append : (f : ℕ → ℕ) (ws vs : List WordAt) → olds f (ws ++ vs) ≡ olds f ws + olds f vs
 olds-append f [] vs = omega arith
 olds-append f (w ∷ ws) vs = omega (arith, olds-append f ws vs)
 
-news-append : (ws vs : List WordAt) → news (ws ++ vs) ≡ news ws + news vs
+pub news-append : (ws vs : List WordAt) → news (ws ++ vs) ≡ news ws + news vs
 news-append [] vs = omega arith
 news-append (w ∷ ws) vs = omega (arith, news-append ws vs)
 
-fit-append : (ws vs : List WordAt) → AllFit ws → AllFit vs → AllFit (ws ++ vs)
+pub fit-append : (ws vs : List WordAt) → AllFit ws → AllFit vs → AllFit (ws ++ vs)
 fit-append [] vs p q = q
 fit-append (w ∷ ws) vs p q = (p.0, fit-append ws vs p.1 q)
 
@@ -120,7 +119,7 @@ module _ (Q : List WordAt → Type 0) (at a : ℕ) (none : Q []) (some : (y : �
   chosen-has e true same = address-has e.addr same
   chosen-has e false same = none
 
-  end-has : (end : Option End) → Q (end_words at (fitting (V4 a) end))
+  pub end-has : (end : Option End) → Q (end_words at (fitting (V4 a) end))
   end-has None = none
   end-has (Some e) = chosen-has e (shares_family e.addr (V4 a)) refl
 
