@@ -22,7 +22,7 @@ use Rattle.npf_ctl.specs.declared.outcome.Outcome.{Outcome}
 use Rattle.npf_ctl.specs.declared.outcome.Outcome.TheVariants.{ByConn, ByRule}
 use Rattle.npf_ctl.specs.declared.outcome.Unkept.TheVariants.{Kept, Full, Taken}
 use Rattle.npf_ctl.specs.declared.packet.Packet.{Packet}
-use Rattle.npf_ctl.specs.Explained.{IsClaim, IsPackets, Misses, free, port, dead, Meets, Opens, with_both, with_one, Yields, yields, IsCrossed, crossed}
+use Rattle.npf_ctl.specs.Explained.{IsClaim, IsPacketWay, Misses, free, port, dead, Meets, Opens, with_both, with_one, Yields, yields, IsCrossed, crossed}
 use Rattle.npf_ctl.specs.Histories.{FlowEntry, FlowMachine, History, is_among}
 use Rattle.npf_ctl.specs.OneLine.{most_connections, lowest_from, is_packets, by_connection, unkept, or_else, step_holder, step_found, look_for, begin, with_backward, hold_backward, with_forward, try_open}
 use Rattle.npf_ctl.specs.Packets.{forward_of, backward_of, opening_of, arg_of}
@@ -32,7 +32,7 @@ use Rattle.npf_ctl.proofs.Scanning.{Scans, scans_none, scans_carried, scans_buil
 use Rattle.npf_ctl.specs.Doing.{IsReached}
 use Rattle.npf_ctl.proofs.Walking.{walks_on, walks_asks}
 
-packets_is : (way : Way) → is_packets way ≡ true → IsPackets way
+packets_is : (way : Way) → is_packets way ≡ true → IsPacketWay way
 packets_is Forward e = tt
 packets_is Backward e = tt
 packets_is Port e = cc

@@ -70,10 +70,10 @@ abbrev pub IsAbandon : ConnId → FlowEntry → Type 0
 IsAbandon id entry = entry.act ≡ Kill id Abandoned
 
 -- the way of a packet's key, and not of a drawn port's
-abbrev pub IsPackets : Way → Type 0
-IsPackets Forward = Unit {0}
-IsPackets Backward = Unit {0}
-IsPackets Port = ⊥
+abbrev pub IsPacketWay : Way → Type 0
+IsPacketWay Forward = Unit {0}
+IsPacketWay Backward = Unit {0}
+IsPacketWay Port = ⊥
 
 -- The packet looked for a key, and no connection took it: nobody holds the key; or a connection holds it as a drawn port; or the packet
 -- was a step of its holder, which isn't live. The other entries follow.
@@ -81,7 +81,7 @@ pub data Misses (n : ℕ) (key : Key) (arg : FlowArg) : History → History → 
   free : {looked : FlowEntry} {rest : History} → IsLook n key None looked → Misses n key arg (looked ∷ rest) rest
   port : {looked : FlowEntry} {rest : History} {found : Found} → IsLook n key (Some found) looked → found.way ≡ Port →
       Misses n key arg (looked ∷ rest) rest
-  dead : {looked stepped : FlowEntry} {rest : History} {found : Found} → IsLook n key (Some found) looked → IsPackets found.way →
+  dead : {looked stepped : FlowEntry} {rest : History} {found : Found} → IsLook n key (Some found) looked → IsPacketWay found.way →
       IsStep n found arg Stepped.NotLive stepped → Misses n key arg (looked ∷ stepped ∷ rest) rest
 
 -- The packet looked for a key, and was a step of its holder, which is live. Nothing follows.
@@ -91,7 +91,7 @@ pub record Meets (n : ℕ) (key : Key) (arg : FlowArg) (entries : History) (id :
   pub found : Found
   pub are : entries ≡ looked ∷ stepped ∷ []
   pub look : IsLook n key (Some found) looked
-  pub way : IsPackets found.way
+  pub way : IsPacketWay found.way
   pub step : IsStep n found arg (Stepped.Done reply place) stepped
   pub holder : id ≡ found.id
 
