@@ -13,21 +13,11 @@ use Rattle.npf_bpf.specs.declared.insn.Insn.{Insn}
 use Rattle.npf_bpf.specs.declared.operation.Width.TheVariants.{Byte}
 use Rattle.npf_bpf.specs.Coprocessor.{Coprocessor}
 use Rattle.npf_bpf.specs.Load.{loaded}
-use Rattle.npf_bpfgen.specs.Instruction.{if_equal, load_byte_behind, load_index, load_memory, return_number}
+use Rattle.npf_bpfgen.specs.Instruction.{if_equal, if_message, if_version_4, if_version_6, load_byte_behind, load_index, return_number}
 use Rattle.npf_bpfgen.specs.Premise.{GuardsPacket, header_words, ip_version}
 use Rattle.npf_bpfgen.specs.Tail.{Yields}
 use Rattle.npf_bpfgen.proofs.StepLemmas.{equal, forget, is_equal, is_unequal, loads_byte_behind, loads_protocol, loads_version, returns}
 use Rattle.npf_bpfgen.proofs.WordLemmas.{byte_loaded, eq_turned}
-
--- what ICMP of IPv6 is tested by, from the load of the version on, and what ICMP of IPv4 is
-abbrev tests_v4 : List Insn → List Insn
-tests_v4 rest = load_memory 0 ∷ if_equal 4 1 0 ∷ return_number 0 ∷ rest
-
-abbrev tests_v6 : List Insn → List Insn
-tests_v6 rest = load_memory 0 ∷ if_equal 6 4 3 ∷ if_equal 1 0 2 ∷ tests_v4 rest
-
-abbrev pub icmp_front : List Insn → List Insn
-icmp_front rest = load_memory 2 ∷ if_equal 58 0 2 ∷ tests_v6 rest
 
 abbrev pub type_test : ℕ → List Insn
 type_test asked = load_index 1 ∷ load_byte_behind 0 ∷ if_equal asked 1 0 ∷ return_number 0 ∷ []
@@ -40,45 +30,45 @@ type_and_code_test asked number = load_index 1 ∷ load_byte_behind 0 ∷ if_equ
 
 module _ (p : List ℕ) (cop : Coprocessor) (header : ℕ × ℕ × ℕ) (rest : List Insn) where
   of_icmp : (z : ℕ) → header.0 ≡ 4 → header.2 ≡ 1 → Yields p cop header None rest 0 z
-      → Yields p cop header None (icmp_front rest) 0 z
+      → Yields p cop header None (if_message rest) 0 z
   of_icmp z version proto y =
-      loads_protocol p cop header (if_equal 58 0 2 ∷ tests_v6 rest) z None
-      (is_unequal p cop header (tests_v6 rest) z header.2 58 0 2 (ap (λ (n : ℕ). n == 58) proto)
-      (is_equal p cop header (tests_v4 rest) z header.2 1 0 2 (eq-eqb header.2 1 proto)
+      loads_protocol p cop header (if_equal 58 0 2 ∷ if_version_6 rest) z None
+      (is_unequal p cop header (if_version_6 rest) z header.2 58 0 2 (ap (λ (n : ℕ). n == 58) proto)
+      (is_equal p cop header (if_version_4 rest) z header.2 1 0 2 (eq-eqb header.2 1 proto)
       (loads_version p cop header (if_equal 4 1 0 ∷ return_number 0 ∷ rest) z (Some header.2)
       (is_equal p cop header (return_number 0 ∷ rest) z header.0 4 1 0 (eq-eqb header.0 4 version)
       (forget p cop header (Some header.0) rest 0 z y)))))
 
   of_icmpv6 : (z : ℕ) → header.0 ≡ 6 → header.2 ≡ 58 → Yields p cop header None rest 0 z
-      → Yields p cop header None (icmp_front rest) 0 z
+      → Yields p cop header None (if_message rest) 0 z
   of_icmpv6 z version proto y =
-      loads_protocol p cop header (if_equal 58 0 2 ∷ tests_v6 rest) z None
-      (is_equal p cop header (tests_v6 rest) z header.2 58 0 2 (eq-eqb header.2 58 proto)
-      (loads_version p cop header (if_equal 6 4 3 ∷ if_equal 1 0 2 ∷ tests_v4 rest) z (Some header.2)
-      (is_equal p cop header (if_equal 1 0 2 ∷ tests_v4 rest) z header.0 6 4 3 (eq-eqb header.0 6 version)
+      loads_protocol p cop header (if_equal 58 0 2 ∷ if_version_6 rest) z None
+      (is_equal p cop header (if_version_6 rest) z header.2 58 0 2 (eq-eqb header.2 58 proto)
+      (loads_version p cop header (if_equal 6 4 3 ∷ if_equal 1 0 2 ∷ if_version_4 rest) z (Some header.2)
+      (is_equal p cop header (if_equal 1 0 2 ∷ if_version_4 rest) z header.0 6 4 3 (eq-eqb header.0 6 version)
       (forget p cop header (Some header.0) rest 0 z y))))
 
   -- neither of them
   of_others : (header.2 ≡ 58 → header.0 ≢ 6) → (header.2 ≡ 1 → header.0 ≢ 4)
-      → Yields p cop header None (icmp_front rest) 0 0
+      → Yields p cop header None (if_message rest) 0 0
   of_others not_v6 not_v4 =
-      loads_protocol p cop header (if_equal 58 0 2 ∷ tests_v6 rest) 0 None
+      loads_protocol p cop header (if_equal 58 0 2 ∷ if_version_6 rest) 0 None
       (⊎_elim
       (λ (is_58 : header.2 ≡ 58).
-      is_equal p cop header (tests_v6 rest) 0 header.2 58 0 2 (eq-eqb header.2 58 is_58)
-      (loads_version p cop header (if_equal 6 4 3 ∷ if_equal 1 0 2 ∷ tests_v4 rest) 0 (Some header.2)
-      (is_unequal p cop header (if_equal 1 0 2 ∷ tests_v4 rest) 0 header.0 6 4 3 (ne_eqb header.0 6 (not_v6 is_58))
+      is_equal p cop header (if_version_6 rest) 0 header.2 58 0 2 (eq-eqb header.2 58 is_58)
+      (loads_version p cop header (if_equal 6 4 3 ∷ if_equal 1 0 2 ∷ if_version_4 rest) 0 (Some header.2)
+      (is_unequal p cop header (if_equal 1 0 2 ∷ if_version_4 rest) 0 header.0 6 4 3 (ne_eqb header.0 6 (not_v6 is_58))
       (λ s ready known. refl))))
       (λ (not_58 : header.2 ≢ 58).
-      is_unequal p cop header (tests_v6 rest) 0 header.2 58 0 2 (ne_eqb header.2 58 not_58)
+      is_unequal p cop header (if_version_6 rest) 0 header.2 58 0 2 (ne_eqb header.2 58 not_58)
       (⊎_elim
       (λ (is_1 : header.2 ≡ 1).
-      is_equal p cop header (tests_v4 rest) 0 header.2 1 0 2 (eq-eqb header.2 1 is_1)
+      is_equal p cop header (if_version_4 rest) 0 header.2 1 0 2 (eq-eqb header.2 1 is_1)
       (loads_version p cop header (if_equal 4 1 0 ∷ return_number 0 ∷ rest) 0 (Some header.2)
       (is_unequal p cop header (return_number 0 ∷ rest) 0 header.0 4 1 0 (ne_eqb header.0 4 (not_v4 is_1))
       (λ s ready known. refl))))
       (λ (not_1 : header.2 ≢ 1).
-      is_unequal p cop header (tests_v4 rest) 0 header.2 1 0 2 (ne_eqb header.2 1 not_1) (λ s ready known. refl))
+      is_unequal p cop header (if_version_4 rest) 0 header.2 1 0 2 (ne_eqb header.2 1 not_1) (λ s ready known. refl))
       (cases_eq header.2 1)))
       (cases_eq header.2 58))
 
@@ -115,7 +105,7 @@ module _ (p : List ℕ) (cop : Coprocessor) (header : ℕ × ℕ × ℕ) (rest :
     → Yields p cop header None rest 0 (if is_message asked number kind code then x else 0)) where
   icmp_yields : (src : Addr) (l4 : L4) → header.0 ≡ ip_version src → header.1 + least_upper_header l4 ≤ length p
       → HasUpperFields p header.1 l4 → HasProtocol src header.2 l4
-      → Yields p cop header None (icmp_front rest) 0 (if fits_icmp (Some (asked, number)) l4 then x else 0)
+      → Yields p cop header None (if_message rest) 0 (if fits_icmp (Some (asked, number)) l4 then x else 0)
   icmp_yields src (Tcp sport dport seg mss) version room fields proto =
       of_others p cop header rest (λ e. absurd (omega (arith, e, proto))) (λ e. absurd (omega (arith, e, proto)))
   icmp_yields src (Udp sport dport) version room fields proto =
@@ -135,7 +125,7 @@ module _ (p : List ℕ) (cop : Coprocessor) (header : ℕ × ℕ × ℕ) (rest :
   icmp_yields (V6 a) Other version room fields proto =
       of_others p cop header rest (λ e. absurd (proto.2 e)) (λ e v. omega (arith, version, v))
 
-pub type_guards : (asked : ℕ) (old new : List Insn) → new ≡ icmp_front (type_test asked ++ old)
+pub type_guards : (asked : ℕ) (old new : List Insn) → new ≡ if_message (type_test asked ++ old)
     → GuardsPacket (λ tables facts. fits_icmp (Some (asked, None)) facts.l4) old new
 type_guards asked old new is = λ p cop tables facts seen x y.
     let h : ℕ × ℕ × ℕ = header_words facts in
@@ -143,7 +133,7 @@ type_guards asked old new is = λ p cop tables facts seen x y.
     (icmp_yields p cop h (type_test asked ++ old) x asked None (λ kind code type_is code_is. byte_yields p cop h old x y None 0 asked kind type_is)
     facts.src facts.l4 refl seen.packet.upper_header seen.packet.fields.upper seen.packet.protocol)
 
-pub type_and_code_guards : (asked number : ℕ) (old new : List Insn) → new ≡ icmp_front (type_and_code_test asked number ++ old)
+pub type_and_code_guards : (asked number : ℕ) (old new : List Insn) → new ≡ if_message (type_and_code_test asked number ++ old)
     → GuardsPacket (λ tables facts. fits_icmp (Some (asked, Some number)) facts.l4) old new
 type_and_code_guards asked number old new is = λ p cop tables facts seen x y.
     let h : ℕ × ℕ × ℕ = header_words facts in

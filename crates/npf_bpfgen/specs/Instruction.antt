@@ -69,3 +69,14 @@ abbrev pub first_bits_of_half : ℕ → ℕ → ℕ → ℕ → List Insn → Li
 first_bits_of_half at bits half far old =
     first_bits_of_word at (min bits 32) (half / 2 ^ 32) (far + 3)
     (first_bits_of_word (at + 4) (bits - 32) (half % 2 ^ 32) far old)
+
+-- in front of `old`: on to it where the packet is of ICMP in IPv4, or of ICMPv6 in IPv6 (RFC 792, RFC 4443), and 0 is returned
+-- otherwise. M[0] has the version, and M[2] the protocol.
+abbrev pub if_version_4 : List Insn → List Insn
+if_version_4 old = load_memory 0 ∷ if_equal 4 1 0 ∷ return_number 0 ∷ old
+
+abbrev pub if_version_6 : List Insn → List Insn
+if_version_6 old = load_memory 0 ∷ if_equal 6 4 3 ∷ if_equal 1 0 2 ∷ if_version_4 old
+
+abbrev pub if_message : List Insn → List Insn
+if_message old = load_memory 2 ∷ if_equal 58 0 2 ∷ if_version_6 old

@@ -1,6 +1,7 @@
 // Tests of ICMP's type and code, in IPv4 (RFC 792) and in IPv6 (RFC 4443).
 ghost use Rattle.std.specs.Prelude.{◌≡◌, OnOk, Option, Some};
 ghost use Rattle.npf_model.specs.Describes.{fits_icmp};
+ghost use Rattle.npf_bpfgen.specs.Instruction.{if_message};
 ghost use Rattle.npf_bpfgen.specs.Premise.{GuardsPacket};
 ghost use Rattle.npf_bpfgen.specs.Tail.{Extends};
 
@@ -15,12 +16,12 @@ pub fn put_icmp(tail: &mut Tail, icmp: Option<(u8, Option<u8>)>) -> Result<(), N
     ensures value { OnOk result (GuardsPacket (λ tables facts. fits_icmp icmp facts.l4) tail.old tail.new) }
 {
     match icmp {
-        Some((kind, code)) => put_message(tail, kind, code),
+        Some((kind, code)) => put_asked(tail, kind, code),
         None => Ok(()),
     }
 }
 
-fn put_message(tail: &mut Tail, kind: u8, code: Option<u8>) -> Result<(), NoMemory>
+fn put_asked(tail: &mut Tail, kind: u8, code: Option<u8>) -> Result<(), NoMemory>
     ensures front { OnOk result (Extends 16 1 tail.old tail.new) }
     ensures value { OnOk result (GuardsPacket (λ tables facts. fits_icmp (Some (kind, code)) facts.l4) tail.old tail.new) }
 {
@@ -35,25 +36,35 @@ fn put_type(tail: &mut Tail, kind: u8) -> Result<(), NoMemory>
     ensures value { OnOk result (GuardsPacket (λ tables facts. fits_icmp (Some (kind, None)) facts.l4) tail.old tail.new) }
 {
     tail.put(&[
-        load_memory(PROTOCOL),
-        if_equal(58, 0, 2),
-        load_memory(VERSION),
-        if_equal(6, 4, 3),
-        if_equal(1, 0, 2),
-        load_memory(VERSION),
-        if_equal(4, 1, 0),
-        return_number(0),
         load_index(UPPER),
         load_byte_behind(0),
         if_equal(u32::from(kind), 1, 0),
         return_number(0),
     ])?;
+    put_message_test(tail)?;
     Ok(())
 }
 
 fn put_type_and_code(tail: &mut Tail, kind: u8, code: u8) -> Result<(), NoMemory>
     ensures front { OnOk result (Extends 16 1 tail.old tail.new) }
     ensures value { OnOk result (GuardsPacket (λ tables facts. fits_icmp (Some (kind, Some code)) facts.l4) tail.old tail.new) }
+{
+    tail.put(&[
+        load_index(UPPER),
+        load_byte_behind(0),
+        if_equal(u32::from(kind), 0, 3),
+        load_index(UPPER),
+        load_byte_behind(1),
+        if_equal(u32::from(code), 1, 0),
+        return_number(0),
+    ])?;
+    put_message_test(tail)?;
+    Ok(())
+}
+
+// Goes on where the packet is of the ICMP that belongs to its version.
+fn put_message_test(tail: &mut Tail) -> Result<(), NoMemory>
+    ensures { OnOk result (tail.new ≡ if_message tail.old) }
 {
     tail.put(&[
         load_memory(PROTOCOL),
@@ -63,13 +74,6 @@ fn put_type_and_code(tail: &mut Tail, kind: u8, code: u8) -> Result<(), NoMemory
         if_equal(1, 0, 2),
         load_memory(VERSION),
         if_equal(4, 1, 0),
-        return_number(0),
-        load_index(UPPER),
-        load_byte_behind(0),
-        if_equal(u32::from(kind), 0, 3),
-        load_index(UPPER),
-        load_byte_behind(1),
-        if_equal(u32::from(code), 1, 0),
         return_number(0),
     ])?;
     Ok(())

@@ -392,14 +392,35 @@ fn a_list_of_300_ports(rt: HostRuntime) -> Result<(), Fail> {
     Ok(())
 }
 
-// 64 and 2 for the protocol and 6 for each range: 4,092 and 4,098.
+// From so many blocks 10.x.y.0/24.
+fn from_blocks(alloc: Global, count: u32) -> Result<Rule, Fail>
+    ensures lists { IfOk result HasShortLists }
+    ensures tables { IfOk result HasTableNumbers }
+{
+    let mut items = Vec::new(alloc);
+    for number in 0..count.min(4096) {
+        let Some(block) = Prefix::of(Addr::V4(0x0a00_0000 + 256 * number), 24) else {
+            return Err("a block of 24 bits".into());
+        };
+        items.push(AddrItem::Net(block))?;
+    }
+    Ok(Rule {
+        from: Ends {
+            addrs: Some(List::of_vec(items)),
+            ports: None,
+        },
+        ..pass_all(alloc)
+    })
+}
+
+// 64, and 6 for each block: 4,096 and 4,102.
 #[test]
 fn rules_that_are_too_heavy(rt: HostRuntime) -> Result<(), Fail> {
     assert_eq!(rt; weight(&pass_all(rt.alloc())), 64);
-    assert!(rt; compile(rt.alloc(), &to_odd_ports(rt.alloc(), 671)?).is_ok());
-    match compile(rt.alloc(), &to_odd_ports(rt.alloc(), 672)?) {
+    assert!(rt; compile(rt.alloc(), &from_blocks(rt.alloc(), 672)?).is_ok());
+    match compile(rt.alloc(), &from_blocks(rt.alloc(), 673)?) {
         Ok(_) => assert!(rt; false, "a program"),
-        Err(fault) => assert_eq!(rt; fault, GenFault::TooLong(4098)),
+        Err(fault) => assert_eq!(rt; fault, GenFault::TooLong(4102)),
     }
     Ok(())
 }

@@ -6,5 +6,5 @@ use Rattle.npf_bpfgen.proofs.icmp.put_icmp.Goals as goal
 
 pub returns-in-Some-clause-value : goal.returns-in-Some-clause-value
 returns-in-Some-clause-value c =
-    subst (λ (f : Option (ℕ × Option ℕ)). OnOk c.put_message.result (GuardsPacket (λ tables facts. fits_icmp f facts.l4) c.args.tail.now c.put_message.new.tail))
-    (sym c.in-Some.is) c.put_message.ensures.value
+    subst (λ (f : Option (ℕ × Option ℕ)). OnOk c.put_asked.result (GuardsPacket (λ tables facts. fits_icmp f facts.l4) c.args.tail.now c.put_asked.new.tail))
+    (sym c.in-Some.is) c.put_asked.ensures.value

@@ -2,7 +2,7 @@ use Rattle.std.proofs.Common.{ℕ, Option, Some, sym, subst}
 use Rattle.std.specs.Prelude.{OnOk}
 use Rattle.npf_model.specs.Describes.{fits_icmp}
 use Rattle.npf_bpfgen.specs.Premise.{GuardsPacket}
-use Rattle.npf_bpfgen.proofs.icmp.put_message.Goals as goal
+use Rattle.npf_bpfgen.proofs.icmp.put_asked.Goals as goal
 
 pub returns-in-Some-clause-value : goal.returns-in-Some-clause-value
 returns-in-Some-clause-value c =
