@@ -109,6 +109,7 @@ pub enum Operation {
 }
 
 /// What an instruction does, or none where bpf(4)'s table doesn't have its code.
+#[inline(always)]
 pub fn decode(insn: Insn) -> Option<Operation>
     ensures { result ≡ decoded insn }
 {
@@ -140,6 +141,7 @@ pub fn decode(insn: Insn) -> Option<Operation>
 }
 
 // The codes that take an operand: k, or X where the bit 0x08 is set.
+#[inline(always)]
 fn decode_with_operand(insn: Insn) -> Option<Operation>
     ensures { result ≡ lookup insn.code (with_operand insn) }
 {
@@ -169,6 +171,7 @@ fn decode_with_operand(insn: Insn) -> Option<Operation>
     }
 }
 
+#[inline(always)]
 fn decode_coprocessor_call(k: u32) -> Option<Operation>
     ensures { result ≡ coprocessor_call k }
 {
