@@ -40,7 +40,7 @@ pub record InCarried (l4 m size plo phi at k : ℕ) (p : List WordAt) : Type 0 w
 abbrev pub left_total : (ℕ → ℕ) → ℕ → ℕ → ℕ
 left_total f at end = if (end - at) % 2 == 1 then 2 ^ 8 * f (end - 1) else 0
 
-left_total-same : (f g : ℕ → ℕ) (at end : ℕ) → ((end - at) % 2 ≡ 1 → g (end - 1) ≡ f (end - 1))
+pub left_total-same : (f g : ℕ → ℕ) (at end : ℕ) → ((end - at) % 2 ≡ 1 → g (end - 1) ≡ f (end - 1))
     → left_total g at end ≡ left_total f at end
 left_total-same f g at end same = grind (arith, nat_tests, same)
 

@@ -34,7 +34,7 @@ module _ (Q : List WordAt → Type 0) (at a : ℕ) (none : Q []) (some : (y : �
   chosen-has e true same = address-has e.addr same
   chosen-has e false same = none
 
-  end_v6-has : (end : Option End) → Q (end_words at (fitting (V6 a) end))
+  pub end_v6-has : (end : Option End) → Q (end_words at (fitting (V6 a) end))
   end_v6-has None = none
   end_v6-has (Some e) = chosen-has e (shares_family e.addr (V6 a)) refl
 
@@ -121,7 +121,7 @@ inside_v6 lo at k y e h = (
   ),
 )
 
-between_v6 : (at hi y : ℕ) → hi ≡ at + 16 → Between at hi (words_v6 at y)
+pub between_v6 : (at hi y : ℕ) → hi ≡ at + 16 → Between at hi (words_v6 at y)
 between_v6 at hi y e = (
   omega arith,
   (
@@ -220,7 +220,7 @@ header_v6 ip a src dst = record {
 }
 
 -- the ports of TCP and UDP
-abbrev ports : ℕ → Option ℕ → Option ℕ → List WordAt
+abbrev pub ports : ℕ → Option ℕ → Option ℕ → List WordAt
 ports l4 sp dp = word_list (named_word (l4 + 0) sp) ++ word_list (named_word (l4 + 2) dp)
 
 ports-inside : (l4 m : ℕ) (sp dp : Option ℕ) → 2 ≤ m → Inside l4 m l4 (ports l4 sp dp)
@@ -235,7 +235,7 @@ ports-inside l4 m (Some s) None h = (omega arith, ((0, (omega arith, omega arith
 ports-inside l4 m None (Some d) h = (omega arith, ((1, (omega arith, omega arith)), tt))
 ports-inside l4 m None None h = tt
 
-ports-between : (l4 : ℕ) (sp dp : Option ℕ) → Between l4 (l4 + 4) (ports l4 sp dp)
+pub ports-between : (l4 : ℕ) (sp dp : Option ℕ) → Between l4 (l4 + 4) (ports l4 sp dp)
 ports-between l4 (Some s) (Some d) = (omega arith, (omega arith, (omega arith, (omega arith, tt))))
 ports-between l4 (Some s) None = (omega arith, (omega arith, tt))
 ports-between l4 None (Some d) = (omega arith, (omega arith, tt))

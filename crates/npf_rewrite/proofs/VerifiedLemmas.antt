@@ -151,13 +151,23 @@ module _ (at : ℕ) where
   destination-between s d (Icmp6 _ _ _) = tt
   destination-between s d Other = tt
 
-  sum-between : (bytes : List ℕ) (facts : Facts) (ends : NewEnds) (l4 : L4)
+  pub upper_sum-between : (bytes : List ℕ) (facts : Facts) (ends : NewEnds) (l4 : L4)
       → Between at (at + 20) (word_list (sum_write bytes facts ends (upper_sum_at at l4)))
-  sum-between bytes facts ends (Tcp _ _ _ _) = (omega arith, (omega arith, tt))
-  sum-between bytes facts ends (Udp _ _) = (omega arith, (omega arith, tt))
-  sum-between bytes facts ends (Icmp _ _ _) = (omega arith, (omega arith, tt))
-  sum-between bytes facts ends (Icmp6 _ _ _) = (omega arith, (omega arith, tt))
-  sum-between bytes facts ends Other = tt
+  upper_sum-between bytes facts ends (Tcp _ _ _ _) = (omega arith, (omega arith, tt))
+  upper_sum-between bytes facts ends (Udp _ _) = (omega arith, (omega arith, tt))
+  upper_sum-between bytes facts ends (Icmp _ _ _) = (omega arith, (omega arith, tt))
+  upper_sum-between bytes facts ends (Icmp6 _ _ _) = (omega arith, (omega arith, tt))
+  upper_sum-between bytes facts ends Other = tt
+
+pub port_writes-between : (facts : Facts) (change : Change)
+    → Between facts.l4_at (facts.l4_at + 20) (port_writes facts (new_ends facts change))
+port_writes-between facts change =
+    let ends = new_ends facts change in
+    let s = named_port ends.src in
+    let d = named_port ends.dst in
+    between-append facts.l4_at (facts.l4_at + 20) (word_list (source_write facts.l4_at s d facts.l4))
+    (word_list (destination_write facts.l4_at s d facts.l4))
+    (source-between facts.l4_at s d facts.l4) (destination-between facts.l4_at s d facts.l4)
 
 module _ (bytes : List ℕ) (facts : Facts) (change : Change) where
   abbrev p : List WordAt
@@ -205,14 +215,8 @@ module _ (bytes : List ℕ) (facts : Facts) (change : Change) where
       let fit_s = end-has AllFit (ip + 12) a tt (λ y. (omega arith, (omega arith, tt))) change.src in
       let fit_d = end-has AllFit (ip + 16) a tt (λ y. (omega arith, (omega arith, tt))) change.dst in
       let ends = new_ends facts change in
-      let sport = named_port ends.src in
-      let dport = named_port ends.dst in
-      let by_p : Between facts.l4_at (facts.l4_at + 20) p = between-append facts.l4_at
-      (facts.l4_at + 20) (word_list (source_write facts.l4_at sport dport facts.l4))
-      (word_list (destination_write facts.l4_at sport dport facts.l4))
-      (source-between facts.l4_at sport dport facts.l4)
-      (destination-between facts.l4_at sport dport facts.l4) in
-      let by_u = sum-between facts.l4_at bytes facts ends facts.l4 in
+      let by_p = port_writes-between facts change in
+      let by_u = upper_sum-between facts.l4_at bytes facts ends facts.l4 in
       header-follows bytes small ip n facts.l4_at (facts.l4_at + 20) (omega arith) (omega arith)
       s d p u in_s by_s in_d by_d by_p by_u (fit-append s d fit_s fit_d) was
 

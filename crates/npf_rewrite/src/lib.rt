@@ -19,6 +19,9 @@ mod sum;
 mod translated;
 mod word;
 
-pub use laws::{decoded_has_room, header_sum_follows, upper_sum_follows};
+pub use laws::{
+    absent_sum_stays, decoded_has_room, header_sum_follows, neutral_sums_follow,
+    translated_decodes, upper_sum_follows,
+};
 pub use normalised::normalize;
 pub use translated::translate;
