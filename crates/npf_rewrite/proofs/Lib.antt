@@ -1,4 +1,7 @@
+pub mod AddressLemmas
 pub mod CarriedLemmas
+pub mod ChainLemmas
+pub mod DecodedLemmas
 pub mod NeutralLemmas
 pub mod PlacedLemmas
 pub mod TotalLemmas

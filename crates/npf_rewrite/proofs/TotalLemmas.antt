@@ -20,14 +20,14 @@ abbrev pub Between : ℕ → ℕ → List WordAt → Type 0
 Between lo hi [] = ⊤
 Between lo hi (w ∷ ws) = (lo ≤ w.at) × ((w.at + 2 ≤ hi) × Between lo hi ws)
 
-byte_after-elsewhere : (w : WordAt) (k x : ℕ) → (k < w.at) ⊎ (w.at + 2 ≤ k) → byte_after w k x ≡ x
+pub byte_after-elsewhere : (w : WordAt) (k x : ℕ) → (k < w.at) ⊎ (w.at + 2 ≤ k) → byte_after w k x ≡ x
 byte_after-elsewhere w k x (inl h) = grind (arith, nat_tests)
 byte_after-elsewhere w k x (inr h) = grind (arith, nat_tests)
 
-byte_after-upper : (w : WordAt) (k x : ℕ) → k ≡ w.at → byte_after w k x ≡ w.value / 2 ^ 8
+pub byte_after-upper : (w : WordAt) (k x : ℕ) → k ≡ w.at → byte_after w k x ≡ w.value / 2 ^ 8
 byte_after-upper w k x h = grind (arith, nat_tests)
 
-byte_after-lower : (w : WordAt) (k x : ℕ) → k ≡ w.at + 1 → byte_after w k x ≡ w.value % 2 ^ 8
+pub byte_after-lower : (w : WordAt) (k x : ℕ) → k ≡ w.at + 1 → byte_after w k x ≡ w.value % 2 ^ 8
 byte_after-lower w k x h = grind (arith, nat_tests)
 
 -- elsewhere the bytes are the same

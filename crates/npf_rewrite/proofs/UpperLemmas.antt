@@ -70,7 +70,7 @@ header_v4 ip a x src dst = record {
       (end-has AllFit (ip + 16) a tt (λ y. (omega arith, (omega arith, tt))) dst);
 }
 
-inside_v6 : (lo at k y : ℕ) → at ≡ lo + 2 * k → k + 8 ≤ 16 → Inside lo 16 at (words_v6 at y)
+pub inside_v6 : (lo at k y : ℕ) → at ≡ lo + 2 * k → k + 8 ≤ 16 → Inside lo 16 at (words_v6 at y)
 inside_v6 lo at k y e h = (
   omega arith,
   (
