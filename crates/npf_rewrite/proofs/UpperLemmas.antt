@@ -263,7 +263,7 @@ with_ports l4 m size k sp dp fs fd two counted far room even = record {
 }
 
 -- the identifier of an echo message, where one is named
-abbrev identifier : ℕ → Option ℕ → List WordAt
+abbrev pub identifier : ℕ → Option ℕ → List WordAt
 identifier l4 o = word_list (named_word (l4 + 4) o) ++ []
 
 with_identifier : (l4 m : ℕ) (o : Option ℕ) → PortFits o → 4 ≤ m
@@ -347,7 +347,7 @@ module _ (bytes : List ℕ) (small : HasBytes bytes) (ip lo mid top count : ℕ)
       s d h (identifier l4 o) head (with_identifier l4 ((end - l4) / 2) o fits (omega arith))
       behind 0 (inl refl) x (left_total f l4 end) g end whole refl refl each is was
 
-abbrev made : Addr → Addr → ℕ → ℕ → ℕ → ℕ → L4 → Facts
+abbrev pub made : Addr → Addr → ℕ → ℕ → ℕ → ℕ → L4 → Facts
 made src dst proto ip l4 end carried =
     record { src = src; dst = dst; proto = proto; ip_at = ip; l4_at = l4; end = end; l4 = carried }
 
