@@ -37,8 +37,7 @@ all-there at n from lo hi (w ∷ ws) f g i b each =
     ∙ byte_after-upper w w.at (f w.at) refl in
     let lower = each (w.at + 1) (omega (arith, b.0)) (omega (arith, b.1.0))
     ∙ inside-before at n (w.at + 2) ws h (w.at + 1) i.1.1 (omega arith)
-    ∙ byte_after-lower w (w.at + 1) (f (w.at + 1)) refl in
-    (
+    ∙ byte_after-lower w (w.at + 1) (f (w.at + 1)) refl in (
       omega (arith, upper, lower),
       all-there at n (w.at + 2) lo hi ws h g i.1.1 b.1.1 each,
     )
@@ -108,8 +107,7 @@ words-are : (at : ℕ) (src x : Addr) (f g : ℕ → ℕ) → shares_family x sr
     → ((k : ℕ) → at ≤ k → k < at + address_size src → g k ≡ after (address_words at x) f k)
     → AllThere g (address_words at x)
 words-are at (V4 _) (V4 a) f g same each =
-    all-there at 2 at at (at + 4) (words_v4 at a) f g
-    (
+    all-there at 2 at at (at + 4) (words_v4 at a) f g (
       omega arith,
       (
         (0, (omega arith, omega arith)),

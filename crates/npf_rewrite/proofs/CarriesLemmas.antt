@@ -72,7 +72,7 @@ upper_of-there src proto end =
 same_facts : (one other : Facts) → Ip one ≡ Ip other → one ≡ other
 same_facts one other h = cc
 
-match_ok : {T E : Type 0} (r : Result T E) (P : T → Type 0) (Q : E → Type 0) (x : T) → r ≡ Ok x → P x
+pub match_ok : {T E : Type 0} (r : Result T E) (P : T → Type 0) (Q : E → Type 0) (x : T) → r ≡ Ok x → P x
     → MatchResult r P Q
 match_ok r P Q x e p = rw e p
 

@@ -43,13 +43,24 @@ header_sum-between bytes ip (V6 a) ws = tt
 
 -- the fields of a header of this address's family stand in order
 pub record IsLaid (ip : ℕ) (src : Addr) : Type 0 where
+  pub least : ip + 8 ≤ front_at ip src
   pub front : front_at ip src ≤ source_at ip src
   pub source : source_at ip src + address_size src ≤ destination_at ip src
   pub end : destination_at ip src + address_size src ≡ ip + least_ip_header src
 
 pub laid : (ip : ℕ) (src : Addr) → IsLaid ip src
-laid ip (V4 a) = record { front = omega arith; source = omega arith; end = omega arith }
-laid ip (V6 a) = record { front = omega arith; source = omega arith; end = omega arith }
+laid ip (V4 a) = record {
+  least = omega arith;
+  front = omega arith;
+  source = omega arith;
+  end = omega arith;
+}
+laid ip (V6 a) = record {
+  least = omega arith;
+  front = omega arith;
+  source = omega arith;
+  end = omega arith;
+}
 
 -- words that are written where the change isn't neutral
 abbrev pub unless : Bool → List WordAt → List WordAt
