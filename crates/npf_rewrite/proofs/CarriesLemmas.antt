@@ -1,7 +1,7 @@
 -- What a translated packet carries.
-use Rattle.std.proofs.Common.{◌≡◌, ◌≢◌, ℕ, ◌+◌, ◌-◌, ◌*◌, ◌/◌, ◌%◌, ◌<◌, ◌≤◌, ◌⊎◌, Bool, true, false, Option, Some, None, List, [], ◌∷◌, ◌++◌, Ok, Err, refl, sym, ap, ◌∙◌, subst, inl, inr, arith}
+use Rattle.std.proofs.Common.{◌≡◌, ℕ, ◌+◌, ◌≤◌, true, Option, List, Ok, Err, refl, sym, ap, ◌∙◌, subst, inl, inr, arith}
 use Rattle.std.proofs.lemmas.Bool.Decides.{nat_tests}
-use Rattle.std.specs.Prelude.{Result, MatchResult, ◌==◌, ◌||◌, if◌then◌else◌, slice_index}
+use Rattle.std.specs.Prelude.{Result, MatchResult, ◌==◌, ◌||◌, slice_index}
 use Rattle.npf_fields.specs.Field.{number16, number32}
 use Rattle.npf_types.specs.declared.address.Addr.{Addr}
 use Rattle.npf_types.specs.declared.address.Addr.TheVariants.{V4, V6}
@@ -12,7 +12,6 @@ use Rattle.npf_types.specs.declared.facts.L4.{L4}
 use Rattle.npf_types.specs.declared.facts.Segment.{Segment}
 use Rattle.npf_types.specs.declared.facts.L4.TheVariants.{Tcp, Udp, Icmp, Icmp6, Other}
 use Rattle.npf_key.specs.Translated.{address_there, facts_there, fitting, named_port, port_there, shares_family}
-use Rattle.npf_packet.specs.declared.decoded.Decoded.{Decoded}
 use Rattle.npf_packet.specs.declared.decoded.Decoded.TheVariants.{Ip}
 use Rattle.npf_packet.specs.Packet.{facts_of, with_header}
 use Rattle.npf_packet.specs.PacketField.{HasProtocol}

@@ -1,10 +1,10 @@
 -- A translated packet decodes to the facts of the change.
-use Rattle.std.proofs.Common.{◌≡◌, ℕ, ◌+◌, ◌*◌, ◌/◌, ◌%◌, ◌<◌, ◌≤◌, Bool, true, false, Some, List, length, Ok, Err, refl, sym, ap, ◌∙◌, subst, arith}
+use Rattle.std.proofs.Common.{◌≡◌, ℕ, ◌+◌, ◌/◌, ◌<◌, ◌≤◌, Bool, true, false, Some, List, length, Ok, Err, refl, sym, ap, ◌∙◌, subst, arith}
 use Rattle.std.proofs.lemmas.Bool.Decides.{nat_tests}
 use Rattle.std.specs.Prelude.{Result, MatchResult, ◌==◌, nat_lt, if◌then◌else◌, slice_index}
-use Rattle.npf_fields.specs.Field.{number16, number32, number128}
+use Rattle.npf_fields.specs.Field.{number16, number32}
 use Rattle.npf_types.specs.declared.address.Addr.{Addr}
-use Rattle.npf_types.specs.declared.address.Addr.TheVariants.{V4, V6}
+use Rattle.npf_types.specs.declared.address.Addr.TheVariants.{V4}
 use Rattle.npf_types.specs.declared.change.Change.{Change}
 use Rattle.npf_types.specs.declared.facts.Facts.{Facts}
 use Rattle.npf_types.specs.declared.facts.L4.{L4}
@@ -14,7 +14,7 @@ use Rattle.npf_key.specs.Translated.{address_there, facts_there, fitting}
 use Rattle.npf_packet.specs.declared.decoded.Decoded.{Decoded}
 use Rattle.npf_packet.specs.declared.decoded.Decoded.TheVariants.{Ip}
 use Rattle.npf_packet.specs.Chain.{IsChain}
-use Rattle.npf_packet.specs.Decoding.{Decodes, DecodesIp, IsPacket, packet_at, version_behind}
+use Rattle.npf_packet.specs.Decoding.{DecodesIp, IsPacket, packet_at, version_behind}
 use Rattle.npf_packet.specs.Ipv4.{fields_v4, header_len, packet_v4, total_len}
 use Rattle.npf_packet.specs.Ipv6.{IsBehindChain, IsPacketV6, behind_last, end_v6, first_header, is_extension, next_header}
 use Rattle.npf_packet.specs.Packet.{facts_of}

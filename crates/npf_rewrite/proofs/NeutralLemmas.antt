@@ -1,5 +1,5 @@
 -- Sums after a neutral change, and the datagram without one.
-use Rattle.std.proofs.Common.{◌≡◌, ℕ, zero, suc, ◌+◌, ◌-◌, ◌*◌, ◌/◌, ◌%◌, ◌<◌, ◌≤◌, ◌⊎◌, Bool, true, false, List, [], ◌∷◌, ◌++◌, length, refl, ap, ◌∙◌, inl, inr, arith}
+use Rattle.std.proofs.Common.{◌≡◌, ℕ, zero, suc, ◌+◌, ◌-◌, ◌*◌, ◌/◌, ◌%◌, ◌<◌, ◌≤◌, Bool, true, false, List, [], ◌∷◌, ◌++◌, refl, ap, ◌∙◌, inr, arith}
 use Rattle.std.proofs.lemmas.Bool.Decides.{nat_tests}
 use Rattle.std.specs.Prelude.{◌==◌, if◌then◌else◌, slice_index}
 use Rattle.npf_fields.specs.Field.{number16}
@@ -11,8 +11,6 @@ use Rattle.npf_types.specs.declared.facts.L4.{L4}
 use Rattle.npf_types.specs.declared.facts.L4.TheVariants.{Tcp, Udp, Icmp, Icmp6, Other}
 use Rattle.npf_key.specs.Translated.{named_port}
 use Rattle.npf_packet.specs.Place.{least_ip_header}
-use Rattle.npf_rewrite.specs.declared.word.WordAt.{WordAt}
-use Rattle.npf_rewrite.specs.Room.{HasRoom}
 use Rattle.npf_rewrite.specs.Translated.{Translated, address_writes, destination_write, new_ends, port_writes, source_at, source_write, sum_write, upper_sum, upper_sum_after, upper_sum_at}
 use Rattle.npf_rewrite.specs.Verified.{AbsentSumStays, KeepsSums, NeutralHeaderSumFollows, NeutralUpperSumFollows, addresses_total, carried_total, counted_total, words_total}
 use Rattle.npf_rewrite.specs.Word.{byte_there, word, word_list}

@@ -1,6 +1,6 @@
 -- What stands at each place of a translated packet.
-use Rattle.std.proofs.Common.{◌≡◌, ℕ, ◌+◌, ◌-◌, ◌*◌, ◌/◌, ◌%◌, ◌<◌, ◌≤◌, ◌⊎◌, Bool, true, false, cond, Option, Some, None, List, [], ◌∷◌, ◌++◌, length, refl, sym, ap, ◌∙◌, inl, inr, arith}
-use Rattle.std.specs.Prelude.{◌==◌, if◌then◌else◌, slice_index}
+use Rattle.std.proofs.Common.{◌≡◌, ℕ, ◌+◌, ◌<◌, ◌≤◌, ◌⊎◌, Bool, true, false, Option, List, [], ◌++◌, refl, ap, ◌∙◌, inl, inr, arith}
+use Rattle.std.specs.Prelude.{if◌then◌else◌, slice_index}
 use Rattle.npf_types.specs.declared.address.Addr.{Addr}
 use Rattle.npf_types.specs.declared.address.Addr.TheVariants.{V4, V6}
 use Rattle.npf_types.specs.declared.change.Change.{Change}
@@ -10,10 +10,9 @@ use Rattle.npf_key.specs.Translated.{fitting}
 use Rattle.npf_packet.specs.Place.{least_ip_header}
 use Rattle.npf_rewrite.specs.declared.word.WordAt.{WordAt}
 use Rattle.npf_rewrite.specs.Address.{end_words}
-use Rattle.npf_rewrite.specs.Room.{HasRoom}
-use Rattle.npf_rewrite.specs.Translated.{Translated, address_writes, destination_at, header_sum, new_ends, port_writes, source_at, upper_sum}
+use Rattle.npf_rewrite.specs.Translated.{Translated, destination_at, header_sum, new_ends, port_writes, source_at, upper_sum}
 use Rattle.npf_rewrite.specs.Word.{byte_there, word_list}
-use Rattle.npf_rewrite.proofs.TotalLemmas.{Between, after, after-elsewhere}
+use Rattle.npf_rewrite.proofs.TotalLemmas.{Between, after-elsewhere}
 use Rattle.npf_rewrite.proofs.UpperLemmas.{between_v6, end_v6-has}
 use Rattle.npf_rewrite.proofs.VerifiedLemmas.{end-has, port_writes-between, upper_sum-between}
 use Rattle.npf_rewrite.proofs.WordLemmas.{byte_there-append}
