@@ -1,6 +1,6 @@
 -- The address that stands where one was written, or not.
-use Rattle.std.proofs.Common.{◌≡◌, ℕ, ◌+◌, ◌*◌, ◌/◌, ◌%◌, ◌^◌, ◌<◌, ◌≤◌, Bool, true, false, Option, Some, None, List, [], ◌∷◌, refl, ap, ◌∙◌, inl, arith}
-use Rattle.std.specs.Prelude.{⊤, if◌then◌else◌, slice_index}
+use Rattle.std.proofs.Common.{◌≡◌, ℕ, ◌+◌, ◌*◌, ◌/◌, ◌%◌, ◌^◌, ◌<◌, ◌≤◌, true, Option, List, [], ◌∷◌, length, refl, ap, ◌∙◌, inl, arith}
+use Rattle.std.specs.Prelude.{⊤, slice_index}
 use Rattle.npf_fields.specs.Field.{number32, number64, number128}
 use Rattle.npf_types.specs.declared.address.Addr.{Addr}
 use Rattle.npf_types.specs.declared.address.Addr.TheVariants.{V4, V6}
@@ -10,9 +10,8 @@ use Rattle.npf_rewrite.specs.declared.word.WordAt.{WordAt}
 use Rattle.npf_rewrite.specs.Address.{address_words, end_words, word_of, words_v4, words_v6}
 use Rattle.npf_rewrite.specs.TranslatedFacts.{AddressFits, EndFits}
 use Rattle.npf_rewrite.specs.Word.{byte_there}
-use Rattle.npf_rewrite.proofs.PlacedLemmas.{address_size}
 use Rattle.npf_rewrite.proofs.TotalLemmas.{Between, Inside, after, byte_after-elsewhere, byte_after-lower, byte_after-upper, value_at}
-use Rattle.npf_rewrite.proofs.UpperLemmas.{between_v6, inside_v6}
+use Rattle.npf_rewrite.proofs.EndLemmas.{address-has, address_size, between-from, fitted, inside-from, shifts}
 
 -- these words stand at their places
 abbrev pub AllThere : (ℕ → ℕ) → List WordAt → Type 0
@@ -106,20 +105,14 @@ address-is bytes at (V6 _) (V4 a) same fits t = absurd cc
 words-are : (at : ℕ) (src x : Addr) (f g : ℕ → ℕ) → shares_family x src ≡ true
     → ((k : ℕ) → at ≤ k → k < at + address_size src → g k ≡ after (address_words at x) f k)
     → AllThere g (address_words at x)
-words-are at (V4 _) (V4 a) f g same each =
-    all-there at 2 at at (at + 4) (words_v4 at a) f g (
-      omega arith,
-      (
-        (0, (omega arith, omega arith)),
-        (omega arith, ((1, (omega arith, omega arith)), tt)),
-      ),
-    )
-    (omega arith, (omega arith, (omega arith, (omega arith, tt)))) each
-words-are at (V6 _) (V6 a) f g same each =
-    all-there at 16 at at (at + 16) (words_v6 at a) f g (inside_v6 at at 0 a (omega arith) (omega arith))
-    (between_v6 at (at + 16) a refl) each
-words-are at (V4 _) (V6 a) f g same each = absurd cc
-words-are at (V6 _) (V4 a) f g same each = absurd cc
+words-are at src x f g same each =
+    let n = length (shifts src) in
+    let hi = at + address_size src in
+    all-there at n at at hi (address_words at x) f g
+    (address-has src x at (Inside at n at) same
+    (λ a. inside-from at n at 0 a (shifts src) (omega arith) (omega arith)))
+    (address-has src x at (Between at hi) same
+    (λ a. between-from at hi at a (shifts src) (omega arith) (omega arith))) each
 
 -- the numbers of bytes that are the same
 number32-same : (old new : List ℕ) (at : ℕ)
@@ -152,19 +145,6 @@ address-same old new at (V6 _) same =
     let upper = number64-same old new at (λ k from below. same k from (omega arith)) in
     let lower = number64-same old new (at + 8) (λ k from below. same k (omega arith) (omega arith)) in
     ap V6 (omega (arith, upper, lower))
-
-chosen : (src : Addr) (Q : Option End → Type 0) → Q None
-    → (e : End) → (shares_family e.addr src ≡ true → Q (Some e))
-    → (b : Bool) → shares_family e.addr src ≡ b → Q (if b then Some e else None)
-chosen src Q none e some true same = some same
-chosen src Q none e some false same = none
-
--- what holds of no end and of one of the packet's family holds of the one that fits it
-pub fitted : (src : Addr) (Q : Option End → Type 0) → Q None
-    → ((e : End) → shares_family e.addr src ≡ true → Q (Some e)) → (end : Option End)
-    → Q (fitting src end)
-fitted src Q none some None = none
-fitted src Q none some (Some e) = chosen src Q none e (some e) (shares_family e.addr src) refl
 
 -- where an end was written, or not, its address stands
 pub address-there : (old new : List ℕ) (at : ℕ) (src : Addr) (end : Option End)

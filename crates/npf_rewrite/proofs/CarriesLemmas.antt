@@ -20,11 +20,10 @@ use Rattle.npf_packet.specs.Tcp.{HasSegment, header_end, segment_of}
 use Rattle.npf_packet.specs.Upper.{Carries, CarriesAs, upper_of}
 use Rattle.npf_packet.proofs.HeaderLemmas.{of_ok}
 use Rattle.npf_rewrite.specs.Translated.{Translated}
-use Rattle.npf_rewrite.proofs.AddressLemmas.{fitted}
+use Rattle.npf_rewrite.proofs.EndLemmas.{fitted}
 use Rattle.npf_rewrite.proofs.ChainLemmas.{options-stay}
-use Rattle.npf_rewrite.proofs.PlacedLemmas.{carried-there}
-use Rattle.npf_rewrite.proofs.PortLemmas.{behind-ports, destination-is, echo-is, message-same, source-is}
-use Rattle.npf_rewrite.proofs.UpperLemmas.{made, ports}
+use Rattle.npf_rewrite.proofs.PlacedLemmas.{carried-there, made}
+use Rattle.npf_rewrite.proofs.PortLemmas.{behind-ports, destination-is, echo-is, message-same, ports, source-is}
 
 -- a family and a protocol by which what is carried is told apart
 abbrev pub family_of : L4 → Addr

@@ -1,12 +1,11 @@
 pub mod AddressLemmas
-pub mod CarriedLemmas
 pub mod CarriesLemmas
 pub mod ChainLemmas
 pub mod DecodedLemmas
+pub mod EndLemmas
 pub mod NeutralLemmas
 pub mod PlacedLemmas
 pub mod PortLemmas
+pub mod SumLemmas
 pub mod TotalLemmas
-pub mod UpperLemmas
-pub mod VerifiedLemmas
 pub mod WordLemmas

@@ -1,5 +1,5 @@
 -- Sums after a neutral change, and the datagram without one.
-use Rattle.std.proofs.Common.{◌≡◌, ℕ, zero, suc, ◌+◌, ◌-◌, ◌*◌, ◌/◌, ◌%◌, ◌<◌, ◌≤◌, Bool, true, false, List, [], ◌∷◌, ◌++◌, refl, ap, ◌∙◌, inr, arith}
+use Rattle.std.proofs.Common.{◌≡◌, ℕ, ◌+◌, ◌-◌, ◌*◌, ◌/◌, ◌%◌, ◌<◌, ◌≤◌, Bool, true, false, List, [], ◌∷◌, ◌++◌, ap, ◌∙◌, inr, arith}
 use Rattle.std.proofs.lemmas.Bool.Decides.{nat_tests}
 use Rattle.std.specs.Prelude.{◌==◌, if◌then◌else◌, slice_index}
 use Rattle.npf_fields.specs.Field.{number16}
@@ -11,24 +11,13 @@ use Rattle.npf_types.specs.declared.facts.L4.{L4}
 use Rattle.npf_types.specs.declared.facts.L4.TheVariants.{Tcp, Udp, Icmp, Icmp6, Other}
 use Rattle.npf_key.specs.Translated.{named_port}
 use Rattle.npf_packet.specs.Place.{least_ip_header}
-use Rattle.npf_rewrite.specs.Translated.{Translated, address_writes, destination_write, new_ends, port_writes, source_at, source_write, sum_write, upper_sum, upper_sum_after, upper_sum_at}
+use Rattle.npf_rewrite.specs.Translated.{Translated, address_writes, destination_write, header_sum, new_ends, port_writes, source_at, source_write, sum_write, upper_sum, upper_sum_after, upper_sum_at}
 use Rattle.npf_rewrite.specs.Verified.{AbsentSumStays, KeepsSums, NeutralHeaderSumFollows, NeutralUpperSumFollows, addresses_total, carried_total, counted_total, words_total}
 use Rattle.npf_rewrite.specs.Word.{byte_there, word, word_list}
-use Rattle.npf_rewrite.proofs.CarriedLemmas.{left_total-same}
-use Rattle.npf_rewrite.proofs.PlacedLemmas.{carried-there, neutral-same, options-same, unless}
-use Rattle.npf_rewrite.proofs.TotalLemmas.{after-elsewhere, words_total-same}
-use Rattle.npf_rewrite.proofs.UpperLemmas.{ports, ports-between}
-
-words_total-split : (f : ℕ → ℕ) (at mid a b n : ℕ) → mid ≡ at + 2 * a → n ≡ a + b
-    → words_total f at n ≡ words_total f at a + words_total f mid b
-words_total-split f at mid zero b n e h =
-    let whole : n ≡ b = omega arith in
-    let place : mid ≡ at = omega arith in
-    omega (arith, ap (words_total f at) whole, ap (λ k. words_total f k b) place)
-words_total-split f at mid (suc a) b n e h =
-    let whole : n ≡ suc (a + b) = omega arith in
-    let rest = words_total-split f (at + 2) mid a b (a + b) (omega arith) refl in
-    ap (words_total f at) whole ∙ omega (arith, rest)
+use Rattle.npf_rewrite.proofs.PlacedLemmas.{carried-there, options-same, sum-there, unless}
+use Rattle.npf_rewrite.proofs.SumLemmas.{left_total-same}
+use Rattle.npf_rewrite.proofs.TotalLemmas.{after-elsewhere, header-total, words_total-same}
+use Rattle.npf_rewrite.proofs.PortLemmas.{ports, ports-between}
 
 carried_total-same : (f g : ℕ → ℕ) (at end : ℕ) → ((k : ℕ) → at ≤ k → g k ≡ f k)
     → carried_total g at end ≡ carried_total f at end
@@ -55,23 +44,16 @@ module _ (f g : ℕ → ℕ) (facts : Facts) (carried : (k : ℕ) → facts.l4_a
       → words_total f facts.ip_at n % 65535 ≡ 0 → words_total g facts.ip_at n % 65535 ≡ 0
   header-same n long ends a e front options was =
       let ip = facts.ip_at in
-      let one = words_total-same g f ip 6 (λ k from to. front k (omega arith)) in
-      let three = words_total-same g f (ip + 20) (n - 10)
-      (λ k from to. options k from (omega arith)) in
-      let rest = λ (x : ℕ → ℕ).
-      words_total-split x (ip + 12) (ip + 20) 4 (n - 10) (n - 6) (omega arith) (omega arith) in
-      let split = λ (x : ℕ → ℕ).
-      words_total-split x ip (ip + 12) 6 (n - 6) n (omega arith) (omega arith) ∙ ap (λ r. words_total x ip 6 + r) (rest x) in
+      let total = header-total f g ip n long (λ k from to. options k from (omega arith)) in
+      let six = words_total-same g f ip 6 (λ k from to. front k (omega arith)) in
       omega (
         arith,
-        one,
-        three,
         was,
+        total,
+        six,
         addresses,
         ap (addresses_total f ip) e,
         ap (addresses_total g ip) e,
-        split f,
-        split g,
       )
 
 -- of what is carried nothing was written
@@ -94,7 +76,9 @@ neutral_header_lem bytes translated facts change a e room neutral keeps t was =
     header-same (slice_index bytes) (slice_index translated) facts
     (neutral-carried bytes translated facts change room.upper neutral keeps t) keeps.addresses
     ((facts.l4_at - facts.ip_at) / 2) (omega (arith, room.upper)) (omega (arith, room.upper)) a e
-    (λ k below. neutral-same bytes translated facts change room.upper t neutral k (omega arith))
+    (λ k below. sum-there bytes translated facts change room.upper t k (omega arith)
+    ∙ ap (λ b. byte_there (unless b (word_list (header_sum bytes facts.ip_at facts.src
+    (address_writes facts (new_ends facts change))))) k (slice_index bytes k)) neutral)
     (λ k from below. options-same bytes translated facts change room.upper t k (omega arith) below)
     was
 

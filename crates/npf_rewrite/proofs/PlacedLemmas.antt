@@ -1,39 +1,27 @@
 -- What stands at each place of a translated packet.
-use Rattle.std.proofs.Common.{◌≡◌, ℕ, ◌+◌, ◌<◌, ◌≤◌, ◌⊎◌, Bool, true, false, Option, List, [], ◌++◌, refl, ap, ◌∙◌, inl, inr, arith}
+use Rattle.std.proofs.Common.{◌≡◌, ℕ, ◌+◌, ◌<◌, ◌≤◌, ◌⊎◌, Bool, true, false, Option, Some, None, List, [], ◌∷◌, ◌++◌, refl, sym, ap, ◌∙◌, inl, inr, arith}
 use Rattle.std.specs.Prelude.{if◌then◌else◌, slice_index}
 use Rattle.npf_types.specs.declared.address.Addr.{Addr}
 use Rattle.npf_types.specs.declared.address.Addr.TheVariants.{V4, V6}
 use Rattle.npf_types.specs.declared.change.Change.{Change}
-use Rattle.npf_types.specs.declared.change.End.{End}
 use Rattle.npf_types.specs.declared.facts.Facts.{Facts}
-use Rattle.npf_key.specs.Translated.{fitting}
+use Rattle.npf_types.specs.declared.facts.L4.{L4}
+use Rattle.npf_types.specs.declared.facts.L4.TheVariants.{Tcp, Udp, Icmp, Icmp6, Other}
+use Rattle.npf_key.specs.Translated.{fitting, named_port}
 use Rattle.npf_packet.specs.Place.{least_ip_header}
+use Rattle.npf_rewrite.specs.declared.translated.NewEnds.{NewEnds}
 use Rattle.npf_rewrite.specs.declared.word.WordAt.{WordAt}
 use Rattle.npf_rewrite.specs.Address.{end_words}
-use Rattle.npf_rewrite.specs.Translated.{Translated, destination_at, header_sum, new_ends, port_writes, source_at, upper_sum}
-use Rattle.npf_rewrite.specs.Word.{byte_there, word_list}
+use Rattle.npf_rewrite.specs.Translated.{Translated, destination_at, destination_write, header_sum, identifier_write, new_ends, port_writes, source_at, source_write, sum_write, upper_sum, upper_sum_at}
+use Rattle.npf_rewrite.specs.Word.{byte_there, named_word, word_list}
+use Rattle.npf_rewrite.proofs.EndLemmas.{address_size, end-between}
 use Rattle.npf_rewrite.proofs.TotalLemmas.{Between, after-elsewhere}
-use Rattle.npf_rewrite.proofs.UpperLemmas.{between_v6, end_v6-has}
-use Rattle.npf_rewrite.proofs.VerifiedLemmas.{end-has, port_writes-between, upper_sum-between}
 use Rattle.npf_rewrite.proofs.WordLemmas.{byte_there-append}
-
--- how many bytes an address of this family has
-abbrev pub address_size : Addr → ℕ
-address_size (V4 _) = 4
-address_size (V6 _) = 16
 
 -- the first place of a header that may change
 abbrev pub front_at : ℕ → Addr → ℕ
 front_at ip (V4 _) = ip + 10
 front_at ip (V6 _) = ip + 8
-
-end-between : (src : Addr) (at : ℕ) (end : Option End)
-    → Between at (at + address_size src) (end_words at (fitting src end))
-end-between (V4 a) at end =
-    end-has (Between at (at + 4)) at a tt
-    (λ y. (omega arith, (omega arith, (omega arith, (omega arith, tt))))) end
-end-between (V6 a) at end =
-    end_v6-has (Between at (at + 16)) at a tt (λ y. between_v6 at (at + 16) y refl) end
 
 header_sum-between : (bytes : List ℕ) (ip : ℕ) (src : Addr) (ws : List WordAt)
     → Between (front_at ip src) (source_at ip src) (word_list (header_sum bytes ip src ws))
@@ -44,7 +32,7 @@ header_sum-between bytes ip (V6 a) ws = tt
 pub record IsLaid (ip : ℕ) (src : Addr) : Type 0 where
   pub least : ip + 8 ≤ front_at ip src
   pub front : front_at ip src ≤ source_at ip src
-  pub source : source_at ip src + address_size src ≤ destination_at ip src
+  pub source : source_at ip src + address_size src ≡ destination_at ip src
   pub end : destination_at ip src + address_size src ≡ ip + least_ip_header src
 
 pub laid : (ip : ℕ) (src : Addr) → IsLaid ip src
@@ -61,6 +49,47 @@ laid ip (V6 a) = record {
   end = omega arith;
 }
 
+between-append : (lo hi : ℕ) (ws vs : List WordAt) → Between lo hi ws → Between lo hi vs
+    → Between lo hi (ws ++ vs)
+between-append lo hi [] vs p q = q
+between-append lo hi (w ∷ ws) vs p q = (p.0, (p.1.0, between-append lo hi ws vs p.1.1 q))
+
+-- what is written behind the header
+module _ (at : ℕ) where
+  named-between : (k : ℕ) (v : Option ℕ) → at ≤ k → k + 2 ≤ at + 20
+      → Between at (at + 20) (word_list (named_word k v))
+  named-between k (Some v) from to = (from, (to, tt))
+  named-between k None from to = tt
+
+  identifier-between : (s d echo : Option ℕ)
+      → Between at (at + 20) (word_list (identifier_write at s d echo))
+  identifier-between s d (Some _) = named-between _ _ (omega arith) (omega arith)
+  identifier-between s d None = tt
+
+  source-between : (s d : Option ℕ) (l4 : L4)
+      → Between at (at + 20) (word_list (source_write at s d l4))
+  source-between s d (Tcp _ _ _ _) = named-between _ _ (omega arith) (omega arith)
+  source-between s d (Udp _ _) = named-between _ _ (omega arith) (omega arith)
+  source-between s d (Icmp _ _ echo) = identifier-between s d echo
+  source-between s d (Icmp6 _ _ echo) = identifier-between s d echo
+  source-between s d Other = tt
+
+  destination-between : (s d : Option ℕ) (l4 : L4)
+      → Between at (at + 20) (word_list (destination_write at s d l4))
+  destination-between s d (Tcp _ _ _ _) = named-between _ _ (omega arith) (omega arith)
+  destination-between s d (Udp _ _) = named-between _ _ (omega arith) (omega arith)
+  destination-between s d (Icmp _ _ _) = tt
+  destination-between s d (Icmp6 _ _ _) = tt
+  destination-between s d Other = tt
+
+  upper_sum-between : (bytes : List ℕ) (facts : Facts) (ends : NewEnds) (l4 : L4)
+      → Between at (at + 20) (word_list (sum_write bytes facts ends (upper_sum_at at l4)))
+  upper_sum-between bytes facts ends (Tcp _ _ _ _) = (omega arith, (omega arith, tt))
+  upper_sum-between bytes facts ends (Udp _ _) = (omega arith, (omega arith, tt))
+  upper_sum-between bytes facts ends (Icmp _ _ _) = (omega arith, (omega arith, tt))
+  upper_sum-between bytes facts ends (Icmp6 _ _ _) = (omega arith, (omega arith, tt))
+  upper_sum-between bytes facts ends Other = tt
+
 -- words that are written where the change isn't neutral
 abbrev pub unless : Bool → List WordAt → List WordAt
 unless neutral ws = if neutral then [] else ws
@@ -70,18 +99,10 @@ pub unless-elsewhere : (b : Bool) (lo hi : ℕ) (ws : List WordAt) (k x : ℕ) �
 unless-elsewhere true lo hi ws k x by h = refl
 unless-elsewhere false lo hi ws k x by h = after-elsewhere lo hi ws (λ _. x) k by h
 
-unless-first : (b : Bool) (lo hi : ℕ) (ws vs : List WordAt) (k x : ℕ) → Between lo hi vs
-    → (k < lo) ⊎ (hi ≤ k) → byte_there (unless b (ws ++ vs)) k x ≡ byte_there (unless b ws) k x
-unless-first true lo hi ws vs k x by h = refl
-unless-first false lo hi ws vs k x by h =
-    byte_there-append ws vs k x ∙ after-elsewhere lo hi vs (λ _. byte_there ws k x) k by h
-
-unless-second : (b : Bool) (lo hi : ℕ) (ws vs : List WordAt) (k x : ℕ) → Between lo hi ws
-    → (k < lo) ⊎ (hi ≤ k) → byte_there (unless b (ws ++ vs)) k x ≡ byte_there (unless b vs) k x
-unless-second true lo hi ws vs k x by h = refl
-unless-second false lo hi ws vs k x by h =
-    byte_there-append ws vs k x
-    ∙ ap (byte_there vs k) (after-elsewhere lo hi ws (λ _. x) k by h)
+unless-append : (b : Bool) (ws vs : List WordAt) (k x : ℕ)
+    → byte_there (unless b (ws ++ vs)) k x ≡ byte_there (unless b vs) k (byte_there (unless b ws) k x)
+unless-append true ws vs k x = refl
+unless-append false ws vs k x = byte_there-append ws vs k x
 
 module _ (bytes translated : List ℕ) (facts : Facts) (change : Change)
     (above : facts.ip_at + least_ip_header facts.src ≤ facts.l4_at)
@@ -104,84 +125,100 @@ module _ (bytes translated : List ℕ) (facts : Facts) (change : Change)
   abbrev u : List WordAt
   u = word_list (upper_sum bytes facts (new_ends facts change))
 
-  abbrev tail : List WordAt
-  tail = unless change.neutral (h ++ u)
-
   abbrev f : ℕ → ℕ
   f = slice_index bytes
 
   abbrev g : ℕ → ℕ
   g = slice_index translated
 
-  each : (k : ℕ) → g k ≡ byte_there tail k (byte_there p k (byte_there d k (byte_there s k (f k))))
+  each : (k : ℕ) → g k ≡ byte_there (unless change.neutral u) k
+      (byte_there (unless change.neutral h) k (byte_there p k (byte_there (s ++ d) k (f k))))
   each k =
       t.each k
-      ∙ byte_there-append ((s ++ d) ++ p) tail k (f k)
-      ∙ ap (byte_there tail k)
-      (byte_there-append (s ++ d) p k (f k) ∙ ap (byte_there p k) (byte_there-append s d k (f k)))
+      ∙ byte_there-append ((s ++ d) ++ p) (unless change.neutral (h ++ u)) k (f k)
+      ∙ unless-append change.neutral h u k (byte_there ((s ++ d) ++ p) k (f k))
+      ∙ ap (λ x. byte_there (unless change.neutral u) k (byte_there (unless change.neutral h) k x))
+      (byte_there-append (s ++ d) p k (f k))
 
-  by_s : Between (source_at ip facts.src) (source_at ip facts.src + address_size facts.src) s
-  by_s = end-between facts.src (source_at ip facts.src) change.src
+  by_s : Between (source_at ip facts.src) (destination_at ip facts.src) s
+  by_s = let order = laid ip facts.src in
+      rw (sym order.source) (end-between facts.src (source_at ip facts.src) change.src)
 
-  by_d : Between (destination_at ip facts.src) (destination_at ip facts.src + address_size facts.src) d
-  by_d = end-between facts.src (destination_at ip facts.src) change.dst
+  by_d : Between (destination_at ip facts.src) (ip + least_ip_header facts.src) d
+  by_d = let order = laid ip facts.src in
+      rw (sym order.end) (end-between facts.src (destination_at ip facts.src) change.dst)
+
+  by_h : Between (front_at ip facts.src) (source_at ip facts.src) h
+  by_h = header_sum-between bytes ip facts.src (s ++ d)
 
   -- in front of what is carried
   in_header : (k : ℕ) → k < facts.l4_at
-      → g k ≡ byte_there (unless change.neutral h) k (byte_there d k (byte_there s k (f k)))
+      → g k ≡ byte_there (unless change.neutral h) k (byte_there (s ++ d) k (f k))
   in_header k below =
+      let ends = new_ends facts change in
+      let sport = named_port ends.src in
+      let dport = named_port ends.dst in
+      let by_p = between-append facts.l4_at (facts.l4_at + 20)
+      (word_list (source_write facts.l4_at sport dport facts.l4))
+      (word_list (destination_write facts.l4_at sport dport facts.l4))
+      (source-between facts.l4_at sport dport facts.l4)
+      (destination-between facts.l4_at sport dport facts.l4) in
       each k
-      ∙ unless-first change.neutral facts.l4_at (facts.l4_at + 20) h u k _
-      (upper_sum-between facts.l4_at bytes facts (new_ends facts change) facts.l4) (inl below)
+      ∙ unless-elsewhere change.neutral facts.l4_at (facts.l4_at + 20) u k _
+      (upper_sum-between facts.l4_at bytes facts ends facts.l4) (inl below)
       ∙ ap (byte_there (unless change.neutral h) k)
-      (after-elsewhere facts.l4_at (facts.l4_at + 20) p
-      (λ _. byte_there d k (byte_there s k (f k))) k (port_writes-between facts change) (inl below))
+      (after-elsewhere facts.l4_at (facts.l4_at + 20) p (λ _. byte_there (s ++ d) k (f k)) k by_p
+      (inl below))
+
+  -- the addresses change no other place
+  addresses-elsewhere : (k : ℕ) → (k < source_at ip facts.src) ⊎ (ip + least_ip_header facts.src ≤ k)
+      → byte_there (s ++ d) k (f k) ≡ f k
+  addresses-elsewhere k (inl before) =
+      let order = laid ip facts.src in
+      byte_there-append s d k (f k)
+      ∙ after-elsewhere _ _ d (λ _. byte_there s k (f k)) k by_d (inl (omega arith))
+      ∙ after-elsewhere _ _ s f k by_s (inl before)
+  addresses-elsewhere k (inr behind) =
+      let order = laid ip facts.src in
+      byte_there-append s d k (f k)
+      ∙ after-elsewhere _ _ d (λ _. byte_there s k (f k)) k by_d (inr behind)
+      ∙ after-elsewhere _ _ s f k by_s (inr (omega arith))
+
+  pub sum-there : (k : ℕ) → k < source_at ip facts.src
+      → g k ≡ byte_there (unless change.neutral h) k (f k)
+  sum-there k before =
+      let order = laid ip facts.src in
+      in_header k (omega arith)
+      ∙ ap (byte_there (unless change.neutral h) k) (addresses-elsewhere k (inl before))
 
   pub front-same : (k : ℕ) → k < front_at ip facts.src → g k ≡ f k
-  front-same k below =
+  front-same k before =
       let order = laid ip facts.src in
-      in_header k (omega arith)
-      ∙ unless-elsewhere change.neutral (front_at ip facts.src) (source_at ip facts.src) h k _
-      (header_sum-between bytes ip facts.src (s ++ d)) (inl below)
-      ∙ after-elsewhere _ _ d (λ _. byte_there s k (f k)) k by_d (inl (omega arith))
-      ∙ after-elsewhere _ _ s f k by_s (inl (omega arith))
+      sum-there k (omega arith) ∙ unless-elsewhere change.neutral _ _ h k _ by_h (inl before)
 
-  -- a neutral change leaves the sum of the header too
-  pub neutral-same : change.neutral ≡ true → (k : ℕ) → k < source_at ip facts.src → g k ≡ f k
-  neutral-same neutral k below =
-      let order = laid ip facts.src in
-      in_header k (omega arith)
-      ∙ ap (λ b. byte_there (unless b h) k (byte_there d k (byte_there s k (f k)))) neutral
-      ∙ after-elsewhere _ _ d (λ _. byte_there s k (f k)) k by_d (inl (omega arith))
-      ∙ after-elsewhere _ _ s f k by_s (inl below)
-
-  behind : (k : ℕ) → source_at ip facts.src ≤ k → k < facts.l4_at
-      → g k ≡ byte_there d k (byte_there s k (f k))
-  behind k from below =
-      in_header k below
-      ∙ unless-elsewhere change.neutral (front_at ip facts.src) (source_at ip facts.src) h k _
-      (header_sum-between bytes ip facts.src (s ++ d)) (inr from)
+  pub addresses-there : (k : ℕ) → source_at ip facts.src ≤ k → k < facts.l4_at
+      → g k ≡ byte_there (s ++ d) k (f k)
+  addresses-there k from below =
+      in_header k below ∙ unless-elsewhere change.neutral _ _ h k _ by_h (inr from)
 
   pub source-there : (k : ℕ) → source_at ip facts.src ≤ k
       → k < source_at ip facts.src + address_size facts.src → g k ≡ byte_there s k (f k)
   source-there k from below =
       let order = laid ip facts.src in
-      behind k from (omega arith)
+      addresses-there k from (omega arith) ∙ byte_there-append s d k (f k)
       ∙ after-elsewhere _ _ d (λ _. byte_there s k (f k)) k by_d (inl (omega arith))
 
   pub destination-there : (k : ℕ) → destination_at ip facts.src ≤ k
       → k < destination_at ip facts.src + address_size facts.src → g k ≡ byte_there d k (f k)
   destination-there k from below =
       let order = laid ip facts.src in
-      behind k (omega arith) (omega arith)
-      ∙ ap (byte_there d k) (after-elsewhere _ _ s f k by_s (inr (omega arith)))
+      addresses-there k (omega arith) (omega arith) ∙ byte_there-append s d k (f k)
+      ∙ ap (byte_there d k) (after-elsewhere _ _ s f k by_s (inr from))
 
   pub options-same : (k : ℕ) → ip + least_ip_header facts.src ≤ k → k < facts.l4_at → g k ≡ f k
   options-same k from below =
       let order = laid ip facts.src in
-      behind k (omega arith) below
-      ∙ after-elsewhere _ _ d (λ _. byte_there s k (f k)) k by_d (inr (omega arith))
-      ∙ after-elsewhere _ _ s f k by_s (inr (omega arith))
+      addresses-there k (omega arith) below ∙ addresses-elsewhere k (inr from)
 
   -- of what is carried
   pub carried-there : (k : ℕ) → facts.l4_at ≤ k
@@ -189,8 +226,10 @@ module _ (bytes translated : List ℕ) (facts : Facts) (change : Change)
   carried-there k from =
       let order = laid ip facts.src in
       each k
-      ∙ unless-second change.neutral (front_at ip facts.src) (source_at ip facts.src) h u k _
-      (header_sum-between bytes ip facts.src (s ++ d)) (inr (omega arith))
-      ∙ ap (λ x. byte_there (unless change.neutral u) k (byte_there p k x))
-      (after-elsewhere _ _ d (λ _. byte_there s k (f k)) k by_d (inr (omega arith))
-      ∙ after-elsewhere _ _ s f k by_s (inr (omega arith)))
+      ∙ ap (byte_there (unless change.neutral u) k)
+      (unless-elsewhere change.neutral _ _ h k _ by_h (inr (omega arith))
+      ∙ ap (byte_there p k) (addresses-elsewhere k (inr (omega arith))))
+
+abbrev pub made : Addr → Addr → ℕ → ℕ → ℕ → ℕ → L4 → Facts
+made src dst proto ip l4 end carried =
+    record { src = src; dst = dst; proto = proto; ip_at = ip; l4_at = l4; end = end; l4 = carried }

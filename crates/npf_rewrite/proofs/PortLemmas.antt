@@ -9,7 +9,6 @@ use Rattle.npf_rewrite.specs.Translated.{identifier_write}
 use Rattle.npf_rewrite.specs.Word.{byte_there, named_word, word, word_list}
 use Rattle.npf_rewrite.proofs.PlacedLemmas.{unless, unless-elsewhere}
 use Rattle.npf_rewrite.proofs.TotalLemmas.{Between, after, after-elsewhere, byte_after-lower, byte_after-upper, value_at}
-use Rattle.npf_rewrite.proofs.UpperLemmas.{ports, ports-between}
 use Rattle.npf_rewrite.proofs.WordLemmas.{byte_there-append}
 
 named-there : (g f : ℕ → ℕ) (at : ℕ) (o : Option ℕ)
@@ -30,6 +29,16 @@ named-there g f at None each =
 named-between : (at : ℕ) (o : Option ℕ) → Between at (at + 2) (word_list (named_word at o))
 named-between at (Some v) = (omega arith, (omega arith, tt))
 named-between at None = tt
+
+-- the ports of TCP and UDP
+abbrev pub ports : ℕ → Option ℕ → Option ℕ → List WordAt
+ports l4 sp dp = word_list (named_word (l4 + 0) sp) ++ word_list (named_word (l4 + 2) dp)
+
+pub ports-between : (l4 : ℕ) (sp dp : Option ℕ) → Between l4 (l4 + 4) (ports l4 sp dp)
+ports-between l4 (Some s) (Some d) = (omega arith, (omega arith, (omega arith, (omega arith, tt))))
+ports-between l4 (Some s) None = (omega arith, (omega arith, tt))
+ports-between l4 None (Some d) = (omega arith, (omega arith, tt))
+ports-between l4 None None = tt
 
 -- the bytes of what is carried, where ports are written and perhaps a sum at a place
 module _ (old new : List ℕ) (neutral : Bool) (l4 at v : ℕ) (p : List WordAt)
