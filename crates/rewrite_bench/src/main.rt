@@ -1,9 +1,10 @@
 // Counts how long a source translation takes of a segment of TCP over IPv4 and of a datagram of UDP
 // over IPv6, each forth and back in turn. The argument is the number of packets; with none a
 // thousand are translated, untimed. bench/rewrite runs it beside the same work in C.
+#![tactic(auto)]
+
 ghost use Rattle.std.specs.Prelude.{◌≡◌, ◌≤◌, length, IfSome};
 ghost use Rattle.npf_rewrite.specs.Room.{HasRoom};
-#![tactic(auto)]
 
 use anyhow::Error;
 use npf_packet::{Decoded, decode};
@@ -58,13 +59,18 @@ fn run(bytes: &mut [u8], facts: &Facts, changes: &[Change; 2], packets: u64) -> 
     for i in 0..packets {
         translate(bytes, facts, &changes[(i % 2) as usize]);
     }
-    bytes.iter().fold(0u64, |sum, byte| sum.wrapping_add(u64::from(*byte)))
+    bytes
+        .iter()
+        .fold(0u64, |sum, byte| sum.wrapping_add(u64::from(*byte)))
 }
 
 fn main(rt: HostRuntime) -> Result<(), Error> {
     let packets = packets(&rt)?;
     let (mut segment, mut datagram) = (SEGMENT, DATAGRAM);
-    let four = [from(Addr::V4(0xcb00_7101), 40_001), from(Addr::V4(0x0a00_0002), 1025)];
+    let four = [
+        from(Addr::V4(0xcb00_7101), 40_001),
+        from(Addr::V4(0x0a00_0002), 1025),
+    ];
     let six = [
         from(Addr::V6(0x2001_0db8_ffff_0000_0000_0000_0000_0001), 1024),
         from(Addr::V6(0x2001_0db8_0000_0000_0000_0000_0000_0002), 5000),
