@@ -3,6 +3,7 @@ pub mod CarriesLemmas
 pub mod ChainLemmas
 pub mod DecodedLemmas
 pub mod EndLemmas
+pub mod HeaderLemmas
 pub mod NeutralLemmas
 pub mod PlacedLemmas
 pub mod PortLemmas
