@@ -1,10 +1,11 @@
 use crate::packet::facts_of;
+use npf_key::keys_of;
 use npf_rewrite::{
     absent_sum_stays, header_sum_follows, neutral_sums_follow, translate, translated_decodes,
     upper_sum_follows,
 };
 use npf_types::Addr::{self, V4, V6};
-use npf_types::{Change, End, Link};
+use npf_types::{Change, End, IfId, Link};
 use std::test::Fail;
 
 // An end's address and port, where one is named.
@@ -203,11 +204,6 @@ const TRANSLATIONS: [Case; 26] = [
     ),
 ];
 
-// The header of a frame of Ethernet, and what fills it up.
-const FRAME: &str = "0200000000020200000000010800";
-
-const PADDING: &str = "5a5a5a5a5a5a";
-
 // The same where the change keeps the sum of the addresses.
 const NEUTRAL: [Case; 3] = [
     (
@@ -233,6 +229,13 @@ const NEUTRAL: [Case; 3] = [
     ),
 ];
 
+const NOTHING: Change = Change {
+    src: None,
+    dst: None,
+    neutral: false,
+};
+
+// A packet's backward key is that of the packet then.
 #[test]
 fn packets_are_translated(rt: HostRuntime) -> Result<(), Fail> {
     for (neutral, cases) in [(false, TRANSLATIONS.as_slice()), (true, NEUTRAL.as_slice())] {
@@ -245,6 +248,9 @@ fn packets_are_translated(rt: HostRuntime) -> Result<(), Fail> {
             let mut bytes = hex::decode(rt.alloc(), text)?;
             let facts = facts_of(Link::Raw, &bytes)?;
             translate(&mut bytes, &facts, &change);
+            let (_, answers) = keys_of(&facts, IfId(1), &change);
+            let (_, answers_there) = keys_of(&facts_of(Link::Raw, &bytes)?, IfId(1), &NOTHING);
+            assert_eq!(rt; answers, answers_there, "{name}");
             let bytes = hex::encode(rt.alloc(), &bytes)?;
             assert_eq!(rt; bytes.as_str(), *wanted, "{name}");
         }
@@ -252,7 +258,12 @@ fn packets_are_translated(rt: HostRuntime) -> Result<(), Fail> {
     Ok(())
 }
 
-// A frame of Ethernet with six bytes of padding, in which the first row's packet stands at 14.
+// The header of a frame of Ethernet, and what fills it up.
+const FRAME: &str = "0200000000020200000000010800";
+
+const PADDING: &str = "5a5a5a5a5a5a";
+
+// The first row's packet in a frame, where it stands at 14.
 #[test]
 fn a_frame_is_translated(rt: HostRuntime) -> Result<(), Fail> {
     let (name, packet, src, dst, wanted) = TRANSLATIONS[0];
