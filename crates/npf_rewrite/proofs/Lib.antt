@@ -1,5 +1,12 @@
-pub mod CarriedLemmas
+pub mod AddressLemmas
+pub mod CarriesLemmas
+pub mod ChainLemmas
+pub mod DecodedLemmas
+pub mod EndLemmas
+pub mod HeaderLemmas
+pub mod NeutralLemmas
+pub mod PlacedLemmas
+pub mod PortLemmas
+pub mod SumLemmas
 pub mod TotalLemmas
-pub mod UpperLemmas
-pub mod VerifiedLemmas
 pub mod WordLemmas

@@ -1,5 +1,5 @@
 -- The sum of words of which some are written.
-use Rattle.std.proofs.Common.{◌≡◌, ℕ, zero, suc, ◌+◌, ◌*◌, ◌/◌, ◌%◌, ◌^◌, ◌<◌, ◌≤◌, ◌⊎◌, List, [], ◌∷◌, refl, ap, ◌∙◌, inl, inr, arith}
+use Rattle.std.proofs.Common.{◌≡◌, ℕ, zero, suc, ◌+◌, ◌-◌, ◌*◌, ◌/◌, ◌%◌, ◌^◌, ◌<◌, ◌≤◌, ◌⊎◌, List, [], ◌∷◌, ◌++◌, refl, ap, ◌∙◌, inl, inr, arith}
 use Rattle.std.proofs.lemmas.Bool.Decides.{nat_tests}
 use Rattle.std.specs.Prelude.{⊤, slice_index}
 use Rattle.npf_fields.specs.Field.{number16}
@@ -20,14 +20,14 @@ abbrev pub Between : ℕ → ℕ → List WordAt → Type 0
 Between lo hi [] = ⊤
 Between lo hi (w ∷ ws) = (lo ≤ w.at) × ((w.at + 2 ≤ hi) × Between lo hi ws)
 
-byte_after-elsewhere : (w : WordAt) (k x : ℕ) → (k < w.at) ⊎ (w.at + 2 ≤ k) → byte_after w k x ≡ x
+pub byte_after-elsewhere : (w : WordAt) (k x : ℕ) → (k < w.at) ⊎ (w.at + 2 ≤ k) → byte_after w k x ≡ x
 byte_after-elsewhere w k x (inl h) = grind (arith, nat_tests)
 byte_after-elsewhere w k x (inr h) = grind (arith, nat_tests)
 
-byte_after-upper : (w : WordAt) (k x : ℕ) → k ≡ w.at → byte_after w k x ≡ w.value / 2 ^ 8
+pub byte_after-upper : (w : WordAt) (k x : ℕ) → k ≡ w.at → byte_after w k x ≡ w.value / 2 ^ 8
 byte_after-upper w k x h = grind (arith, nat_tests)
 
-byte_after-lower : (w : WordAt) (k x : ℕ) → k ≡ w.at + 1 → byte_after w k x ≡ w.value % 2 ^ 8
+pub byte_after-lower : (w : WordAt) (k x : ℕ) → k ≡ w.at + 1 → byte_after w k x ≡ w.value % 2 ^ 8
 byte_after-lower w k x h = grind (arith, nat_tests)
 
 -- elsewhere the bytes are the same
@@ -130,3 +130,50 @@ module _ (empty : ℕ) (stands : (empty ≡ 0) ⊎ (empty ≡ 0xffff)) where
       (sum_after_word-fits sum old w.value s) (x + w.value)
       (ap (λ (n : ℕ). n % 65535) (omega arith) ∙ one) in
       ap (λ (n : ℕ). n % 65535) (omega arith) ∙ rest
+
+pub olds-append : (f : ℕ → ℕ) (ws vs : List WordAt) → olds f (ws ++ vs) ≡ olds f ws + olds f vs
+olds-append f [] vs = omega arith
+olds-append f (w ∷ ws) vs = omega (arith, olds-append f ws vs)
+
+pub news-append : (ws vs : List WordAt) → news (ws ++ vs) ≡ news ws + news vs
+news-append [] vs = omega arith
+news-append (w ∷ ws) vs = omega (arith, news-append ws vs)
+
+pub fit-append : (ws vs : List WordAt) → AllFit ws → AllFit vs → AllFit (ws ++ vs)
+fit-append [] vs p q = q
+fit-append (w ∷ ws) vs p q = (p.0, fit-append ws vs p.1 q)
+
+inside-after : (at n lo mid : ℕ) (ws : List WordAt) → lo ≤ mid → Inside at n mid ws → Inside at n lo ws
+inside-after at n lo mid [] h i = tt
+inside-after at n lo mid (w ∷ ws) h i = (omega (arith, i.0), i.1)
+
+pub inside-append : (at n lo mid from : ℕ) (ws vs : List WordAt) → from ≤ mid → Inside at n from ws
+    → Between lo mid ws → Inside at n mid vs → Inside at n from (ws ++ vs)
+inside-append at n lo mid from [] vs h i b j = inside-after at n from mid vs h j
+inside-append at n lo mid from (w ∷ ws) vs h i b j =
+    (i.0, (i.1.0, inside-append at n lo mid (w.at + 2) ws vs b.1.0 i.1.1 b.1.1 j))
+
+-- a total is that of its first words and of the others
+pub words_total-split : (f : ℕ → ℕ) (at mid a b n : ℕ) → mid ≡ at + 2 * a → n ≡ a + b
+    → words_total f at n ≡ words_total f at a + words_total f mid b
+words_total-split f at mid zero b n e h =
+    let whole : n ≡ b = omega arith in
+    let place : mid ≡ at = omega arith in
+    omega (arith, ap (words_total f at) whole, ap (λ k. words_total f k b) place)
+words_total-split f at mid (suc a) b n e h =
+    let whole : n ≡ suc (a + b) = omega arith in
+    let rest = words_total-split f (at + 2) mid a b (a + b) (omega arith) refl in
+    ap (words_total f at) whole ∙ omega (arith, rest)
+
+-- a header of which the words behind the twentieth byte stay
+pub header-total : (f g : ℕ → ℕ) (ip n : ℕ) → 10 ≤ n
+    → ((k : ℕ) → ip + 20 ≤ k → k < ip + 2 * n → g k ≡ f k)
+    → words_total g ip n + (words_total f ip 6 + words_total f (ip + 12) 4)
+    ≡ words_total f ip n + (words_total g ip 6 + words_total g (ip + 12) 4)
+header-total f g ip n long same =
+    let split = λ (x : ℕ → ℕ).
+    words_total-split x ip (ip + 12) 6 (n - 6) n (omega arith) (omega arith)
+    ∙ ap (λ r. words_total x ip 6 + r)
+    (words_total-split x (ip + 12) (ip + 20) 4 (n - 10) (n - 6) (omega arith) (omega arith)) in
+    let rest = words_total-same g f (ip + 20) (n - 10) (λ k from to. same k from (omega arith)) in
+    omega (arith, split f, split g, rest)

@@ -4,5 +4,6 @@ pub mod Room
 pub mod Sent
 pub mod Sum
 pub mod Translated
+pub mod TranslatedFacts
 pub mod Verified
 pub mod Word

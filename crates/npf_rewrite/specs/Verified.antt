@@ -1,6 +1,6 @@
 -- When an Internet checksum verifies: the words that it counts, the sum among them, add up to a
 -- multiple of 65,535, which is 0 in one's complement (RFC 1071 section 1).
-use Rattle.std.specs.Prelude.{◌≡◌, ℕ, zero, suc, ◌+◌, ◌-◌, ◌*◌, ◌/◌, ◌%◌, ◌^◌, ◌<◌, ◌==◌, ◌≢◌, if◌then◌else◌, false, Option, Some, None, ⊤, List, length, slice_index}
+use Rattle.std.specs.Prelude.{◌≡◌, ℕ, zero, suc, ◌+◌, ◌-◌, ◌*◌, ◌/◌, ◌%◌, ◌^◌, ◌<◌, ◌==◌, ◌≢◌, if◌then◌else◌, true, false, Option, Some, None, ⊤, List, [], length, slice_index}
 use Rattle.npf_types.specs.declared.address.Addr.{Addr}
 use Rattle.npf_types.specs.declared.address.Addr.TheVariants.{V4, V6}
 use Rattle.npf_types.specs.declared.change.Change.{Change}
@@ -11,7 +11,7 @@ use Rattle.npf_fields.specs.Field.{number16}
 use Rattle.npf_key.specs.Translated.{named_port}
 use Rattle.npf_packet.specs.Field.{ipv4_source, ipv6_source, udp_checksum}
 use Rattle.npf_rewrite.specs.Room.{HasRoom}
-use Rattle.npf_rewrite.specs.Translated.{Translated, new_ends}
+use Rattle.npf_rewrite.specs.Translated.{Translated, new_ends, port_writes}
 
 -- the sum of so many words from a place on
 abbrev pub words_total : (ℕ → ℕ) → ℕ → ℕ → ℕ
@@ -92,3 +92,35 @@ UpperSumFollows =
     → change.neutral ≡ false → HasSum bytes facts.l4_at facts.src facts.l4
     → Translated bytes facts change translated
     → UpperVerifies bytes facts → UpperVerifies translated facts
+
+-- a change that writes no port and leaves the sum of the address words the same
+pub record KeepsSums (bytes : List ℕ) (facts : Facts) (change : Change) (translated : List ℕ) : Type 0 where
+  pub no_port : port_writes facts (new_ends facts change) ≡ []
+  pub addresses : addresses_total (slice_index translated) facts.ip_at facts.src % 65535
+      ≡ addresses_total (slice_index bytes) facts.ip_at facts.src % 65535
+
+-- where the change is neutral and keeps the sums, a header's sum that verified still verifies (RFC
+-- 6296 section 3.6)
+abbrev pub NeutralHeaderSumFollows : Type 0
+NeutralHeaderSumFollows =
+    (bytes translated : List ℕ) (facts : Facts) (change : Change) (a : ℕ)
+    → facts.src ≡ V4 a → HasRoom (length bytes) facts → change.neutral ≡ true
+    → KeepsSums bytes facts change translated → Translated bytes facts change translated
+    → HeaderVerifies bytes facts → HeaderVerifies translated facts
+
+-- and so does the sum of what is carried
+abbrev pub NeutralUpperSumFollows : Type 0
+NeutralUpperSumFollows =
+    (bytes translated : List ℕ) (facts : Facts) (change : Change)
+    → HasRoom (length bytes) facts → change.neutral ≡ true
+    → KeepsSums bytes facts change translated → Translated bytes facts change translated
+    → UpperVerifies bytes facts → UpperVerifies translated facts
+
+-- a datagram over IPv4 without a sum has none afterwards
+abbrev pub AbsentSumStays : Type 0
+AbsentSumStays =
+    (bytes translated : List ℕ) (facts : Facts) (change : Change) (a sport dport : ℕ)
+    → facts.src ≡ V4 a → facts.l4 ≡ Udp sport dport → HasRoom (length bytes) facts
+    → Translated bytes facts change translated
+    → number16 bytes (facts.l4_at + udp_checksum) ≡ 0
+    → number16 translated (facts.l4_at + udp_checksum) ≡ 0

@@ -9,12 +9,12 @@ use crate::word::{WordAt, write_words};
 use npf_types::{Addr, End};
 
 /// Writes the address of an end, where there is one.
-pub(crate) fn write_end(bytes: &mut [u8], at: usize, end: Option<End>)
-    requires room { AllWithin (length bytes.old) (end_words at end) }
+pub(crate) fn write_end(bytes: &mut [u8], at: usize, end: &Option<End>)
+    requires room { AllWithin (length bytes.old) (end_words at end.now) }
     requires place { at < 2 ^ 33 }
-    ensures { Rewrites bytes.old (end_words at end) bytes.new }
+    ensures { Rewrites bytes.old (end_words at end.now) bytes.new }
 {
-    if let Some(end) = end {
+    if let Some(end) = *end {
         match end.addr {
             Addr::V4(a) => write_words(bytes, &words_v4(at, a)),
             Addr::V6(a) => write_words(bytes, &words_v6(at, a)),
@@ -23,12 +23,12 @@ pub(crate) fn write_end(bytes: &mut [u8], at: usize, end: Option<End>)
 }
 
 /// The sum once the address of an end is written.
-pub(crate) fn sum_after_end(zero: u16, bytes: &[u8], at: usize, end: Option<End>, sum: u16) -> u16
-    requires room { AllWithin (length bytes.now) (end_words at end) }
+pub(crate) fn sum_after_end(zero: u16, bytes: &[u8], at: usize, end: &Option<End>, sum: u16) -> u16
+    requires room { AllWithin (length bytes.now) (end_words at end.now) }
     requires place { at < 2 ^ 33 }
-    ensures { result ≡ sum_after zero bytes.now (end_words at end) sum }
+    ensures { result ≡ sum_after zero bytes.now (end_words at end.now) sum }
 {
-    match end {
+    match *end {
         Some(end) => match end.addr {
             Addr::V4(a) => sum_after(zero, bytes, &words_v4(at, a), sum),
             Addr::V6(a) => sum_after(zero, bytes, &words_v6(at, a), sum),

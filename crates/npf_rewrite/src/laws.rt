@@ -1,6 +1,7 @@
 // What holds of packets that are rewritten. The functions do nothing: each is a theorem.
 ghost use Rattle.npf_rewrite.specs.Room.{DecodedHasRoom};
-ghost use Rattle.npf_rewrite.specs.Verified.{HeaderSumFollows, UpperSumFollows};
+ghost use Rattle.npf_rewrite.specs.TranslatedFacts.{TranslatedDecodes};
+ghost use Rattle.npf_rewrite.specs.Verified.{AbsentSumStays, HeaderSumFollows, NeutralHeaderSumFollows, NeutralUpperSumFollows, UpperSumFollows};
 
 use npf_packet::decoded_has_places;
 
@@ -20,4 +21,22 @@ pub fn header_sum_follows()
 /// with the pseudo-header of its header's addresses; a datagram of UDP over IPv4 without a sum aside.
 pub fn upper_sum_follows()
     ensures { UpperSumFollows }
+{}
+
+/// Where a change is neutral, writes no port and leaves the sum of the address words the same, the
+/// sums that verified still verify (RFC 6296 section 3.6).
+pub fn neutral_sums_follow()
+    ensures header { NeutralHeaderSumFollows }
+    ensures upper { NeutralUpperSumFollows }
+{}
+
+/// A datagram of UDP over IPv4 without a sum has none after a translation.
+pub fn absent_sum_stays()
+    ensures { AbsentSumStays }
+{}
+
+/// A translated packet decodes to the facts of the change: the same protocol, places and lengths,
+/// with the named addresses and ports.
+pub fn translated_decodes()
+    ensures { TranslatedDecodes }
 {}

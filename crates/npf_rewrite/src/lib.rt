@@ -9,7 +9,8 @@
 // The contract: each call writes the words that `Translated` and `Normalised` name, with the
 // values that these name, and changes no other byte. Neither takes memory nor can be refused; each
 // asks that the packet's parts lie within its bytes, which those of a decoded packet do. Laws say
-// that the sums of an IPv4 header and of what is carried follow a change that isn't neutral.
+// that a sum that verified still verifies, also after a neutral change that keeps the sum of the
+// addresses, and that a translated packet decodes to the facts of the change.
 #![tactic(auto)]
 
 mod address;
@@ -19,6 +20,9 @@ mod sum;
 mod translated;
 mod word;
 
-pub use laws::{decoded_has_room, header_sum_follows, upper_sum_follows};
+pub use laws::{
+    absent_sum_stays, decoded_has_room, header_sum_follows, neutral_sums_follow,
+    translated_decodes, upper_sum_follows,
+};
 pub use normalised::normalize;
 pub use translated::translate;

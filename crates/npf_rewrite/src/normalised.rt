@@ -39,7 +39,6 @@ pub fn normalize(bytes: &mut [u8], facts: &Facts, action: &Action)
     requires { HasRoom (length bytes.old) facts.now }
     ensures { Normalised bytes.old facts.now action.now bytes.new }
 {
-    let facts = *facts;
     let ttl = raised_ttl(bytes, facts, action.min_ttl);
     let fragment = cleared_fragment(bytes, facts, action.no_df);
     let mss = lowered_mss(bytes, facts, action.max_mss);
@@ -53,9 +52,9 @@ pub fn normalize(bytes: &mut [u8], facts: &Facts, action: &Action)
 }
 
 /// The word with the time to live or the hop limit, where that is below the least.
-fn raised_ttl(bytes: &[u8], facts: Facts, min_ttl: Option<u8>) -> Option<WordAt>
-    requires { HasRoom (length bytes.now) facts }
-    ensures { result ≡ raised_ttl bytes.now facts.ip_at facts.src min_ttl }
+fn raised_ttl(bytes: &[u8], facts: &Facts, min_ttl: Option<u8>) -> Option<WordAt>
+    requires { HasRoom (length bytes.now) facts.now }
+    ensures { result ≡ raised_ttl bytes.now facts.now.ip_at facts.now.src min_ttl }
 {
     let Some(least) = min_ttl else {
         return None;
@@ -95,9 +94,9 @@ fn raised_v6(bytes: &[u8], ip_at: usize, least: u8) -> Option<WordAt>
 }
 
 /// The fragment field without "don't fragment", where the bit is set.
-fn cleared_fragment(bytes: &[u8], facts: Facts, no_df: bool) -> Option<WordAt>
-    requires { HasRoom (length bytes.now) facts }
-    ensures { result ≡ cleared_fragment bytes.now facts.ip_at facts.src no_df }
+fn cleared_fragment(bytes: &[u8], facts: &Facts, no_df: bool) -> Option<WordAt>
+    requires { HasRoom (length bytes.now) facts.now }
+    ensures { result ≡ cleared_fragment bytes.now facts.now.ip_at facts.now.src no_df }
 {
     match (facts.src, no_df) {
         (Addr::V4(_), true) => {
@@ -125,10 +124,10 @@ fn is_set(field: u16) -> bool
 }
 
 /// The maximum segment size of a segment with the flag S, where it is above the most.
-fn lowered_mss(bytes: &[u8], facts: Facts, max_mss: Option<u16>) -> Option<WordAt>
-    requires { HasRoom (length bytes.now) facts }
-    ensures value { result ≡ lowered_mss bytes.now facts.l4 max_mss }
-    ensures option { IfSome result (IsMssWrite (length bytes.now) facts) }
+fn lowered_mss(bytes: &[u8], facts: &Facts, max_mss: Option<u16>) -> Option<WordAt>
+    requires { HasRoom (length bytes.now) facts.now }
+    ensures value { result ≡ lowered_mss bytes.now facts.now.l4 max_mss }
+    ensures option { IfSome result (IsMssWrite (length bytes.now) facts.now) }
 {
     match (facts.l4, max_mss) {
         (
@@ -160,14 +159,14 @@ fn has_syn(flags: u8) -> bool
 /// The sum of a header of IPv4 once these of its words are written.
 fn header_sum(
     bytes: &[u8],
-    facts: Facts,
+    facts: &Facts,
     ttl: Option<WordAt>,
     fragment: Option<WordAt>,
 ) -> Option<WordAt>
-    requires room { HasRoom (length bytes.now) facts }
+    requires room { HasRoom (length bytes.now) facts.now }
     requires ttl { AllWithin (length bytes.now) (word_list ttl) }
     requires fragment { AllWithin (length bytes.now) (word_list fragment) }
-    ensures { result ≡ header_sum bytes.now facts.ip_at facts.src (word_list ttl ++ word_list fragment) }
+    ensures { result ≡ header_sum bytes.now facts.now.ip_at facts.now.src (word_list ttl ++ word_list fragment) }
 {
     match facts.src {
         Addr::V4(_) => {
@@ -181,9 +180,9 @@ fn header_sum(
 }
 
 /// The sum of a segment once its maximum segment size is written.
-fn segment_sum(bytes: &[u8], facts: Facts, mss: Option<WordAt>) -> Option<WordAt>
-    requires { IfSome mss (IsMssWrite (length bytes.now) facts) }
-    ensures { result ≡ segment_sum bytes.now facts.l4_at mss }
+fn segment_sum(bytes: &[u8], facts: &Facts, mss: Option<WordAt>) -> Option<WordAt>
+    requires { IfSome mss (IsMssWrite (length bytes.now) facts.now) }
+    ensures { result ≡ segment_sum bytes.now facts.now.l4_at mss }
 {
     match mss {
         Some(word) => {

@@ -51,30 +51,29 @@ pub fn translate(bytes: &mut [u8], facts: &Facts, change: &Change)
     requires { HasRoom (length bytes.old) facts.now }
     ensures { Translated bytes.old facts.now change.now bytes.new }
 {
-    let facts = *facts;
-    let ends = new_ends(facts, *change);
+    let ends = new_ends(facts, change);
     if change.neutral {
-        write_ends(bytes, facts, ends);
+        write_ends(bytes, facts, &ends);
     } else {
-        write_ends_and_sums(bytes, facts, ends);
+        write_ends_and_sums(bytes, facts, &ends);
     }
 }
 
 /// The named ends that are of the packet's family.
-fn new_ends(facts: Facts, change: Change) -> NewEnds
-    ensures { result ≡ new_ends facts change }
+fn new_ends(facts: &Facts, change: &Change) -> NewEnds
+    ensures { result ≡ new_ends facts.now change.now }
 {
     NewEnds {
-        src: fitting(facts.src, change.src),
-        dst: fitting(facts.src, change.dst),
+        src: fitting(facts.src, &change.src),
+        dst: fitting(facts.src, &change.dst),
     }
 }
 
 /// The end where its address is of the same family as `addr`.
-fn fitting(addr: Addr, end: Option<End>) -> Option<End>
-    ensures { result ≡ fitting addr end }
+fn fitting(addr: Addr, end: &Option<End>) -> Option<End>
+    ensures { result ≡ fitting addr end.now }
 {
-    match end {
+    match *end {
         Some(end) if shares_family(end.addr, addr) => Some(end),
         _ => None,
     }
@@ -90,9 +89,9 @@ fn shares_family(a: Addr, b: Addr) -> bool
 }
 
 /// Writes the ends, and the sums of what they were written over.
-fn write_ends_and_sums(bytes: &mut [u8], facts: Facts, ends: NewEnds)
-    requires { FitsWithin (length bytes.old) facts ends }
-    ensures { Rewrites bytes.old (named_writes facts ends ++ sum_writes bytes.old facts ends) bytes.new }
+fn write_ends_and_sums(bytes: &mut [u8], facts: &Facts, ends: &NewEnds)
+    requires { FitsWithin (length bytes.old) facts.now ends.now }
+    ensures { Rewrites bytes.old (named_writes facts.now ends.now ++ sum_writes bytes.old facts.now ends.now) bytes.new }
 {
     let header = header_sum(bytes, facts, ends);
     let upper = upper_sum(bytes, facts, ends);
@@ -101,19 +100,20 @@ fn write_ends_and_sums(bytes: &mut [u8], facts: Facts, ends: NewEnds)
     write_named(bytes, upper);
 }
 
-fn write_ends(bytes: &mut [u8], facts: Facts, ends: NewEnds)
-    requires { FitsWithin (length bytes.old) facts ends }
-    ensures { Rewrites bytes.old (named_writes facts ends) bytes.new }
+fn write_ends(bytes: &mut [u8], facts: &Facts, ends: &NewEnds)
+    requires { FitsWithin (length bytes.old) facts.now ends.now }
+    ensures { Rewrites bytes.old (named_writes facts.now ends.now) bytes.new }
 {
-    write_end(bytes, source_at(facts), ends.src);
-    write_end(bytes, destination_at(facts), ends.dst);
+    write_end(bytes, source_at(facts), &ends.src);
+    write_end(bytes, destination_at(facts), &ends.dst);
     write_named(bytes, source_write(facts, ends));
     write_named(bytes, destination_write(facts, ends));
 }
 
 /// Where the source's address stands.
-fn source_at(facts: Facts) -> usize
-    ensures { result ≡ source_at facts.ip_at facts.src }
+fn source_at(facts: &Facts) -> usize
+    ensures value { result ≡ source_at facts.now.ip_at facts.now.src }
+    ensures place { result < 2 ^ 33 }
 {
     let at = facts.ip_at as usize;
     match facts.src {
@@ -123,8 +123,9 @@ fn source_at(facts: Facts) -> usize
 }
 
 /// Where the destination's address stands.
-fn destination_at(facts: Facts) -> usize
-    ensures { result ≡ destination_at facts.ip_at facts.src }
+fn destination_at(facts: &Facts) -> usize
+    ensures value { result ≡ destination_at facts.now.ip_at facts.now.src }
+    ensures place { result < 2 ^ 33 }
 {
     let at = facts.ip_at as usize;
     match facts.src {
@@ -134,14 +135,14 @@ fn destination_at(facts: Facts) -> usize
 }
 
 /// The source's port that is named, or the identifier that stands for both ports.
-fn source_write(facts: Facts, ends: NewEnds) -> Option<WordAt>
-    ensures { result ≡ source_write facts.l4_at (named_port ends.src) (named_port ends.dst) facts.l4 }
+fn source_write(facts: &Facts, ends: &NewEnds) -> Option<WordAt>
+    ensures { result ≡ source_write facts.now.l4_at (named_port ends.now.src) (named_port ends.now.dst) facts.now.l4 }
 {
     let at = facts.l4_at as usize;
     match facts.l4 {
         L4::Tcp { .. } | L4::Udp { .. } => named_word(
             at + field::SOURCE_PORT,
-            named_port(ends.src),
+            named_port(&ends.src),
         ),
         L4::Icmp { echo, .. } | L4::Icmp6 { echo, .. } => identifier_write(at, ends, echo),
         L4::Other => None,
@@ -149,45 +150,45 @@ fn source_write(facts: Facts, ends: NewEnds) -> Option<WordAt>
 }
 
 /// The identifier that either side names, in an echo message.
-fn identifier_write(at: usize, ends: NewEnds, echo: Option<u16>) -> Option<WordAt>
+fn identifier_write(at: usize, ends: &NewEnds, echo: Option<u16>) -> Option<WordAt>
     requires { at < 2 ^ 32 }
-    ensures { result ≡ identifier_write at (named_port ends.src) (named_port ends.dst) echo }
+    ensures { result ≡ identifier_write at (named_port ends.now.src) (named_port ends.now.dst) echo }
 {
     match echo {
         Some(_) => named_word(
             at + field::IDENTIFIER,
-            named_port(ends.src).or(named_port(ends.dst)),
+            named_port(&ends.src).or(named_port(&ends.dst)),
         ),
         None => None,
     }
 }
 
 /// The destination's port that is named.
-fn destination_write(facts: Facts, ends: NewEnds) -> Option<WordAt>
-    ensures { result ≡ destination_write facts.l4_at (named_port ends.src) (named_port ends.dst) facts.l4 }
+fn destination_write(facts: &Facts, ends: &NewEnds) -> Option<WordAt>
+    ensures { result ≡ destination_write facts.now.l4_at (named_port ends.now.src) (named_port ends.now.dst) facts.now.l4 }
 {
     let at = facts.l4_at as usize;
     match facts.l4 {
         L4::Tcp { .. } | L4::Udp { .. } => {
-            named_word(at + field::DESTINATION_PORT, named_port(ends.dst))
+            named_word(at + field::DESTINATION_PORT, named_port(&ends.dst))
         }
         _ => None,
     }
 }
 
-fn named_port(end: Option<End>) -> Option<u16>
-    ensures { result ≡ named_port end }
+fn named_port(end: &Option<End>) -> Option<u16>
+    ensures { result ≡ named_port end.now }
 {
-    match end {
+    match *end {
         Some(end) => end.port,
         None => None,
     }
 }
 
 /// The sum of a header of IPv4 once the addresses are written.
-fn header_sum(bytes: &[u8], facts: Facts, ends: NewEnds) -> Option<WordAt>
-    requires { FitsWithin (length bytes.now) facts ends }
-    ensures { result ≡ header_sum bytes.now facts.ip_at facts.src (address_writes facts ends) }
+fn header_sum(bytes: &[u8], facts: &Facts, ends: &NewEnds) -> Option<WordAt>
+    requires { FitsWithin (length bytes.now) facts.now ends.now }
+    ensures { result ≡ header_sum bytes.now facts.now.ip_at facts.now.src (address_writes facts.now ends.now) }
 {
     match facts.src {
         Addr::V4(_) => {
@@ -200,9 +201,9 @@ fn header_sum(bytes: &[u8], facts: Facts, ends: NewEnds) -> Option<WordAt>
 }
 
 /// The sum of what is carried once addresses and ports are written.
-fn upper_sum(bytes: &[u8], facts: Facts, ends: NewEnds) -> Option<WordAt>
-    requires { FitsWithin (length bytes.now) facts ends }
-    ensures { result ≡ upper_sum bytes.now facts ends }
+fn upper_sum(bytes: &[u8], facts: &Facts, ends: &NewEnds) -> Option<WordAt>
+    requires { FitsWithin (length bytes.now) facts.now ends.now }
+    ensures { result ≡ upper_sum bytes.now facts.now ends.now }
 {
     match upper_sum_at(facts) {
         Some(at) => {
@@ -214,8 +215,8 @@ fn upper_sum(bytes: &[u8], facts: Facts, ends: NewEnds) -> Option<WordAt>
 }
 
 /// Where the sum of what is carried stands.
-fn upper_sum_at(facts: Facts) -> Option<usize>
-    ensures { result ≡ upper_sum_at facts.l4_at facts.l4 }
+fn upper_sum_at(facts: &Facts) -> Option<usize>
+    ensures { result ≡ upper_sum_at facts.now.l4_at facts.now.l4 }
 {
     let at = facts.l4_at as usize;
     match facts.l4 {
@@ -227,9 +228,9 @@ fn upper_sum_at(facts: Facts) -> Option<usize>
 }
 
 /// The sum of what is carried, by its protocol.
-fn upper_sum_after(bytes: &[u8], facts: Facts, ends: NewEnds, sum: u16) -> u16
-    requires { FitsWithin (length bytes.now) facts ends }
-    ensures { result ≡ upper_sum_after bytes.now facts.src facts.l4 (address_writes facts ends) (port_writes facts ends) sum }
+fn upper_sum_after(bytes: &[u8], facts: &Facts, ends: &NewEnds, sum: u16) -> u16
+    requires { FitsWithin (length bytes.now) facts.now ends.now }
+    ensures { result ≡ upper_sum_after bytes.now facts.now.src facts.now.l4 (address_writes facts.now ends.now) (port_writes facts.now ends.now) sum }
 {
     match (facts.l4, facts.src) {
         (L4::Tcp { .. } | L4::Icmp6 { .. }, _) => sum_after_both(ZERO, bytes, facts, ends, sum),
@@ -241,25 +242,25 @@ fn upper_sum_after(bytes: &[u8], facts: Facts, ends: NewEnds, sum: u16) -> u16
 }
 
 /// A sum that counts addresses and ports.
-fn sum_after_both(zero: u16, bytes: &[u8], facts: Facts, ends: NewEnds, sum: u16) -> u16
-    requires { FitsWithin (length bytes.now) facts ends }
-    ensures { result ≡ sum_after zero bytes.now (address_writes facts ends ++ port_writes facts ends) sum }
+fn sum_after_both(zero: u16, bytes: &[u8], facts: &Facts, ends: &NewEnds, sum: u16) -> u16
+    requires { FitsWithin (length bytes.now) facts.now ends.now }
+    ensures { result ≡ sum_after zero bytes.now (address_writes facts.now ends.now ++ port_writes facts.now ends.now) sum }
 {
     let sum = sum_after_addresses(zero, bytes, facts, ends, sum);
     sum_after_ports(zero, bytes, facts, ends, sum)
 }
 
-fn sum_after_addresses(zero: u16, bytes: &[u8], facts: Facts, ends: NewEnds, sum: u16) -> u16
-    requires { FitsWithin (length bytes.now) facts ends }
-    ensures { result ≡ sum_after zero bytes.now (address_writes facts ends) sum }
+fn sum_after_addresses(zero: u16, bytes: &[u8], facts: &Facts, ends: &NewEnds, sum: u16) -> u16
+    requires { FitsWithin (length bytes.now) facts.now ends.now }
+    ensures { result ≡ sum_after zero bytes.now (address_writes facts.now ends.now) sum }
 {
-    let sum = sum_after_end(zero, bytes, source_at(facts), ends.src, sum);
-    sum_after_end(zero, bytes, destination_at(facts), ends.dst, sum)
+    let sum = sum_after_end(zero, bytes, source_at(facts), &ends.src, sum);
+    sum_after_end(zero, bytes, destination_at(facts), &ends.dst, sum)
 }
 
-fn sum_after_ports(zero: u16, bytes: &[u8], facts: Facts, ends: NewEnds, sum: u16) -> u16
-    requires { FitsWithin (length bytes.now) facts ends }
-    ensures { result ≡ sum_after zero bytes.now (port_writes facts ends) sum }
+fn sum_after_ports(zero: u16, bytes: &[u8], facts: &Facts, ends: &NewEnds, sum: u16) -> u16
+    requires { FitsWithin (length bytes.now) facts.now ends.now }
+    ensures { result ≡ sum_after zero bytes.now (port_writes facts.now ends.now) sum }
 {
     let sum = sum_after_named(zero, bytes, source_write(facts, ends), sum);
     sum_after_named(zero, bytes, destination_write(facts, ends), sum)

@@ -1,4 +1,4 @@
-use Rattle.npf_rewrite.proofs.UpperLemmas.{upper_sum_follows_lem}
+use Rattle.npf_rewrite.proofs.SumLemmas.{upper_sum_follows_lem}
 use Rattle.npf_rewrite.proofs.laws.upper_sum_follows.Goals as goal
 
 pub returns : goal.returns

@@ -6,10 +6,10 @@ use Rattle.npf_rewrite.proofs.translated.write_ends.Goals as goal
 
 pub returns : goal.returns
 returns c =
-    let ends = c.args.ends in
-    let one = rewrites_as _ _ _ _ (ap (λ at. end_words at ends.src) c.source_at.ensures)
+    let ends = c.args.ends.now in
+    let one = rewrites_as _ _ _ _ (ap (λ at. end_words at ends.src) c.source_at.ensures.value)
     c.write_end.ensures in
-    let two = rewrites_as _ _ _ _ (ap (λ at. end_words at ends.dst) c.destination_at.ensures)
+    let two = rewrites_as _ _ _ _ (ap (λ at. end_words at ends.dst) c.destination_at.ensures.value)
     c.write_end-2.ensures in
     let three = rewrites_as _ _ _ _ (ap word_list c.source_write.ensures) c.write_named.ensures in
     let four = rewrites_as _ _ _ _ (ap word_list c.destination_write.ensures)
