@@ -1,0 +1,151 @@
+// The rules of the text beside what they mean.
+ghost use Rattle.std.specs.Prelude.{◌≡◌, ◌++◌, [], ◌∷◌, List, MatchOption, zip};
+ghost use Rattle.std.specs.List.{flat_map};
+ghost use Rattle.npf_syntax.specs.declared.group.Item.{Item};
+ghost use Rattle.npf_faults.specs.First.{earlier, first_fault};
+ghost use Rattle.npf_check.specs.Fault.{faults_of_rule, faults_of_rules};
+ghost use Rattle.npf_check.specs.WrittenRule.{items_in, pass_of_map, rule_of_item, rule_of_map, rule_of_pass, rules_of_items};
+
+use crate::family::family_fault;
+use crate::port::port_fault;
+use npf_faults::earlier;
+use npf_lexer::ConfFault;
+use npf_model::{Group, Item as Meant, Map, Model, Rule};
+use npf_syntax::{Filter, GroupHead, Item, Stmt, Tree};
+use npf_types::Span;
+
+/// Groups with names, which stand in a model in the order of the text, and the default group, which stands last.
+#[derive(Clone, Copy)]
+pub(crate) enum GroupKind {
+    Named,
+    Default,
+}
+
+/// The first fault of the rules, and of the filters of maps.
+pub(crate) fn rules_fault(tree: &Tree, model: &Model) -> Option<ConfFault>
+    ensures { result ≡ first_fault (faults_of_rules tree.now model.now) }
+{
+    let stmts = tree.stmts.as_slice();
+    let named = in_groups(GroupKind::Named, stmts, model.groups.as_slice());
+    let default = in_groups(GroupKind::Default, stmts, named.rest);
+    let in_maps = filters_fault(stmts, model.maps.as_slice());
+    earlier(earlier(named.first, default.first), in_maps)
+}
+
+// The groups of a model that are left, and the first fault of those before.
+#[derive(Drop)]
+struct Groups<'a> {
+    first: Option<ConfFault>,
+    rest: &'a [Group],
+}
+
+fn in_groups<'a>(kind: GroupKind, stmts: &[Stmt], groups: &'a [Group]) -> Groups<'a>
+    ensures { (more : List (List Item)) → first_fault (flat_map faults_of_rule (flat_map rules_of_items (zip (flat_map (items_in kind) stmts.now ++ more) groups.now)))
+        ≡ earlier result.first (first_fault (flat_map faults_of_rule (flat_map rules_of_items (zip more result.rest.now)))) }
+{
+    let mut left = Groups {
+        first: None,
+        rest: groups,
+    };
+    for stmt in stmts {
+        if let Some(items) = items_in(kind, stmt) {
+            left.pass(items);
+        }
+    }
+    left
+}
+
+fn items_in(kind: GroupKind, stmt: &Stmt) -> Option<&[Item]>
+    ensures { MatchOption result (items_in kind stmt.now ≡ []) (λ items. items_in kind stmt.now ≡ items.now ∷ []) }
+{
+    let Stmt::Group { head, items, .. } = stmt else {
+        return None;
+    };
+    match (kind, head) {
+        (GroupKind::Named, GroupHead::Named { .. }) => Some(items.as_slice()),
+        (GroupKind::Default, GroupHead::Default { .. }) => Some(items.as_slice()),
+        _ => None,
+    }
+}
+
+impl Groups<'_> {
+    // Passes the next group, which is what these items mean.
+    fn pass(&mut self, items: &[Item])
+        ensures { (more : List (List Item)) → earlier self.old.first (first_fault (flat_map faults_of_rule (flat_map rules_of_items (zip (items.now ∷ more) self.old.rest.now))))
+            ≡ earlier self.new.first (first_fault (flat_map faults_of_rule (flat_map rules_of_items (zip more self.new.rest.now)))) }
+    {
+        if let Some((group, rest)) = self.rest.split_first() {
+            self.first = earlier(self.first, items_fault(items, group.items.as_slice()));
+            self.rest = rest;
+        }
+    }
+}
+
+fn items_fault(items: &[Item], meant: &[Meant]) -> Option<ConfFault>
+    ensures { result ≡ first_fault (flat_map faults_of_rule (flat_map rule_of_item (zip items.now meant.now))) }
+{
+    let mut first = None;
+    for (item, meant) in items.iter().zip(meant.iter()) {
+        first = earlier(first, item_fault(item, meant));
+    }
+    first
+}
+
+fn item_fault(item: &Item, meant: &Meant) -> Option<ConfFault>
+    ensures { result ≡ first_fault (flat_map faults_of_rule (rule_of_item (item.now, meant.now))) }
+{
+    match (item, meant) {
+        (Item::Rule { rule, .. }, Meant::One(meant)) => rule_fault(rule.span, meant),
+        _ => None,
+    }
+}
+
+fn rule_fault(span: Span, rule: &Rule) -> Option<ConfFault>
+    ensures { result ≡ first_fault (faults_of_rule (record { span = span; rule = rule.now })) }
+{
+    earlier(family_fault(span, rule), port_fault(span, rule))
+}
+
+fn filters_fault(stmts: &[Stmt], maps: &[Map]) -> Option<ConfFault>
+    ensures { result ≡ first_fault (flat_map faults_of_rule (flat_map rule_of_map (zip (flat_map pass_of_map stmts.now) maps.now))) }
+{
+    let mut left = Maps {
+        first: None,
+        rest: maps,
+    };
+    for stmt in stmts {
+        if let Stmt::Map { pass, .. } = stmt {
+            left.pass(pass);
+        }
+    }
+    left.first
+}
+
+// The maps of a model that are left, and the first fault of the filters of those before.
+#[derive(Drop)]
+struct Maps<'a> {
+    first: Option<ConfFault>,
+    rest: &'a [Map],
+}
+
+impl Maps<'_> {
+    // Passes the next map, which has this filter.
+    fn pass(&mut self, filter: &Option<Filter>)
+        ensures { (more : List (Option Filter)) → earlier self.old.first (first_fault (flat_map faults_of_rule (flat_map rule_of_map (zip (filter.now ∷ more) self.old.rest.now))))
+            ≡ earlier self.new.first (first_fault (flat_map faults_of_rule (flat_map rule_of_map (zip more self.new.rest.now)))) }
+    {
+        if let Some((map, rest)) = self.rest.split_first() {
+            self.first = earlier(self.first, filter_fault(filter, &map.filter));
+            self.rest = rest;
+        }
+    }
+}
+
+fn filter_fault(filter: &Option<Filter>, meant: &Option<Rule>) -> Option<ConfFault>
+    ensures { result ≡ first_fault (flat_map faults_of_rule (rule_of_pass filter.now meant.now)) }
+{
+    match (filter, meant) {
+        (Some(filter), Some(meant)) => rule_fault(filter.span, meant),
+        _ => None,
+    }
+}
