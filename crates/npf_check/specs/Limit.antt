@@ -1,6 +1,6 @@
 -- 49: the first rule, table, map or procedure of the text past the greatest number of its kind, told at the rule or the statement.
 -- The count is the greatest number and one.
-use Rattle.std.specs.Prelude.{ℕ, ◌+◌, Option, Some, None, List, [], ◌∷◌, ◌++◌, slice_get, length}
+use Rattle.std.specs.Prelude.{◌≡◌, ℕ, ◌+◌, Option, Some, None, List, [], ◌∷◌, ◌++◌, slice_get, length}
 use Rattle.std.specs.List.{flat_map}
 use Rattle.npf_types.specs.declared.limits.TheConstants.{MAX_RULES, MAX_TABLES, MAX_MAPS, MAX_PROCEDURES}
 use Rattle.npf_types.specs.declared.span.Span.{Span}
@@ -44,6 +44,6 @@ limit_faults tree =
     ++ past_faults Of.Procedures MAX_PROCEDURES tree.stmts
 
 -- the answer of a search for the item at a place: the item, or how many are to pass behind the last
-abbrev pub Finds : List Span → ℕ → Found → Type 0
-Finds spans place (At span) = slice_get spans place ≡ Some span
-Finds spans place (Later left) = place ≡ length spans + left
+abbrev pub FindsPlace : List Span → ℕ → Found → Type 0
+FindsPlace spans place (At span) = slice_get spans place ≡ Some span
+FindsPlace spans place (Later left) = place ≡ length spans + left

@@ -72,7 +72,7 @@ impl<'a> Repeated<'a> {
     }
 
     fn meet(&mut self, given: Given<'a>) -> Result<(), NoMemory>
-        ensures { OnOk result ((names : List NameAt) → earlier self.old.first (first_fault (repeated (holds self.old.names) (record { name = given.text.now; span = given.span } ∷ names)))
+        ensures { OnOk result ((names : List NameAt) → earlier self.old.first (first_fault (repeated (holds self.old.names) (record { name = given.entry.text.now; span = given.entry.span } ∷ names)))
             ≡ earlier self.new.first (first_fault (repeated (holds self.new.names) names))) }
     {
         let again = self.names.has(given.text);

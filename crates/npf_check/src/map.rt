@@ -26,7 +26,7 @@ pub(crate) fn map_fault(
 ) -> Result<Option<ConfFault>, NoMemory>
     ensures { IfOk result (λ first. first ≡ first_fault (bad_map_faults tree.now model.now)) }
 {
-    let mut so_far = Maps {
+    let mut so_far = MapsLeft {
         variables: Variables::new(alloc),
         rest: model.maps.as_slice(),
         first: None,
@@ -39,13 +39,13 @@ pub(crate) fn map_fault(
 
 // The maps of a model that are left behind some statements, with the variables and the first fault of those statements.
 #[derive(Drop)]
-struct Maps<'a> {
+struct MapsLeft<'a> {
     variables: Variables<'a>,
     rest: &'a [Map],
     first: Option<ConfFault>,
 }
 
-impl<'a> Maps<'a> {
+impl<'a> MapsLeft<'a> {
     fn pass(&mut self, stmt: &'a Stmt) -> Result<(), NoMemory>
         ensures { OnOk result ((stmts : List WrittenStmt) → earlier self.old.first (first_fault (flat_map bad_map (zip (written_maps (stands_for_table self.old.variables) (stmt.now ∷ stmts)) self.old.rest.now)))
             ≡ earlier self.new.first (first_fault (flat_map bad_map (zip (written_maps (stands_for_table self.new.variables) stmts) self.new.rest.now)))) }

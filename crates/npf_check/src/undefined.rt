@@ -148,11 +148,18 @@ pub(crate) fn undefined_procedure(procedures: &Names, stmts: &[Stmt]) -> Option<
 {
     let mut first = None;
     for stmt in stmts {
-        if let Stmt::Group { items, .. } = stmt {
-            first = earlier(first, procedure_in_items(procedures, items.as_slice()));
-        }
+        first = earlier(first, procedure_in_stmt(procedures, stmt));
     }
     first
+}
+
+fn procedure_in_stmt(procedures: &Names, stmt: &Stmt) -> Option<ConfFault>
+    ensures { result ≡ first_fault (procedures_of_stmt (holds procedures.now) stmt.now) }
+{
+    match stmt {
+        Stmt::Group { items, .. } => procedure_in_items(procedures, items.as_slice()),
+        _ => None,
+    }
 }
 
 fn procedure_in_items(procedures: &Names, items: &[Item]) -> Option<ConfFault>
@@ -160,11 +167,18 @@ fn procedure_in_items(procedures: &Names, items: &[Item]) -> Option<ConfFault>
 {
     let mut first = None;
     for item in items {
-        if let Item::Rule { rule, .. } = item {
-            first = earlier(first, applied_procedure(procedures, &rule.apply));
-        }
+        first = earlier(first, procedure_in_item(procedures, item));
     }
     first
+}
+
+fn procedure_in_item(procedures: &Names, item: &Item) -> Option<ConfFault>
+    ensures { result ≡ first_fault (procedures_of_item (holds procedures.now) item.now) }
+{
+    match item {
+        Item::Rule { rule, .. } => applied_procedure(procedures, &rule.apply),
+        Item::Ruleset { .. } => None,
+    }
 }
 
 fn applied_procedure(procedures: &Names, applied: &Option<Str>) -> Option<ConfFault>

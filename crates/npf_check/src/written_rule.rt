@@ -1,7 +1,8 @@
 // The rules of the text beside what they mean.
-ghost use Rattle.std.specs.Prelude.{◌≡◌, ◌++◌, [], ◌∷◌, List, MatchOption, zip};
+ghost use Rattle.std.specs.Prelude.{◌≡◌, ◌++◌, [], ◌∷◌, List, MatchOption, Option, zip};
 ghost use Rattle.std.specs.List.{flat_map};
-ghost use Rattle.npf_syntax.specs.declared.group.Item.{Item};
+ghost use Rattle.npf_syntax.specs.declared.filter.Filter.{Filter as Written};
+ghost use Rattle.npf_syntax.specs.declared.group.Item.{Item as WrittenItem};
 ghost use Rattle.npf_faults.specs.First.{earlier, first_fault};
 ghost use Rattle.npf_check.specs.Fault.{faults_of_rule, faults_of_rules};
 ghost use Rattle.npf_check.specs.WrittenRule.{items_in, pass_of_map, rule_of_item, rule_of_map, rule_of_pass, rules_of_items};
@@ -34,16 +35,16 @@ pub(crate) fn rules_fault(tree: &Tree, model: &Model) -> Option<ConfFault>
 
 // The groups of a model that are left, and the first fault of those before.
 #[derive(Drop)]
-struct Groups<'a> {
+struct GroupsLeft<'a> {
     first: Option<ConfFault>,
     rest: &'a [Group],
 }
 
-fn in_groups<'a>(kind: GroupKind, stmts: &[Stmt], groups: &'a [Group]) -> Groups<'a>
-    ensures { (more : List (List Item)) → first_fault (flat_map faults_of_rule (flat_map rules_of_items (zip (flat_map (items_in kind) stmts.now ++ more) groups.now)))
+fn in_groups<'a>(kind: GroupKind, stmts: &[Stmt], groups: &'a [Group]) -> GroupsLeft<'a>
+    ensures { (more : List (List WrittenItem)) → first_fault (flat_map faults_of_rule (flat_map rules_of_items (zip (flat_map (items_in kind) stmts.now ++ more) groups.now)))
         ≡ earlier result.first (first_fault (flat_map faults_of_rule (flat_map rules_of_items (zip more result.rest.now)))) }
 {
-    let mut left = Groups {
+    let mut left = GroupsLeft {
         first: None,
         rest: groups,
     };
@@ -68,10 +69,10 @@ fn items_in(kind: GroupKind, stmt: &Stmt) -> Option<&[Item]>
     }
 }
 
-impl Groups<'_> {
+impl GroupsLeft<'_> {
     // Passes the next group, which is what these items mean.
     fn pass(&mut self, items: &[Item])
-        ensures { (more : List (List Item)) → earlier self.old.first (first_fault (flat_map faults_of_rule (flat_map rules_of_items (zip (items.now ∷ more) self.old.rest.now))))
+        ensures { (more : List (List WrittenItem)) → earlier self.old.first (first_fault (flat_map faults_of_rule (flat_map rules_of_items (zip (items.now ∷ more) self.old.rest.now))))
             ≡ earlier self.new.first (first_fault (flat_map faults_of_rule (flat_map rules_of_items (zip more self.new.rest.now)))) }
     {
         if let Some((group, rest)) = self.rest.split_first() {
@@ -109,7 +110,7 @@ fn rule_fault(span: Span, rule: &Rule) -> Option<ConfFault>
 fn filters_fault(stmts: &[Stmt], maps: &[Map]) -> Option<ConfFault>
     ensures { result ≡ first_fault (flat_map faults_of_rule (flat_map rule_of_map (zip (flat_map pass_of_map stmts.now) maps.now))) }
 {
-    let mut left = Maps {
+    let mut left = FiltersLeft {
         first: None,
         rest: maps,
     };
@@ -123,15 +124,15 @@ fn filters_fault(stmts: &[Stmt], maps: &[Map]) -> Option<ConfFault>
 
 // The maps of a model that are left, and the first fault of the filters of those before.
 #[derive(Drop)]
-struct Maps<'a> {
+struct FiltersLeft<'a> {
     first: Option<ConfFault>,
     rest: &'a [Map],
 }
 
-impl Maps<'_> {
+impl FiltersLeft<'_> {
     // Passes the next map, which has this filter.
     fn pass(&mut self, filter: &Option<Filter>)
-        ensures { (more : List (Option Filter)) → earlier self.old.first (first_fault (flat_map faults_of_rule (flat_map rule_of_map (zip (filter.now ∷ more) self.old.rest.now))))
+        ensures { (more : List (Option Written)) → earlier self.old.first (first_fault (flat_map faults_of_rule (flat_map rule_of_map (zip (filter.now ∷ more) self.old.rest.now))))
             ≡ earlier self.new.first (first_fault (flat_map faults_of_rule (flat_map rule_of_map (zip more self.new.rest.now)))) }
     {
         if let Some((map, rest)) = self.rest.split_first() {
