@@ -2,6 +2,7 @@
 -- a list of addresses behind `from` or `to` has no element; a list with a table, defined or not, takes none away.
 use Rattle.std.specs.Prelude.{Bool, true, false, not, ◌&&◌, ◌||◌, Option, Some, None, List}
 use Rattle.std.specs.List.{list_any}
+use Rattle.npf_types.specs.declared.span.Span.{Span}
 use Rattle.npf_lexer.specs.declared.fault.ConfFault.{ConfFault}
 use Rattle.npf_lexer.specs.declared.fault.Fault.TheVariants.{FamilyMix}
 use Rattle.npf_model.specs.declared.ends.AddrItem.{AddrItem}
@@ -9,7 +10,6 @@ use Rattle.npf_model.specs.declared.ends.AddrItem.TheVariants.{Net, InTable}
 use Rattle.npf_model.specs.declared.rule.Rule.{Rule}
 use Rattle.npf_model.specs.Describes.{fits_family}
 use Rattle.npf_faults.specs.First.{fault_if}
-use Rattle.npf_check.specs.WrittenRule.{WrittenRule}
 
 -- families are told as rules tell them: IPv6 is `true`
 abbrev pub asks_for : Option Bool → Bool → Bool
@@ -30,5 +30,6 @@ list_allows family (Some items) = list_any (item_allows family) items
 abbrev pub leaves_family : Rule → Bool → Bool
 leaves_family rule family = asks_for rule.v6 family && list_allows family rule.from.addrs && list_allows family rule.to.addrs
 
-abbrev pub family_faults : WrittenRule → List ConfFault
-family_faults written = fault_if (not (leaves_family written.rule false || leaves_family written.rule true)) written.span FamilyMix
+-- of a rule at this place
+abbrev pub family_faults : Span → Rule → List ConfFault
+family_faults span rule = fault_if (not (leaves_family rule false || leaves_family rule true)) span FamilyMix

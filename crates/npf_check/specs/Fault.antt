@@ -1,6 +1,5 @@
 -- The faults of a configuration that means something and yet can't be used: 40 to 49, in the order of their numbers.
 use Rattle.std.specs.Prelude.{List, ◌++◌}
-use Rattle.std.specs.List.{flat_map}
 use Rattle.npf_lexer.specs.declared.fault.ConfFault.{ConfFault}
 use Rattle.npf_lexer.specs.declared.fault.Refused.{Refused}
 use Rattle.npf_syntax.specs.declared.stmt.Tree.{Tree}
@@ -8,21 +7,13 @@ use Rattle.npf_model.specs.declared.model.Model.{Model}
 use Rattle.npf_faults.specs.First.{IsFirstFaultOf}
 use Rattle.npf_check.specs.Default.{default_faults}
 use Rattle.npf_check.specs.Duplicate.{duplicate_faults}
-use Rattle.npf_check.specs.Family.{family_faults}
 use Rattle.npf_check.specs.Limit.{limit_faults}
 use Rattle.npf_check.specs.Map.{bad_map_faults}
-use Rattle.npf_check.specs.Port.{port_faults}
 use Rattle.npf_check.specs.Unbuilt.{unbuilt_faults}
 use Rattle.npf_check.specs.Undefined.{undefined_table_faults, undefined_procedure_faults}
-use Rattle.npf_check.specs.WrittenRule.{WrittenRule, written_rules}
+use Rattle.npf_check.specs.WrittenRule.{faults_of_rules}
 
--- the faults of a rule by itself
-abbrev pub faults_of_rule : WrittenRule → List ConfFault
-faults_of_rule written = family_faults written ++ port_faults written
-
-abbrev pub faults_of_rules : Tree → Model → List ConfFault
-faults_of_rules tree model = flat_map faults_of_rule (written_rules tree model)
-
+-- all faults of a tree and its model
 abbrev pub check_faults : Tree → Model → List ConfFault
 check_faults tree model =
     default_faults tree

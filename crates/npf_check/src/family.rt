@@ -1,5 +1,6 @@
 // A rule has an address family left.
 ghost use Rattle.std.specs.Prelude.{◌≡◌};
+ghost use Rattle.std.specs.List.{list_any};
 ghost use Rattle.npf_faults.specs.First.{first_fault};
 ghost use Rattle.npf_check.specs.Family.{asks_for, family_faults, item_allows, leaves_family, list_allows};
 
@@ -10,7 +11,7 @@ use npf_types::{Addr, List, Span};
 
 /// `FamilyMix`, where no family is left for the rule at this place.
 pub(crate) fn family_fault(span: Span, rule: &Rule) -> Option<ConfFault>
-    ensures { result ≡ first_fault (family_faults (record { span = span; rule = rule.now })) }
+    ensures { result ≡ first_fault (family_faults span rule.now) }
 {
     let left = leaves_family(rule, false) || leaves_family(rule, true);
     fault_if(!left, span, Fault::FamilyMix)
@@ -37,8 +38,14 @@ fn list_allows(v6: bool, addrs: &Option<List<AddrItem>>) -> bool
 {
     match addrs {
         None => true,
-        Some(items) => items.as_slice().iter().any(|item| item_allows(v6, item)),
+        Some(items) => some_allows(v6, items.as_slice()),
     }
+}
+
+fn some_allows(v6: bool, items: &[AddrItem]) -> bool
+    ensures { result ≡ list_any (item_allows v6) items.now }
+{
+    items.iter().any(|item| item_allows(v6, item))
 }
 
 fn item_allows(v6: bool, item: &AddrItem) -> bool

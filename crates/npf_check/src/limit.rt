@@ -67,17 +67,24 @@ fn find_here(span: Span, left: usize) -> Found
     }
 }
 
-fn find_rule(items: &[Item], left: usize) -> Found
-    ensures { FindsPlace (flat_map rule_place items.now) left result }
+fn find_rule(items: &[Item], place: usize) -> Found
+    ensures { FindsPlace (flat_map rule_place items.now) place result }
 {
-    let mut left = left;
+    let mut left = place;
     for item in items {
-        if let Item::Rule { rule, .. } = item {
-            if left == 0 {
-                return Found::At(rule.span);
-            }
-            left -= 1;
+        match find_in_item(item, left) {
+            Found::At(span) => return Found::At(span),
+            Found::Later(later) => left = later,
         }
     }
     Found::Later(left)
+}
+
+fn find_in_item(item: &Item, left: usize) -> Found
+    ensures { FindsPlace (rule_place item.now) left result }
+{
+    match item {
+        Item::Rule { rule, .. } => find_here(rule.span, left),
+        Item::Ruleset { .. } => Found::Later(left),
+    }
 }

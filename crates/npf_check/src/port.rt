@@ -1,7 +1,7 @@
 // Ports stand beside TCP and UDP alone.
 ghost use Rattle.std.specs.Prelude.{◌≡◌};
 ghost use Rattle.npf_faults.specs.First.{first_fault};
-ghost use Rattle.npf_check.specs.Port.{carries_ports, port_faults};
+ghost use Rattle.npf_check.specs.Port.{carries_ports, lists_other, names_ports, port_faults};
 
 use npf_faults::fault_if;
 use npf_lexer::{ConfFault, Fault};
@@ -10,15 +10,22 @@ use npf_types::Span;
 
 /// `PortNeedsTcpUdp`, where the rule at this place has a port and lists another protocol.
 pub(crate) fn port_fault(span: Span, rule: &Rule) -> Option<ConfFault>
-    ensures { result ≡ first_fault (port_faults (record { span = span; rule = rule.now })) }
+    ensures { result ≡ first_fault (port_faults span rule.now) }
 {
-    let ports = rule.from.ports.is_some() || rule.to.ports.is_some();
-    let other = rule
-        .protos
-        .as_slice()
-        .iter()
-        .any(|proto| !carries_ports(*proto));
-    fault_if(ports && other, span, Fault::PortNeedsTcpUdp)
+    let misplaced = names_ports(rule) && lists_other(rule.protos.as_slice());
+    fault_if(misplaced, span, Fault::PortNeedsTcpUdp)
+}
+
+fn names_ports(rule: &Rule) -> bool
+    ensures { result ≡ names_ports rule.now }
+{
+    rule.from.ports.is_some() || rule.to.ports.is_some()
+}
+
+fn lists_other(protos: &[u8]) -> bool
+    ensures { result ≡ lists_other protos.now }
+{
+    protos.iter().any(|proto| !carries_ports(*proto))
 }
 
 /// Whether the protocol is TCP or UDP.

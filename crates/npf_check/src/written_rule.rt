@@ -4,8 +4,7 @@ ghost use Rattle.std.specs.List.{flat_map};
 ghost use Rattle.npf_syntax.specs.declared.filter.Filter.{Filter as Written};
 ghost use Rattle.npf_syntax.specs.declared.group.Item.{Item as WrittenItem};
 ghost use Rattle.npf_faults.specs.First.{earlier, first_fault};
-ghost use Rattle.npf_check.specs.Fault.{faults_of_rule, faults_of_rules};
-ghost use Rattle.npf_check.specs.WrittenRule.{items_in, pass_of_map, rule_of_item, rule_of_map, rule_of_pass, rules_of_items};
+ghost use Rattle.npf_check.specs.WrittenRule.{faults_of_filter, faults_of_group, faults_of_item, faults_of_pass, faults_of_rule, faults_of_rules, items_in, pass_of_map};
 
 use crate::family::family_fault;
 use crate::port::port_fault;
@@ -41,17 +40,15 @@ struct GroupsLeft<'a> {
 }
 
 fn in_groups<'a>(kind: GroupKind, stmts: &[Stmt], groups: &'a [Group]) -> GroupsLeft<'a>
-    ensures { (more : List (List WrittenItem)) → first_fault (flat_map faults_of_rule (flat_map rules_of_items (zip (flat_map (items_in kind) stmts.now ++ more) groups.now)))
-        ≡ earlier result.first (first_fault (flat_map faults_of_rule (flat_map rules_of_items (zip more result.rest.now)))) }
+    ensures { (more : List (List WrittenItem)) → first_fault (flat_map faults_of_group (zip (flat_map (items_in kind) stmts.now ++ more) groups.now))
+        ≡ earlier result.first (first_fault (flat_map faults_of_group (zip more result.rest.now))) }
 {
     let mut left = GroupsLeft {
         first: None,
         rest: groups,
     };
     for stmt in stmts {
-        if let Some(items) = items_in(kind, stmt) {
-            left.pass(items);
-        }
+        left.pass(kind, stmt);
     }
     left
 }
@@ -70,11 +67,14 @@ fn items_in(kind: GroupKind, stmt: &Stmt) -> Option<&[Item]>
 }
 
 impl GroupsLeft<'_> {
-    // Passes the next group, which is what these items mean.
-    fn pass(&mut self, items: &[Item])
-        ensures { (more : List (List WrittenItem)) → earlier self.old.first (first_fault (flat_map faults_of_rule (flat_map rules_of_items (zip (items.now ∷ more) self.old.rest.now))))
-            ≡ earlier self.new.first (first_fault (flat_map faults_of_rule (flat_map rules_of_items (zip more self.new.rest.now)))) }
+    // Passes a statement, and where it is a group of this kind the next group, which it means.
+    fn pass(&mut self, kind: GroupKind, stmt: &Stmt)
+        ensures { (more : List (List WrittenItem)) → earlier self.old.first (first_fault (flat_map faults_of_group (zip (items_in kind stmt.now ++ more) self.old.rest.now)))
+            ≡ earlier self.new.first (first_fault (flat_map faults_of_group (zip more self.new.rest.now))) }
     {
+        let Some(items) = items_in(kind, stmt) else {
+            return;
+        };
         if let Some((group, rest)) = self.rest.split_first() {
             self.first = earlier(self.first, items_fault(items, group.items.as_slice()));
             self.rest = rest;
@@ -83,7 +83,7 @@ impl GroupsLeft<'_> {
 }
 
 fn items_fault(items: &[Item], meant: &[Meant]) -> Option<ConfFault>
-    ensures { result ≡ first_fault (flat_map faults_of_rule (flat_map rule_of_item (zip items.now meant.now))) }
+    ensures { result ≡ first_fault (flat_map faults_of_item (zip items.now meant.now)) }
 {
     let mut first = None;
     for (item, meant) in items.iter().zip(meant.iter()) {
@@ -93,7 +93,7 @@ fn items_fault(items: &[Item], meant: &[Meant]) -> Option<ConfFault>
 }
 
 fn item_fault(item: &Item, meant: &Meant) -> Option<ConfFault>
-    ensures { result ≡ first_fault (flat_map faults_of_rule (rule_of_item (item.now, meant.now))) }
+    ensures { result ≡ first_fault (faults_of_item (item.now, meant.now)) }
 {
     match (item, meant) {
         (Item::Rule { rule, .. }, Meant::One(meant)) => rule_fault(rule.span, meant),
@@ -102,22 +102,20 @@ fn item_fault(item: &Item, meant: &Meant) -> Option<ConfFault>
 }
 
 fn rule_fault(span: Span, rule: &Rule) -> Option<ConfFault>
-    ensures { result ≡ first_fault (faults_of_rule (record { span = span; rule = rule.now })) }
+    ensures { result ≡ first_fault (faults_of_rule span rule.now) }
 {
     earlier(family_fault(span, rule), port_fault(span, rule))
 }
 
 fn filters_fault(stmts: &[Stmt], maps: &[Map]) -> Option<ConfFault>
-    ensures { result ≡ first_fault (flat_map faults_of_rule (flat_map rule_of_map (zip (flat_map pass_of_map stmts.now) maps.now))) }
+    ensures { result ≡ first_fault (flat_map faults_of_pass (zip (flat_map pass_of_map stmts.now) maps.now)) }
 {
     let mut left = FiltersLeft {
         first: None,
         rest: maps,
     };
     for stmt in stmts {
-        if let Stmt::Map { pass, .. } = stmt {
-            left.pass(pass);
-        }
+        left.pass(stmt);
     }
     left.first
 }
@@ -130,20 +128,23 @@ struct FiltersLeft<'a> {
 }
 
 impl FiltersLeft<'_> {
-    // Passes the next map, which has this filter.
-    fn pass(&mut self, filter: &Option<Filter>)
-        ensures { (more : List (Option Written)) → earlier self.old.first (first_fault (flat_map faults_of_rule (flat_map rule_of_map (zip (filter.now ∷ more) self.old.rest.now))))
-            ≡ earlier self.new.first (first_fault (flat_map faults_of_rule (flat_map rule_of_map (zip more self.new.rest.now)))) }
+    // Passes a statement, and where it is a map the next map, which it means.
+    fn pass(&mut self, stmt: &Stmt)
+        ensures { (more : List (Option Written)) → earlier self.old.first (first_fault (flat_map faults_of_pass (zip (pass_of_map stmt.now ++ more) self.old.rest.now)))
+            ≡ earlier self.new.first (first_fault (flat_map faults_of_pass (zip more self.new.rest.now))) }
     {
+        let Stmt::Map { pass, .. } = stmt else {
+            return;
+        };
         if let Some((map, rest)) = self.rest.split_first() {
-            self.first = earlier(self.first, filter_fault(filter, &map.filter));
+            self.first = earlier(self.first, filter_fault(pass, &map.filter));
             self.rest = rest;
         }
     }
 }
 
 fn filter_fault(filter: &Option<Filter>, meant: &Option<Rule>) -> Option<ConfFault>
-    ensures { result ≡ first_fault (flat_map faults_of_rule (rule_of_pass filter.now meant.now)) }
+    ensures { result ≡ first_fault (faults_of_filter filter.now meant.now) }
 {
     match (filter, meant) {
         (Some(filter), Some(meant)) => rule_fault(filter.span, meant),
