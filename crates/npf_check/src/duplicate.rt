@@ -22,7 +22,7 @@ pub(crate) fn duplicate_fault(alloc: Global, tree: &Tree) -> Result<Option<ConfF
     let procedure = repeated_name(alloc, NameKind::Procedure, stmts)?;
     let group = repeated_name(alloc, NameKind::Group, stmts)?;
     let ruleset = repeated_ruleset(alloc, stmts)?;
-    let statement = earlier(earlier(variable, table), earlier(procedure, group));
+    let statement = earlier(earlier(earlier(variable, table), procedure), group);
     Ok(earlier(statement, ruleset))
 }
 

@@ -19,7 +19,7 @@ pub(crate) fn limit_fault(tree: &Tree) -> Option<ConfFault>
     let table = past(Excess::Tables, MAX_TABLES, stmts);
     let map = past(Excess::Maps, MAX_MAPS, stmts);
     let procedure = past(Excess::Procedures, MAX_PROCEDURES, stmts);
-    earlier(earlier(rule, table), earlier(map, procedure))
+    earlier(earlier(earlier(rule, table), map), procedure)
 }
 
 // Where a thing stands that is looked for by its place in the text, or how many more are to pass.

@@ -133,13 +133,22 @@ impl FiltersLeft<'_> {
         ensures { (more : List (Option Written)) → earlier self.old.first (first_fault (flat_map faults_of_pass (zip (pass_of_map stmt.now ++ more) self.old.rest.now)))
             ≡ earlier self.new.first (first_fault (flat_map faults_of_pass (zip more self.new.rest.now))) }
     {
-        let Stmt::Map { pass, .. } = stmt else {
+        let Some(pass) = pass_of_map(stmt) else {
             return;
         };
         if let Some((map, rest)) = self.rest.split_first() {
             self.first = earlier(self.first, filter_fault(pass, &map.filter));
             self.rest = rest;
         }
+    }
+}
+
+fn pass_of_map(stmt: &Stmt) -> Option<&Option<Filter>>
+    ensures { MatchOption result (pass_of_map stmt.now ≡ []) (λ pass. pass_of_map stmt.now ≡ pass.now ∷ []) }
+{
+    match stmt {
+        Stmt::Map { pass, .. } => Some(pass),
+        _ => None,
     }
 }
 
