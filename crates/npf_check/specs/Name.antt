@@ -28,9 +28,12 @@ name_given _ _ = []
 abbrev pub names_given : NameKind → List Stmt → List NameAt
 names_given kind stmts = flat_map (name_given kind) stmts
 
+abbrev pub is_among : List ℕ → List NameAt → Bool
+is_among text names = list_any (λ given. bytes_eq given.name text) names
+
 -- some statement gives the name to a thing of this kind
 abbrev pub is_given : NameKind → List Stmt → List ℕ → Bool
-is_given kind stmts text = list_any (λ given. bytes_eq given.name text) (names_given kind stmts)
+is_given kind stmts text = is_among text (names_given kind stmts)
 
 -- of no text, and of one text beside those that are known
 abbrev pub no_text : List ℕ → Bool

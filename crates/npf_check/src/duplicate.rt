@@ -1,5 +1,5 @@
 // Each name is given once to a thing of its kind.
-ghost use Rattle.std.specs.Prelude.{◌≡◌, ◌∷◌, ◌++◌, IfOk, OnOk, List};
+ghost use Rattle.std.specs.Prelude.{◌≡◌, ◌++◌, IfOk, OnOk, List};
 ghost use Rattle.std.specs.List.{flat_map};
 ghost use Rattle.npf_faults.specs.First.{earlier, first_fault};
 ghost use Rattle.npf_check.specs.Duplicate.{duplicate_faults, repeated, ruleset_given, rulesets_of_stmt};
@@ -35,9 +35,7 @@ fn repeated_name(
 {
     let mut so_far = Repeated::new(alloc);
     for stmt in stmts {
-        if let Some(given) = kind.given(stmt) {
-            so_far.meet(given)?;
-        }
+        so_far.meet(kind.given(stmt))?;
     }
     Ok(so_far.first)
 }
@@ -47,11 +45,19 @@ fn repeated_ruleset(alloc: Global, stmts: &[Stmt]) -> Result<Option<ConfFault>, 
 {
     let mut so_far = Repeated::new(alloc);
     for stmt in stmts {
-        if let Stmt::Group { items, .. } = stmt {
-            so_far.meet_rulesets(items.as_slice())?;
-        }
+        so_far.meet_rulesets(items_of(stmt))?;
     }
     Ok(so_far.first)
+}
+
+// The items of a group; other statements have none.
+fn items_of(stmt: &Stmt) -> &[Item]
+    ensures { flat_map ruleset_given result.now ≡ rulesets_of_stmt stmt.now }
+{
+    match stmt {
+        Stmt::Group { items, .. } => items.as_slice(),
+        _ => &[],
+    }
 }
 
 // The names so far, and the first that was given again.
@@ -71,10 +77,14 @@ impl<'a> Repeated<'a> {
         }
     }
 
-    fn meet(&mut self, given: Given<'a>) -> Result<(), NoMemory>
-        ensures { OnOk result ((names : List NameAt) → earlier self.old.first (first_fault (repeated (holds self.old.names) (record { name = given.entry.text.now; span = given.entry.span } ∷ names)))
+    // Takes the next name, if there is one.
+    fn meet(&mut self, given: Option<Given<'a>>) -> Result<(), NoMemory>
+        ensures { OnOk result ((names : List NameAt) → earlier self.old.first (first_fault (repeated (holds self.old.names) (as_list given.entry ++ names)))
             ≡ earlier self.new.first (first_fault (repeated (holds self.new.names) names))) }
     {
+        let Some(given) = given else {
+            return Ok(());
+        };
         let again = self.names.has(given.text);
         self.first = earlier(
             self.first,
@@ -88,9 +98,7 @@ impl<'a> Repeated<'a> {
             ≡ earlier self.new.first (first_fault (repeated (holds self.new.names) names))) }
     {
         for item in items {
-            if let Some(given) = ruleset_given(item) {
-                self.meet(given)?;
-            }
+            self.meet(ruleset_given(item))?;
         }
         Ok(())
     }

@@ -1,13 +1,11 @@
-ghost use Rattle.std.specs.Prelude.{◌≡◌, ◌++◌, IfErr, IfOk, []};
+ghost use Rattle.std.specs.Prelude.{◌≡◌, IfErr, IfOk, []};
 ghost use Rattle.npf_faults.specs.First.{first_fault};
 ghost use Rattle.npf_check.specs.Fault.{RefusedByFirst, check_faults};
-ghost use Rattle.npf_check.specs.Undefined.{undefined_procedure_faults, undefined_table_faults};
 
 use crate::default::default_fault;
 use crate::duplicate::duplicate_fault;
 use crate::limit::limit_fault;
 use crate::map::map_fault;
-use crate::name::{NameKind, names_given};
 use crate::unbuilt::unbuilt_fault;
 use crate::undefined::{undefined_procedure, undefined_table};
 use crate::written_rule::rules_fault;
@@ -39,25 +37,15 @@ pub fn check(alloc: Global, tree: &Tree, model: &Model) -> Result<(), Refused>
 fn check_fault(alloc: Global, tree: &Tree, model: &Model) -> Result<Option<ConfFault>, NoMemory>
     ensures { IfOk result (λ first. first ≡ first_fault (check_faults tree.now model.now)) }
 {
-    let undefined = undefined_fault(alloc, tree)?;
+    let default = default_fault(tree);
+    let table = undefined_table(alloc, tree)?;
+    let procedure = undefined_procedure(alloc, tree)?;
+    let rule = rules_fault(tree, model);
     let duplicate = duplicate_fault(alloc, tree)?;
     let map = map_fault(alloc, tree, model)?;
-    let mut first = earlier(default_fault(tree), undefined);
-    first = earlier(first, rules_fault(tree, model));
-    first = earlier(first, duplicate);
-    first = earlier(first, map);
-    first = earlier(first, unbuilt_fault(tree));
-    Ok(earlier(first, limit_fault(tree)))
-}
-
-fn undefined_fault(alloc: Global, tree: &Tree) -> Result<Option<ConfFault>, NoMemory>
-    ensures { IfOk result (λ first. first ≡ first_fault (undefined_table_faults tree.now ++ undefined_procedure_faults tree.now)) }
-{
-    let stmts = tree.stmts.as_slice();
-    let tables = names_given(alloc, NameKind::Table, stmts)?;
-    let procedures = names_given(alloc, NameKind::Procedure, stmts)?;
-    Ok(earlier(
-        undefined_table(&tables, stmts),
-        undefined_procedure(&procedures, stmts),
-    ))
+    let unbuilt = unbuilt_fault(tree);
+    let limit = limit_fault(tree);
+    let undefined = earlier(earlier(default, table), procedure);
+    let named = earlier(earlier(undefined, rule), duplicate);
+    Ok(earlier(earlier(earlier(named, map), unbuilt), limit))
 }

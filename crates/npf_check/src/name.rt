@@ -1,6 +1,6 @@
 // The names that statements give.
-ghost use Rattle.std.specs.Prelude.{◌≡◌, IfOk, OnOk, List, ℕ};
-ghost use Rattle.npf_check.specs.Name.{as_list, holds, is_given, name_given, no_text, with_text};
+ghost use Rattle.std.specs.Prelude.{◌≡◌, ◌||◌, IfOk, OnOk, List, ℕ};
+ghost use Rattle.npf_check.specs.Name.{as_list, holds, is_among, is_given, name_given, no_text, with_text};
 
 use npf_syntax::{GroupHead, Stmt};
 use npf_types::{NoMemory, Span};
@@ -75,6 +75,16 @@ impl<'a> Names<'a> {
         Ok(())
     }
 
+    // Adds a name, if there is one.
+    fn add_given(&mut self, given: Option<Given<'a>>) -> Result<(), NoMemory>
+        ensures { OnOk result ((other : List ℕ) → holds self.new other ≡ (is_among other (as_list given.entry) || holds self.old other)) }
+    {
+        match given {
+            Some(given) => self.add(given.text),
+            None => Ok(()),
+        }
+    }
+
     pub(crate) fn has(&self, text: &[u8]) -> bool
         ensures { result ≡ holds self.now text.now }
     {
@@ -92,9 +102,7 @@ pub(crate) fn names_given<'a>(
 {
     let mut names = Names::new(alloc);
     for stmt in stmts {
-        if let Some(given) = kind.given(stmt) {
-            names.add(given.text)?;
-        }
+        names.add_given(kind.given(stmt))?;
     }
     Ok(names)
 }

@@ -1,17 +1,28 @@
 // Tables and procedures that are used are defined.
-ghost use Rattle.std.specs.Prelude.{◌≡◌};
+ghost use Rattle.std.specs.Prelude.{◌≡◌, IfOk};
 ghost use Rattle.std.specs.List.{flat_map};
 ghost use Rattle.npf_faults.specs.First.{first_fault};
 ghost use Rattle.npf_check.specs.Name.{holds};
-ghost use Rattle.npf_check.specs.Undefined.{applied_faults, procedures_of_item, procedures_of_stmt, table_faults, tables_of_addresses, tables_of_ends, tables_of_item, tables_of_pass, tables_of_stmt, tables_of_target, tables_of_values, tables_of_where};
+ghost use Rattle.npf_check.specs.Undefined.{applied_faults, procedures_of_item, procedures_of_stmt, table_faults, tables_of_addresses, tables_of_ends, tables_of_item, tables_of_pass, tables_of_stmt, tables_of_target, tables_of_values, tables_of_where, undefined_procedure_faults, undefined_table_faults};
 
-use crate::name::Names;
+use crate::name::{NameKind, Names, names_given};
 use npf_faults::{earlier, fault_if};
 use npf_lexer::{ConfFault, Fault};
-use npf_syntax::{Addresses, Ends, Filter, Item, Stmt, Str, Value, Values, Where};
+use npf_syntax::{Addresses, Ends, Filter, Item, Stmt, Str, Tree, Value, Values, Where};
+use npf_types::NoMemory;
+use std::alloc::Global;
 
-/// The first `UnknownTable`, where these are the names of all tables.
-pub(crate) fn undefined_table(tables: &Names, stmts: &[Stmt]) -> Option<ConfFault>
+/// The first `UnknownTable`.
+pub(crate) fn undefined_table(alloc: Global, tree: &Tree) -> Result<Option<ConfFault>, NoMemory>
+    ensures { IfOk result (λ first. first ≡ first_fault (undefined_table_faults tree.now)) }
+{
+    let stmts = tree.stmts.as_slice();
+    let tables = names_given(alloc, NameKind::Table, stmts)?;
+    Ok(table_in_stmts(&tables, stmts))
+}
+
+// The first table that is none of these.
+fn table_in_stmts(tables: &Names, stmts: &[Stmt]) -> Option<ConfFault>
     ensures { result ≡ first_fault (flat_map (tables_of_stmt (holds tables.now)) stmts.now) }
 {
     let mut first = None;
@@ -142,8 +153,17 @@ fn table_in_value(tables: &Names, value: &Value) -> Option<ConfFault>
     }
 }
 
-/// The first `UnknownProcedure`, where these are the names of all procedures.
-pub(crate) fn undefined_procedure(procedures: &Names, stmts: &[Stmt]) -> Option<ConfFault>
+/// The first `UnknownProcedure`.
+pub(crate) fn undefined_procedure(alloc: Global, tree: &Tree) -> Result<Option<ConfFault>, NoMemory>
+    ensures { IfOk result (λ first. first ≡ first_fault (undefined_procedure_faults tree.now)) }
+{
+    let stmts = tree.stmts.as_slice();
+    let procedures = names_given(alloc, NameKind::Procedure, stmts)?;
+    Ok(procedure_in_stmts(&procedures, stmts))
+}
+
+// The first procedure that is none of these.
+fn procedure_in_stmts(procedures: &Names, stmts: &[Stmt]) -> Option<ConfFault>
     ensures { result ≡ first_fault (flat_map (procedures_of_stmt (holds procedures.now)) stmts.now) }
 {
     let mut first = None;

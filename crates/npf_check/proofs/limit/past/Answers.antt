@@ -27,5 +27,4 @@ loop-stmt-preserved c =
     c.loop-stmt.invariant
     ∙ ap (λ stmts. slice_get (flat_map (counted q) stmts) c.loop-stmt.left) (drop_more c.args.stmts.now i c.stmt-item.result c.loop-stmt-test.true)
     ∙ ap (λ stmt. slice_get (counted q stmt ++ rest) c.loop-stmt.left) (sym c.stmt-item.is)
-    ∙ ap (slice_get (counted q c.stmt-item.result ++ rest)) here
-    ∙ get-behind (counted q c.stmt-item.result) rest c.in-Later.later
+    ∙ get-behind (counted q c.stmt-item.result) rest c.loop-stmt.left c.in-Later.later here

@@ -3,7 +3,7 @@ use Rattle.npf_faults.specs.First.{earlier, first_fault}
 use Rattle.npf_faults.proofs.FirstLemmas.{each_step, each_end}
 use Rattle.npf_check.specs.Name.{holds}
 use Rattle.npf_check.specs.Undefined.{tables_of_stmt}
-use Rattle.npf_check.proofs.undefined.undefined_table.Goals as goal
+use Rattle.npf_check.proofs.undefined.table_in_stmts.Goals as goal
 
 pub loop-stmt-preserved : goal.loop-stmt-preserved
 loop-stmt-preserved c =
