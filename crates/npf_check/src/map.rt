@@ -6,6 +6,7 @@ ghost use Rattle.npf_faults.specs.First.{earlier, first_fault};
 ghost use Rattle.npf_model.specs.Describes.{is_v6};
 ghost use Rattle.npf_model.specs.MapOf.{comes_inside};
 ghost use Rattle.npf_check.specs.Map.{asks_for_ports, bad_map, bad_map_faults, breaks_algo, breaks_arrow, fits_npt66, has_ports, is_bad_map, is_one_address, is_one_port, of_one_family, of_one_length};
+ghost use Rattle.npf_check.specs.Unbuilt.{is_built_kind};
 ghost use Rattle.npf_check.specs.WrittenMap.{WrittenMap, stands_for_table, written_maps};
 
 use crate::port::carries_ports;
@@ -59,8 +60,7 @@ impl<'a> MapsLeft<'a> {
                 span,
                 ..
             } => {
-                let by_table = self.variables.is_table(&left.value)
-                    || self.variables.is_table(&right.value);
+                let by_table = self.variables.has_table(&left.value, &right.value);
                 self.pass_map(by_table, kind, *span);
                 Ok(())
             }
@@ -74,11 +74,17 @@ impl<'a> MapsLeft<'a> {
             ≡ earlier self.new.first (first_fault (flat_map bad_map (zip written self.new.rest.now))) }
     {
         if let Some((map, rest)) = self.rest.split_first() {
-            let bad = by_table || is_bad(is_built_kind(kind), map);
+            let bad = is_refused(by_table, kind, map);
             self.first = earlier(self.first, fault_if(bad, span, Fault::BadMap));
             self.rest = rest;
         }
     }
+}
+
+fn is_refused(by_table: bool, kind: &MapKind, map: &Map) -> bool
+    ensures { result ≡ (by_table || is_bad_map (is_built_kind kind.now) map.now) }
+{
+    by_table || is_bad(is_built_kind(kind), map)
 }
 
 // Whether a map without tables, whose algorithm is known or isn't, can't be.

@@ -1,5 +1,5 @@
 // Which variables are tables, for the sides of maps.
-ghost use Rattle.std.specs.Prelude.{◌≡◌, OnOk, List, ℕ};
+ghost use Rattle.std.specs.Prelude.{◌≡◌, ◌||◌, OnOk, List, ℕ};
 ghost use Rattle.npf_check.specs.Name.{no_text};
 ghost use Rattle.npf_check.specs.WrittenMap.{is_one_table, is_table, stands_for_table, with_definition};
 
@@ -42,8 +42,14 @@ impl<'a> Variables<'a> {
         }
     }
 
-    /// Whether the value is a table.
-    pub(crate) fn is_table(&self, value: &Value) -> bool
+    /// Whether one of the values is a table.
+    pub(crate) fn has_table(&self, left: &Value, right: &Value) -> bool
+        ensures { result ≡ (is_table (stands_for_table self.now) left.now || is_table (stands_for_table self.now) right.now) }
+    {
+        self.is_table(left) || self.is_table(right)
+    }
+
+    fn is_table(&self, value: &Value) -> bool
         ensures { result ≡ is_table (stands_for_table self.now) value.now }
     {
         match value {
