@@ -7,4 +7,4 @@ use Rattle.npf_check.proofs.map.map_fault.Given as goal
 
 abbrev pub invariant-loop-stmt : goal.invariant-loop-stmt
 invariant-loop-stmt l = first_fault (bad_map_faults l.fn.tree l.fn.model)
-    ≡ earlier l.so_far.first (first_fault (flat_map bad_map (zip (written_maps (stands_for_table l.so_far.variables) (drop l.stmt-index l.fn.tree.stmts)) l.so_far.rest.now)))
+    ≡ earlier l.so_far.first (first_fault (flat_map bad_map (zip (written_maps (stands_for_table l.so_far.variables) (drop l.stmt-index l.stmt-items)) l.so_far.rest.now)))

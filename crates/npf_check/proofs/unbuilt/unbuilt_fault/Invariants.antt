@@ -5,4 +5,4 @@ use Rattle.npf_check.specs.Unbuilt.{unbuilt}
 use Rattle.npf_check.proofs.unbuilt.unbuilt_fault.Given as goal
 
 abbrev pub invariant-loop-stmt : goal.invariant-loop-stmt
-invariant-loop-stmt l = first_fault (flat_map unbuilt l.fn.tree.stmts) ≡ earlier l.first (first_fault (flat_map unbuilt (drop l.stmt-index l.fn.tree.stmts)))
+invariant-loop-stmt l = first_fault (flat_map unbuilt l.fn.tree.stmts) ≡ earlier l.first (first_fault (flat_map unbuilt (drop l.stmt-index l.stmt-items)))
