@@ -1,8 +1,7 @@
 -- 47: what a map can't be (npf.conf(5), "Map"; RFC 6296 for npt66), told at its statement. The model tells its blocks, ports and
 -- protocol, the text whether a side is a table and whether its algorithm is known.
-use Rattle.std.specs.Prelude.{ℕ, Bool, true, false, not, ◌==◌, ◌&&◌, ◌||◌, nat_le, is_some, Option, Some, None, List, [], zip}
+use Rattle.std.specs.Prelude.{ℕ, Bool, false, not, ◌==◌, ◌&&◌, ◌||◌, nat_le, is_some, Option, Some, None, List, zip}
 use Rattle.std.specs.List.{flat_map}
-use Rattle.npf_types.specs.declared.address.Addr.{Addr}
 use Rattle.npf_types.specs.declared.prefix.Prefix.{Prefix}
 use Rattle.npf_types.specs.Address.{width}
 use Rattle.npf_lexer.specs.declared.fault.ConfFault.{ConfFault}

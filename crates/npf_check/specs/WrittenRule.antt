@@ -1,6 +1,6 @@
 -- 44 and 45 for each rule, beside what it means. A model has the groups with names first, in the order of the text, and the default
 -- group last; rules and maps stand in it in the order of the text. A map's filter counts as a rule.
-use Rattle.std.specs.Prelude.{Option, Some, None, List, [], ◌∷◌, ◌++◌, zip}
+use Rattle.std.specs.Prelude.{Option, Some, List, [], ◌∷◌, ◌++◌, zip}
 use Rattle.std.specs.List.{flat_map}
 use Rattle.npf_types.specs.declared.span.Span.{Span}
 use Rattle.npf_lexer.specs.declared.fault.ConfFault.{ConfFault}

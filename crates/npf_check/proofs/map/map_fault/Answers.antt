@@ -25,5 +25,5 @@ returns c =
     let now = c.loop-stmt.so_far in
     sym (c.loop-stmt.invariant
     ∙ ap (λ stmts. earlier now.first (first_fault (flat_map bad_map (zip (written_maps (stands_for_table now.variables) stmts) now.rest.now))))
-      (drop_all c.loop-stmt.stmt-index c.as_slice-stmt-items.result.now c.loop-stmt-test.false)
+    (drop_all c.loop-stmt.stmt-index c.as_slice-stmt-items.result.now c.loop-stmt-test.false)
     ∙ earlier-none now.first)

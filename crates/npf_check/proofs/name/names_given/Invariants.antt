@@ -1,6 +1,4 @@
 use Rattle.std.proofs.Common.{◌≡◌, ◌||◌, ℕ, List, drop}
-use Rattle.std.specs.List.{list_any}
-use Rattle.std.specs.Str.{bytes_eq}
 use Rattle.npf_check.specs.Name.{holds, is_given}
 use Rattle.npf_check.proofs.name.names_given.Given as goal
 

@@ -1,4 +1,4 @@
-use Rattle.std.proofs.Common.{◌≡◌, [], ◌++◌, zip, append-nil, ap, sym, ◌∙◌}
+use Rattle.std.proofs.Common.{◌≡◌, [], zip, append-nil, ap, sym, ◌∙◌}
 use Rattle.std.specs.List.{flat_map}
 use Rattle.npf_faults.specs.First.{earlier}
 use Rattle.npf_faults.proofs.FirstLemmas.{earlier-none}
