@@ -4,4 +4,4 @@ pub mod FaultLemmas
 pub mod LimitLemmas
 pub mod MapLemmas
 pub mod NameLemmas
-pub mod WalkLemmas
+pub mod PairLemmas

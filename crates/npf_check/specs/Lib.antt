@@ -5,6 +5,7 @@ pub mod Fault
 pub mod Limit
 pub mod Map
 pub mod Name
+pub mod Pair
 pub mod Port
 pub mod Unbuilt
 pub mod Undefined

@@ -6,6 +6,7 @@ use Rattle.npf_types.specs.declared.prefix.Prefix.{Prefix}
 use Rattle.npf_types.specs.Address.{width}
 use Rattle.npf_lexer.specs.declared.fault.ConfFault.{ConfFault}
 use Rattle.npf_lexer.specs.declared.fault.Fault.TheVariants.{BadMap}
+use Rattle.npf_syntax.specs.declared.stmt.Stmt.{Stmt}
 use Rattle.npf_syntax.specs.declared.stmt.Tree.{Tree}
 use Rattle.npf_model.specs.declared.map.Algo.{Algo}
 use Rattle.npf_model.specs.declared.map.Algo.TheVariants.{Dynamic, Netmap, Npt66}
@@ -16,10 +17,12 @@ use Rattle.npf_model.specs.declared.model.Model.{Model}
 use Rattle.npf_model.specs.Describes.{fits_family, is_v6}
 use Rattle.npf_model.specs.MapOf.{comes_inside}
 use Rattle.npf_faults.specs.First.{fault_if}
+use Rattle.npf_check.specs.declared.map.MapsLeft.{MapsLeft}
 use Rattle.npf_check.specs.Name.{no_text}
+use Rattle.npf_check.specs.Pair.{first_beside}
 use Rattle.npf_check.specs.Port.{carries_ports}
 use Rattle.npf_check.specs.Unbuilt.{is_built_kind}
-use Rattle.npf_check.specs.WrittenMap.{WrittenMap, written_maps}
+use Rattle.npf_check.specs.WrittenMap.{WrittenMap, stands_for_table, written_maps}
 
 abbrev pub of_one_family : Map → Bool
 of_one_family m = fits_family (Some (is_v6 m.inside.net.addr)) m.outside.net.addr
@@ -68,3 +71,7 @@ bad_map (written, m) = fault_if (written.by_table || is_bad_map (is_built_kind w
 
 abbrev pub bad_map_faults : Tree → Model → List ConfFault
 bad_map_faults tree model = flat_map bad_map (zip (written_maps no_text tree.stmts) model.maps)
+
+-- the first bad map, of those that the code has met and of those of these statements behind them
+abbrev pub first_bad : MapsLeft → List Stmt → Option ConfFault
+first_bad left stmts = first_beside bad_map left.first (written_maps (stands_for_table left.variables) stmts) left.rest.now

@@ -1,9 +1,9 @@
 // Each name is given once to a thing of its kind.
 ghost use Rattle.std.specs.Prelude.{◌≡◌, ◌++◌, IfOk, OnOk, List};
 ghost use Rattle.std.specs.List.{flat_map};
-ghost use Rattle.npf_faults.specs.First.{earlier, first_fault};
-ghost use Rattle.npf_check.specs.Duplicate.{duplicate_faults, repeated, ruleset_given, rulesets_of_stmt};
-ghost use Rattle.npf_check.specs.Name.{NameAt, as_list, holds, names_given, no_text};
+ghost use Rattle.npf_faults.specs.First.{first_fault};
+ghost use Rattle.npf_check.specs.Duplicate.{duplicate_faults, first_again, repeated, ruleset_given, rulesets_of_stmt};
+ghost use Rattle.npf_check.specs.Name.{NameAt, as_list, names_given, no_text};
 
 use crate::name::{Given, NameKind, Names};
 use npf_faults::{earlier, fault_if};
@@ -69,7 +69,7 @@ struct Repeated<'a> {
 
 impl<'a> Repeated<'a> {
     fn new(alloc: Global) -> Repeated<'a>
-        ensures { (names : List NameAt) → earlier result.first (first_fault (repeated (holds result.names) names)) ≡ first_fault (repeated no_text names) }
+        ensures { (names : List NameAt) → first_again result names ≡ first_fault (repeated no_text names) }
     {
         Repeated {
             names: Names::new(alloc),
@@ -79,8 +79,7 @@ impl<'a> Repeated<'a> {
 
     // Takes the next name, if there is one.
     fn meet(&mut self, given: Option<Given<'a>>) -> Result<(), NoMemory>
-        ensures { OnOk result ((names : List NameAt) → earlier self.old.first (first_fault (repeated (holds self.old.names) (as_list given.entry ++ names)))
-            ≡ earlier self.new.first (first_fault (repeated (holds self.new.names) names))) }
+        ensures { OnOk result ((names : List NameAt) → first_again self.old (as_list given.entry ++ names) ≡ first_again self.new names) }
     {
         let Some(given) = given else {
             return Ok(());
@@ -94,8 +93,7 @@ impl<'a> Repeated<'a> {
     }
 
     fn meet_rulesets(&mut self, items: &'a [Item]) -> Result<(), NoMemory>
-        ensures { OnOk result ((names : List NameAt) → earlier self.old.first (first_fault (repeated (holds self.old.names) (flat_map ruleset_given items.now ++ names)))
-            ≡ earlier self.new.first (first_fault (repeated (holds self.new.names) names))) }
+        ensures { OnOk result ((names : List NameAt) → first_again self.old (flat_map ruleset_given items.now ++ names) ≡ first_again self.new names) }
     {
         for item in items {
             self.meet(ruleset_given(item))?;

@@ -1,13 +1,13 @@
 // What a map can be.
-ghost use Rattle.std.specs.Prelude.{◌≡◌, ◌∷◌, ◌||◌, IfOk, OnOk, List, zip};
-ghost use Rattle.std.specs.List.{flat_map};
+ghost use Rattle.std.specs.Prelude.{◌≡◌, ◌∷◌, ◌||◌, IfOk, OnOk, List};
 ghost use Rattle.npf_syntax.specs.declared.stmt.Stmt.{Stmt as WrittenStmt};
-ghost use Rattle.npf_faults.specs.First.{earlier, first_fault};
+ghost use Rattle.npf_faults.specs.First.{first_fault};
 ghost use Rattle.npf_model.specs.Describes.{is_v6};
 ghost use Rattle.npf_model.specs.MapOf.{comes_inside};
-ghost use Rattle.npf_check.specs.Map.{asks_for_ports, bad_map, bad_map_faults, breaks_algo, breaks_arrow, fits_npt66, has_ports, is_bad_map, is_one_address, is_one_port, of_one_family, of_one_length};
+ghost use Rattle.npf_check.specs.Map.{asks_for_ports, bad_map, bad_map_faults, breaks_algo, breaks_arrow, first_bad, fits_npt66, has_ports, is_bad_map, is_one_address, is_one_port, of_one_family, of_one_length};
+ghost use Rattle.npf_check.specs.Pair.{first_beside};
 ghost use Rattle.npf_check.specs.Unbuilt.{is_built_kind};
-ghost use Rattle.npf_check.specs.WrittenMap.{WrittenMap, stands_for_table, written_maps};
+ghost use Rattle.npf_check.specs.WrittenMap.{WrittenMap};
 
 use crate::port::carries_ports;
 use crate::unbuilt::is_built_kind;
@@ -48,8 +48,7 @@ struct MapsLeft<'a> {
 
 impl<'a> MapsLeft<'a> {
     fn pass(&mut self, stmt: &'a Stmt) -> Result<(), NoMemory>
-        ensures { OnOk result ((stmts : List WrittenStmt) → earlier self.old.first (first_fault (flat_map bad_map (zip (written_maps (stands_for_table self.old.variables) (stmt.now ∷ stmts)) self.old.rest.now)))
-            ≡ earlier self.new.first (first_fault (flat_map bad_map (zip (written_maps (stands_for_table self.new.variables) stmts) self.new.rest.now)))) }
+        ensures { OnOk result ((stmts : List WrittenStmt) → first_bad self.old (stmt.now ∷ stmts) ≡ first_bad self.new stmts) }
     {
         match stmt {
             Stmt::Define { var, values, .. } => self.variables.define(var, values),
@@ -70,8 +69,8 @@ impl<'a> MapsLeft<'a> {
 
     fn pass_map(&mut self, by_table: bool, kind: &MapKind, span: Span)
         ensures variables { self.new.variables ≡ self.old.variables }
-        ensures first { (written : List WrittenMap) → earlier self.old.first (first_fault (flat_map bad_map (zip (record { span = span; kind = kind.now; by_table = by_table } ∷ written) self.old.rest.now)))
-            ≡ earlier self.new.first (first_fault (flat_map bad_map (zip written self.new.rest.now))) }
+        ensures first { (written : List WrittenMap) → let here : WrittenMap = record { span = span; kind = kind.now; by_table = by_table } in
+            first_beside bad_map self.old.first (here ∷ written) self.old.rest.now ≡ first_beside bad_map self.new.first written self.new.rest.now }
     {
         if let Some((map, rest)) = self.rest.split_first() {
             let bad = is_refused(by_table, kind, map);

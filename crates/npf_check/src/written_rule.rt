@@ -1,9 +1,10 @@
 // The rules of the text beside what they mean.
-ghost use Rattle.std.specs.Prelude.{◌≡◌, ◌++◌, [], ◌∷◌, List, MatchOption, Option, zip};
+ghost use Rattle.std.specs.Prelude.{◌≡◌, ◌++◌, [], ◌∷◌, List, MatchOption, Option, None};
 ghost use Rattle.std.specs.List.{flat_map};
 ghost use Rattle.npf_syntax.specs.declared.filter.Filter.{Filter as Written};
 ghost use Rattle.npf_syntax.specs.declared.group.Item.{Item as WrittenItem};
-ghost use Rattle.npf_faults.specs.First.{earlier, first_fault};
+ghost use Rattle.npf_faults.specs.First.{first_fault};
+ghost use Rattle.npf_check.specs.Pair.{first_beside};
 ghost use Rattle.npf_check.specs.WrittenRule.{faults_of_filter, faults_of_group, faults_of_item, faults_of_pass, faults_of_rule, faults_of_rules, items_in, pass_of_map};
 
 use crate::family::family_fault;
@@ -40,8 +41,8 @@ struct GroupsLeft<'a> {
 }
 
 fn in_groups<'a>(kind: GroupKind, stmts: &[Stmt], groups: &'a [Group]) -> GroupsLeft<'a>
-    ensures { (more : List (List WrittenItem)) → first_fault (flat_map faults_of_group (zip (flat_map (items_in kind) stmts.now ++ more) groups.now))
-        ≡ earlier result.first (first_fault (flat_map faults_of_group (zip more result.rest.now))) }
+    ensures { (more : List (List WrittenItem)) → first_beside faults_of_group None (flat_map (items_in kind) stmts.now ++ more) groups.now
+        ≡ first_beside faults_of_group result.first more result.rest.now }
 {
     let mut left = GroupsLeft {
         first: None,
@@ -69,8 +70,8 @@ fn items_in(kind: GroupKind, stmt: &Stmt) -> Option<&[Item]>
 impl GroupsLeft<'_> {
     // Passes a statement, and where it is a group of this kind the next group, which it means.
     fn pass(&mut self, kind: GroupKind, stmt: &Stmt)
-        ensures { (more : List (List WrittenItem)) → earlier self.old.first (first_fault (flat_map faults_of_group (zip (items_in kind stmt.now ++ more) self.old.rest.now)))
-            ≡ earlier self.new.first (first_fault (flat_map faults_of_group (zip more self.new.rest.now))) }
+        ensures { (more : List (List WrittenItem)) → first_beside faults_of_group self.old.first (items_in kind stmt.now ++ more) self.old.rest.now
+            ≡ first_beside faults_of_group self.new.first more self.new.rest.now }
     {
         let Some(items) = items_in(kind, stmt) else {
             return;
@@ -83,7 +84,7 @@ impl GroupsLeft<'_> {
 }
 
 fn items_fault(items: &[Item], meant: &[Meant]) -> Option<ConfFault>
-    ensures { result ≡ first_fault (flat_map faults_of_item (zip items.now meant.now)) }
+    ensures { result ≡ first_beside faults_of_item None items.now meant.now }
 {
     let mut first = None;
     for (item, meant) in items.iter().zip(meant.iter()) {
@@ -108,7 +109,7 @@ fn rule_fault(span: Span, rule: &Rule) -> Option<ConfFault>
 }
 
 fn filters_fault(stmts: &[Stmt], maps: &[Map]) -> Option<ConfFault>
-    ensures { result ≡ first_fault (flat_map faults_of_pass (zip (flat_map pass_of_map stmts.now) maps.now)) }
+    ensures { result ≡ first_beside faults_of_pass None (flat_map pass_of_map stmts.now) maps.now }
 {
     let mut left = FiltersLeft {
         first: None,
@@ -130,8 +131,8 @@ struct FiltersLeft<'a> {
 impl FiltersLeft<'_> {
     // Passes a statement, and where it is a map the next map, which it means.
     fn pass(&mut self, stmt: &Stmt)
-        ensures { (more : List (Option Written)) → earlier self.old.first (first_fault (flat_map faults_of_pass (zip (pass_of_map stmt.now ++ more) self.old.rest.now)))
-            ≡ earlier self.new.first (first_fault (flat_map faults_of_pass (zip more self.new.rest.now))) }
+        ensures { (more : List (Option Written)) → first_beside faults_of_pass self.old.first (pass_of_map stmt.now ++ more) self.old.rest.now
+            ≡ first_beside faults_of_pass self.new.first more self.new.rest.now }
     {
         let Some(pass) = pass_of_map(stmt) else {
             return;

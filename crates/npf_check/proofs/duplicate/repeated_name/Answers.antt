@@ -1,9 +1,8 @@
-use Rattle.std.proofs.Common.{◌+◌, ◌++◌, List, drop, ap, sym, ◌∙◌}
+use Rattle.std.proofs.Common.{◌+◌, ◌++◌, drop, ap, sym, ◌∙◌}
 use Rattle.std.proofs.lemmas.List.{drop_more, drop_all}
-use Rattle.npf_faults.specs.First.{earlier, first_fault}
 use Rattle.npf_faults.proofs.FirstLemmas.{earlier-none}
-use Rattle.npf_check.specs.Duplicate.{repeated}
-use Rattle.npf_check.specs.Name.{NameAt, holds, name_given, names_given}
+use Rattle.npf_check.specs.Duplicate.{first_again}
+use Rattle.npf_check.specs.Name.{name_given, names_given}
 use Rattle.npf_check.proofs.duplicate.repeated_name.Goals as goal
 
 pub loop-stmt-preserved : goal.loop-stmt-preserved
@@ -12,17 +11,14 @@ loop-stmt-preserved c =
     let kind = c.args.kind in
     let i = c.loop-stmt.stmt-index in
     let behind = names_given kind (drop (i + 1) c.args.stmts.now) in
-    let fault = λ (given : List NameAt). earlier now.first (first_fault (repeated (holds now.names) given)) in
     c.loop-stmt.invariant
-    ∙ ap (λ stmts. fault (names_given kind stmts)) (drop_more c.args.stmts.now i c.stmt-item.result c.loop-stmt-test.true)
-    ∙ ap (λ stmt. fault (name_given kind stmt ++ behind)) (sym c.stmt-item.is)
-    ∙ ap (λ given. fault (given ++ behind)) (sym c.given.ensures)
+    ∙ ap (λ stmts. first_again now (names_given kind stmts)) (drop_more c.args.stmts.now i c.stmt-item.result c.loop-stmt-test.true)
+    ∙ ap (λ stmt. first_again now (name_given kind stmt ++ behind)) (sym c.stmt-item.is)
+    ∙ ap (λ given. first_again now (given ++ behind)) (sym c.given.ensures)
     ∙ c.in_ok-meet.ensures behind
 
 pub returns : goal.returns
 returns c =
-    let now = c.loop-stmt.so_far in
     sym (c.loop-stmt.invariant
-    ∙ ap (λ stmts. earlier now.first (first_fault (repeated (holds now.names) (names_given c.args.kind stmts))))
-    (drop_all c.loop-stmt.stmt-index c.args.stmts.now c.loop-stmt-test.false)
-    ∙ earlier-none now.first)
+    ∙ ap (λ stmts. first_again c.loop-stmt.so_far (names_given c.args.kind stmts)) (drop_all c.loop-stmt.stmt-index c.args.stmts.now c.loop-stmt-test.false)
+    ∙ earlier-none c.loop-stmt.so_far.first)
