@@ -1,0 +1,9 @@
+use Rattle.std.proofs.Common.{◌≡◌, drop}
+use Rattle.std.specs.List.{flat_map}
+use Rattle.npf_faults.specs.First.{earlier, first_fault}
+use Rattle.npf_check.specs.Name.{holds}
+use Rattle.npf_check.specs.Undefined.{tables_of_item}
+use Rattle.npf_check.proofs.undefined.table_in_items.Given as goal
+
+abbrev pub invariant-loop-item : goal.invariant-loop-item
+invariant-loop-item l = first_fault (flat_map (tables_of_item (holds l.tables)) l.items) ≡ earlier l.first (first_fault (flat_map (tables_of_item (holds l.tables)) (drop l.item-index l.items)))

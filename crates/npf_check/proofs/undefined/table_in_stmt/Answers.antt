@@ -1,0 +1,13 @@
+use Rattle.std.proofs.Common.{◌++◌}
+use Rattle.npf_check.specs.Name.{holds}
+use Rattle.npf_check.specs.Undefined.{table_faults, tables_of_pass}
+use Rattle.npf_check.proofs.FaultLemmas.{joined}
+use Rattle.npf_check.proofs.undefined.table_in_stmt.Goals as goal
+
+pub returns-in-Map : goal.returns-in-Map
+returns-in-Map c =
+    let known = holds c.args.tables.now in
+    let left = table_faults known c.in-Map.left.value in
+    let right = table_faults known c.in-Map.right.value in
+    rw c.in-Map.is (joined (left ++ right) (tables_of_pass known c.in-Map.pass) _ _ _
+    (joined left right _ _ _ c.table_in_value.ensures c.table_in_value-in-Map.ensures c.earlier-sides.ensures) c.table_in_pass.ensures c.earlier.ensures)

@@ -1,0 +1,9 @@
+use Rattle.std.proofs.Common.{◌≡◌, drop}
+use Rattle.std.specs.List.{flat_map}
+use Rattle.npf_faults.specs.First.{earlier, first_fault}
+use Rattle.npf_check.specs.Name.{holds}
+use Rattle.npf_check.specs.Undefined.{tables_of_stmt}
+use Rattle.npf_check.proofs.undefined.table_in_stmts.Given as goal
+
+abbrev pub invariant-loop-stmt : goal.invariant-loop-stmt
+invariant-loop-stmt l = first_fault (flat_map (tables_of_stmt (holds l.tables)) l.stmts) ≡ earlier l.first (first_fault (flat_map (tables_of_stmt (holds l.tables)) (drop l.stmt-index l.stmts)))

@@ -1,0 +1,13 @@
+pub mod Default
+pub mod Duplicate
+pub mod Family
+pub mod Fault
+pub mod Limit
+pub mod Map
+pub mod Name
+pub mod Pair
+pub mod Port
+pub mod Unbuilt
+pub mod Undefined
+pub mod WrittenMap
+pub mod WrittenRule

@@ -1,0 +1,91 @@
+// What isn't built of the language.
+ghost use Rattle.std.specs.Prelude.{◌≡◌};
+ghost use Rattle.std.specs.List.{flat_map};
+ghost use Rattle.npf_faults.specs.First.{first_fault};
+ghost use Rattle.npf_check.specs.Unbuilt.{is_built_algo, is_built_kind, is_switch, unbuilt, unbuilt_faults, unbuilt_item};
+
+use npf_faults::{earlier, fault_if};
+use npf_lexer::{ConfFault, Fault};
+use npf_syntax::{Item, MapKind, Setting, Stmt, Tree, Word};
+
+/// The first `Unbuilt`.
+pub(crate) fn unbuilt_fault(tree: &Tree) -> Option<ConfFault>
+    ensures { result ≡ first_fault (unbuilt_faults tree.now) }
+{
+    let mut first = None;
+    for stmt in tree.stmts.as_slice() {
+        first = earlier(first, unbuilt_stmt(stmt));
+    }
+    first
+}
+
+fn unbuilt_stmt(stmt: &Stmt) -> Option<ConfFault>
+    ensures { result ≡ first_fault (unbuilt stmt.now) }
+{
+    match stmt {
+        Stmt::Set { name, value, span } => {
+            let built = name.text.as_slice() == "bpf.jit".as_bytes() && is_switch(value);
+            fault_if(!built, *span, Fault::Unbuilt)
+        }
+        Stmt::Alg { name, span } => {
+            let built = name.text.as_slice() == "icmp".as_bytes();
+            fault_if(!built, *span, Fault::Unbuilt)
+        }
+        Stmt::Map { kind, span, .. } => fault_if(!is_built_kind(kind), *span, Fault::Unbuilt),
+        Stmt::Group { items, .. } => unbuilt_items(items.as_slice()),
+        _ => None,
+    }
+}
+
+fn is_switch(value: &Setting) -> bool
+    ensures { result ≡ is_switch value.now }
+{
+    match value {
+        Setting::Word { word, .. } => {
+            let text = word.text.as_slice();
+            text == "on".as_bytes() || text == "off".as_bytes()
+        }
+        Setting::Number { .. } => false,
+    }
+}
+
+/// Whether the kind's algorithm, if it names one, is built.
+pub(crate) fn is_built_kind(kind: &MapKind) -> bool
+    ensures { result ≡ is_built_kind kind.now }
+{
+    match kind {
+        MapKind::Dynamic { .. } => true,
+        MapKind::Static { algo, .. } => is_built_algo(algo),
+    }
+}
+
+fn is_built_algo(algo: &Option<Word>) -> bool
+    ensures { result ≡ is_built_algo algo.now }
+{
+    match algo {
+        None => true,
+        Some(word) => {
+            let text = word.text.as_slice();
+            text == "netmap".as_bytes() || text == "npt66".as_bytes()
+        }
+    }
+}
+
+fn unbuilt_items(items: &[Item]) -> Option<ConfFault>
+    ensures { result ≡ first_fault (flat_map unbuilt_item items.now) }
+{
+    let mut first = None;
+    for item in items {
+        first = earlier(first, unbuilt_item(item));
+    }
+    first
+}
+
+fn unbuilt_item(item: &Item) -> Option<ConfFault>
+    ensures { result ≡ first_fault (unbuilt_item item.now) }
+{
+    match item {
+        Item::Rule { .. } => None,
+        Item::Ruleset { span, .. } => fault_if(true, *span, Fault::Unbuilt),
+    }
+}
