@@ -4,6 +4,7 @@ pub mod Elaborates
 pub mod Group
 pub mod Iface
 pub mod IfaceFile
+pub mod Kept
 pub mod Map
 pub mod Place
 pub mod Port
@@ -11,6 +12,7 @@ pub mod Procedure
 pub mod Protocol
 pub mod Rule
 pub mod Service
+pub mod Summary
 pub mod Table
 pub mod Use
 pub mod Variable

@@ -15,7 +15,9 @@ mod procedure;
 mod role;
 mod rule;
 mod service;
+mod summary;
 mod table;
 mod text;
+mod variable;
 
 pub use iface_file::read_ifaces;
