@@ -1,12 +1,12 @@
 -- What is kept of definitions, by their places, and what stays where one more stands behind them.
-use Rattle.std.proofs.Common.{◌≡◌, ◌<◌, ◌≤◌, ◌≢◌, ◌+◌, ◌*◌, ◌^◌, ℕ, zero, suc, Bool, true, false, Option, Some, None, List, [], ◌∷◌, ◌++◌, All, length, reverse, get_or, refl, sym, ap, subst, ◌∙◌, inl, inr, ◌⊎◌, append-nil, append_assoc, map, arith}
+use Rattle.std.proofs.Common.{◌≡◌, ◌<◌, ◌≤◌, ◌≢◌, ◌+◌, ◌*◌, ◌^◌, ℕ, zero, suc, Bool, true, false, Option, Some, None, List, [], ◌∷◌, ◌++◌, All, length, reverse, get_or, refl, sym, ap, subst, ◌∙◌, inl, inr, ◌⊎◌, append-nil, append_assoc, map, take, arith}
 use Rattle.std.specs.Prelude.{slice_get, if◌then◌else◌}
 use Rattle.std.specs.HashMap.{get_by}
 use Rattle.std.specs.Str.{bytes_eq}
 use Rattle.std.specs.List.{flat_map, sum_by}
 use Rattle.std.specs.Option.{option_map, option_or}
 use Rattle.std.proofs.lemmas.Grind.{flat_map-append, common_steps}
-use Rattle.std.proofs.lemmas.List.{length-reverse, length_push, map-append, reverse-append, reverse-reverse, get_or_append_left}
+use Rattle.std.proofs.lemmas.List.{length-reverse, length_push, map-append, reverse-append, reverse-reverse, take_more, get_or_append_left}
 use Rattle.std.proofs.lemmas.List.Elements.{All-append, All-weaker, All-head, All-push, All-tail}
 use Rattle.std.proofs.lemmas.Option.{slice_get_within, get_or_from_slice_get, slice_get-get_or}
 use Rattle.std.proofs.Math.Seq.{get_or-append_seam}
@@ -247,3 +247,27 @@ pub map-reversed : {X Y : Type 0} (f : X → Y) (xs : List X) → map f (reverse
 map-reversed f [] = refl
 map-reversed f (x ∷ xs) = ap (map f) (reverse-append (x ∷ []) xs) ∙ map-append f (reverse xs) (x ∷ [])
     ∙ ap (λ front. front ++ f x ∷ []) (map-reversed f xs) ∙ sym (reverse-append (f x ∷ []) (map f xs))
+
+pub flat_map-more : {X Y : Type 0} (f : X → List Y) (xs : List X) (i : ℕ) (x d : X) → i < length xs → x ≡ get_or xs i d
+    → flat_map f (take (i + 1) xs) ≡ flat_map f (take i xs) ++ f x
+flat_map-more f xs i x d within is =
+    ap (flat_map f) (take_more xs i d within) ∙ flat_map-append f (take i xs) (get_or xs i d ∷ [])
+    ∙ ap (λ rest. flat_map f (take i xs) ++ rest) (append-nil (f (get_or xs i d)) ∙ ap f (sym is))
+
+-- a definition of values that were spliced
+abbrev def_of : Bool → Spliced → Def
+def_of many values = record { many = many; values = values }
+
+pub spliced_behind : (bindings : List Binding) (many : Bool) (values : Spliced) (atoms : List Atom) → AreSpliced bindings values atoms
+    → (many ≡ false → length atoms ≤ 1) → IsDefBehind bindings (def_of many values)
+spliced_behind bindings many values atoms are alone = record {
+  values = record { means = refl; older = are.older; kept = subst (AreKeptBy values.first values.summary) (sym are.means) are.kept };
+  alone = λ one. subst (λ (l : List Atom). length l ≤ 1) (sym are.means) (alone one);
+}
+
+abbrev binding : Bool → List Atom → Binding
+binding many atoms = record { many = many; atoms = atoms }
+
+pub spliced_binding : (bindings : List Binding) (many is : Bool) (values : Spliced) (atoms left : List Atom) → AreSpliced bindings values atoms → many ≡ is → atoms ≡ left
+    → def_binding bindings (def_of many values) ≡ binding is left
+spliced_binding bindings many is values atoms left are same_many same = ap (binding many) (are.means ∙ same) ∙ ap (λ m. binding m left) same_many

@@ -1,3 +1,4 @@
+pub mod FaultLemmas
 pub mod IfaceFileLemmas
 pub mod IfaceLemmas
 pub mod KeptLemmas

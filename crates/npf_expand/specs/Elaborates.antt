@@ -17,16 +17,12 @@ use Rattle.npf_expand.specs.Group.{group_of_tree, head_faults, items_elements, i
 use Rattle.npf_expand.specs.Map.{map_faults, map_of_tree}
 use Rattle.npf_expand.specs.Procedure.{procedure_of}
 use Rattle.npf_expand.specs.Rule.{Declared, filter_count, passing_faults}
-use Rattle.npf_expand.specs.Table.{table_names, tables_of}
+use Rattle.npf_expand.specs.Table.{procedure_names, table_names, tables_of}
 use Rattle.npf_expand.specs.Variable.{Definition, definition_faults, env_of}
-
-abbrev pub procedure_name : Stmt → List (List ℕ)
-procedure_name (Stmt.Procedure name calls span) = name.text ∷ []
-procedure_name _ = []
 
 -- the names that a configuration declares, wherever in the text they stand
 abbrev pub declared_in : List Stmt → Declared
-declared_in stmts = record { tables = table_names stmts; procedures = flat_map procedure_name stmts }
+declared_in stmts = record { tables = table_names stmts; procedures = procedure_names stmts }
 
 abbrev pub procedures_of : Stmt → List Procedure
 procedures_of (Stmt.Procedure name calls span) = procedure_of name.text calls ∷ []

@@ -6,11 +6,13 @@ pub mod Iface
 pub mod IfaceFile
 pub mod Kept
 pub mod Map
+pub mod Parted
 pub mod Place
 pub mod Port
 pub mod Procedure
 pub mod Protocol
 pub mod Rule
+pub mod Scope
 pub mod Service
 pub mod Summary
 pub mod Table

@@ -6,6 +6,8 @@
 #![tactic(auto)]
 
 mod atom;
+mod declarations;
+mod filter;
 mod iface;
 mod iface_file;
 mod map;
@@ -14,10 +16,12 @@ mod place;
 mod procedure;
 mod role;
 mod rule;
+mod scope;
 mod service;
 mod summary;
 mod table;
 mod text;
+mod uses;
 mod variable;
 
 pub use iface_file::read_ifaces;

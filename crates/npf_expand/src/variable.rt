@@ -1,13 +1,19 @@
 // Variables, and what they are bound to. A list keeps the places of the variables in it and is spliced where it is used.
-ghost use Rattle.std.specs.Prelude.{◌≡◌, ◌<◌, ◌≤◌, ◌∷◌, ◌++◌, ℕ, [], false, if◌then◌else◌, All, IfOk, List, None, OnOk, Some, length, map, slice_get};
+ghost use Rattle.std.specs.Prelude.{◌≡◌, ◌<◌, ◌≤◌, ◌∷◌, ◌++◌, ℕ, [], false, if◌then◌else◌, All, IfOk, List, None, OnOk, Option, Some, length, map, slice_get};
+ghost use Rattle.std.specs.Option.{option_map};
 ghost use Rattle.std.specs.Str.{bytes_eq};
+ghost use Rattle.npf_faults.specs.First.{first_fault};
 ghost use Rattle.npf_expand.specs.Atom.{Atom as Plain, Binding, kept_atom};
 ghost use Rattle.npf_expand.specs.Kept.{AreSound, AreSpliced, IsBound, IsBoundWhere, IsDefBehind, IsOfFirst, def_binding, env_in, known, part_atoms, parts_atoms};
-ghost use Rattle.npf_expand.specs.Use.{atoms_of};
+ghost use Rattle.npf_expand.specs.Iface.{bound_name};
+ghost use Rattle.npf_expand.specs.Use.{atoms_of, single_faults, use_faults};
 
 use crate::atom::Atom;
+use crate::role::Role;
 use crate::summary::Summary;
-use npf_types::NoMemory;
+use npf_faults::fault_if;
+use npf_lexer::{ConfFault, Fault};
+use npf_types::{NoMemory, Span};
 use std::alloc::Global;
 use std::collections::HashMap;
 
@@ -62,6 +68,39 @@ impl<'a> Bound<'a> {
             summary: Summary::of(&atom),
         }
     }
+
+    /// The name of an interface that stands there: of one value, and none of a list.
+    pub(crate) fn name(&self) -> Option<&'a [u8]>
+        ensures { (bindings : List Binding) → (binding : Binding) → IsBound bindings self.now binding
+            → option_map (λ name. name.now) result ≡ bound_name (Some binding) }
+    {
+        if self.many {
+            return None;
+        }
+        match self.first {
+            Some(atom) => atom.name_text(),
+            None => None,
+        }
+    }
+
+    /// The first fault of the values where they are used at this place, one or many.
+    pub(crate) fn each_fault(&self, role: Role, span: Span) -> Option<ConfFault>
+        ensures { (bindings : List Binding) → (binding : Binding) → IsBound bindings self.now binding
+            → result ≡ first_fault (use_faults role span binding.atoms) }
+    {
+        self.summary.fault(role, span)
+    }
+
+    /// The first fault of the values where they are used at this place, where one value stands.
+    pub(crate) fn single_fault(&self, role: Role, span: Span) -> Option<ConfFault>
+        ensures { (bindings : List Binding) → (binding : Binding) → IsBound bindings self.now binding
+            → result ≡ first_fault (single_faults role span binding) }
+    {
+        if self.many && self.first.is_some() {
+            return fault_if(true, span, Fault::Expected);
+        }
+        self.summary.fault(role, span)
+    }
 }
 
 impl<'a> Spliced<'a> {
@@ -85,6 +124,18 @@ impl<'a> Spliced<'a> {
         self.summary = self.summary.join(&bound.summary);
         self.first = self.first.or(bound.first);
         Ok(())
+    }
+
+    /// The same, where a name may not be defined.
+    pub(crate) fn add_where(&mut self, bound: Option<Bound<'a>>) -> Result<(), NoMemory>
+        ensures { OnOk result ((bindings : List Binding) → (atoms : List Plain) → (binding : Option Binding)
+            → AreSpliced bindings self.old atoms → IsBoundWhere bindings bound.entry binding
+            → AreSpliced bindings self.new (atoms ++ atoms_of binding)) }
+    {
+        match bound {
+            Some(bound) => self.add(&bound),
+            None => Ok(()),
+        }
     }
 }
 

@@ -1,7 +1,7 @@
 use Rattle.std.proofs.Common.{◌≡◌, map, take}
 use Rattle.npf_types.specs.Name.{name_bytes}
 use Rattle.npf_expand.specs.Place.{ArePlaces}
-use Rattle.npf_expand.proofs.iface.Interfaces.new.Given as goal
+use Rattle.npf_expand.proofs.iface.places_of.Given as goal
 
 abbrev pub invariant-loop-iface : goal.invariant-loop-iface
 invariant-loop-iface l = record {
