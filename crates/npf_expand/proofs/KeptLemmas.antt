@@ -3,7 +3,7 @@ use Rattle.std.proofs.Common.{◌≡◌, ◌<◌, ◌≤◌, ◌≢◌, ◌+◌,
 use Rattle.std.specs.Prelude.{slice_get, if◌then◌else◌}
 use Rattle.std.specs.HashMap.{get_by}
 use Rattle.std.specs.Str.{bytes_eq}
-use Rattle.std.specs.List.{flat_map, sum_by}
+use Rattle.std.specs.List.{cons_option, filter_map, flat_map}
 use Rattle.std.specs.Option.{option_map, option_or}
 use Rattle.std.proofs.lemmas.Grind.{flat_map-append, common_steps}
 use Rattle.std.proofs.lemmas.List.{length-reverse, length_push, map-append, reverse-append, reverse-reverse, take_more, get_or_append_left}
@@ -271,3 +271,7 @@ binding many atoms = record { many = many; atoms = atoms }
 pub spliced_binding : (bindings : List Binding) (many is : Bool) (values : Spliced) (atoms left : List Atom) → AreSpliced bindings values atoms → many ≡ is → atoms ≡ left
     → def_binding bindings (def_of many values) ≡ binding is left
 spliced_binding bindings many is values atoms left are same_many same = ap (binding many) (are.means ∙ same) ∙ ap (λ m. binding m left) same_many
+
+pub filter_map-mapped : {X Y Z : Type 0} (f : Y → Option Z) (g : X → Y) (xs : List X) → filter_map (λ x. f (g x)) xs ≡ filter_map f (map g xs)
+filter_map-mapped f g [] = refl
+filter_map-mapped f g (x ∷ xs) = ap (cons_option (f (g x))) (filter_map-mapped f g xs)

@@ -1,4 +1,5 @@
 pub mod FaultLemmas
+pub mod FirstAtom
 pub mod IfaceFileLemmas
 pub mod IfaceLemmas
 pub mod KeptLemmas

@@ -58,3 +58,6 @@ fate_in-summary AsInterface atoms = refl
 pub fault_of_fate : (role : Role) (span : Span) (atoms : List Atom)
     → first_fault (use_faults role span atoms) ≡ earlier (first_fault (fault_if (list_any (is_unfit role) atoms) span Expected)) (first_fault (flat_map (word_faults role) atoms))
 fault_of_fate role span atoms = first_fault-append (fault_if (list_any (is_unfit role) atoms) span Expected) (flat_map (word_faults role) atoms)
+
+pub counted_of_both : (a b : ℕ) → counted (a + b) ≡ counted (counted a + counted b)
+counted_of_both a b = counted-both a b

@@ -6,6 +6,7 @@ pub mod Iface
 pub mod IfaceFile
 pub mod Kept
 pub mod Map
+pub mod Meets
 pub mod Parted
 pub mod Place
 pub mod Port
@@ -14,6 +15,7 @@ pub mod Protocol
 pub mod Rule
 pub mod Scope
 pub mod Service
+pub mod Step
 pub mod Summary
 pub mod Table
 pub mod Use

@@ -5,6 +5,7 @@
 // its model, and any other is refused with its first fault in the text, of two at one place with that of the smaller number.
 #![tactic(auto)]
 
+mod address;
 mod atom;
 mod declarations;
 mod filter;

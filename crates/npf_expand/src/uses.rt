@@ -4,6 +4,7 @@ ghost use Rattle.std.specs.List.{flat_map};
 ghost use Rattle.npf_faults.specs.First.{first_fault};
 ghost use Rattle.npf_expand.specs.Atom.{kept_atom};
 ghost use Rattle.npf_expand.specs.Kept.{AreSound, IsDefBehind, def_binding};
+ghost use Rattle.npf_expand.specs.Protocol.{one_binding};
 ghost use Rattle.npf_expand.specs.Scope.{env_of_scope, ifaces_of_scope, known_of_scope};
 ghost use Rattle.npf_expand.specs.Summary.{counted};
 ghost use Rattle.npf_expand.specs.Use.{atoms_of, element_count, use_faults};
@@ -15,7 +16,7 @@ use crate::scope::{Scope, value_span};
 use crate::variable::{Def, Spliced};
 use npf_faults::{earlier, fault_if};
 use npf_lexer::{ConfFault, Fault};
-use npf_syntax::{Value, Values};
+use npf_syntax::{One, Value, Values};
 use npf_types::{NoMemory, Span};
 use std::alloc::Global;
 
@@ -144,6 +145,14 @@ impl<'a> Scope<'_, 'a> {
         ensures { IfOk result (λ count. count ≡ counted (element_count (spliced (ifaces_of_scope self.now) (env_of_scope self.now) values.now))) }
     {
         Ok(self.splice(alloc, values)?.summary.count)
+    }
+
+    /// How many elements a list of protocols has.
+    pub(crate) fn count_ones(&self, alloc: Global, ones: &'a [One]) -> Result<usize, NoMemory>
+        requires { AreSound self.now.variables.now }
+        ensures { IfOk result (λ count. count ≡ counted (element_count (flat_map (λ one. atoms_of (one_binding (env_of_scope self.now) one)) ones.now))) }
+    {
+        Ok(self.splice_ones(alloc, ones)?.summary.count)
     }
 }
 

@@ -15,4 +15,4 @@ returns-then-is_some-clause-binding c =
     let scope = c.args.self.now in
     let faults = definition_faults (ifaces_of_scope scope) (env_of_scope scope) c.args.values.now in
     spliced_binding (known_of_scope scope) c.is_list-many.result _ c.new.result [] _ (c.new.ensures (known_of_scope scope)) c.is_list-many.ensures.value
-    (refused faults c.args.fault.now (spliced (ifaces_of_scope scope) (env_of_scope scope) (listed_values c.args.values.now)) c.requires.told ?)
+    (refused (ifaces_of_scope scope) faults c.args.fault.now (spliced (ifaces_of_scope scope) (env_of_scope scope) (listed_values c.args.values.now)) c.requires.told (sym c.is_some.ensures ∙ c.if-is_some.true))
