@@ -6,4 +6,5 @@ pub mod KeptLemmas
 pub mod NameLemmas
 pub mod PartSize
 pub mod PlaceLemmas
+pub mod StepLemmas
 pub mod SummaryLemmas

@@ -3,6 +3,7 @@
 use Rattle.std.specs.Prelude.{◌≡◌, ℕ, ◌+◌, Option, Some, None, List, [], ◌∷◌, ◌++◌}
 use Rattle.std.specs.List.{flat_map}
 use Rattle.npf_lexer.specs.declared.fault.ConfFault.{ConfFault}
+use Rattle.npf_lexer.specs.declared.fault.Refused.{Refused}
 use Rattle.npf_syntax.specs.declared.filter.Filter.{Filter}
 use Rattle.npf_syntax.specs.declared.group.GroupHead.TheVariants as Head
 use Rattle.npf_syntax.specs.declared.stmt.Stmt.{Stmt}
@@ -12,6 +13,7 @@ use Rattle.npf_model.specs.declared.iface.Iface.{Iface}
 use Rattle.npf_model.specs.declared.map.Map.{Map}
 use Rattle.npf_model.specs.declared.model.Model.{Model}
 use Rattle.npf_model.specs.declared.procedure.Procedure.{Procedure}
+use Rattle.npf_faults.specs.First.{IsFirstFaultOf}
 use Rattle.npf_expand.specs.Atom.{Env}
 use Rattle.npf_expand.specs.Group.{group_of_tree, head_faults, items_elements, items_faults}
 use Rattle.npf_expand.specs.Map.{map_faults, map_of_tree}
@@ -97,3 +99,8 @@ model_of tree ifaces =
 pub record Elaborates (tree : Tree) (ifaces : List Iface) (model : Model) : Type 0 where
   pub clean : tree_faults tree ifaces ≡ []
   pub meant : model ≡ model_of tree ifaces
+
+-- why a tree is refused: its first fault; want of memory says nothing of it
+abbrev pub RefusesTree : Tree → List Iface → Refused → Type 0
+RefusesTree tree ifaces (Refused.Fault fault) = IsFirstFaultOf (tree_faults tree ifaces) fault
+RefusesTree tree ifaces Refused.NoMemory = Unit {0}

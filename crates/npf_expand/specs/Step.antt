@@ -3,7 +3,7 @@ use Rattle.std.specs.Prelude.{◌≡◌, ◌+◌, ℕ, if◌then◌else◌, Some
 use Rattle.std.specs.Str.{bytes_eq}
 use Rattle.npf_syntax.specs.declared.stmt.Stmt.{Stmt}
 use Rattle.npf_model.specs.declared.iface.Iface.{Iface}
-use Rattle.npf_expand.specs.declared.expand.State.{State}
+use Rattle.npf_expand.specs.declared.elaborate.State.{State}
 use Rattle.npf_expand.specs.Atom.{Env}
 use Rattle.npf_expand.specs.Elaborates.{default_group, gathered, maps_of, named_group, stmt_elements, stmt_faults}
 use Rattle.npf_expand.specs.Kept.{AreSound, env_in}

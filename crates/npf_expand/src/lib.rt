@@ -8,10 +8,13 @@
 mod address;
 mod atom;
 mod declarations;
+mod elaborate;
 mod filter;
+mod group;
 mod iface;
 mod iface_file;
 mod map;
+mod met;
 mod name;
 mod place;
 mod procedure;
@@ -25,4 +28,5 @@ mod text;
 mod uses;
 mod variable;
 
+pub use elaborate::expand;
 pub use iface_file::read_ifaces;

@@ -3,11 +3,13 @@ ghost use Rattle.std.specs.Prelude.{◌≡◌, IfOk};
 ghost use Rattle.std.specs.Option.{option_map};
 ghost use Rattle.npf_faults.specs.First.{first_fault};
 ghost use Rattle.npf_expand.specs.Atom.{kept_atom};
+ghost use Rattle.npf_expand.specs.Elaborates.{filter_elements};
 ghost use Rattle.npf_expand.specs.Kept.{AreSound, first_atom};
 ghost use Rattle.npf_expand.specs.Map.{algo_named, algo_of, arrow_of_sign, bound_faults, every_v4, first_block, first_host, map_faults, map_filter_faults, map_of_tree, side_block, side_faults, side_of, side_port, side_port_faults, single_value_faults};
 ghost use Rattle.npf_expand.specs.Protocol.{one_binding, one_protocol, one_protocol_faults};
 ghost use Rattle.npf_expand.specs.Rule.{filter_rule};
 ghost use Rattle.npf_expand.specs.Scope.{declared_of_scope, env_of_scope, ifaces_of_scope};
+ghost use Rattle.npf_expand.specs.Summary.{counted};
 ghost use Rattle.npf_expand.specs.Use.{atoms_of};
 ghost use Rattle.npf_expand.specs.Variable.{binding_of};
 
@@ -23,6 +25,7 @@ use npf_types::{Addr, NoMemory, Prefix};
 use std::alloc::Global;
 
 /// The parts of a map's line.
+#[derive(Clone, Copy)]
 pub(crate) struct MapLine<'a> {
     pub(crate) iface: &'a Iface,
     pub(crate) kind: &'a MapKind,
@@ -137,6 +140,21 @@ impl<'a> Scope<'_, 'a> {
         match pass {
             Some(filter) => self.filter_fault(filter),
             None => None,
+        }
+    }
+
+    /// How many elements the lists of a map's filter have.
+    pub(crate) fn pass_count(
+        &self,
+        alloc: Global,
+        pass: &'a Option<Filter>,
+    ) -> Result<usize, NoMemory>
+        requires { AreSound self.now.variables.now }
+        ensures { IfOk result (λ count. count ≡ counted (filter_elements (ifaces_of_scope self.now) (declared_of_scope self.now) (env_of_scope self.now) pass.now)) }
+    {
+        match pass {
+            Some(filter) => self.filter_count(alloc, filter),
+            None => Ok(0),
         }
     }
 

@@ -25,6 +25,7 @@ use npf_types::{Addr, IfId, NoMemory, Span};
 use std::alloc::Global;
 
 /// What names and interfaces are known where a statement stands.
+#[derive(Clone, Copy)]
 pub(crate) struct Scope<'s, 'a> {
     pub(crate) variables: &'s Variables<'a>,
     pub(crate) interfaces: &'a Interfaces<'a>,
