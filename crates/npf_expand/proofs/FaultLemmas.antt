@@ -1,5 +1,6 @@
 -- The first fault of two lists of faults.
-use Rattle.std.proofs.Common.{◌≡◌, Bool, true, false, is_some, Option, Some, None, List, [], ◌∷◌, ◌++◌, refl, sym, ap, ◌∙◌}
+use Rattle.std.proofs.Common.{◌≡◌, Bool, true, false, is_some, Option, Some, None, List, [], ◌∷◌, ◌++◌, refl, sym, ap, ◌∙◌, true≢false}
+use Rattle.std.specs.Prelude.{Result, Ok, Err, OnOk}
 use Rattle.npf_lexer.specs.declared.fault.ConfFault.{ConfFault}
 use Rattle.npf_model.specs.declared.iface.Iface.{Iface}
 use Rattle.npf_faults.specs.First.{earlier, first_fault}
@@ -28,3 +29,12 @@ not_refused ifaces faults fault atoms is none = sym (ap (λ fs. unless_refused i
 
 pub both_faults : (xs ys : List ConfFault) → first_fault (xs ++ ys) ≡ earlier (first_fault xs) (first_fault ys)
 both_faults xs ys = first_fault-append xs ys
+
+pub some_or_none : {X : Type 0} (o : Option X) → is_some o ≡ true → o ≡ None → ⊥
+some_or_none None some none = true≢false (sym some)
+some_or_none (Some x) some none = true≢false (ap is_some none)
+
+-- what holds where a call goes well holds of what follows from it
+pub on_ok : {T E : Type 0} (P Q : Type 0) (r : Result T E) → (P → Q) → OnOk r P → OnOk r Q
+on_ok P Q (Ok v) f is = f is
+on_ok P Q (Err e) f is = is

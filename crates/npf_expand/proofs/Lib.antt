@@ -6,5 +6,6 @@ pub mod KeptLemmas
 pub mod NameLemmas
 pub mod PartSize
 pub mod PlaceLemmas
+pub mod ReadLemmas
 pub mod StepLemmas
 pub mod SummaryLemmas

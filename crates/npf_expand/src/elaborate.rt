@@ -25,7 +25,7 @@ use std::alloc::Global;
 
 /// What a configuration's tree means for a run with these interfaces. Refused with the fault that stands first in the text, of two
 /// at one place the one with the smaller number, or for want of memory.
-pub fn expand(alloc: Global, tree: &Tree, ifaces: &Ifaces) -> Result<Model, Refused>
+pub fn expand<'a>(alloc: Global, tree: &'a Tree, ifaces: &'a Ifaces) -> Result<Model, Refused>
     ensures ok { IfOk result (λ model. Elaborates tree.now ifaces.now.list model) }
     ensures refused { IfErr result (RefusesTree tree.now ifaces.now.list) }
 {
@@ -124,7 +124,10 @@ impl<'a> State<'a> {
             Stmt::Group { head, items, .. } => {
                 self.add_group(alloc, interfaces, declarations, head, items.as_slice())
             }
-            _ => Ok(()),
+            Stmt::Set { .. } => Ok(()),
+            Stmt::Alg { .. } => Ok(()),
+            Stmt::Table { .. } => Ok(()),
+            Stmt::Procedure { .. } => Ok(()),
         }
     }
 

@@ -42,7 +42,8 @@ impl<'a> Scope<'_, 'a> {
     {
         met.meet(self.head_fault(head));
         let items = self.read_items(alloc, met, items)?;
-        self.group_of(alloc, head, items)
+        let group = self.group_of(alloc, head, items)?;
+        Ok(group)
     }
 
     fn group_of(

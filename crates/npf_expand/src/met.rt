@@ -42,7 +42,8 @@ impl Met {
             → Meets self.old self.new (faults ++ passing_faults self.old.elements elements span) elements }
     {
         let passing = passing_fault(self.elements, more, span);
-        self.first = earlier(self.first, earlier(fault, passing));
+        let both = earlier(fault, passing);
+        self.first = earlier(self.first, both);
         self.elements = counted_both(self.elements, more);
     }
 }
