@@ -25,14 +25,21 @@ use std::alloc::Global;
 
 /// What a configuration's tree means for a run with these interfaces. Refused with the fault that stands first in the text, of two
 /// at one place the one with the smaller number, or for want of memory.
-pub fn expand<'a>(alloc: Global, tree: &'a Tree, ifaces: &'a Ifaces) -> Result<Model, Refused>
+pub fn expand(alloc: Global, tree: &Tree, ifaces: &Ifaces) -> Result<Model, Refused>
     ensures ok { IfOk result (λ model. Elaborates tree.now ifaces.now.list model) }
     ensures refused { IfErr result (RefusesTree tree.now ifaces.now.list) }
 {
-    let stmts = tree.stmts.as_slice();
     let interfaces = Interfaces::new(alloc, ifaces.list.as_slice())?;
+    expand_for(alloc, tree, &interfaces)
+}
+
+fn expand_for<'a>(alloc: Global, tree: &'a Tree, interfaces: &'a Interfaces<'_>) -> Result<Model, Refused>
+    ensures ok { IfOk result (λ model. Elaborates tree.now interfaces.now.list.now model) }
+    ensures refused { IfErr result (RefusesTree tree.now interfaces.now.list.now) }
+{
+    let stmts = tree.stmts.as_slice();
     let declarations = Declarations::new(alloc, stmts)?;
-    let state = read_stmts(alloc, &interfaces, &declarations)?;
+    let state = read_stmts(alloc, interfaces, &declarations)?;
     if let Some(fault) = state.met.first {
         return Err(Refused::Fault(fault));
     }
@@ -41,7 +48,7 @@ pub fn expand<'a>(alloc: Global, tree: &'a Tree, ifaces: &'a Ifaces) -> Result<M
 
 fn read_stmts<'a>(
     alloc: Global,
-    interfaces: &'a Interfaces<'a>,
+    interfaces: &'a Interfaces<'_>,
     declarations: &Declarations<'a>,
 ) -> Result<State<'a>, NoMemory>
     ensures first { IfOk result (λ state. state.met.first
@@ -85,7 +92,7 @@ impl<'a> State<'a> {
     fn step(
         &mut self,
         alloc: Global,
-        interfaces: &'a Interfaces<'a>,
+        interfaces: &'a Interfaces<'_>,
         declarations: &Declarations<'a>,
         stmt: &'a Stmt,
     ) -> Result<(), NoMemory>
@@ -134,7 +141,7 @@ impl<'a> State<'a> {
     fn define(
         &mut self,
         alloc: Global,
-        interfaces: &'a Interfaces<'a>,
+        interfaces: &'a Interfaces<'_>,
         declarations: &Declarations<'a>,
         var: &'a Var,
         values: &'a Values,
@@ -157,7 +164,7 @@ impl<'a> State<'a> {
     fn add_map(
         &mut self,
         alloc: Global,
-        interfaces: &'a Interfaces<'a>,
+        interfaces: &'a Interfaces<'_>,
         declarations: &Declarations<'a>,
         line: &MapLine<'a>,
         span: Span,
@@ -183,7 +190,7 @@ impl<'a> State<'a> {
     fn add_group(
         &mut self,
         alloc: Global,
-        interfaces: &'a Interfaces<'a>,
+        interfaces: &'a Interfaces<'_>,
         declarations: &Declarations<'a>,
         head: &'a GroupHead,
         items: &'a [Item],

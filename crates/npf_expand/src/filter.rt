@@ -29,7 +29,7 @@ use npf_syntax::{
 use npf_types::{Decision, List, NoMemory};
 use std::alloc::{AllocError, Global};
 
-impl<'a> Scope<'_, 'a> {
+impl<'a> Scope<'_, 'a, '_> {
     #[tactic(auto, using(crate::proofs::FaultLemmas::both_faults))]
     fn one_fault(&self, one: &'a One) -> Option<ConfFault>
         requires { AreSound self.now.variables.now }

@@ -23,7 +23,7 @@ use npf_syntax::{Direction, GroupHead, Iface, Item as WrittenItem, RuleTree, Str
 use npf_types::{List, NoMemory};
 use std::alloc::Global;
 
-impl<'a> Scope<'_, 'a> {
+impl<'a> Scope<'_, 'a, '_> {
     /// Reads a group: what it is in a model, unless a fault was met.
     pub(crate) fn read_group(
         &self,

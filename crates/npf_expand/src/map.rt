@@ -36,7 +36,7 @@ pub(crate) struct MapLine<'a> {
     pub(crate) pass: &'a Option<Filter>,
 }
 
-impl<'a> Scope<'_, 'a> {
+impl<'a> Scope<'_, 'a, '_> {
     /// The first fault of a map, but for the number of its filter's elements.
     #[tactic(auto, using(crate::proofs::FaultLemmas::both_faults))]
     pub(crate) fn map_fault(&self, line: &MapLine<'a>) -> Option<ConfFault>

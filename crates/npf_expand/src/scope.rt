@@ -26,13 +26,13 @@ use std::alloc::Global;
 
 /// What names and interfaces are known where a statement stands.
 #[derive(Clone, Copy)]
-pub(crate) struct Scope<'s, 'a> {
+pub(crate) struct Scope<'s, 'a, 'i> {
     pub(crate) variables: &'s Variables<'a>,
-    pub(crate) interfaces: &'a Interfaces<'a>,
+    pub(crate) interfaces: &'a Interfaces<'i>,
     pub(crate) declarations: &'s Declarations<'a>,
 }
 
-impl<'a> Scope<'_, 'a> {
+impl<'a> Scope<'_, 'a, '_> {
     pub(crate) fn value_binding(&self, value: &'a Value) -> Option<Bound<'a>>
         requires { AreSound self.now.variables.now }
         ensures { IsBoundWhere (known_of_scope self.now) result (binding_of (ifaces_of_scope self.now) (env_of_scope self.now) value.now) }
@@ -183,7 +183,7 @@ impl<'a> Scope<'_, 'a> {
     }
 }
 
-impl<'a> Scope<'_, 'a> {
+impl<'a> Scope<'_, 'a, '_> {
     /// What protocols of a list are, one behind the other.
     pub(crate) fn splice_ones(
         &self,

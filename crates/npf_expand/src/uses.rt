@@ -20,7 +20,7 @@ use npf_syntax::{One, Value, Values};
 use npf_types::{NoMemory, Span};
 use std::alloc::Global;
 
-impl<'a> Scope<'_, 'a> {
+impl<'a> Scope<'_, 'a, '_> {
     fn use_fault(&self, role: Role, value: &'a Value) -> Option<ConfFault>
         requires { AreSound self.now.variables.now }
         ensures { result ≡ first_fault (use_faults role (value_span value.now) (atoms_of (binding_of (ifaces_of_scope self.now) (env_of_scope self.now) value.now))) }
