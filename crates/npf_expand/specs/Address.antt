@@ -1,6 +1,7 @@
 -- The addresses of a rule: blocks, tables, and functions, of which every address counts.
 use Rattle.std.specs.Prelude.{ℕ, unwrap_or, Option, Some, None, List, [], ◌∷◌, ◌++◌, map}
 use Rattle.std.specs.List.{flat_map}
+use Rattle.std.specs.Option.{option_map}
 use Rattle.npf_types.specs.declared.address.Addr.{Addr}
 use Rattle.npf_types.specs.Address.{width}
 use Rattle.npf_types.specs.Block.{block}
@@ -14,8 +15,8 @@ use Rattle.npf_model.specs.declared.iface.Iface.{Iface}
 use Rattle.npf_expand.specs.declared.role.Role.TheVariants.{AsAddress}
 use Rattle.npf_expand.specs.Atom.{Atom, BlockAtom, TableAtom, AddressesAtom, Env}
 use Rattle.npf_expand.specs.Table.{table_number}
-use Rattle.npf_expand.specs.Use.{use_faults, atoms_of, element_count}
-use Rattle.npf_expand.specs.Variable.{binding_of, own_faults, empty_list_at, spliced, value_span}
+use Rattle.npf_expand.specs.Use.{element_count}
+use Rattle.npf_expand.specs.Variable.{each_value_faults, empty_list_at, spliced}
 
 -- one address as a block
 abbrev pub host_item : Addr → AddrItem
@@ -28,24 +29,22 @@ items_of tables (TableAtom name) = InTable (table_number tables name) ∷ []
 items_of tables (AddressesAtom addrs) = map host_item addrs
 items_of tables _ = []
 
-module _ (ifaces : List Iface) (env : Env) where
-  abbrev pub address_value_faults : Value → List ConfFault
-  address_value_faults value =
-      own_faults ifaces env value ++ use_faults AsAddress (value_span value) (atoms_of (binding_of ifaces env value))
+-- the values that are listed, none where any address is asked for
+abbrev pub listed_addresses : Addresses → Option (List Value)
+listed_addresses (Written.Any span) = None
+listed_addresses (Written.One value span) = Some (value ∷ [])
+listed_addresses (Written.List list span) = Some list.values
 
+module _ (ifaces : List Iface) (env : Env) where
   abbrev pub addresses_faults : Addresses → List ConfFault
   addresses_faults (Written.Any span) = []
-  addresses_faults (Written.One value span) = address_value_faults value
-  addresses_faults (Written.List list span) = empty_list_at list.span list.values ++ flat_map address_value_faults list.values
+  addresses_faults (Written.One value span) = each_value_faults ifaces env AsAddress value
+  addresses_faults (Written.List list span) = empty_list_at list.span list.values ++ flat_map (each_value_faults ifaces env AsAddress) list.values
 
   -- how many elements are listed
   abbrev pub addresses_count : Addresses → ℕ
-  addresses_count (Written.Any span) = 0
-  addresses_count (Written.One value span) = element_count (atoms_of (binding_of ifaces env value))
-  addresses_count (Written.List list span) = element_count (spliced ifaces env list.values)
+  addresses_count addresses = element_count (spliced ifaces env (unwrap_or (listed_addresses addresses) []))
 
   -- none where any address is asked for
   abbrev pub address_items : List (List ℕ) → Addresses → Option (List AddrItem)
-  address_items tables (Written.Any span) = None
-  address_items tables (Written.One value span) = Some (flat_map (items_of tables) (atoms_of (binding_of ifaces env value)))
-  address_items tables (Written.List list span) = Some (flat_map (items_of tables) (spliced ifaces env list.values))
+  address_items tables addresses = option_map (λ values. flat_map (items_of tables) (spliced ifaces env values)) (listed_addresses addresses)

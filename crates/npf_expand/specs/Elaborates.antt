@@ -3,6 +3,7 @@
 use Rattle.std.specs.Prelude.{◌≡◌, ℕ, ◌+◌, Option, Some, None, List, [], ◌∷◌, ◌++◌}
 use Rattle.std.specs.List.{flat_map}
 use Rattle.npf_lexer.specs.declared.fault.ConfFault.{ConfFault}
+use Rattle.npf_lexer.specs.declared.fault.Refused.{Refused}
 use Rattle.npf_syntax.specs.declared.filter.Filter.{Filter}
 use Rattle.npf_syntax.specs.declared.group.GroupHead.TheVariants as Head
 use Rattle.npf_syntax.specs.declared.stmt.Stmt.{Stmt}
@@ -12,21 +13,18 @@ use Rattle.npf_model.specs.declared.iface.Iface.{Iface}
 use Rattle.npf_model.specs.declared.map.Map.{Map}
 use Rattle.npf_model.specs.declared.model.Model.{Model}
 use Rattle.npf_model.specs.declared.procedure.Procedure.{Procedure}
+use Rattle.npf_faults.specs.First.{IsFirstFaultOf}
 use Rattle.npf_expand.specs.Atom.{Env}
 use Rattle.npf_expand.specs.Group.{group_of_tree, head_faults, items_elements, items_faults}
 use Rattle.npf_expand.specs.Map.{map_faults, map_of_tree}
 use Rattle.npf_expand.specs.Procedure.{procedure_of}
 use Rattle.npf_expand.specs.Rule.{Declared, filter_count, passing_faults}
-use Rattle.npf_expand.specs.Table.{table_names, tables_of}
+use Rattle.npf_expand.specs.Table.{procedure_names, table_names, tables_of}
 use Rattle.npf_expand.specs.Variable.{Definition, definition_faults, env_of}
-
-abbrev pub procedure_name : Stmt → List (List ℕ)
-procedure_name (Stmt.Procedure name calls span) = name.text ∷ []
-procedure_name _ = []
 
 -- the names that a configuration declares, wherever in the text they stand
 abbrev pub declared_in : List Stmt → Declared
-declared_in stmts = record { tables = table_names stmts; procedures = flat_map procedure_name stmts }
+declared_in stmts = record { tables = table_names stmts; procedures = procedure_names stmts }
 
 abbrev pub procedures_of : Stmt → List Procedure
 procedures_of (Stmt.Procedure name calls span) = procedure_of name.text calls ∷ []
@@ -101,3 +99,8 @@ model_of tree ifaces =
 pub record Elaborates (tree : Tree) (ifaces : List Iface) (model : Model) : Type 0 where
   pub clean : tree_faults tree ifaces ≡ []
   pub meant : model ≡ model_of tree ifaces
+
+-- why a tree is refused: its first fault; want of memory says nothing of it
+abbrev pub RefusesTree : Tree → List Iface → Refused → Type 0
+RefusesTree tree ifaces (Refused.Fault fault) = IsFirstFaultOf (tree_faults tree ifaces) fault
+RefusesTree tree ifaces Refused.NoMemory = Unit {0}

@@ -2,14 +2,13 @@
 use Rattle.std.specs.Prelude.{ℕ, ◌||◌, nat_lt, if◌then◌else◌, Option, Some, None, List, [], ◌++◌}
 use Rattle.std.specs.List.{flat_map, filter_map}
 use Rattle.npf_lexer.specs.declared.fault.ConfFault.{ConfFault}
-use Rattle.npf_syntax.specs.declared.value.Value.{Value}
 use Rattle.npf_syntax.specs.declared.value.Values.{Values}
 use Rattle.npf_model.specs.declared.iface.Iface.{Iface}
 use Rattle.npf_expand.specs.declared.role.Role.TheVariants.{AsPort}
 use Rattle.npf_expand.specs.Atom.{Atom, NumberAtom, RangeAtom, WordAtom, Env}
 use Rattle.npf_expand.specs.Service.{services, number_named}
-use Rattle.npf_expand.specs.Use.{use_faults, atoms_of, element_count}
-use Rattle.npf_expand.specs.Variable.{binding_of, own_faults, empty_list_faults, listed_values, spliced, value_span}
+use Rattle.npf_expand.specs.Use.{element_count}
+use Rattle.npf_expand.specs.Variable.{each_value_faults, empty_list_faults, listed_values, spliced}
 
 abbrev pub same_port : Option ℕ → Option (ℕ × ℕ)
 same_port None = None
@@ -23,12 +22,9 @@ atom_ports (WordAtom text span) = same_port (number_named services text)
 atom_ports _ = None
 
 module _ (ifaces : List Iface) (env : Env) where
-  abbrev pub port_value_faults : Value → List ConfFault
-  port_value_faults value = own_faults ifaces env value ++ use_faults AsPort (value_span value) (atoms_of (binding_of ifaces env value))
-
   abbrev pub ports_faults : Option Values → List ConfFault
   ports_faults None = []
-  ports_faults (Some values) = empty_list_faults values ++ flat_map port_value_faults (listed_values values)
+  ports_faults (Some values) = empty_list_faults values ++ flat_map (each_value_faults ifaces env AsPort) (listed_values values)
 
   abbrev pub ports_count : Option Values → ℕ
   ports_count None = 0

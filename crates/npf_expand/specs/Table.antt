@@ -43,3 +43,10 @@ table_name _ = []
 
 abbrev pub table_names : List Stmt → List (List ℕ)
 table_names stmts = flat_map table_name stmts
+
+abbrev pub procedure_name : Stmt → List (List ℕ)
+procedure_name (Stmt.Procedure name calls span) = name.text ∷ []
+procedure_name _ = []
+
+abbrev pub procedure_names : List Stmt → List (List ℕ)
+procedure_names stmts = flat_map procedure_name stmts

@@ -11,9 +11,10 @@ use Rattle.npf_syntax.specs.declared.value.Values.{Values}
 use Rattle.npf_syntax.specs.declared.word.Number.{Number}
 use Rattle.npf_model.specs.declared.iface.Iface.{Iface}
 use Rattle.npf_faults.specs.First.{fault_at}
+use Rattle.npf_expand.specs.declared.role.Role.{Role}
 use Rattle.npf_expand.specs.Atom.{Atom, NumberAtom, RangeAtom, WordAtom, StringAtom, BlockAtom, TableAtom, AddressesAtom, Binding, Env}
 use Rattle.npf_expand.specs.Iface.{addresses_of, function_faults, iface_name}
-use Rattle.npf_expand.specs.Use.{atoms_of, undefined_faults}
+use Rattle.npf_expand.specs.Use.{atoms_of, undefined_faults, use_faults}
 
 abbrev pub value_span : Value → Span
 value_span (Value.Number _ _ span) = span
@@ -71,6 +72,10 @@ module _ (ifaces : List Iface) where
   own_faults env (Value.Var var span) = undefined_faults span (env var.name)
   own_faults env (Value.Function function iface span) = function_faults ifaces env function iface span
   own_faults env _ = []
+
+  -- the faults of a value that is used in this place, one or many
+  abbrev pub each_value_faults : Env → Role → Value → List ConfFault
+  each_value_faults env role value = own_faults env value ++ use_faults role (value_span value) (atoms_of (binding_of env value))
 
   abbrev pub spliced : Env → List Value → List Atom
   spliced env values = flat_map (λ value. atoms_of (binding_of env value)) values

@@ -1,5 +1,6 @@
 // Values in which no variable is left.
 ghost use Rattle.std.specs.Prelude.{◌≡◌};
+ghost use Rattle.std.specs.Option.{option_map};
 ghost use Rattle.npf_faults.specs.First.{first_fault};
 ghost use Rattle.npf_expand.specs.Atom.{kept_atom};
 ghost use Rattle.npf_expand.specs.Iface.{name_text};
@@ -27,7 +28,22 @@ pub(crate) enum Atom<'a> {
     Addresses(&'a [Addr]),
 }
 
-impl Atom<'_> {
+impl<'a> Atom<'a> {
+    /// The name of an interface that it is, where it is one.
+    pub(crate) fn name_text(&self) -> Option<&'a [u8]>
+        ensures { option_map (λ name. name.now) result ≡ name_text (kept_atom self.now) }
+    {
+        let text = match self {
+            Atom::Word(word) => word.text.as_slice(),
+            Atom::Str(string) => string.text.as_slice(),
+            _ => return None,
+        };
+        if Name::of(text).is_none() {
+            return None;
+        }
+        Some(text)
+    }
+
     /// Whether it can't stand in this place.
     pub(crate) fn is_unfit(&self, role: Role) -> bool
         ensures { result ≡ is_unfit role (kept_atom self.now) }

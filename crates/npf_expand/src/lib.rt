@@ -5,17 +5,28 @@
 // its model, and any other is refused with its first fault in the text, of two at one place with that of the smaller number.
 #![tactic(auto)]
 
+mod address;
 mod atom;
+mod declarations;
+mod elaborate;
+mod filter;
+mod group;
 mod iface;
 mod iface_file;
 mod map;
+mod met;
 mod name;
 mod place;
 mod procedure;
 mod role;
 mod rule;
+mod scope;
 mod service;
+mod summary;
 mod table;
 mod text;
+mod uses;
+mod variable;
 
+pub use elaborate::expand;
 pub use iface_file::read_ifaces;

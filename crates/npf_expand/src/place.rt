@@ -1,5 +1,5 @@
 // Names by their first places.
-ghost use Rattle.std.specs.Prelude.{◌≡◌, ◌<◌, ◌++◌, ◌∷◌, ℕ, [], OnOk, List};
+ghost use Rattle.std.specs.Prelude.{◌≡◌, ◌<◌, ◌+◌, ◌++◌, ◌∷◌, ℕ, [], OnOk, List};
 ghost use Rattle.std.specs.Str.{bytes_eq};
 ghost use Rattle.npf_model.specs.Verdict.{first_where};
 ghost use Rattle.npf_expand.specs.Place.{ArePlaces};
@@ -12,7 +12,7 @@ use std::collections::HashMap;
 #[derive(Drop)]
 pub(crate) struct Places<'a> {
     first: HashMap<&'a [u8], usize>,
-    count: usize,
+    pub(crate) count: usize,
 }
 
 impl<'a> Places<'a> {
@@ -28,8 +28,9 @@ impl<'a> Places<'a> {
     /// Puts a name behind the others.
     pub(crate) fn add(&mut self, name: &'a [u8]) -> Result<(), NoMemory>
         requires { self.old.count < usize.MAX }
-        ensures { OnOk result ((names : List (List ℕ)) → ArePlaces self.old names
+        ensures added { OnOk result ((names : List (List ℕ)) → ArePlaces self.old names
             → ArePlaces self.new (names ++ name.now ∷ [])) }
+        ensures counted { OnOk result (self.new.count ≡ self.old.count + 1) }
     {
         if self.first.contains_key(&name) {
             self.count += 1;

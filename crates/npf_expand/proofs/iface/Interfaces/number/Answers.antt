@@ -3,9 +3,9 @@ use Rattle.npf_expand.proofs.IfaceLemmas.{number_is}
 use Rattle.npf_expand.proofs.iface.Interfaces.number.Goals as goal
 
 pub returns-in-Some : goal.returns-in-Some
-returns-in-Some c = λ ifaces are.
-    c.numbered.ensures ∙ number_is ifaces c.args.name.now c.as_bytes.result.now _ _ c.as_bytes.ensures.value (c.place.ensures _ are.named) c.in-Some.is
+returns-in-Some c =
+    c.numbered.ensures ∙ number_is c.args.self.now.list.now c.args.name.now c.as_bytes.result.now _ _ c.as_bytes.ensures.value (c.place.ensures _ c.args.self.now.placed) c.in-Some.is
 
 pub returns-in-None : goal.returns-in-None
-returns-in-None c = λ ifaces are.
-    number_is ifaces c.args.name.now c.as_bytes.result.now _ _ c.as_bytes.ensures.value (c.place.ensures _ are.named) c.in-None.is
+returns-in-None c =
+    number_is c.args.self.now.list.now c.args.name.now c.as_bytes.result.now _ _ c.as_bytes.ensures.value (c.place.ensures _ c.args.self.now.placed) c.in-None.is

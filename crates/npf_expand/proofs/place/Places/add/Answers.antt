@@ -5,15 +5,15 @@ use Rattle.std.specs.Str.{bytes_eq}
 use Rattle.npf_expand.proofs.PlaceLemmas.{none_there, place_added, place_kept}
 use Rattle.npf_expand.proofs.place.Places.add.Goals as goal
 
-pub returns-then-contains_key : goal.returns-then-contains_key
-returns-then-contains_key c = λ names are. record {
+pub returns-then-contains_key-clause-added : goal.returns-then-contains_key-clause-added
+returns-then-contains_key-clause-added c = λ names are. record {
   counted = omega (arith, are.counted, length_push names c.args.name.now);
   found = λ text. are.found text ∙ place_kept names c.args.name.now text
       (ap is_some (sym (are.found c.args.name.now)) ∙ sym c.contains_key.ensures ∙ c.if-contains_key.true);
 }
 
-pub returns : goal.returns
-returns c = λ names are.
+pub returns-clause-added : goal.returns-clause-added
+returns-clause-added c = λ names are.
     let name = c.args.name.now in
     let was = c.args.self.now in
     record {

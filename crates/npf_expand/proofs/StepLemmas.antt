@@ -1,0 +1,140 @@
+-- What is met behind what was met before.
+use Rattle.std.proofs.Common.{◌≡◌, ◌≤◌, ◌<◌, ◌+◌, ℕ, zero, suc, Bool, true, false, min, ◌&&◌, nat_le, nat_lt, if◌then◌else◌, Option, Some, None, List, [], ◌∷◌, ◌++◌, length, get_or, take, drop, map, refl, sym, ap, subst, ◌∙◌, append-nil, append_assoc, arith}
+use Rattle.std.proofs.lemmas.Grind.{common_steps}
+use Rattle.std.proofs.lemmas.List.{drop_more, drop_all, take_more, take_all}
+use Rattle.npf_types.specs.declared.limits.TheConstants.{MAX_LIST_ELEMENTS}
+use Rattle.npf_types.specs.declared.span.Span.{Span}
+use Rattle.npf_lexer.specs.declared.fault.ConfFault.{ConfFault}
+use Rattle.npf_lexer.specs.declared.fault.Excess.TheVariants.{Elements}
+use Rattle.npf_lexer.specs.declared.fault.Fault.TheVariants.{TooMany}
+use Rattle.npf_syntax.specs.declared.group.Item.{Item as WrittenItem}
+use Rattle.npf_syntax.specs.declared.group.Item.TheVariants as ItemIs
+use Rattle.npf_syntax.specs.declared.rule.Direction.{Direction}
+use Rattle.npf_syntax.specs.declared.stmt.Stmt.{Stmt}
+use Rattle.npf_syntax.specs.declared.value.Iface.{Iface as WrittenIface}
+use Rattle.npf_syntax.specs.declared.word.Str.{Str}
+use Rattle.npf_syntax.specs.declared.group.GroupHead.{GroupHead}
+use Rattle.npf_syntax.specs.declared.group.GroupHead.TheVariants as Head
+use Rattle.npf_model.specs.declared.group.Item.{Item}
+use Rattle.npf_model.specs.declared.iface.Iface.{Iface}
+use Rattle.npf_faults.specs.First.{earlier, fault_if, first_fault}
+use Rattle.npf_faults.proofs.FirstLemmas.{earlier-assoc, earlier-none, first_fault-append, none_of_earlier}
+use Rattle.npf_expand.specs.declared.met.Met.{Met}
+use Rattle.npf_expand.specs.Atom.{Env}
+use Rattle.npf_expand.specs.Elaborates.{behind, default_group, gathered, named_group, stmt_elements, stmt_faults, stmts_faults}
+use Rattle.npf_expand.specs.Group.{group_of_tree, item_elements, item_faults, item_of_tree, items_elements, items_faults}
+use Rattle.npf_expand.specs.Meets.{Meets}
+use Rattle.npf_expand.specs.Rule.{Declared, passing_faults, rule_faults}
+use Rattle.npf_expand.specs.Summary.{counted}
+use Rattle.npf_expand.proofs.FaultLemmas.{first_of_both}
+use Rattle.npf_expand.specs.Variable.{Definition, env_of}
+
+same_passing : (a b m n : ℕ) → counted a ≡ counted b → counted m ≡ counted n → (nat_le a MAX_LIST_ELEMENTS && nat_lt MAX_LIST_ELEMENTS (a + m)) ≡ (nat_le b MAX_LIST_ELEMENTS && nat_lt MAX_LIST_ELEMENTS (b + n))
+same_passing a b m n one other = grind arith
+
+pub passing_faults-counted : (a b m n : ℕ) (span : Span) → counted a ≡ counted b → counted m ≡ counted n → passing_faults a m span ≡ passing_faults b n span
+passing_faults-counted a b m n span one other = ap (λ test. fault_if test span (TooMany Elements (MAX_LIST_ELEMENTS + 1))) (same_passing a b m n one other)
+
+pub counted-more : (a b m n : ℕ) → counted a ≡ counted b → counted m ≡ counted n → counted (a + m) ≡ counted (b + n)
+counted-more a b m n one other = omega (arith, one, other)
+
+counted-shift : (now one rest next : ℕ) → counted next ≡ counted (now + one) → counted (now + (one + rest)) ≡ counted (next + rest)
+counted-shift now one rest next is = omega (arith, is)
+
+module _ (ifaces : List Iface) (env : Env) (declared : Declared) where
+  item_faults-counted : (a b : ℕ) (item : WrittenItem) → counted a ≡ counted b → item_faults ifaces env declared a item ≡ item_faults ifaces env declared b item
+  item_faults-counted a b (ItemIs.Rule rule span) same =
+      ap (λ faults. rule_faults ifaces env rule ++ faults) (passing_faults-counted a b _ _ rule.span same refl)
+  item_faults-counted a b (ItemIs.Ruleset name dir on span) same = refl
+
+  pub items_faults-counted : (a b : ℕ) (items : List WrittenItem) → counted a ≡ counted b → items_faults ifaces env declared a items ≡ items_faults ifaces env declared b items
+  items_faults-counted a b [] same = refl
+  items_faults-counted a b (item ∷ items) same =
+      ap (λ faults. faults ++ items_faults ifaces env declared (a + item_elements ifaces env declared item) items) (item_faults-counted a b item same)
+      ∙ ap (λ faults. item_faults ifaces env declared b item ++ faults)
+      (items_faults-counted (a + item_elements ifaces env declared item) (b + item_elements ifaces env declared item) items (counted-more a b _ _ same refl))
+
+abbrev met : Option ConfFault → ℕ → Met
+met first elements = record { first = first; elements = elements }
+
+pub met_rule : (old first fault passes both : Option ConfFault) (before more after : ℕ) (span : Span) (faults : List ConfFault) (elements : ℕ)
+    → first ≡ earlier old both → both ≡ earlier fault passes → passes ≡ first_fault (passing_faults before more span) → after ≡ counted (before + more)
+    → fault ≡ first_fault faults → more ≡ counted elements → Meets (met old before) (met first after) (faults ++ passing_faults before elements span) elements
+met_rule old first fault passes both before more after span faults elements is_first is_both is_passing is_after is_fault is_more = record {
+  first = is_first ∙ ap (earlier old) (is_both ∙ first_of_both faults (passing_faults before elements span) fault passes is_fault
+      (is_passing ∙ ap first_fault (passing_faults-counted before before more elements span refl (omega (arith, is_more)))));
+  count = omega (arith, is_after, is_more);
+}
+
+module _ (ifaces : List Iface) (env : Env) (declared : Declared) where
+  -- what is left of a group's items, of which so many were read
+  pub record ItemsLeft (old now : Met) (built : List Item) (items : List WrittenItem) (read : ℕ) : Type 0 where
+    pub faults : earlier old.first (first_fault (items_faults ifaces env declared old.elements items))
+        ≡ earlier now.first (first_fault (items_faults ifaces env declared now.elements (drop read items)))
+    pub count : counted (old.elements + items_elements ifaces env declared items) ≡ counted (now.elements + items_elements ifaces env declared (drop read items))
+    pub model : now.first ≡ None → map (item_of_tree ifaces env declared) items ≡ built ++ map (item_of_tree ifaces env declared) (drop read items)
+
+  pub items_step : (old now next : Met) (built more : List Item) (items : List WrittenItem) (read : ℕ) (item d : WrittenItem) → read < length items → item ≡ get_or items read d
+      → ItemsLeft old now built items read → Meets now next (item_faults ifaces env declared now.elements item) (item_elements ifaces env declared item)
+      → (next.first ≡ None → more ≡ built ++ item_of_tree ifaces env declared item ∷ []) → ItemsLeft old next more items (read + 1)
+  items_step old now next built more items read item d below is left meets pushed =
+      let rest = drop (read + 1) items in
+      let front : drop read items ≡ item ∷ rest = drop_more items read d below ∙ ap (λ (x : WrittenItem). x ∷ rest) (sym is) in
+      let here = item_faults ifaces env declared now.elements item in
+      let behind_it = items_faults ifaces env declared (now.elements + item_elements ifaces env declared item) rest in
+      let one = item_of_tree ifaces env declared item in
+      record {
+        faults = left.faults ∙ ap (λ (l : List WrittenItem). earlier now.first (first_fault (items_faults ifaces env declared now.elements l))) front
+            ∙ ap (earlier now.first) (first_fault-append here behind_it) ∙ sym (earlier-assoc now.first (first_fault here) (first_fault behind_it))
+            ∙ ap (λ o. earlier o (first_fault behind_it)) (sym meets.first)
+            ∙ ap (λ fs. earlier next.first (first_fault fs)) (items_faults-counted ifaces env declared _ next.elements rest (sym meets.count));
+        count = left.count ∙ ap (λ (l : List WrittenItem). counted (now.elements + items_elements ifaces env declared l)) front
+            ∙ counted-shift now.elements (item_elements ifaces env declared item) (items_elements ifaces env declared rest) next.elements meets.count;
+        model = λ none. left.model (none_of_earlier now.first (first_fault here) (sym meets.first ∙ none))
+            ∙ ap (λ (l : List WrittenItem). built ++ map (item_of_tree ifaces env declared) l) front
+            ∙ sym (append_assoc built (one ∷ []) (map (item_of_tree ifaces env declared) rest))
+            ∙ ap (λ (b : List Item). b ++ map (item_of_tree ifaces env declared) rest) (sym (pushed none));
+      }
+
+  pub items_met : (old now : Met) (built : List Item) (items : List WrittenItem) (read : ℕ) → length items ≤ read → ItemsLeft old now built items read
+      → Meets old now (items_faults ifaces env declared old.elements items) (items_elements ifaces env declared items)
+  items_met old now built items read past left = record {
+    first = sym (left.faults ∙ ap (λ (l : List WrittenItem). earlier now.first (first_fault (items_faults ifaces env declared now.elements l))) (drop_all read items past) ∙ earlier-none now.first);
+    count = sym (left.count ∙ ap (λ (l : List WrittenItem). counted (now.elements + items_elements ifaces env declared l)) (drop_all read items past) ∙ omega arith);
+  }
+
+  pub items_built : (old now : Met) (built : List Item) (items : List WrittenItem) (read : ℕ) → length items ≤ read → ItemsLeft old now built items read
+      → now.first ≡ None → built ≡ map (item_of_tree ifaces env declared) items
+  items_built old now built items read past left none =
+      sym (left.model none ∙ ap (λ (l : List WrittenItem). built ++ map (item_of_tree ifaces env declared) l) (drop_all read items past) ∙ append-nil built)
+
+  pub group_met : (old mid new : Met) (faults : List ConfFault) (items : List WrittenItem) (elements : ℕ) → Meets old mid faults 0
+      → Meets mid new (items_faults ifaces env declared mid.elements items) elements
+      → Meets old new (faults ++ items_faults ifaces env declared old.elements items) elements
+  group_met old mid new faults items elements one other = record {
+    first = other.first ∙ ap (λ o. earlier o (first_fault (items_faults ifaces env declared mid.elements items))) one.first
+        ∙ earlier-assoc old.first (first_fault faults) _ ∙ ap (earlier old.first) (sym (first_fault-append faults (items_faults ifaces env declared mid.elements items)))
+        ∙ ap (λ fs. earlier old.first (first_fault (faults ++ fs))) (items_faults-counted ifaces env declared mid.elements old.elements items (omega (arith, one.count)));
+    count = omega (arith, one.count, other.count);
+  }
+
+  pub group_is : (head : GroupHead) (items : List WrittenItem) (built : List Item) → built ≡ map (item_of_tree ifaces env declared) items
+      → record (group_of_tree ifaces env declared head []) { items = built } ≡ group_of_tree ifaces env declared head items
+  group_is (Head.Named name dir on span) items built is = ap (λ (l : List Item). record (group_of_tree ifaces env declared (Head.Named name dir on span) []) { items = l }) is
+  group_is (Head.Default span) items built is = ap (λ (l : List Item). record (group_of_tree ifaces env declared (Head.Default span) []) { items = l }) is
+
+module _ (ifaces : List Iface) (env : Env) (declared : Declared) (head : GroupHead) (items : List WrittenItem) (span : Span) where
+  pub named_is : (name : Str) (dir : Option Direction) (on : Option WrittenIface) (head_span : Span) → head ≡ Head.Named name dir on head_span
+      → group_of_tree ifaces env declared head items ∷ [] ≡ named_group ifaces declared env (Stmt.Group head items span)
+  named_is name dir on head_span is = rw is refl
+
+  pub default_none : (name : Str) (dir : Option Direction) (on : Option WrittenIface) (head_span : Span) → head ≡ Head.Named name dir on head_span
+      → [] ≡ default_group ifaces declared env (Stmt.Group head items span)
+  default_none name dir on head_span is = rw is refl
+
+  pub default_is : (head_span : Span) → head ≡ Head.Default head_span
+      → group_of_tree ifaces env declared head items ∷ [] ≡ default_group ifaces declared env (Stmt.Group head items span)
+  default_is head_span is = rw is refl
+
+  pub named_none : (head_span : Span) → head ≡ Head.Default head_span → [] ≡ named_group ifaces declared env (Stmt.Group head items span)
+  named_none head_span is = rw is refl

@@ -1,0 +1,40 @@
+use Rattle.std.proofs.Common.{append-nil, refl, sym, ap, ◌∙◌}
+use Rattle.npf_expand.specs.Elaborates.{declared_in, filter_elements}
+use Rattle.npf_expand.specs.Kept.{env_in}
+use Rattle.npf_expand.specs.Map.{map_faults, map_of_tree}
+use Rattle.npf_model.specs.declared.map.Map.{Map}
+use Rattle.std.proofs.Common.{List, ◌++◌, ◌∷◌, []}
+use Rattle.npf_expand.proofs.FaultLemmas.{some_or_none}
+use Rattle.npf_expand.proofs.elaborate.State.add_map.Goals as goal
+
+pub returns-then-is_some : goal.returns-then-is_some
+returns-then-is_some c =
+    let state = c.args.self.now in
+    let ifaces = c.args.interfaces.now.list.now in
+    let env = env_in state.variables in
+    let line = c.args.line.now in
+    record {
+      sound = c.requires;
+      env = λ text. refl;
+      met = c.meet_rule.ensures (map_faults ifaces env line.iface.now line.proto.now line.left.now line.right.now line.pass.now)
+          (filter_elements ifaces (declared_in c.args.declarations.now.stmts.now) env line.pass.now) c.map_fault.ensures c.in_ok-more.ensures;
+      adds = λ none. absurd (some_or_none c.meet_rule.new.self.first (sym c.is_some.ensures ∙ c.if-is_some.true) none);
+    }
+
+pub returns : goal.returns
+returns c =
+    let state = c.args.self.now in
+    let ifaces = c.args.interfaces.now.list.now in
+    let env = env_in state.variables in
+    let line = c.args.line.now in
+    record {
+      sound = c.requires;
+      env = λ text. refl;
+      met = c.meet_rule.ensures (map_faults ifaces env line.iface.now line.proto.now line.left.now line.right.now line.pass.now)
+          (filter_elements ifaces (declared_in c.args.declarations.now.stmts.now) env line.pass.now) c.map_fault.ensures c.in_ok-more.ensures;
+      adds = λ none. record {
+        groups = sym (append-nil state.groups.items);
+        defaults = sym (append-nil state.defaults.items);
+        maps = c.in_ok-push.ensures.items ∙ ap (λ (m : Map). state.maps.items ++ m ∷ []) c.in_ok-map_of.ensures;
+      };
+    }

@@ -1,0 +1,7 @@
+use Rattle.std.proofs.Common.{◌≡◌, take}
+use Rattle.std.specs.List.{flat_map}
+use Rattle.npf_expand.specs.Elaborates.{procedures_of}
+use Rattle.npf_expand.proofs.elaborate.procedures_of_each.Given as goal
+
+abbrev pub invariant-loop-stmt : goal.invariant-loop-stmt
+invariant-loop-stmt l = record { so_far : l.procedures.items ≡ flat_map procedures_of (take l.stmt-index l.fn.stmts) }

@@ -1,0 +1,297 @@
+// The elaboration of a whole configuration, statement by statement.
+ghost use Rattle.std.specs.Prelude.{◌≡◌, ◌++◌, ℕ, [], IfErr, IfOk, List, None, OnOk};
+ghost use Rattle.std.specs.List.{flat_map};
+ghost use Rattle.npf_types.specs.declared.span.Span.{Span};
+ghost use Rattle.npf_syntax.specs.declared.stmt.Stmt.{Stmt};
+ghost use Rattle.npf_faults.specs.First.{first_fault};
+ghost use Rattle.npf_expand.specs.Elaborates.{Elaborates, RefusesTree, declared_in, procedures_of, stmts_faults};
+ghost use Rattle.npf_expand.specs.Kept.{AreSound, env_in};
+ghost use Rattle.npf_expand.specs.Step.{Adding, Steps};
+ghost use Rattle.npf_expand.specs.Table.{tables_of};
+
+use crate::declarations::Declarations;
+use crate::iface::Interfaces;
+use crate::map::MapLine;
+use crate::met::Met;
+use crate::procedure::procedure_of;
+use crate::scope::Scope;
+use crate::table::table_of;
+use crate::variable::Variables;
+use npf_lexer::Refused;
+use npf_model::{Group, Ifaces, Map, Model, Procedure, TableDecl};
+use npf_syntax::{GroupHead, Item, Stmt, Tree, Values, Var};
+use npf_types::{List, NoMemory, Span};
+use std::alloc::Global;
+
+/// What a configuration's tree means for a run with these interfaces. Refused with the fault that stands first in the text, of two
+/// at one place the one with the smaller number, or for want of memory.
+pub fn expand(alloc: Global, tree: &Tree, ifaces: &Ifaces) -> Result<Model, Refused>
+    ensures ok { IfOk result (λ model. Elaborates tree.now ifaces.now.list model) }
+    ensures refused { IfErr result (RefusesTree tree.now ifaces.now.list) }
+{
+    let interfaces = Interfaces::new(alloc, ifaces.list.as_slice())?;
+    expand_for(alloc, tree, &interfaces)
+}
+
+fn expand_for<'a>(alloc: Global, tree: &'a Tree, interfaces: &'a Interfaces<'_>) -> Result<Model, Refused>
+    ensures ok { IfOk result (λ model. Elaborates tree.now interfaces.now.list.now model) }
+    ensures refused { IfErr result (RefusesTree tree.now interfaces.now.list.now) }
+{
+    let stmts = tree.stmts.as_slice();
+    let declarations = Declarations::new(alloc, stmts)?;
+    let state = read_stmts(alloc, interfaces, &declarations)?;
+    if let Some(fault) = state.met.first {
+        return Err(Refused::Fault(fault));
+    }
+    Ok(state.into_model(alloc, stmts)?)
+}
+
+fn read_stmts<'a>(
+    alloc: Global,
+    interfaces: &'a Interfaces<'_>,
+    declarations: &Declarations<'a>,
+) -> Result<State<'a>, NoMemory>
+    ensures first { IfOk result (λ state. state.met.first
+        ≡ first_fault (stmts_faults interfaces.now.list.now (declared_in declarations.now.stmts.now) [] 0 declarations.now.stmts.now)) }
+    ensures adding { IfOk result (λ state. state.met.first ≡ None
+        → Adding interfaces.now.list.now (declared_in declarations.now.stmts.now) state declarations.now.stmts.now) }
+{
+    let mut state = State::new(alloc);
+    for stmt in declarations.stmts {
+        state.step(alloc, interfaces, declarations, stmt)?;
+    }
+    Ok(state)
+}
+
+/// What was read of a configuration so far.
+#[derive(Drop)]
+pub(crate) struct State<'a> {
+    pub(crate) variables: Variables<'a>,
+    pub(crate) met: Met,
+    pub(crate) groups: Vec<Group>,
+    pub(crate) defaults: Vec<Group>,
+    pub(crate) maps: Vec<Map>,
+}
+
+impl<'a> State<'a> {
+    fn new(alloc: Global) -> State<'a>
+        ensures sound { AreSound result.variables }
+        ensures none { (text : List ℕ) → env_in result.variables text ≡ None }
+        ensures met { result.met ≡ record { first = None; elements = 0 } }
+        ensures empty { (result.groups.items ≡ []) × (result.defaults.items ≡ []) × (result.maps.items ≡ []) }
+    {
+        State {
+            variables: Variables::new(alloc),
+            met: Met::none(),
+            groups: Vec::new(alloc),
+            defaults: Vec::new(alloc),
+            maps: Vec::new(alloc),
+        }
+    }
+
+    fn step(
+        &mut self,
+        alloc: Global,
+        interfaces: &'a Interfaces<'_>,
+        declarations: &Declarations<'a>,
+        stmt: &'a Stmt,
+    ) -> Result<(), NoMemory>
+        requires { AreSound self.old.variables }
+        ensures { OnOk result (Steps interfaces.now.list.now (declared_in declarations.now.stmts.now) self.old self.new stmt.now) }
+    {
+        match stmt {
+            Stmt::Define { var, values, .. } => self.define(
+                alloc,
+                interfaces,
+                declarations,
+                var,
+                values,
+            ),
+            Stmt::Map {
+                iface,
+                kind,
+                proto,
+                left,
+                arrow,
+                right,
+                pass,
+                span,
+            } => {
+                let line = MapLine {
+                    iface,
+                    kind,
+                    proto,
+                    left,
+                    arrow: *arrow,
+                    right,
+                    pass,
+                };
+                self.add_map(alloc, interfaces, declarations, &line, *span)
+            }
+            Stmt::Group { head, items, .. } => {
+                self.add_group(alloc, interfaces, declarations, head, items.as_slice())
+            }
+            Stmt::Set { .. } => Ok(()),
+            Stmt::Alg { .. } => Ok(()),
+            Stmt::Table { .. } => Ok(()),
+            Stmt::Procedure { .. } => Ok(()),
+        }
+    }
+
+    fn define(
+        &mut self,
+        alloc: Global,
+        interfaces: &'a Interfaces<'_>,
+        declarations: &Declarations<'a>,
+        var: &'a Var,
+        values: &'a Values,
+    ) -> Result<(), NoMemory>
+        requires { AreSound self.old.variables }
+        ensures { OnOk result ((span : Span) → Steps interfaces.now.list.now (declared_in declarations.now.stmts.now) self.old self.new (Stmt.Define var.now values.now span)) }
+    {
+        let scope = Scope {
+            variables: &self.variables,
+            interfaces,
+            declarations,
+        };
+        let fault = scope.definition_fault(values);
+        let def = scope.definition(alloc, values, &fault)?;
+        self.met.meet(fault);
+        self.variables.put(var.name.as_slice(), def)?;
+        Ok(())
+    }
+
+    fn add_map(
+        &mut self,
+        alloc: Global,
+        interfaces: &'a Interfaces<'_>,
+        declarations: &Declarations<'a>,
+        line: &MapLine<'a>,
+        span: Span,
+    ) -> Result<(), NoMemory>
+        requires { AreSound self.old.variables }
+        ensures { OnOk result (Steps interfaces.now.list.now (declared_in declarations.now.stmts.now) self.old self.new
+            (Stmt.Map line.now.iface.now line.now.kind.now line.now.proto.now line.now.left.now line.now.arrow line.now.right.now line.now.pass.now span)) }
+    {
+        let scope = Scope {
+            variables: &self.variables,
+            interfaces,
+            declarations,
+        };
+        let more = scope.pass_count(alloc, line.pass)?;
+        self.met.meet_rule(scope.map_fault(line), more, span);
+        if self.met.first.is_some() {
+            return Ok(());
+        }
+        self.maps.push(scope.map_of(alloc, line)?)?;
+        Ok(())
+    }
+
+    fn add_group(
+        &mut self,
+        alloc: Global,
+        interfaces: &'a Interfaces<'_>,
+        declarations: &Declarations<'a>,
+        head: &'a GroupHead,
+        items: &'a [Item],
+    ) -> Result<(), NoMemory>
+        requires { AreSound self.old.variables }
+        ensures { OnOk result ((span : Span) → Steps interfaces.now.list.now (declared_in declarations.now.stmts.now) self.old self.new (Stmt.Group head.now items.now span)) }
+    {
+        let scope = Scope {
+            variables: &self.variables,
+            interfaces,
+            declarations,
+        };
+        let group = scope.read_group(alloc, &mut self.met, head, items)?;
+        match head {
+            GroupHead::Named { .. } => {
+                self.groups.push(group)?;
+                Ok(())
+            }
+            GroupHead::Default { .. } => {
+                self.defaults.push(group)?;
+                Ok(())
+            }
+        }
+    }
+
+    /// The model of statements that were all read.
+    fn into_model(self, alloc: Global, stmts: &[Stmt]) -> Result<Model, NoMemory>
+        ensures { IfOk result (λ model. model ≡ record {
+          groups = self.entry.groups.items ++ self.entry.defaults.items;
+          tables = flat_map tables_of stmts.now;
+          maps = self.entry.maps.items;
+          procedures = flat_map procedures_of stmts.now;
+        }) }
+    {
+        let tables = tables_of_each(alloc, stmts)?;
+        let procedures = procedures_of_each(alloc, stmts)?;
+        let State {
+            mut groups,
+            mut defaults,
+            maps,
+            ..
+        } = self;
+        groups.append(&mut defaults)?;
+        Ok(Model {
+            groups: List::of_vec(groups),
+            tables: List::of_vec(tables),
+            maps: List::of_vec(maps),
+            procedures: List::of_vec(procedures),
+        })
+    }
+}
+
+fn tables_of_each(alloc: Global, stmts: &[Stmt]) -> Result<Vec<TableDecl>, NoMemory>
+    ensures { IfOk result (λ tables. tables.items ≡ flat_map tables_of stmts.now) }
+{
+    let mut tables = Vec::new(alloc);
+    for stmt in stmts {
+        add_table(alloc, &mut tables, stmt)?;
+    }
+    Ok(tables)
+}
+
+fn add_table(alloc: Global, tables: &mut Vec<TableDecl>, stmt: &Stmt) -> Result<(), NoMemory>
+    ensures { OnOk result (tables.new.items ≡ tables.old.items ++ tables_of stmt.now) }
+{
+    match stmt {
+        Stmt::Table {
+            name,
+            kind,
+            file,
+            span,
+        } => {
+            tables.push(table_of(alloc, name, kind, file, *span)?)?;
+            Ok(())
+        }
+        _ => Ok(()),
+    }
+}
+
+fn procedures_of_each(alloc: Global, stmts: &[Stmt]) -> Result<Vec<Procedure>, NoMemory>
+    ensures { IfOk result (λ procedures. procedures.items ≡ flat_map procedures_of stmts.now) }
+{
+    let mut procedures = Vec::new(alloc);
+    for stmt in stmts {
+        add_procedure(alloc, &mut procedures, stmt)?;
+    }
+    Ok(procedures)
+}
+
+fn add_procedure(
+    alloc: Global,
+    procedures: &mut Vec<Procedure>,
+    stmt: &Stmt,
+) -> Result<(), NoMemory>
+    ensures { OnOk result (procedures.new.items ≡ procedures.old.items ++ procedures_of stmt.now) }
+{
+    match stmt {
+        Stmt::Procedure { name, calls, .. } => {
+            procedures.push(procedure_of(alloc, name.text.as_slice(), calls.as_slice())?)?;
+            Ok(())
+        }
+        _ => Ok(()),
+    }
+}
