@@ -21,12 +21,12 @@ rule_place (ItemIs.Rule rule span) = rule.span ∷ []
 rule_place (ItemIs.Ruleset name dir on span) = []
 
 -- where the things of this kind stand that a statement has
-abbrev pub counted : Excess → Stmt → List Span
-counted Of.Rules (Stmt.Group head items span) = flat_map rule_place items
-counted Of.Tables (Stmt.Table name kind file span) = span ∷ []
-counted Of.Maps (Stmt.Map iface kind proto left arrow right pass span) = span ∷ []
-counted Of.Procedures (Stmt.Procedure name calls span) = span ∷ []
-counted _ _ = []
+abbrev pub limited_places : Excess → Stmt → List Span
+limited_places Of.Rules (Stmt.Group head items span) = flat_map rule_place items
+limited_places Of.Tables (Stmt.Table name kind file span) = span ∷ []
+limited_places Of.Maps (Stmt.Map iface kind proto left arrow right pass span) = span ∷ []
+limited_places Of.Procedures (Stmt.Procedure name calls span) = span ∷ []
+limited_places _ _ = []
 
 abbrev pub past_limit : Excess → ℕ → Option Span → List ConfFault
 past_limit quantity most None = []
@@ -34,7 +34,7 @@ past_limit quantity most (Some span) = fault_at span (TooMany quantity (most + 1
 
 -- places are counted from 0, so the first that is too many has the greatest number
 abbrev pub past_faults : Excess → ℕ → List Stmt → List ConfFault
-past_faults quantity most stmts = past_limit quantity most (slice_get (flat_map (counted quantity) stmts) most)
+past_faults quantity most stmts = past_limit quantity most (slice_get (flat_map (limited_places quantity) stmts) most)
 
 abbrev pub limit_faults : Tree → List ConfFault
 limit_faults tree =

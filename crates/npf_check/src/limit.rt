@@ -2,7 +2,7 @@
 ghost use Rattle.std.specs.Prelude.{◌≡◌, ◌<◌, ◌∷◌, []};
 ghost use Rattle.std.specs.List.{flat_map};
 ghost use Rattle.npf_faults.specs.First.{first_fault};
-ghost use Rattle.npf_check.specs.Limit.{FindsPlace, counted, limit_faults, past_faults, rule_place};
+ghost use Rattle.npf_check.specs.Limit.{FindsPlace, limited_places, limit_faults, past_faults, rule_place};
 
 use npf_faults::earlier;
 use npf_lexer::{ConfFault, Excess, Fault};
@@ -46,7 +46,7 @@ fn past(quantity: Excess, most: usize, stmts: &[Stmt]) -> Option<ConfFault>
 }
 
 fn find_in_stmt(quantity: Excess, stmt: &Stmt, left: usize) -> Found
-    ensures { FindsPlace (counted quantity stmt.now) left result }
+    ensures { FindsPlace (limited_places quantity stmt.now) left result }
 {
     match (quantity, stmt) {
         (Excess::Rules, Stmt::Group { items, .. }) => find_rule(items.as_slice(), left),

@@ -20,7 +20,7 @@ use Rattle.npf_expand.specs.declared.variable.Spliced.{Spliced}
 use Rattle.npf_expand.specs.declared.variable.Variables.{Variables}
 use Rattle.npf_expand.specs.Atom.{Atom, Binding, Env, kept_atom}
 use Rattle.npf_expand.specs.Kept.{AreDefs, AreKeptBy, AreSound, AreSpliced, IsBound, IsDefBehind, IsOfFirst, at_place, bindings_of, def_binding, env_in, first_atom, known, part_atoms, parts_atoms}
-use Rattle.npf_expand.specs.Summary.{joined, summary_of}
+use Rattle.npf_expand.specs.Summary.{joined_summary, summary_of}
 use Rattle.npf_expand.specs.Use.{atoms_of}
 use Rattle.npf_expand.proofs.SummaryLemmas.{summary_of-append}
 
@@ -149,16 +149,16 @@ option_map-or f (Some a) b = refl
 
 -- values behind others
 pub kept_both : (a b : Option Kept) (s t : Summary) (xs ys : List Atom) → AreKeptBy a s xs → AreKeptBy b t ys
-    → AreKeptBy (option_or a b) (joined s t) (xs ++ ys)
+    → AreKeptBy (option_or a b) (joined_summary s t) (xs ++ ys)
 kept_both a b s t xs ys one other = record {
   first = option_map-or kept_atom a b ∙ ap (λ f. option_or f (option_map kept_atom b)) one.first ∙ ap (option_or (first_atom xs)) other.first ∙ sym (first_atom-append xs ys);
-  summed = ap (λ u. joined u t) one.summed ∙ ap (joined (summary_of xs)) other.summed ∙ sym (summary_of-append xs ys);
+  summed = ap (λ u. joined_summary u t) one.summed ∙ ap (joined_summary (summary_of xs)) other.summed ∙ sym (summary_of-append xs ys);
 }
 
 -- the values of a part behind others
 pub spliced_more : (bindings : List Binding) (values next : Spliced) (atoms : List Atom) (bound : Bound) (binding : Binding)
     → AreSpliced bindings values atoms → IsBound bindings bound binding → next.parts.items ≡ values.parts.items ++ bound.part ∷ []
-    → next.first ≡ option_or values.first bound.first → next.summary ≡ joined values.summary bound.summary → AreSpliced bindings next (atoms ++ binding.atoms)
+    → next.first ≡ option_or values.first bound.first → next.summary ≡ joined_summary values.summary bound.summary → AreSpliced bindings next (atoms ++ binding.atoms)
 spliced_more bindings values next atoms bound binding are is pushed first summed = record {
   means = ap (parts_atoms bindings) pushed ∙ flat_map-append (part_atoms bindings) values.parts.items (bound.part ∷ [])
       ∙ ap (λ (front : List Atom). front ++ parts_atoms bindings (bound.part ∷ [])) are.means

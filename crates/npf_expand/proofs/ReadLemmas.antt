@@ -20,7 +20,7 @@ use Rattle.npf_expand.specs.Kept.{AreSound, env_in}
 use Rattle.npf_expand.specs.Map.{map_faults}
 use Rattle.npf_expand.specs.Meets.{Meets}
 use Rattle.npf_expand.specs.Rule.{Declared, passing_faults}
-use Rattle.npf_expand.specs.Step.{Adding, Adds, Steps, env_behind}
+use Rattle.npf_expand.specs.Step.{Adding, AddsToModel, ReadsStatement, env_behind}
 use Rattle.npf_expand.specs.Summary.{counted}
 use Rattle.npf_expand.specs.Table.{tables_of}
 use Rattle.npf_expand.specs.Variable.{Definition, env_of}
@@ -66,7 +66,7 @@ module _ (ifaces : List Iface) where
         let elements = stmt_elements ifaces declared env stmt in
         ap (λ faults. faults ++ stmts_faults ifaces declared (behind older stmt) (a + elements) stmts) (stmt_faults-counted env a b stmt same)
         ∙ ap (λ faults. stmt_faults ifaces declared env b stmt ++ faults)
-            (stmts_faults-counted (behind older stmt) (a + elements) (b + elements) stmts (counted-more a b elements elements same refl))
+        (stmts_faults-counted (behind older stmt) (a + elements) (b + elements) stmts (counted-more a b elements elements same refl))
 
     -- what a state says of statements of which so many were read
     pub record StmtsLeft (state : State) (stmts : List Stmt) (read : ℕ) : Type 0 where
@@ -91,7 +91,7 @@ module _ (ifaces : List Iface) where
         ∙ ap (λ b. b ++ gathered ifaces declared give (behind older stmt) rest) (sym pushed)
 
     module _ (state next : State) (stmts : List Stmt) (read : ℕ) (stmt d : Stmt) (below : read < length stmts) (is : stmt ≡ get_or stmts read d)
-        (left : StmtsLeft state stmts read) (steps : Steps ifaces declared state next stmt) where
+        (left : StmtsLeft state stmts read) (steps : ReadsStatement ifaces declared state next stmt) where
       abbrev older : List Definition
       older = behind_all [] (take read stmts)
 
@@ -107,7 +107,7 @@ module _ (ifaces : List Iface) where
       none_before : next.met.first ≡ None → state.met.first ≡ None
       none_before none = none_of_earlier state.met.first _ (sym steps.met.first ∙ none)
 
-      adds : (none : next.met.first ≡ None) → Adds ifaces declared (env_in state.variables) state next stmt
+      adds : (none : next.met.first ≡ None) → AddsToModel ifaces declared (env_in state.variables) state next stmt
       adds none = steps.adds none
 
       -- what an item of the model is that was gathered so far
@@ -128,7 +128,7 @@ module _ (ifaces : List Iface) where
             env = fun_ext steps.env ∙ ap (λ (e : Env). env_behind ifaces e stmt) left.env ∙ env_of-behind older stmt ∙ ap (env_of ifaces) moved;
             faults = left.faults ∙ ap (λ (l : List Stmt). earlier state.met.first (first_fault (stmts_faults ifaces declared older state.met.elements l))) front
                 ∙ ap (λ (e : Env). earlier state.met.first (first_fault (stmt_faults ifaces declared e state.met.elements stmt
-                    ++ stmts_faults ifaces declared (behind older stmt) (state.met.elements + stmt_elements ifaces declared e stmt) rest))) (sym left.env)
+                ++ stmts_faults ifaces declared (behind older stmt) (state.met.elements + stmt_elements ifaces declared e stmt) rest))) (sym left.env)
                 ∙ ap (earlier state.met.first) (first_fault-append here behind_it) ∙ sym (earlier-assoc state.met.first (first_fault here) (first_fault behind_it))
                 ∙ ap (λ o. earlier o (first_fault behind_it)) (sym steps.met.first)
                 ∙ ap (λ fs. earlier next.met.first (first_fault fs)) (stmts_faults-counted (behind older stmt) _ next.met.elements rest (sym steps.met.count))
@@ -196,6 +196,6 @@ module _ (tree : Tree) (ifaces known : List Iface) (stmts : List Stmt) (state : 
         ∙ ap (λ (g : List Group). state_model g state.defaults.items state.maps.items stmts) adding.groups
         ∙ ap (λ (g : List Group). state_model (gathered known (declared_in stmts) (named_group known (declared_in stmts)) [] stmts) g state.maps.items stmts) adding.defaults
         ∙ ap (λ (m : List Map). state_model (gathered known (declared_in stmts) (named_group known (declared_in stmts)) [] stmts)
-            (gathered known (declared_in stmts) (default_group known (declared_in stmts)) [] stmts) m stmts) adding.maps
+        (gathered known (declared_in stmts) (default_group known (declared_in stmts)) [] stmts) m stmts) adding.maps
         ∙ ap (λ (k : List Iface). model_in stmts k) same_ifaces ∙ ap (λ (s : List Stmt). model_in s ifaces) same_stmts;
   }

@@ -14,7 +14,7 @@ use Rattle.npf_expand.specs.declared.role.Role.TheVariants.{AsPort, AsAddress, A
 use Rattle.npf_expand.specs.declared.summary.Fate.{Fate}
 use Rattle.npf_expand.specs.declared.summary.Summary.{Summary}
 use Rattle.npf_expand.specs.Atom.{Atom}
-use Rattle.npf_expand.specs.Summary.{counted, fate_in, fate_of, joined, joined_fate, summary_of}
+use Rattle.npf_expand.specs.Summary.{counted, fate_in, fate_of, joined_summary, joined_fate, summary_of}
 use Rattle.npf_expand.specs.Use.{count_of, element_count, is_unfit, use_faults, word_faults}
 
 abbrev fate : Bool → Option ConfFault → Fate
@@ -43,7 +43,7 @@ summary count port address protocol interface = record { count = count; port = p
 same_summary : (n m : ℕ) (p q a b r s i j : Fate) → n ≡ m → p ≡ q → a ≡ b → r ≡ s → i ≡ j → summary n p a r i ≡ summary m q b s j
 same_summary n m p q a b r s i j same_count same_port same_address same_protocol same_interface = cc
 
-pub summary_of-append : (xs ys : List Atom) → summary_of (xs ++ ys) ≡ joined (summary_of xs) (summary_of ys)
+pub summary_of-append : (xs ys : List Atom) → summary_of (xs ++ ys) ≡ joined_summary (summary_of xs) (summary_of ys)
 summary_of-append xs ys = same_summary _ _ _ _ _ _ _ _ _ _
     (ap counted (sum_by-append count_of xs ys) ∙ counted-both (element_count xs) (element_count ys))
     (fate_of-append AsPort xs ys) (fate_of-append AsAddress xs ys) (fate_of-append AsProtocol xs ys) (fate_of-append AsInterface xs ys)

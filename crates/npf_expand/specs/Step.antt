@@ -19,17 +19,17 @@ module _ (ifaces : List Iface) where
 
   module _ (declared : Declared) where
     -- what a statement adds to the model
-    pub record Adds (env : Env) (old new : State) (stmt : Stmt) : Type 0 where
+    pub record AddsToModel (env : Env) (old new : State) (stmt : Stmt) : Type 0 where
       pub groups : new.groups.items ≡ old.groups.items ++ named_group ifaces declared env stmt
       pub defaults : new.defaults.items ≡ old.defaults.items ++ default_group ifaces declared env stmt
       pub maps : new.maps.items ≡ old.maps.items ++ maps_of ifaces declared env stmt
 
-    pub record Steps (old new : State) (stmt : Stmt) : Type 0 where
+    pub record ReadsStatement (old new : State) (stmt : Stmt) : Type 0 where
       pub sound : AreSound new.variables
       pub env : (text : List ℕ) → env_in new.variables text ≡ env_behind (env_in old.variables) stmt text
       pub met : Meets old.met new.met (stmt_faults ifaces declared (env_in old.variables) old.met.elements stmt)
           (stmt_elements ifaces declared (env_in old.variables) stmt)
-      pub adds : new.met.first ≡ None → Adds (env_in old.variables) old new stmt
+      pub adds : new.met.first ≡ None → AddsToModel (env_in old.variables) old new stmt
 
     -- what all statements of a text add
     pub record Adding (state : State) (stmts : List Stmt) : Type 0 where

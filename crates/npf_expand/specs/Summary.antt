@@ -30,8 +30,8 @@ summary_of atoms = record {
 abbrev pub joined_fate : Fate → Fate → Fate
 joined_fate one other = record { unfit = one.unfit || other.unfit; word = earlier one.word other.word }
 
-abbrev pub joined : Summary → Summary → Summary
-joined one other = record {
+abbrev pub joined_summary : Summary → Summary → Summary
+joined_summary one other = record {
   count = counted (one.count + other.count);
   port = joined_fate one.port other.port;
   address = joined_fate one.address other.address;

@@ -2,7 +2,7 @@
 ghost use Rattle.std.specs.Prelude.{◌≡◌, ◌+◌, ◌∷◌, [], List, false};
 ghost use Rattle.npf_faults.specs.First.{first_fault};
 ghost use Rattle.npf_expand.specs.Atom.{Atom as Plain, kept_atom};
-ghost use Rattle.npf_expand.specs.Summary.{counted, fate_in, fate_of, joined, joined_fate, summary_of};
+ghost use Rattle.npf_expand.specs.Summary.{counted, fate_in, fate_of, joined_summary, joined_fate, summary_of};
 ghost use Rattle.npf_expand.specs.Use.{use_faults};
 
 use crate::atom::Atom;
@@ -108,7 +108,7 @@ impl Summary {
 
     /// That of both, one behind the other.
     pub(crate) fn join(&self, other: &Summary) -> Summary
-        ensures { result ≡ joined self.now other.now }
+        ensures { result ≡ joined_summary self.now other.now }
     {
         Summary {
             count: counted_both(self.count, other.count),

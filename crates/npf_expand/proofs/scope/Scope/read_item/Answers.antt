@@ -32,4 +32,4 @@ returns-in_ok-push-in-Ruleset-clause-built c =
     let scope = c.args.self.now in
     λ none. c.in_ok-push-in-Ruleset.ensures.items
     ∙ ap (λ (item : Item). c.args.built.now.items ++ item ∷ [])
-        (c.ruleset_of.ensures ∙ ap (item_of_tree (ifaces_of_scope scope) (env_of_scope scope) (declared_of_scope scope)) (sym c.in-Ruleset.is))
+    (c.ruleset_of.ensures ∙ ap (item_of_tree (ifaces_of_scope scope) (env_of_scope scope) (declared_of_scope scope)) (sym c.in-Ruleset.is))
