@@ -1,4 +1,5 @@
 pub mod BuildingLemmas
+pub mod ClaimedLemmas
 pub mod EqualityLemmas
 pub mod HistoryLemmas
 pub mod HolderLemmas

@@ -11,7 +11,6 @@ pub mod LookUpLaw
 pub mod Machine
 pub mod Meaning
 pub mod NextState
-pub mod Pass
 pub mod PlainMachine
 pub mod Playing
 pub mod Replaying

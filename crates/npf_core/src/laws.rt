@@ -1,7 +1,7 @@
 // What holds of every history, of every law and for every number of slots. The functions do nothing: each is a theorem.
 ghost use Rattle.std.specs.Prelude.{ℕ};
 ghost use Rattle.npf_core.specs.BuildingLaw.{ClaimsBuild, StaysBuilding, IsGivenNone};
-ghost use Rattle.npf_core.specs.ClaimedLaw.{StaysClaimed};
+ghost use Rattle.npf_core.specs.ClaimedLaw.{StaysClaimed, WasNotFreed, WasClaimed};
 ghost use Rattle.npf_core.specs.HistoryLaw.{PrefixesAreLegal, GoesOnLegally, GoesOnTo, ByAppend, PrefixesNest, ActsDecide};
 ghost use Rattle.npf_core.specs.HolderLaw.{HoldersAreClaimed, UnclaimedHoldNone, HoldsOneAWay, ClaimsWithNone, InEachState};
 ghost use Rattle.npf_core.specs.IdentityLaw.{ClaimsOnce, CountsIncarnations};
@@ -46,9 +46,12 @@ pub fn building_law<L: Law>()
     ensures given { (slots : ℕ) → IsGivenNone L.meaning slots }
 {}
 
-/// Entries that don't free a claimed identity leave it claimed.
+/// A claimed identity was claimed by an entry, which was answered it. Entries that don't free it leave it claimed, and one that
+/// is claimed before and after some entries wasn't freed by them.
 pub fn claimed_law<L: Law>()
-    ensures { (slots : ℕ) → StaysClaimed L.meaning slots }
+    ensures claimed { (slots : ℕ) → WasClaimed L.meaning slots }
+    ensures stays { (slots : ℕ) → StaysClaimed L.meaning slots }
+    ensures unfreed { (slots : ℕ) → WasNotFreed L.meaning slots }
 {}
 
 /// Who holds a key is claimed; an identity that isn't claimed holds none, and so none when it is claimed next; and a connection

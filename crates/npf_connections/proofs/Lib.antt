@@ -1,0 +1,4 @@
+pub mod AddLemmas
+pub mod RecordLemmas
+pub mod SaidLemmas
+pub mod StayLemmas

@@ -1,0 +1,16 @@
+pub mod Abandoning
+pub mod AddLaw
+pub mod Adding
+pub mod Answered
+pub mod Beginning
+pub mod Collecting
+pub mod Entries
+pub mod Expiring
+pub mod Joining
+pub mod Pass
+pub mod RecordLaw
+pub mod Said
+pub mod SaidLaw
+pub mod StayLaw
+pub mod Ways
+pub mod Worn
