@@ -33,7 +33,7 @@ use Rattle.npf_ctl.specs.OneLine.{most_connections, is_vacant, lowest_from, is_p
 use Rattle.npf_ctl.specs.Packets.{own_key, any_key, forward_of, backward_of, opening_of, arg_of, Arrival}
 use Rattle.npf_ctl.specs.Verdict.{verdict}
 use Rattle.npf_ctl.specs.Work.{Work, finds, ◌>>=◌, look, claim, hold, step, start, abandon, unhold}
-use Rattle.npf_ctl.specs.Doing.{IsReached, IsFresh, IsForwarded, HoldsForward}
+use Rattle.npf_ctl.specs.Doing.{IsReached, IsFresh, IsForwarded}
 use Rattle.npf_ctl.proofs.Walking.{Walks, walks_finds, walks_asks, walks_then, walks_on, reached_holders, reached_claims}
 
 -- a slot is vacant where its test says so
@@ -166,19 +166,6 @@ hold_stays k id key other way holder h = by (is_key key other)
     by : (same : Bool) → cond same (holder_or (k.holder other) (record { id = id; way = way })) (k.holder other) ≡ Some holder
     by true = rw h refl
     by false = h
-
--- and so does the forward key of a connection that asks for its backward one
-pub backward_keeps : (k : FlowMachine) (id : ConnId) (back forward : Key) → IsForwarded k id forward → HoldsForward (after_act flow_law k 0 (Hold id back Backward)) id forward
-backward_keeps k id back forward forwarded = record {
-  stage = forwarded.stage;
-  held = hold_stays k id back forward Backward (record { id = id; way = Forward }) forwarded.held;
-  only = λ other h. by other (is_key back other) (k.holder other) refl h;
-}
-  where
-    by : (other : Key) (same : Bool) (was : Option Found) → k.holder other ≡ was → cond same (holder_or was (record { id = id; way = Backward })) was ≡ Some (record { id = id; way = Forward }) → other ≡ forward
-    by other true None e h = let both : false ≡ true = ap goes_forward h in absurd (let never : ⊥ = cc in never)
-    by other true (Some holder) e h = forwarded.only other (e ∙ h)
-    by other false was e h = forwarded.only other (e ∙ h)
 
 -- what is given up before its start is dead
 pub kill_dead : (k : FlowMachine) (id : ConnId) → stage_of k id ≡ Building 0 → stage_of (after_act flow_law k 0 (Kill id Abandoned)) id ≡ Dead

@@ -54,12 +54,6 @@ DoesFrom Holds work old new value = (k : FlowMachine) → IsReached k → Holds 
 abbrev pub Does : {A : Type 0} → Work A → Store Flow → Store Flow → A → Type 0
 Does work old new value = (k : FlowMachine) → IsReached k → Represents most_connections old k → Did work k new value
 
--- a connection that was claimed is Building, and each key that it holds as its forward one is this
-pub record HoldsForward (k : FlowMachine) (id : ConnId) (key : Key) : Type 0 where
-  pub stage : stage_of k id ≡ Building 0
-  pub held : Holds k id Forward key
-  pub only : (other : Key) → Holds k id Forward other → other ≡ key
-
 -- a connection that was claimed is Building, and the key is another's
 pub record IsYielding (k : FlowMachine) (id : ConnId) (key : Key) (holder : Found) : Type 0 where
   pub stage : stage_of k id ≡ Building 0

@@ -3,9 +3,11 @@
 ghost use Rattle.std.specs.Prelude.{◌≡◌, ◌<◌, ◌≤◌, length, IfOk, IfSome};
 ghost use Rattle.npf_core.specs.Machine.{stage_of, IsClaimed};
 ghost use Rattle.npf_core.specs.declared.stage.Stage.TheVariants as Stages;
+ghost use Rattle.npf_types.specs.declared.key.Way.{Way};
+ghost use Rattle.npf_types.specs.declared.key.Way.TheVariants as Ways;
 ghost use Rattle.npf_store.specs.declared.phase.Phase.TheVariants as Phases;
-ghost use Rattle.npf_store.specs.Store.{phase_of};
-ghost use Rattle.npf_ctl.specs.Doing.{Does, DoesFrom, IsFresh, IsForwarded, HoldsForward, IsYielding};
+ghost use Rattle.npf_store.specs.Store.{phase_of, HoldsNoKey};
+ghost use Rattle.npf_ctl.specs.Doing.{Does, DoesFrom, IsFresh, IsForwarded, IsYielding};
 ghost use Rattle.npf_ctl.specs.OneLine.{step_holder, look_for, begin, give_up, hold_backward, yield_to, build, try_open, by_verdict, ask_rules, handle, keeps, is_packets, by_connection, unkept};
 ghost use Rattle.npf_ctl.specs.Packets.{segment_of, arg_of, forward_of, backward_of, opening_of, unchanged, no_action};
 
@@ -180,7 +182,7 @@ fn unkept(place: u32, why: Unkept) -> Outcome
 fn try_open(packet: &Packet, place: u32, store: &mut Store<Flow>) -> Result<Outcome, NoMemory>
     ensures { IfOk result (λ outcome. Does (try_open packet.now place) store.old store.new outcome) }
 {
-    match store.claim()? {
+    match store.claim() {
         Some(id) => build(packet, place, id, store),
         None => Ok(unkept(place, Unkept::Full)),
     }
@@ -193,12 +195,13 @@ fn build(
     id: ConnId,
     store: &mut Store<Flow>,
 ) -> Result<Outcome, NoMemory>
-    requires { phase_of store.old id ≡ Phases.Building }
+    requires built { phase_of store.old id ≡ Phases.Building }
+    requires bare { (way : Way) → HoldsNoKey store.old id way }
     ensures { IfOk result (λ outcome. DoesFrom (λ k. IsFresh k id) (build packet.now place id) store.old store.new outcome) }
 {
-    let (forward, _) = keys_of(&packet.facts, CAP0, &UNCHANGED);
-    match store.hold(id, forward, Way::Forward)? {
-        Held::Done => hold_backward(packet, place, id, store),
+    let keys = keys_of(&packet.facts, CAP0, &UNCHANGED);
+    match store.hold(id, keys.0, Way::Forward) {
+        Held::Done => hold_backward(packet, place, id, keys, store),
         Held::Taken(holder) => Ok(yield_to(packet, place, id, holder, store)),
         Held::NoNode => unreachable!(),
     }
@@ -227,29 +230,33 @@ fn hold_backward(
     packet: &Packet,
     place: u32,
     id: ConnId,
+    keys: (Key, Key),
     store: &mut Store<Flow>,
 ) -> Result<Outcome, NoMemory>
-    requires { phase_of store.old id ≡ Phases.Building }
+    requires forward { keys.0 ≡ forward_of packet.now }
+    requires backward { keys.1 ≡ backward_of packet.now }
+    requires built { phase_of store.old id ≡ Phases.Building }
+    requires none { HoldsNoKey store.old id Ways.Backward }
     ensures { IfOk result (λ outcome. DoesFrom (λ k. IsForwarded k id (forward_of packet.now)) (hold_backward packet.now place id) store.old store.new outcome) }
 {
-    let (forward, backward) = keys_of(&packet.facts, CAP0, &UNCHANGED);
+    let (forward, backward) = keys;
     if backward == forward {
         return Ok(begin(packet, place, id, store));
     }
-    match store.hold(id, backward, Way::Backward)? {
+    match store.hold(id, backward, Way::Backward) {
         Held::Done => Ok(begin(packet, place, id, store)),
-        Held::Taken(holder) => Ok(give_up(place, id, forward, Unkept::Taken(holder), store)),
+        Held::Taken(holder) => Ok(give_up(place, id, Unkept::Taken(holder), store)),
         Held::NoNode => unreachable!(),
     }
 }
 
-/// Gives up the connection, which holds this forward key alone.
-fn give_up(place: u32, id: ConnId, forward: Key, why: Unkept, store: &mut Store<Flow>) -> Outcome
+/// Gives up the connection, which holds its forward key alone.
+fn give_up(place: u32, id: ConnId, why: Unkept, store: &mut Store<Flow>) -> Outcome
     requires { phase_of store.old id ≡ Phases.Building }
-    ensures { DoesFrom (λ k. HoldsForward k id forward) (give_up place id why) store.old store.new result }
+    ensures { DoesFrom (λ k. stage_of k id ≡ Stages.Building 0) (give_up place id why) store.old store.new result }
 {
     store.kill(id);
-    store.unhold(forward);
+    store.unhold(id, Way::Forward);
     unkept(place, why)
 }
 

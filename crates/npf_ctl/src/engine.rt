@@ -26,7 +26,7 @@ pub(crate) fn explain(
     requires { length rules.now ≤ MAX_RULES }
     ensures { IfOk result (λ outcomes. AreExplained rules.now (packets_of captured.now) outcomes.items) }
 {
-    let mut store = Store::new(alloc, MAX_CONNECTIONS as u32);
+    let mut store = Store::new(alloc, MAX_CONNECTIONS as u32)?;
     let capture = captured.bytes.as_slice();
     let mut outcomes = Vec::with_capacity(alloc, captured.extents.len())?;
     for (place, extent) in captured.extents.iter().enumerate() {

@@ -1,44 +1,110 @@
--- A list of connections with one more at its end.
-use Rattle.std.proofs.Common.{◌≡◌, ◌≢◌, ℕ, ◌+◌, ◌≤◌, ◌<◌, Bool, true, false, cond, List, [], ◌∷◌, ◌++◌, length, arith, refl, sym, ap, ◌∙◌, length-append, ⊎_elim}
+-- Connections by the numbers of their slots, as one of them changes.
+use Rattle.std.proofs.Common.{◌≡◌, ◌≢◌, ℕ, zero, suc, replicate, get_or, ◌+◌, ◌-◌, ◌^◌, ◌<◌, ◌≤◌, ◌==◌, Bool, true, false, cond, List, length, set, arith, refl, sym, ap, ◌∙◌, ⊎_elim}
 use Rattle.std.proofs.lemmas.Bool.{cases_eq, cases_lt}
-use Rattle.std.proofs.lemmas.List.{get_or_push, get_or_append_left}
-use Rattle.std.proofs.lemmas.Option.{slice_get_past, unwrap_or-slice_get}
+use Rattle.std.proofs.lemmas.Bool.Decides.{Decides-eqb}
+use Rattle.std.proofs.lemmas.List.{get_or-set_same, get_or-set_other, length-set}
+use Rattle.std.proofs.lemmas.Option.{slice_get_past, slice_get_read, unwrap_or-slice_get}
+use Rattle.npf_core.specs.declared.conn_id.ConnId.{ConnId}
 use Rattle.npf_store.specs.declared.connection.Connection.{Connection}
-use Rattle.npf_store.specs.declared.phase.Phase.TheVariants.{Vacant}
-use Rattle.npf_store.specs.Connection.{connection_in, AreClaimed}
+use Rattle.npf_store.specs.declared.phase.Phase.{Phase}
+use Rattle.npf_store.specs.declared.phase.Phase.TheVariants.{Vacant, Dead}
+use Rattle.npf_store.specs.Connection.{connection_in, phase_at, phase_among, AreFit}
 
 abbrev never : {S : Type 0} → Connection S
 never = record { inc = 0; phase = Vacant }
 
+replicated : {S : Type 0} (n s : ℕ) → get_or (replicate n (never {S = S})) s never ≡ never
+replicated zero s = refl
+replicated (suc n) zero = refl
+replicated (suc n) (suc s) = replicated n s
+
+-- where no slot was ever claimed none is
+pub never_claimed : {S : Type 0} (n s : ℕ) → connection_in (replicate n (never {S = S})) s ≡ record { inc = 0; phase = Vacant }
+never_claimed n s = unwrap_or-slice_get (replicate n never) s never ∙ replicated n s
+
 module _ {S : Type 0} (xs : List (Connection S)) where
   -- past the list no connection was claimed yet
-  pub connection_in-past : (s : ℕ) → length xs ≤ s → connection_in xs s ≡ record { inc = 0; phase = Vacant }
-  connection_in-past s h = rw (slice_get_past xs s h) refl
+  pub connection_past : (s : ℕ) → length xs ≤ s → connection_in xs s ≡ record { inc = 0; phase = Vacant }
+  connection_past s h = rw (slice_get_past xs s h) refl
 
-  -- the new one stands at its end
-  pub connection_in-last : (x : Connection S) (s : ℕ) → length xs ≡ s → connection_in (xs ++ x ∷ []) s ≡ x
-  connection_in-last x s e = unwrap_or-slice_get (xs ++ x ∷ []) s never ∙ get_or_push xs x never s e
+  pub set_there : (s : ℕ) (x : Connection S) → s < length xs → connection_in (set xs s x) s ≡ x
+  set_there s x within = unwrap_or-slice_get (set xs s x) s never ∙ get_or-set_same xs s x never within
 
-one_more : {S : Type 0} (xs : List (Connection S)) (x : Connection S) → length (xs ++ x ∷ []) ≡ length xs + 1
-one_more xs x = length-append xs (x ∷ [])
+  pub set_elsewhere : (s r : ℕ) (x : Connection S) → r ≢ s → connection_in (set xs s x) r ≡ connection_in xs r
+  set_elsewhere s r x ne = unwrap_or-slice_get (set xs s x) r never ∙ (get_or-set_other xs s r x never ne ∙ sym (unwrap_or-slice_get xs r never))
 
-module _ {S : Type 0} (xs : List (Connection S)) (x : Connection S) where
-  -- the others stand where they stood
-  pub connection_in-others : (s : ℕ) → s ≢ length xs → connection_in (xs ++ x ∷ []) s ≡ connection_in xs s
-  connection_in-others s ne = ⊎_elim
-      (λ (below : s < length xs). unwrap_or-slice_get (xs ++ x ∷ []) s never ∙ get_or_append_left xs (x ∷ []) never s below ∙ sym (unwrap_or-slice_get xs s never))
-      (λ (past : length xs ≤ s). connection_in-past (xs ++ x ∷ []) s (omega (arith, one_more xs x)) ∙ sym (connection_in-past xs s past))
-      (cases_lt s (length xs))
+  -- what was read of a slot
+  pub slot_read : (s : ℕ) (x : Connection S) → s < length xs → x ≡ get_or xs s x → connection_in xs s ≡ x
+  slot_read s x within read = rw (slice_get_read xs (length xs) s x refl within read) refl
 
-  -- all stay claimed with one more that is
-  pub AreClaimed-pushed : AreClaimed xs → x.phase ≢ Vacant → AreClaimed (xs ++ x ∷ [])
-  AreClaimed-pushed claimed new s h = ⊎_elim
-      (λ (e : s ≡ length xs). λ vacant. new (ap (λ (y : Connection S). y.phase) (sym (connection_in-last xs x s (sym e))) ∙ vacant))
-      (λ (ne : s ≢ length xs). λ vacant.
-      claimed s (omega (arith, one_more xs x)) (ap (λ (y : Connection S). y.phase) (sym (connection_in-others s ne)) ∙ vacant))
-      (cases_eq s (length xs))
+  -- an identity of a slot that isn't claimed isn't
+  pub vacant_phase : (id : ConnId) → (connection_in xs id.slot).phase ≡ Vacant → phase_among xs id ≡ Vacant
+  vacant_phase id vacant = by_inc ((connection_in xs id.slot).inc == id.inc)
+    where
+      by_inc : (same : Bool) → cond same (connection_in xs id.slot).phase Vacant ≡ Vacant
+      by_inc true = vacant
+      by_inc false = refl
 
-  -- whether it was pushed or not
-  pub AreClaimed-either : (pushed : Bool) → AreClaimed xs → x.phase ≢ Vacant → AreClaimed (cond pushed (xs ++ x ∷ []) xs)
-  AreClaimed-either true claimed new = AreClaimed-pushed claimed new
-  AreClaimed-either false claimed new = claimed
+  -- a claimed identity has a slot, and the slot's incarnation
+  pub claimed_within : (id : ConnId) → phase_among xs id ≢ Vacant → id.slot < length xs
+  claimed_within id claimed = ⊎_elim
+      (λ (below : id.slot < length xs). below)
+      (λ (past : length xs ≤ id.slot). absurd (claimed (vacant_phase id (ap (λ (x : Connection S). x.phase) (connection_past id.slot past)))))
+      (cases_lt id.slot (length xs))
+
+  pub claimed_inc : (id : ConnId) → phase_among xs id ≢ Vacant → (connection_in xs id.slot).inc ≡ id.inc
+  claimed_inc id claimed = by_inc ((connection_in xs id.slot).inc == id.inc) refl claimed
+    where
+      by_inc : (same : Bool) → ((connection_in xs id.slot).inc == id.inc) ≡ same → cond same (connection_in xs id.slot).phase Vacant ≢ Vacant → (connection_in xs id.slot).inc ≡ id.inc
+      by_inc true e ne = (Decides-eqb (connection_in xs id.slot).inc id.inc).0 e
+      by_inc false e ne = absurd (ne refl)
+
+  -- the phase of an identity that a slot was given
+  pub given_phase : (x : Connection S) (id : ConnId) → id.slot < length xs → x.inc ≡ id.inc → phase_among (set xs id.slot x) id ≡ x.phase
+  given_phase x id within e =
+      let same : (x.inc == id.inc) ≡ true = (Decides-eqb x.inc id.inc).1 e in
+      ap (λ (y : Connection S). phase_at y id.inc) (set_there id.slot x within) ∙ rw same refl
+
+  -- a Dead one is claimed
+  pub dead_claimed : (id : ConnId) → phase_among xs id ≡ Dead → phase_among xs id ≢ Vacant
+  dead_claimed id dead vacant = let e : ◌≡◌ {A = Phase S} Dead Vacant = sym dead ∙ vacant in absurd cc
+
+  -- two claimed identities of one slot are one
+  pub one_claimed : (id other : ConnId) → phase_among xs id ≢ Vacant → phase_among xs other ≢ Vacant → other.slot ≡ id.slot → other ≡ id
+  one_claimed id other claimed too e =
+      let incs : other.inc ≡ id.inc = sym (claimed_inc other too) ∙ (ap (λ s. (connection_in xs s).inc) e ∙ claimed_inc id claimed) in
+      λ i. record { slot = e i; inc = incs i }
+
+  -- what stays fit as a slot changes: a claimed one that stays so, one that is claimed, one that is freed
+  pub fit_put : (first s : ℕ) (x : Connection S) → AreFit first xs → s < length xs → x.phase ≢ Vacant → AreFit first (set xs s x)
+  fit_put first s x fit within claimed = record {
+    claimed = λ r below inside. ⊎_elim
+        (λ (e : r ≡ s). λ vacant. claimed (sym (ap (λ (y : Connection S). y.phase) (ap (connection_in (set xs s x)) e ∙ set_there s x within)) ∙ vacant))
+        (λ (ne : r ≢ s). λ vacant. fit.claimed r below (omega (arith, inside, length-set xs s x)) (sym (ap (λ (y : Connection S). y.phase) (set_elsewhere s r x ne)) ∙ vacant))
+        (cases_eq r s);
+    further = λ r vacant. ⊎_elim
+        (λ (e : r ≡ s). absurd (claimed (sym (ap (λ (y : Connection S). y.phase) (ap (connection_in (set xs s x)) e ∙ set_there s x within)) ∙ vacant)))
+        (λ (ne : r ≢ s). rw (set_elsewhere s r x ne) (fit.further r (sym (ap (λ (y : Connection S). y.phase) (set_elsewhere s r x ne)) ∙ vacant)))
+        (cases_eq r s);
+  }
+
+  pub fit_claimed : (first s : ℕ) (x : Connection S) → AreFit first xs → s < length xs → x.phase ≢ Vacant → ((r : ℕ) → r < s → (connection_in xs r).phase ≢ Vacant) → AreFit (s + 1) (set xs s x)
+  fit_claimed first s x fit within claimed lower = record {
+    claimed = λ r below inside. ⊎_elim
+        (λ (e : r ≡ s). λ vacant. claimed (sym (ap (λ (y : Connection S). y.phase) (ap (connection_in (set xs s x)) e ∙ set_there s x within)) ∙ vacant))
+        (λ (ne : r ≢ s). λ vacant. lower r (omega arith) (sym (ap (λ (y : Connection S). y.phase) (set_elsewhere s r x ne)) ∙ vacant))
+        (cases_eq r s);
+    further = (fit_put first s x fit within claimed).further;
+  }
+
+  pub fit_freed : (first lower s : ℕ) (x : Connection S) → AreFit first xs → s < length xs → lower ≤ first → lower ≤ s → x.inc < 2 ^ 64 - 1 → AreFit lower (set xs s x)
+  fit_freed first lower s x fit within low under further = record {
+    claimed = λ r below inside vacant. ⊎_elim
+        (λ (e : r ≡ s). omega arith)
+        (λ (ne : r ≢ s). fit.claimed r (omega arith) (omega (arith, inside, length-set xs s x)) (sym (ap (λ (y : Connection S). y.phase) (set_elsewhere s r x ne)) ∙ vacant))
+        (cases_eq r s);
+    further = λ r vacant. ⊎_elim
+        (λ (e : r ≡ s). rw (e, set_there s x within) further)
+        (λ (ne : r ≢ s). rw (set_elsewhere s r x ne) (fit.further r (sym (ap (λ (y : Connection S). y.phase) (set_elsewhere s r x ne)) ∙ vacant)))
+        (cases_eq r s);
+  }

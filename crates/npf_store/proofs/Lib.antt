@@ -1,4 +1,7 @@
-pub mod KeyLemmas
-pub mod ClaimLemmas
 pub mod ConnectionLemmas
+pub mod GivenUpLemmas
+pub mod HolderLemmas
+pub mod HomeLemmas
+pub mod KeptLemmas
 pub mod RepresentLemmas
+pub mod StandLemmas

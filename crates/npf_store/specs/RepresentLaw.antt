@@ -1,16 +1,16 @@
 -- The calls of a store are the acts of the machine: where the store represents a state, it is answered as the machine is, and
 -- represents the state that the act leaves.
-use Rattle.std.specs.Prelude.{◌≡◌, ℕ, ◌<◌}
+use Rattle.std.specs.Prelude.{◌≡◌, ℕ, ◌<◌, ◌↔◌, Some}
 use Rattle.npf_types.specs.declared.key.Key.{Key}
 use Rattle.npf_types.specs.declared.key.Way.{Way}
-use Rattle.npf_core.specs.declared.act.Act.TheVariants.{Claim, Look, Hold, Start, Step, Kill, Unhold}
+use Rattle.npf_core.specs.declared.act.Act.TheVariants.{Claim, Look, Hold, Start, Step, Kill, Unhold, Free}
 use Rattle.npf_core.specs.declared.act.Why.{Why}
 use Rattle.npf_core.specs.declared.conn_id.ConnId.{ConnId}
 use Rattle.npf_core.specs.declared.held.Held.{Held}
-use Rattle.npf_core.specs.declared.stage.Stage.TheVariants.{Building}
+use Rattle.npf_core.specs.declared.stage.Stage.TheVariants.{Building, Dead}
 use Rattle.npf_core.specs.declared.stepped.Stepped.{Stepped}
-use Rattle.npf_core.specs.Allowed.{MayClaim}
-use Rattle.npf_core.specs.Machine.{Machine, opening, stage_of, IsClaimed, IsAlive, Holds}
+use Rattle.npf_core.specs.Allowed.{MayClaim, IsDue}
+use Rattle.npf_core.specs.Machine.{Machine, opening, stage_of, IsClaimed, IsAlive, Holds, HoldsNone}
 use Rattle.npf_core.specs.Meaning.{Meaning}
 use Rattle.npf_core.specs.NextState.{after_act}
 use Rattle.npf_core.specs.Replies.{claimed_id, held_by, step_answer}
@@ -18,7 +18,7 @@ use Rattle.npf_store.specs.declared.phase.Phase.{Phase}
 use Rattle.npf_store.specs.declared.store.Store.{Store}
 use Rattle.npf_store.specs.Represents.{Represents, phase_in}
 use Rattle.npf_store.specs.Store as calls
-use Rattle.npf_store.specs.Store.{holder_of, phase_of, IsNew, IsSame, Claims, IsFull, AnswersHold, Starts, AnswersStep, Kills, Unholds}
+use Rattle.npf_store.specs.Store.{holder_of, phase_of, IsNew, IsSame, Claims, IsFull, AnswersHold, Starts, AnswersStep, Kills, Unholds, Frees, HoldsNoKey, TellsKey, IsDuePhase}
 
 -- a new store is in the opening state
 abbrev pub NewIsOpening : (S : Type 0) → Type 0
@@ -102,13 +102,38 @@ KillIsAct {S} m =
     (slots : ℕ) (old new : Store S) (k : Machine S) (id : ConnId) → Represents slots old k → IsAlive (stage_of k id) →
     Kills old new id → (seat : ℕ) (why : Why) → Represents slots new (after_act m k seat (Kill id why))
 
--- the connection holds this key that way, and no other
-pub record HoldsOnly {S : Type 0} (k : Machine S) (id : ConnId) (way : Way) (key : Key) : Type 0 where
-  pub held : Holds k id way key
-  pub only : (other : Key) → Holds k id way other → other ≡ key
-
--- an unhold of the one key that a connection holds that way does so
+-- an unhold does so, whatever the connection holds that way
 abbrev pub UnholdIsAct : {S A R : Type 0} → Meaning S A R → Type 0
 UnholdIsAct {S} m =
-    (slots : ℕ) (old new : Store S) (k : Machine S) (id : ConnId) (way : Way) (key : Key) → Represents slots old k →
-    HoldsOnly k id way key → Unholds old new key → (seat : ℕ) → Represents slots new (after_act m k seat (Unhold id way))
+    (slots : ℕ) (old new : Store S) (k : Machine S) (id : ConnId) (way : Way) → Represents slots old k →
+    Unholds old new (record { id = id; way = way }) → (seat : ℕ) → Represents slots new (after_act m k seat (Unhold id way))
+
+-- a free of a Dead connection does so
+abbrev pub FreeIsAct : {S A R : Type 0} → Meaning S A R → Type 0
+FreeIsAct {S} m =
+    (slots : ℕ) (old new : Store S) (k : Machine S) (id : ConnId) → Represents slots old k → stage_of k id ≡ Dead →
+    Frees old new id → (seat : ℕ) → Represents slots new (after_act m k seat (Free id))
+
+-- a connection that holds no key of a way in the state holds none in the store, and the other way about
+abbrev pub ShowsBare : (S : Type 0) → Type 0
+ShowsBare S =
+    (slots : ℕ) (store : Store S) (k : Machine S) (id : ConnId) (way : Way) → Represents slots store k →
+    HoldsNone k id way ↔ HoldsNoKey store id way
+
+-- what the store tells of a connection's key the connection holds
+abbrev pub ShowsKeys : (S : Type 0) → Type 0
+ShowsKeys S =
+    (slots : ℕ) (store : Store S) (k : Machine S) (id : ConnId) (way : Way) (key : Key) → Represents slots store k →
+    TellsKey store id way (Some key) → Holds k id way key
+
+-- a connection is Dead in the state where it is in the store
+abbrev pub ShowsDead : (S : Type 0) → Type 0
+ShowsDead S =
+    (slots : ℕ) (store : Store S) (k : Machine S) (id : ConnId) → Represents slots store k →
+    (stage_of k id ≡ Dead) ↔ (phase_of store id ≡ Phase.Dead)
+
+-- a connection is due in the state where it is in the store
+abbrev pub ShowsDue : {S A R : Type 0} → Meaning S A R → Type 0
+ShowsDue {S} m =
+    (slots : ℕ) (store : Store S) (k : Machine S) (id : ConnId) (now : ℕ) → Represents slots store k →
+    IsDue m now (stage_of k id) ↔ IsDuePhase m now (phase_of store id)

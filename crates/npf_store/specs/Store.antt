@@ -1,30 +1,26 @@
 -- What can be asked of a store, and what each call makes of it. A store knows no seats: which one builds a connection is told by
 -- no call.
-use Rattle.std.specs.Prelude.{◌≡◌, ◌≢◌, ℕ, ◌+◌, ◌-◌, ◌^◌, ◌<◌, min, ◌==◌, if◌then◌else◌, Option, Some, None}
-use Rattle.std.specs.declared.cmp.Ordering.{Ordering}
-use Rattle.std.specs.BTreeMap.{get}
-use Rattle.std.specs.Cmp.Lexicographic.{slice_cmp}
-use Rattle.std.specs.Ordering.{nat_cmp}
+use Rattle.std.specs.Prelude.{◌≡◌, ◌≢◌, ℕ, ◌+◌, ◌-◌, ◌^◌, ◌<◌, min, Option, Some, None, IsTrue, vec_len}
 use Rattle.npf_types.specs.declared.key.Key.{Key}
 use Rattle.npf_types.specs.declared.key.Way.{Way}
+use Rattle.npf_types.specs.declared.key.Way.TheVariants.{Forward, Backward, Port}
 use Rattle.npf_core.specs.declared.conn_id.ConnId.{ConnId}
 use Rattle.npf_core.specs.declared.found.Found.{Found}
 use Rattle.npf_core.specs.declared.held.Held.{Held}
 use Rattle.npf_core.specs.declared.stepped.Stepped.{Stepped}
 use Rattle.npf_core.specs.Meaning.{Meaning}
+use Rattle.npf_core.specs.NextState.{given_up}
 use Rattle.npf_store.specs.declared.connection.Connection.{Connection}
+use Rattle.npf_store.specs.declared.held_keys.HeldKeys.{HeldKeys}
 use Rattle.npf_store.specs.declared.phase.Phase.{Phase}
 use Rattle.npf_store.specs.declared.phase.Phase.TheVariants.{Vacant, Building, Live, Dead}
 use Rattle.npf_store.specs.declared.store.Store.{Store}
-use Rattle.npf_store.specs.Connection.{connection_in}
-
--- keys in the order of their five numbers, the first one first
-abbrev pub key_cmp : Key → Key → Ordering
-key_cmp key other = slice_cmp nat_cmp key.0 other.0
+use Rattle.npf_store.specs.Connection.{connection_in, phase_at}
+use Rattle.npf_store.specs.Keys.{keeper_of}
 
 -- how many slots a store has
 abbrev pub slots_of : {S : Type 0} → Store S → ℕ
-slots_of store = store.slots
+slots_of store = vec_len store.connections
 
 -- the last connection of a slot: its incarnation and its phase
 abbrev pub slot_of : {S : Type 0} → Store S → ℕ → Connection S
@@ -32,15 +28,26 @@ slot_of store s = connection_in store.connections.items s
 
 -- the holder of a key
 abbrev pub holder_of : {S : Type 0} → Store S → Key → Option Found
-holder_of store key = get key_cmp store.holders key
-
--- the phase of the incarnation of this number: only the last one of a slot is kept
-abbrev pub phase_at : {S : Type 0} → Connection S → ℕ → Phase S
-phase_at connection inc = if connection.inc == inc then connection.phase else Vacant
+holder_of store key = keeper_of store.keys key
 
 -- the phase of an identity
 abbrev pub phase_of : {S : Type 0} → Store S → ConnId → Phase S
 phase_of store id = phase_at (slot_of store id.slot) id.inc
+
+-- the connection holds no key of that way
+abbrev pub HoldsNoKey : {S : Type 0} → Store S → ConnId → Way → Type 0
+HoldsNoKey store id way = (key : Key) → holder_of store key ≢ Some (record { id = id; way = way })
+
+-- the key that the connection holds that way, or none where it holds none
+abbrev pub TellsKey : {S : Type 0} → Store S → ConnId → Way → Option Key → Type 0
+TellsKey store id way None = HoldsNoKey store id way
+TellsKey store id way (Some key) = holder_of store key ≡ Some (record { id = id; way = way })
+
+-- each of the connection's keys
+pub record TellsKeys {S : Type 0} (store : Store S) (id : ConnId) (keys : HeldKeys) : Type 0 where
+  pub forward : TellsKey store id Forward keys.forward
+  pub backward : TellsKey store id Backward keys.backward
+  pub port : TellsKey store id Port keys.port
 
 -- Building or Live
 abbrev pub IsAlivePhase : {S : Type 0} → Phase S → Type 0
@@ -55,6 +62,23 @@ IsLivePhase Vacant = ⊥
 IsLivePhase Building = ⊥
 IsLivePhase (Live _ _) = Unit {0}
 IsLivePhase Dead = ⊥
+
+-- Live, and due at that time
+abbrev pub IsDuePhase : {S A R : Type 0} → Meaning S A R → ℕ → Phase S → Type 0
+IsDuePhase m now Vacant = ⊥
+IsDuePhase m now Building = ⊥
+IsDuePhase m now (Live flow _) = IsTrue (m.is_due flow now)
+IsDuePhase m now Dead = ⊥
+
+-- the slot's connection if it is due at that time, or none where it isn't
+abbrev pub TellsDue : {S A R : Type 0} → Meaning S A R → Store S → ℕ → ℕ → Option ConnId → Type 0
+TellsDue m store slot now None = ¬ IsDuePhase m now (slot_of store slot).phase
+TellsDue m store slot now (Some id) = (id.slot ≡ slot) × IsDuePhase m now (phase_of store id)
+
+-- the slot's connection if it is Dead, or none where it isn't
+abbrev pub TellsDead : {S : Type 0} → Store S → ℕ → Option ConnId → Type 0
+TellsDead store slot None = (slot_of store slot).phase ≢ Dead
+TellsDead store slot (Some id) = (id.slot ≡ slot) × (phase_of store id ≡ Dead)
 
 -- a store of so many slots of which none was ever claimed, without a key
 pub record IsNew {S : Type 0} (slots : ℕ) (store : Store S) : Type 0 where
@@ -82,13 +106,20 @@ pub record Rekeys {S : Type 0} (old new : Store S) (key : Key) (found : Option F
   pub now : holder_of new key ≡ found
   pub others : (other : Key) → other ≢ key → holder_of new other ≡ holder_of old other
 
--- a claim: the lowest slot that isn't claimed has its next incarnation, which is Building
+-- the slot is the lowest that isn't claimed
+pub record IsLowest {S : Type 0} (store : Store S) (slot : ℕ) : Type 0 where
+  pub exists : slot < slots_of store
+  pub unclaimed : (slot_of store slot).phase ≡ Vacant
+  pub lowest : (s : ℕ) → s < slot → (slot_of store s).phase ≢ Vacant
+
+-- a claim: the lowest slot that isn't claimed has its next incarnation, which is Building and holds no key
 pub record Claims {S : Type 0} (old new : Store S) (id : ConnId) : Type 0 where
   pub exists : id.slot < slots_of old
   pub unclaimed : (slot_of old id.slot).phase ≡ Vacant
   pub lowest : (s : ℕ) → s < id.slot → (slot_of old s).phase ≢ Vacant
   pub next : id.inc ≡ (slot_of old id.slot).inc + 1
   pub built : Puts old new id Building
+  pub bare : (way : Way) → HoldsNoKey new id way
 
 -- each slot is claimed
 abbrev pub IsFull : {S : Type 0} → Store S → Type 0
@@ -141,6 +172,17 @@ AnswersStep m old new id way arg Stepped.NotLive = IsNotLive old new id
 abbrev pub Kills : {S : Type 0} → Store S → Store S → ConnId → Type 0
 Kills old new id = Puts old new id Dead
 
--- an unhold: the key has no holder
-abbrev pub Unholds : {S : Type 0} → Store S → Store S → Key → Type 0
-Unholds old new key = Rekeys old new key None
+-- what a hold of that way leaves unheld: each other way that was, and its own where it was refused
+pub record StaysBare {S : Type 0} (old new : Store S) (id : ConnId) (way : Way) (held : Held) : Type 0 where
+  pub others : (other : Way) → other ≢ way → HoldsNoKey old id other → HoldsNoKey new id other
+  pub refused : held ≢ Held.Done → HoldsNoKey new id way
+
+-- an unhold: the key that the connection holds that way, if it holds one, has no holder, and all else is as it was
+pub record Unholds {S : Type 0} (old new : Store S) (found : Found) : Type 0 where
+  pub sized : slots_of new ≡ slots_of old
+  pub placed : (s : ℕ) → slot_of new s ≡ slot_of old s
+  pub held : (key : Key) → holder_of new key ≡ given_up (holder_of old key) found
+
+-- a free: the slot isn't claimed, and keeps its incarnation
+abbrev pub Frees : {S : Type 0} → Store S → Store S → ConnId → Type 0
+Frees old new id = Puts old new id Vacant

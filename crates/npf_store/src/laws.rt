@@ -1,5 +1,5 @@
 // What ties a store to the machine of connections. The functions do nothing: each is a theorem.
-ghost use Rattle.npf_store.specs.RepresentLaw.{NewIsOpening, StaysSame, ShowsPhases, ShowsBuilding, ShowsAlive, LookIsAct, ClaimIsAct, FullIsClaimed, HoldIsAct, StartIsAct, StepIsAct, KillIsAct, UnholdIsAct};
+ghost use Rattle.npf_store.specs.RepresentLaw.{NewIsOpening, StaysSame, ShowsPhases, ShowsBuilding, ShowsAlive, LookIsAct, ClaimIsAct, FullIsClaimed, HoldIsAct, StartIsAct, StepIsAct, KillIsAct, UnholdIsAct, FreeIsAct, ShowsBare, ShowsKeys, ShowsDead, ShowsDue};
 
 use npf_core::Law;
 
@@ -11,6 +11,8 @@ pub fn state_law<L: Law>()
     ensures phases { ShowsPhases L.State }
     ensures building { ShowsBuilding L.State }
     ensures alive { ShowsAlive L.State }
+    ensures dead { ShowsDead L.State }
+    ensures due { ShowsDue L.meaning }
 {}
 
 /// A look-up finds the key's holder.
@@ -44,7 +46,18 @@ pub fn kill_law<L: Law>()
     ensures { KillIsAct L.meaning }
 {}
 
-/// An unhold takes back the one key that a connection holds that way.
+/// An unhold takes back what a connection holds that way.
 pub fn unhold_law<L: Law>()
     ensures { UnholdIsAct L.meaning }
+{}
+
+/// A free gives back the slot of a Dead connection.
+pub fn free_law<L: Law>()
+    ensures { FreeIsAct L.meaning }
+{}
+
+/// A store shows which keys a connection holds, and of which ways it holds none.
+pub fn held_law<L: Law>()
+    ensures bare { ShowsBare L.State }
+    ensures keys { ShowsKeys L.State }
 {}

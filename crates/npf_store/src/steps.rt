@@ -1,4 +1,4 @@
-ghost use Rattle.npf_store.specs.Store.{AnswersStep};
+ghost use Rattle.npf_store.specs.Store.{AnswersStep, TellsDue};
 
 use crate::phase::Phase;
 use crate::store::Store;
@@ -15,10 +15,10 @@ pub fn step<L: Law>(
 ) -> Stepped<L::Reply>
     ensures { AnswersStep L.meaning store.old store.new id way arg.now result }
 {
-    let Phase::Live { flow, steps } = store.phase(id) else {
+    let Some((flow, steps)) = store.live(id) else {
         return Stepped::NotLive;
     };
-    let (flow, reply) = L::step(&flow, way, arg);
+    let (flow, reply) = L::step(flow, way, arg);
     let next = Phase::Live {
         flow,
         steps: steps.saturating_add(1),
@@ -27,5 +27,19 @@ pub fn step<L: Law>(
     Stepped::Done {
         reply,
         place: steps,
+    }
+}
+
+/// The slot's connection, if it is Live and due at that time. A pass over the slots in order finds each that is due.
+pub fn due<L: Law>(store: &Store<L::State>, slot: u32, now: u64) -> Option<ConnId>
+    ensures { TellsDue L.meaning store.now slot now result }
+{
+    let connection = store.connection(slot);
+    match connection.phase {
+        Phase::Live { flow, .. } if L::due(&flow, now) => Some(ConnId {
+            slot,
+            inc: connection.inc,
+        }),
+        _ => None,
     }
 }

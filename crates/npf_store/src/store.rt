@@ -1,80 +1,137 @@
-ghost use Rattle.std.specs.Prelude.{◌≡◌, ◌≢◌, ◌≤◌, vec_len, IfOk, OnErr};
-ghost use Rattle.npf_store.specs.Connection.{AreClaimed};
+ghost use Rattle.std.specs.Prelude.{◌≡◌, ◌≢◌, ◌<◌, ◌*◌, ◌-◌, ◌^◌, ◌↔◌, length, vec_len, replicate, IsTrue, IfOk, IfSome, IfNone};
+ghost use Rattle.npf_store.specs.Connection.{AreFit, HoldersStand};
 
 use crate::connection::Connection;
+use crate::held_keys::HeldKeys;
+use crate::keys::Keys;
 use crate::phase::Phase;
 use npf_core::{ConnId, Found, Held};
 use npf_types::{Key, NoMemory, Way};
 use std::alloc::Global;
-use std::collections::BTreeMap;
 
 /// The connections of a run, by slot and by key.
 #[derive(Drop)]
 pub struct Store<S> {
-    slots: u32,
-    // One for each slot that was ever claimed, at the slot's number.
+    // The last connection of each slot.
     connections: Vec<Connection<S>>,
-    holders: BTreeMap<Key, Found>,
-    pub ghost within: { vec_len connections ≤ slots },
-    pub ghost claimed: { AreClaimed connections.items },
+    // Each slot below this one is claimed.
+    first: u32,
+    keys: Keys,
+    pub ghost few: { vec_len connections < 2 ^ 32 },
+    pub ghost roomy: { length keys.holdings.items ≡ 3 * vec_len connections },
+    pub ghost fit: { AreFit first connections.items },
+    pub ghost stand: { HoldersStand connections.items keys.holdings.items },
 }
 
 impl<S: Copy> Store<S> {
-    ghost use Rattle.npf_store.specs.Store.{holder_of, phase_of, IsNew, IsSame, AnswersClaim, IsFull, AnswersHold, Starts, IsAlivePhase, Kills, Unholds, Puts};
+    ghost use Rattle.npf_types.specs.declared.key.Way.{Way};
+    ghost use Rattle.npf_core.specs.declared.conn_id.ConnId.{ConnId};
+    ghost use Rattle.npf_store.specs.Store.{slots_of, slot_of, holder_of, phase_of, HoldsNoKey, TellsKey, TellsKeys, TellsDead, IsNew, AnswersClaim, IsLowest, IsFull, AnswersHold, StaysBare, Starts, IsAlivePhase, IsLivePhase, Kills, Unholds, Frees, Puts};
 
-    /// A store of so many slots of which none is claimed. It takes memory only as connections are claimed and keys are held.
-    pub fn new(alloc: Global, slots: u32) -> Store<S>
-        ensures { IsNew slots result }
+    /// A store of so many slots of which none is claimed. All the memory that it ever has is taken here.
+    pub fn new(alloc: Global, slots: u32) -> Result<Store<S>, NoMemory>
+        ensures { IfOk result (λ store. IsNew slots store) }
     {
-        Store {
-            slots,
-            connections: Vec::new(alloc),
-            holders: BTreeMap::new(alloc),
-        }
+        Ok(Store {
+            connections: unclaimed(alloc, slots)?,
+            first: 0,
+            keys: Keys::new(alloc, slots)?,
+        })
+    }
+
+    /// How many slots it has.
+    pub fn slots(&self) -> u32
+        ensures { result ≡ slots_of self.now }
+    {
+        self.connections.len() as u32
     }
 
     /// The key's holder, in whatever phase it is.
     pub fn holder(&self, key: Key) -> Option<Found>
         ensures { result ≡ holder_of self.now key }
     {
-        self.holders.get(&key).copied()
+        self.keys.search(self.keys.bucket(key), key)
     }
 
-    /// The next connection of the lowest slot that isn't claimed, which is Building from now on. None exactly where each slot is
-    /// claimed.
-    pub fn claim(&mut self) -> Result<Option<ConnId>, NoMemory>
-        ensures answer { IfOk result (λ id. AnswersClaim self.old self.new id) }
-        ensures room { OnErr result (¬ IsFull self.old) }
-        ensures same { OnErr result (IsSame self.old self.new) }
+    /// The identity's phase.
+    pub fn phase(&self, id: ConnId) -> Phase<S>
+        ensures { result ≡ phase_of self.now id }
     {
-        let next = self.connections.len();
-        if next == self.slots as usize {
-            return Ok(None);
+        match self.connections.get(id.slot as usize) {
+            Some(connection) if connection.inc == id.inc => connection.phase,
+            _ => Phase::Vacant,
         }
-        // No slot is freed, so the claimed ones are the first ones, and this is the first connection of the next.
-        let first = Connection {
-            inc: 1,
+    }
+
+    // A Live connection's flow, and the number of its steps.
+    pub(crate) fn live(&self, id: ConnId) -> Option<(&S, u64)>
+        ensures some { IfSome result (λ live. phase_of self.now id ≡ Phase.Live live.0.now live.1) }
+        ensures none { IfNone result (¬ IsLivePhase (phase_of self.now id)) }
+    {
+        match self.connections.get(id.slot as usize) {
+            Some(
+                Connection {
+                    inc,
+                    phase: Phase::Live { flow, steps },
+                },
+            ) if *inc == id.inc => Some((flow, *steps)),
+            _ => None,
+        }
+    }
+
+    fn is_vacant(&self, slot: u32) -> bool
+        ensures { IsTrue result ↔ ((slot_of self.now slot).phase ≡ Phase.Vacant) }
+    {
+        match self.connections.get(slot as usize) {
+            Some(connection) => matches!(connection.phase, Phase::Vacant),
+            None => true,
+        }
+    }
+
+    // The lowest slot that isn't claimed.
+    fn lowest(&self) -> Option<u32>
+        ensures some { IfSome result (IsLowest self.now) }
+        ensures none { IfNone result (IsFull self.now) }
+    {
+        for slot in self.first..self.slots() {
+            if self.is_vacant(slot) {
+                return Some(slot);
+            }
+        }
+        None
+    }
+
+    /// The next connection of the lowest slot that isn't claimed, which is Building from now on and holds no key. None exactly
+    /// where each slot is claimed.
+    pub fn claim(&mut self) -> Option<ConnId>
+        ensures { AnswersClaim self.old self.new result }
+    {
+        let Some(slot) = self.lowest() else {
+            return None;
+        };
+        let inc = self.connections[slot as usize].inc + 1;
+        self.connections[slot as usize] = Connection {
+            inc,
             phase: Phase::Building,
         };
-        self.connections.push(first)?;
-        Ok(Some(ConnId {
-            slot: next as u32,
-            inc: 1,
-        }))
+        self.first = slot + 1;
+        Some(ConnId { slot, inc })
     }
 
     /// Gives the connection the key, as its key of that way. Done, or Taken, with nothing changed, exactly where the key has a
     /// holder.
-    pub fn hold(&mut self, id: ConnId, key: Key, way: Way) -> Result<Held, NoMemory>
-        ensures answer { IfOk result (λ held. AnswersHold self.old self.new key (record { id = id; way = way }) held) }
-        ensures unheld { OnErr result (holder_of self.old key ≡ None) }
-        ensures same { OnErr result (IsSame self.old self.new) }
+    pub fn hold(&mut self, id: ConnId, key: Key, way: Way) -> Held
+        requires claimed { phase_of self.old id ≢ Phase.Vacant }
+        requires none { HoldsNoKey self.old id way }
+        ensures answer { AnswersHold self.old self.new key (record { id = id; way = way }) result }
+        ensures bare { StaysBare self.old self.new id way result }
     {
-        if let Some(holder) = self.holder(key) {
-            return Ok(Held::Taken(holder));
+        let bucket = self.keys.bucket(key);
+        if let Some(holder) = self.keys.search(bucket, key) {
+            return Held::Taken(holder);
         }
-        self.holders.insert(key, Found { id, way })?;
-        Ok(Held::Done)
+        self.keys.give(bucket, key, Found { id, way });
+        Held::Done
     }
 
     /// A connection that was Building is Live from now on, with this flow. The start counts as its first step.
@@ -97,19 +154,72 @@ impl<S: Copy> Store<S> {
         self.put(id, Phase::Dead);
     }
 
-    /// Takes back a key: it has no holder from now on.
-    pub fn unhold(&mut self, key: Key)
-        ensures { Unholds self.old self.new key }
+    /// The key that the connection holds that way.
+    pub fn held(&self, id: ConnId, way: Way) -> Option<Key>
+        ensures { TellsKey self.now id way result }
     {
-        self.holders.remove(&key);
+        self.keys.held(Found { id, way })
     }
 
-    pub(crate) fn phase(&self, id: ConnId) -> Phase<S>
-        ensures { result ≡ phase_of self.now id }
+    /// The keys that the connection holds.
+    pub fn keys_held(&self, id: ConnId) -> HeldKeys
+        ensures { TellsKeys self.now id result }
     {
-        match self.connections.get(id.slot as usize) {
-            Some(connection) if connection.inc == id.inc => connection.phase,
-            _ => Phase::Vacant,
+        HeldKeys {
+            forward: self.held(id, Way::Forward),
+            backward: self.held(id, Way::Backward),
+            port: self.held(id, Way::Port),
+        }
+    }
+
+    /// Takes back the key that the connection holds that way, if it holds one: it has no holder from now on.
+    pub fn unhold(&mut self, id: ConnId, way: Way)
+        ensures taken { Unholds self.old self.new (record { id = id; way = way }) }
+        ensures gone { HoldsNoKey self.new id way }
+        ensures bare { (other : ConnId) (way : Way) → HoldsNoKey self.old other way → HoldsNoKey self.new other way }
+    {
+        self.keys.take_back(Found { id, way });
+    }
+
+    /// The slot's connection, if it is Dead.
+    pub fn dead(&self, slot: u32) -> Option<ConnId>
+        ensures { TellsDead self.now slot result }
+    {
+        let connection = self.connection(slot);
+        match connection.phase {
+            Phase::Dead => Some(ConnId {
+                slot,
+                inc: connection.inc,
+            }),
+            _ => None,
+        }
+    }
+
+    /// The slot of a Dead connection without keys isn't claimed from now on. Its next connection has the next incarnation, so
+    /// that of the last possible one can't be freed.
+    pub fn free(&mut self, id: ConnId)
+        requires killed { phase_of self.old id ≡ Phase.Dead }
+        requires none { (way : Way) → HoldsNoKey self.old id way }
+        requires further { id.inc < 2 ^ 64 - 1 }
+        ensures { Frees self.old self.new id }
+    {
+        self.connections[id.slot as usize] = Connection {
+            inc: id.inc,
+            phase: Phase::Vacant,
+        };
+        self.first = self.first.min(id.slot);
+    }
+
+    /// The slot's last connection, which was never claimed where there is no such slot.
+    pub(crate) fn connection(&self, slot: u32) -> Connection<S>
+        ensures { result ≡ slot_of self.now slot }
+    {
+        match self.connections.get(slot as usize) {
+            Some(connection) => *connection,
+            None => Connection {
+                inc: 0,
+                phase: Phase::Vacant,
+            },
         }
     }
 
@@ -121,4 +231,14 @@ impl<S: Copy> Store<S> {
     {
         self.connections[id.slot as usize] = Connection { inc: id.inc, phase };
     }
+}
+
+fn unclaimed<S: Copy>(alloc: Global, slots: u32) -> Result<Vec<Connection<S>>, NoMemory>
+    ensures { IfOk result (λ connections. connections.items ≡ replicate slots (record { inc = 0; phase = Phase.Vacant })) }
+{
+    let never = Connection {
+        inc: 0,
+        phase: Phase::Vacant,
+    };
+    Ok(vec![in alloc; never; slots as usize]?)
 }

@@ -18,7 +18,7 @@ returns-in-Done c =
     let packet = c.args.packet.now in
     let id = c.args.id in
     let forward = forward_of packet in
-    let answer = subst (λ key. AnswersHold c.args.store.now c.hold.new.self key (record { id = id; way = Forward }) c.in_ok-hold.field-0) c.keys_of.ensures.forward c.in_ok-hold.ensures.answer in
+    let answer = subst (λ key. AnswersHold c.args.store.now c.hold.new.self key (record { id = id; way = Forward }) c.hold.result) c.keys_of-keys.ensures.forward c.hold.ensures.answer in
     let done = subst (AnswersHold c.args.store.now c.hold.new.self forward (record { id = id; way = Forward })) c.in-Done.is answer in
     if_ok (λ outcome. DoesFrom (λ k. IsForwarded k id forward) (hold_backward packet c.args.place id) c.hold.new.self c.hold_backward.new.store outcome)
     (λ outcome. DoesFrom (λ k. IsFresh k id) (build packet c.args.place id) c.args.store.now c.hold_backward.new.store outcome) c.hold_backward.result
@@ -36,7 +36,7 @@ returns-in-Taken c = λ k reached fresh rep.
     let id = c.args.id in
     let forward = forward_of packet in
     let holder = c.in-Taken.holder in
-    let answer = subst (λ key. AnswersHold c.args.store.now c.hold.new.self key (record { id = id; way = Forward }) c.in_ok-hold.field-0) c.keys_of.ensures.forward c.in_ok-hold.ensures.answer in
+    let answer = subst (λ key. AnswersHold c.args.store.now c.hold.new.self key (record { id = id; way = Forward }) c.hold.result) c.keys_of-keys.ensures.forward c.hold.ensures.answer in
     let taken = subst (AnswersHold c.args.store.now c.hold.new.self forward (record { id = id; way = Forward })) c.in-Taken.is answer in
     let held = hold_did id forward Forward k c.args.store.now c.hold.new.self (Held.Taken holder) rep taken in
     let after = walks_on (hold id forward Forward) k reached (walks_asks (Hold id forward Forward) (λ k. held_by (k.holder forward)) k (record { built = fresh.stage; none = fresh.none Forward })) in

@@ -21,7 +21,7 @@ returns-in-Some c =
     let id = c.in-Some.id in
     let old = c.args.store.now in
     let mid = c.claim.new.self in
-    let claimed = subst (AnswersClaim old mid) c.in-Some.is c.in_ok-id.ensures.answer in
+    let claimed = subst (AnswersClaim old mid) c.in-Some.is c.claim.ensures in
     if_ok (λ outcome. DoesFrom (λ k. IsFresh k id) (build packet place id) mid c.build.new.store outcome)
     (λ outcome. Does (try_open packet place) old c.build.new.store outcome) c.build.result
     (λ outcome does k reached rep.
@@ -40,7 +40,7 @@ returns-in-None c = λ k reached rep.
     let place = c.args.place in
     let old = c.args.store.now in
     let new = c.claim.new.self in
-    let full = subst (AnswersClaim old new) c.in-None.is c.in_ok-id.ensures.answer in
+    let full = subst (AnswersClaim old new) c.in-None.is c.claim.ensures in
     let none = lowest_none k most_connections (full_is_claimed Flow most_connections old k rep full.0) in
     did_as (try_open packet place) k new (unkept place Full) c.unkept.result (sym c.unkept.ensures)
     (opened_did packet place None k new (unkept place Full) none (did_finds (unkept place Full) k new (stays_same Flow most_connections old new k rep full.1)))

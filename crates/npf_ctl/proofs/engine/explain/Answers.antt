@@ -8,7 +8,7 @@ use Rattle.npf_ctl.proofs.Taking.{none_run, one_more_run, run_explained}
 use Rattle.npf_ctl.proofs.engine.explain.Goals as goal
 
 pub loop-place-init : goal.loop-place-init
-loop-place-init c = rw c.in_ok-outcomes.ensures.items (none_run c.args.rules.now c.new-store.result c.new-store.ensures)
+loop-place-init c = rw c.in_ok-outcomes.ensures.items (none_run c.args.rules.now c.in_ok-store.store c.in_ok-store.ensures)
 
 pub loop-place-preserved : goal.loop-place-preserved
 loop-place-preserved c =

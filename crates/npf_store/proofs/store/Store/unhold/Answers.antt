@@ -1,11 +1,13 @@
-use Rattle.std.proofs.Common.{refl}
-use Rattle.npf_store.proofs.KeyLemmas.{keys_apart}
+use Rattle.std.proofs.Common.{sym, ◌∙◌}
+use Rattle.npf_store.specs.Keys.{keeper_of}
+use Rattle.npf_store.proofs.GivenUpLemmas.{given_up_gone, given_up_others}
 use Rattle.npf_store.proofs.store.Store.unhold.Goals as goal
 
-pub returns : goal.returns
-returns g c = record {
-  sized = refl;
-  placed = λ s. refl;
-  now = c.remove.ensures.updates.1;
-  others = λ other ne. c.remove.ensures.updates.2 other (keys_apart c.args.key other ne);
-}
+pub returns-clause-gone : goal.returns-clause-gone
+returns-clause-gone g c = λ key held.
+    given_up_gone (keeper_of c.args.self.now.keys key) (record { id = c.args.id; way = c.args.way }) (sym (c.take_back.ensures.holder key) ∙ held)
+
+pub returns-clause-bare : goal.returns-clause-bare
+returns-clause-bare g c = λ other way none key held.
+    given_up_others (keeper_of c.args.self.now.keys key) (record { id = c.args.id; way = c.args.way }) (record { id = other; way = way }) (none key)
+    (sym (c.take_back.ensures.holder key) ∙ held)

@@ -1,0 +1,226 @@
+ghost use Rattle.std.specs.Prelude.{◌≡◌, false, ◌≢◌, ℕ, ◌<◌, ◌≤◌, ◌*◌, ◌+◌, ◌↔◌, length, vec_len, get_or, Option, Some, None, IfOk, IfSome, IfNone, IsTrue, replicate};
+ghost use Rattle.npf_core.specs.NextState.{is_found};
+ghost use Rattle.npf_store.specs.Hash.{bucket_of};
+ghost use Rattle.npf_store.specs.Places.{AreKept, AreSized, key_place, way_number};
+
+use crate::hash::bucket_of;
+use crate::holding::Holding;
+use npf_core::Found;
+use npf_types::{Key, NoMemory, Way};
+use std::alloc::Global;
+
+/// How many places a bucket names.
+const WIDTH: usize = 16;
+
+/// The keys that connections hold.
+#[derive(Drop)]
+pub(crate) struct Keys {
+    buckets: usize,
+    // What each connection holds of each way, at 3 times its slot and the way's number.
+    holdings: Vec<Option<Holding>>,
+    // The places that each bucket names. Its keys stand there, and others' may, too.
+    cells: Vec<u32>,
+    // Of each bucket, whether it had once more keys than it can name. These may stand at any place.
+    spilled: Vec<bool>,
+    pub ghost sized: { AreSized buckets cells.items spilled.items },
+    pub ghost kept: { AreKept buckets holdings.items cells.items spilled.items },
+}
+
+impl Keys {
+    ghost use Rattle.npf_core.specs.NextState.{given_up};
+    ghost use Rattle.npf_types.specs.declared.key.Key.{Key};
+    ghost use Rattle.npf_store.specs.Keys.{Reholds, keeper_of};
+    ghost use Rattle.npf_store.specs.Places.{IsStale, IsUnnamed, found_at, standing};
+
+    /// Room for the keys of so many slots, of which none is held.
+    pub(crate) fn new(alloc: Global, slots: u32) -> Result<Keys, NoMemory>
+        ensures unheld { IfOk result (λ keys. (key : Key) → keeper_of keys key ≡ None) }
+        ensures sized { IfOk result (λ keys. length keys.holdings.items ≡ 3 * slots) }
+    {
+        let buckets = slots.max(1) as usize;
+        Ok(Keys {
+            buckets,
+            holdings: empty(alloc, 3 * slots as usize)?,
+            cells: vec![in alloc; u32::MAX; WIDTH * buckets]?,
+            spilled: vec![in alloc; false; buckets]?,
+        })
+    }
+
+    /// The key's bucket.
+    pub(crate) fn bucket(&self, key: Key) -> usize
+        ensures value { result ≡ bucket_of self.now.buckets key }
+        ensures within { result < self.now.buckets }
+    {
+        bucket_of(self.buckets, key)
+    }
+
+    /// The key's holder, by the key's bucket.
+    pub(crate) fn search(&self, bucket: usize, key: Key) -> Option<Found>
+        requires { bucket ≡ bucket_of self.now.buckets key }
+        ensures { result ≡ keeper_of self.now key }
+    {
+        if let Some(found) = self.named(bucket, key) {
+            return Some(found);
+        }
+        if self.spilled[bucket] {
+            return self.anywhere(key);
+        }
+        None
+    }
+
+    fn standing(&self, place: usize) -> Option<Holding>
+        ensures { result ≡ standing self.now.holdings.items place }
+    {
+        match self.holdings.get(place) {
+            Some(holding) => *holding,
+            None => None,
+        }
+    }
+
+    fn found(&self, place: usize, key: Key) -> Option<Found>
+        ensures { result ≡ found_at self.now.holdings.items key place }
+    {
+        match self.standing(place) {
+            Some(holding) if holding.key == key => Some(holding.found),
+            _ => None,
+        }
+    }
+
+    // The key's holder, where the bucket names its place.
+    fn named(&self, bucket: usize, key: Key) -> Option<Found>
+        requires { bucket < self.now.buckets }
+        ensures some { IfSome result (λ found. keeper_of self.now key ≡ Some found) }
+        ensures none { IfNone result ((i : ℕ) → i < 16 → found_at self.now.holdings.items key (get_or self.now.cells.items (bucket * 16 + i) 0) ≡ None) }
+    {
+        for i in 0..WIDTH {
+            let place = self.cells[bucket * WIDTH + i] as usize;
+            if let Some(found) = self.found(place, key) {
+                return Some(found);
+            }
+        }
+        None
+    }
+
+    fn anywhere(&self, key: Key) -> Option<Found>
+        ensures { result ≡ keeper_of self.now key }
+    {
+        for place in 0..self.holdings.len() {
+            if let Some(found) = self.found(place, key) {
+                return Some(found);
+            }
+        }
+        None
+    }
+
+    fn is_stale(&self, bucket: usize, place: usize) -> bool
+        ensures { IsTrue result ↔ IsStale self.now.buckets self.now.holdings.items bucket place }
+    {
+        match self.standing(place) {
+            Some(holding) => self.bucket(holding.key) != bucket,
+            None => true,
+        }
+    }
+
+    // A cell of the bucket that none of the bucket's keys needs.
+    fn stale_cell(&self, bucket: usize) -> Option<usize>
+        requires { bucket < self.now.buckets }
+        ensures within { IfSome result (λ cell. (bucket * 16 ≤ cell) × (cell < bucket * 16 + 16)) }
+        ensures stale { IfSome result (λ cell. IsStale self.now.buckets self.now.holdings.items bucket (get_or self.now.cells.items cell 0)) }
+    {
+        for cell in bucket * WIDTH..bucket * WIDTH + WIDTH {
+            if self.is_stale(bucket, self.cells[cell] as usize) {
+                return Some(cell);
+            }
+        }
+        None
+    }
+
+    // Has the bucket name the place, or else be spilled.
+    fn name(&mut self, bucket: usize, place: usize)
+        requires { bucket < self.old.buckets }
+        ensures named { get_or self.new.spilled.items bucket false ≡ false → ¬ IsUnnamed self.new.cells.items bucket place }
+        ensures holdings { self.new.holdings ≡ self.old.holdings }
+        ensures buckets { self.new.buckets ≡ self.old.buckets }
+    {
+        let (Some(cell), Ok(name)) = (self.stale_cell(bucket), u32::try_from(place)) else {
+            self.spilled[bucket] = true;
+            return;
+        };
+        self.cells[cell] = name;
+    }
+
+    /// Gives a key that has no holder to this one, by the key's bucket.
+    pub(crate) fn give(&mut self, bucket: usize, key: Key, found: Found)
+        requires bucket { bucket ≡ bucket_of self.old.buckets key }
+        requires within { key_place found < length self.old.holdings.items }
+        requires none { standing self.old.holdings.items (key_place found) ≡ None }
+        requires unheld { keeper_of self.old key ≡ None }
+        ensures { Reholds self.old self.new key (Some found) }
+    {
+        let place = key_place(found);
+        self.name(bucket, place);
+        self.holdings[place] = Some(Holding { key, found });
+    }
+
+    // What stands at the connection's place of that way, if the connection holds it.
+    fn holding(&self, found: Found) -> Option<Holding>
+        ensures some { IfSome result (λ holding. standing self.now.holdings.items (key_place found) ≡ Some holding) }
+        ensures own { IfSome result (λ holding. holding.found ≡ found) }
+        ensures none { IfNone result ((key : Key) → keeper_of self.now key ≢ Some found) }
+    {
+        match self.standing(key_place(found)) {
+            Some(holding) if is_found(holding.found, found) => Some(holding),
+            _ => None,
+        }
+    }
+
+    /// The key that the connection holds that way.
+    pub(crate) fn held(&self, found: Found) -> Option<Key>
+        ensures some { IfSome result (λ key. keeper_of self.now key ≡ Some found) }
+        ensures none { IfNone result ((key : Key) → keeper_of self.now key ≢ Some found) }
+    {
+        match self.holding(found) {
+            Some(holding) => Some(holding.key),
+            None => None,
+        }
+    }
+
+    /// Takes back the key that the connection holds that way, if there is one.
+    pub(crate) fn take_back(&mut self, found: Found)
+        ensures holder { (key : Key) → keeper_of self.new key ≡ given_up (keeper_of self.old key) found }
+        ensures sized { length self.new.holdings.items ≡ length self.old.holdings.items }
+    {
+        let Some(holding) = self.holding(found) else {
+            return;
+        };
+        self.holdings[key_place(holding.found)] = None;
+    }
+}
+
+fn empty(alloc: Global, places: usize) -> Result<Vec<Option<Holding>>, NoMemory>
+    ensures { IfOk result (λ holdings. holdings.items ≡ replicate places None) }
+{
+    Ok(vec![in alloc; None; places]?)
+}
+
+fn is_found(found: Found, other: Found) -> bool
+    ensures { result ≡ is_found found other }
+{
+    found == other
+}
+
+fn way_number(way: Way) -> usize
+    ensures { result ≡ way_number way }
+{
+    match way {
+        Way::Forward => 0,
+        Way::Backward => 1,
+        Way::Port => 2,
+    }
+}
+
+fn key_place(found: Found) -> usize
+    ensures { result ≡ key_place found }
+{
+    3 * found.id.slot as usize + way_number(found.way)
+}
