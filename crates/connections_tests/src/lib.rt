@@ -1,0 +1,6 @@
+// The tests of tables of connections, each over any table, through the calls of `Connections` alone: the next table is put to the
+// same tests. Expected values are counted by hand.
+#![tactic(auto)]
+
+#[cfg(test)]
+mod lives;

@@ -1,0 +1,13 @@
+mod AbandonLemmas
+mod CallLemmas
+mod CollectLemmas
+mod Counts
+mod EndLemmas
+mod ExpireLemmas
+mod ExpiryLemmas
+mod FreeLemmas
+mod JoinLemmas
+mod SplitLemmas
+mod StayLemmas
+mod TakeLemmas
+mod WorkLemmas

@@ -1,0 +1,26 @@
+use Rattle.std.proofs.Common.{ap, ◌∙◌, arith}
+use Rattle.npf_oneturn.proofs.SplitLemmas.{splits, gets_number, giver_pass, split_so}
+use Rattle.npf_oneturn.proofs.one_turn.OneTurnConnections.split.Goals as goal
+
+pub split_seat-seat-requires : goal.split_seat-seat-requires
+split_seat-seat-requires g c =
+    let of = c.requires.own.0 in
+    let r = c.requires.own.1 in
+    (of.same, omega (arith, of.words), splits g.L.Law.meaning _ _ _ r.lives r.turn c.requires.places)
+
+pub load-requires : goal.load-requires
+load-requires g c =
+    let of = c.requires.own.0 in
+    let e = c.split_seat-seat.ensures in (
+      e.3 ∙ of.same,
+      omega (arith, of.words),
+      gets_number g.L.Law.meaning _ _ _ _ _ (ap (λ y. y.0.lives) e.4) (ap (λ y. y.0.turn) e.4) (rw e.4 (omega arith)) (ap (λ y. y.0.entered) e.4),
+    )
+
+pub returns-clause-legal : goal.returns-clause-legal
+returns-clause-legal g c = rw c.split_seat-seat.ensures.2 (giver_pass g.L.Law.meaning c.args.pass.now.seat.me.0 c.requires.places c.requires.own.1.most c.requires.legal)
+
+pub returns-clause-splits : goal.returns-clause-splits
+returns-clause-splits g c =
+    let e = c.split_seat-seat.ensures in
+    rw e.2 (split_so g.L.Law.meaning _ c.args.pass.now.seat.me.0 _ _ (rw e.4 at c.load.ensures.2))

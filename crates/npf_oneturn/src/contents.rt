@@ -1,0 +1,8 @@
+use npf_store::Store;
+
+/// What lies in the table's slot: the connections, and how many passes are entered.
+#[derive(Drop)]
+pub struct Contents<S> {
+    pub store: Store<S>,
+    pub entered: u64,
+}
