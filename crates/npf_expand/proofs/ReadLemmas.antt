@@ -20,7 +20,7 @@ use Rattle.npf_expand.specs.Kept.{AreSound, env_in}
 use Rattle.npf_expand.specs.Map.{map_faults}
 use Rattle.npf_expand.specs.Meets.{Meets}
 use Rattle.npf_expand.specs.Rule.{Declared, passing_faults}
-use Rattle.npf_expand.specs.Step.{Adding, AddsToModel, ReadsStatement, env_behind}
+use Rattle.npf_expand.specs.Step.{Adding, AddsToModel, IsStmtRead, env_behind}
 use Rattle.npf_expand.specs.Summary.{counted}
 use Rattle.npf_expand.specs.Table.{tables_of}
 use Rattle.npf_expand.specs.Variable.{Definition, env_of}
@@ -91,7 +91,7 @@ module _ (ifaces : List Iface) where
         ∙ ap (λ b. b ++ gathered ifaces declared give (behind older stmt) rest) (sym pushed)
 
     module _ (state next : State) (stmts : List Stmt) (read : ℕ) (stmt d : Stmt) (below : read < length stmts) (is : stmt ≡ get_or stmts read d)
-        (left : StmtsLeft state stmts read) (steps : ReadsStatement ifaces declared state next stmt) where
+        (left : StmtsLeft state stmts read) (steps : IsStmtRead ifaces declared state next stmt) where
       abbrev older : List Definition
       older = behind_all [] (take read stmts)
 

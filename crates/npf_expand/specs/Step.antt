@@ -24,7 +24,7 @@ module _ (ifaces : List Iface) where
       pub defaults : new.defaults.items ≡ old.defaults.items ++ default_group ifaces declared env stmt
       pub maps : new.maps.items ≡ old.maps.items ++ maps_of ifaces declared env stmt
 
-    pub record ReadsStatement (old new : State) (stmt : Stmt) : Type 0 where
+    pub record IsStmtRead (old new : State) (stmt : Stmt) : Type 0 where
       pub sound : AreSound new.variables
       pub env : (text : List ℕ) → env_in new.variables text ≡ env_behind (env_in old.variables) stmt text
       pub met : Meets old.met new.met (stmt_faults ifaces declared (env_in old.variables) old.met.elements stmt)

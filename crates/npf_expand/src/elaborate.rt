@@ -6,7 +6,7 @@ ghost use Rattle.npf_syntax.specs.declared.stmt.Stmt.{Stmt};
 ghost use Rattle.npf_faults.specs.First.{first_fault};
 ghost use Rattle.npf_expand.specs.Elaborates.{Elaborates, RefusesTree, declared_in, procedures_of, stmts_faults};
 ghost use Rattle.npf_expand.specs.Kept.{AreSound, env_in};
-ghost use Rattle.npf_expand.specs.Step.{Adding, ReadsStatement};
+ghost use Rattle.npf_expand.specs.Step.{Adding, IsStmtRead};
 ghost use Rattle.npf_expand.specs.Table.{tables_of};
 
 use crate::declarations::Declarations;
@@ -101,7 +101,7 @@ impl<'a> State<'a> {
         stmt: &'a Stmt,
     ) -> Result<(), NoMemory>
         requires { AreSound self.old.variables }
-        ensures { OnOk result (ReadsStatement interfaces.now.list.now (declared_in declarations.now.stmts.now) self.old self.new stmt.now) }
+        ensures { OnOk result (IsStmtRead interfaces.now.list.now (declared_in declarations.now.stmts.now) self.old self.new stmt.now) }
     {
         match stmt {
             Stmt::Define { var, values, .. } => self.define(
@@ -151,7 +151,7 @@ impl<'a> State<'a> {
         values: &'a Values,
     ) -> Result<(), NoMemory>
         requires { AreSound self.old.variables }
-        ensures { OnOk result ((span : Span) → ReadsStatement interfaces.now.list.now (declared_in declarations.now.stmts.now) self.old self.new (Stmt.Define var.now values.now span)) }
+        ensures { OnOk result ((span : Span) → IsStmtRead interfaces.now.list.now (declared_in declarations.now.stmts.now) self.old self.new (Stmt.Define var.now values.now span)) }
     {
         let scope = Scope {
             variables: &self.variables,
@@ -174,7 +174,7 @@ impl<'a> State<'a> {
         span: Span,
     ) -> Result<(), NoMemory>
         requires { AreSound self.old.variables }
-        ensures { OnOk result (ReadsStatement interfaces.now.list.now (declared_in declarations.now.stmts.now) self.old self.new
+        ensures { OnOk result (IsStmtRead interfaces.now.list.now (declared_in declarations.now.stmts.now) self.old self.new
             (Stmt.Map line.now.iface.now line.now.kind.now line.now.proto.now line.now.left.now line.now.arrow line.now.right.now line.now.pass.now span)) }
     {
         let scope = Scope {
@@ -200,7 +200,7 @@ impl<'a> State<'a> {
         items: &'a [Item],
     ) -> Result<(), NoMemory>
         requires { AreSound self.old.variables }
-        ensures { OnOk result ((span : Span) → ReadsStatement interfaces.now.list.now (declared_in declarations.now.stmts.now) self.old self.new (Stmt.Group head.now items.now span)) }
+        ensures { OnOk result ((span : Span) → IsStmtRead interfaces.now.list.now (declared_in declarations.now.stmts.now) self.old self.new (Stmt.Group head.now items.now span)) }
     {
         let scope = Scope {
             variables: &self.variables,
