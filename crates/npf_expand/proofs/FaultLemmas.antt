@@ -1,5 +1,5 @@
 -- The first fault of two lists of faults.
-use Rattle.std.proofs.Common.{◌≡◌, Bool, true, false, is_some, Option, Some, None, List, [], ◌∷◌, ◌++◌, refl, sym, ap, ◌∙◌, true≢false}
+use Rattle.std.proofs.Common.{◌≡◌, true, false, is_some, Option, Some, None, List, [], ◌∷◌, ◌++◌, refl, sym, ap, ◌∙◌, true≢false}
 use Rattle.std.specs.Prelude.{Result, Ok, Err, OnOk}
 use Rattle.npf_lexer.specs.declared.fault.ConfFault.{ConfFault}
 use Rattle.npf_model.specs.declared.iface.Iface.{Iface}

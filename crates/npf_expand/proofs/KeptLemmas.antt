@@ -1,14 +1,14 @@
 -- What is kept of definitions, by their places, and what stays where one more stands behind them.
-use Rattle.std.proofs.Common.{◌≡◌, ◌<◌, ◌≤◌, ◌≢◌, ◌+◌, ◌*◌, ◌^◌, ℕ, zero, suc, Bool, true, false, Option, Some, None, List, [], ◌∷◌, ◌++◌, All, length, reverse, get_or, refl, sym, ap, subst, ◌∙◌, inl, inr, ◌⊎◌, append-nil, append_assoc, map, take, arith}
+use Rattle.std.proofs.Common.{◌≡◌, ◌<◌, ◌≤◌, ◌+◌, ℕ, Bool, true, false, Option, Some, None, List, [], ◌∷◌, ◌++◌, All, length, reverse, get_or, refl, sym, ap, subst, ◌∙◌, inl, inr, ◌⊎◌, append-nil, append_assoc, map, take, arith}
 use Rattle.std.specs.Prelude.{slice_get, if◌then◌else◌}
 use Rattle.std.specs.HashMap.{get_by}
 use Rattle.std.specs.Str.{bytes_eq}
 use Rattle.std.specs.List.{cons_option, filter_map, flat_map}
 use Rattle.std.specs.Option.{option_map, option_or}
-use Rattle.std.proofs.lemmas.Grind.{flat_map-append, common_steps}
+use Rattle.std.proofs.lemmas.Grind.{flat_map-append}
 use Rattle.std.proofs.lemmas.List.{length-reverse, length_push, map-append, reverse-append, reverse-reverse, take_more, get_or_append_left}
 use Rattle.std.proofs.lemmas.List.Elements.{All-append, All-weaker, All-head, All-push, All-tail}
-use Rattle.std.proofs.lemmas.Option.{slice_get_within, get_or_from_slice_get, slice_get-get_or}
+use Rattle.std.proofs.lemmas.Option.{slice_get_within, slice_get-get_or}
 use Rattle.std.proofs.Math.Seq.{get_or-append_seam}
 use Rattle.npf_expand.specs.declared.atom.Atom.{Atom as Kept}
 use Rattle.npf_expand.specs.declared.summary.Summary.{Summary}
@@ -18,7 +18,7 @@ use Rattle.npf_expand.specs.declared.variable.Part.{Part}
 use Rattle.npf_expand.specs.declared.variable.Part.TheVariants.{Single, Defined}
 use Rattle.npf_expand.specs.declared.variable.Spliced.{Spliced}
 use Rattle.npf_expand.specs.declared.variable.Variables.{Variables}
-use Rattle.npf_expand.specs.Atom.{Atom, Binding, Env, kept_atom}
+use Rattle.npf_expand.specs.Atom.{Atom, Binding, kept_atom}
 use Rattle.npf_expand.specs.Kept.{AreDefs, AreKeptBy, AreSound, AreSpliced, IsBound, IsDefBehind, IsOfFirst, at_place, bindings_of, def_binding, env_in, first_atom, known, part_atoms, parts_atoms}
 use Rattle.npf_expand.specs.Summary.{joined_summary, summary_of}
 use Rattle.npf_expand.specs.Use.{atoms_of}

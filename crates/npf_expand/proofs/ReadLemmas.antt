@@ -1,5 +1,5 @@
 -- What is left of a text's statements, of which so many were read.
-use Rattle.std.proofs.Common.{◌≡◌, ◌≤◌, ◌<◌, ◌+◌, ℕ, Option, Some, None, List, [], ◌∷◌, ◌++◌, length, get_or, take, drop, refl, sym, ap, subst, ◌∙◌, append-nil, append_assoc, arith}
+use Rattle.std.proofs.Common.{◌≡◌, ◌≤◌, ◌<◌, ◌+◌, ℕ, None, List, [], ◌∷◌, ◌++◌, length, get_or, take, drop, refl, sym, ap, ◌∙◌, append-nil, append_assoc}
 use Rattle.std.specs.List.{flat_map}
 use Rattle.std.proofs.Math.Path.{fun_ext}
 use Rattle.std.proofs.lemmas.List.{drop_more, drop_all, take_more}
@@ -18,8 +18,7 @@ use Rattle.npf_expand.specs.Elaborates.{Elaborates, behind, declared_in, default
 use Rattle.npf_expand.specs.Group.{head_faults}
 use Rattle.npf_expand.specs.Kept.{AreSound, env_in}
 use Rattle.npf_expand.specs.Map.{map_faults}
-use Rattle.npf_expand.specs.Meets.{Meets}
-use Rattle.npf_expand.specs.Rule.{Declared, passing_faults}
+use Rattle.npf_expand.specs.Rule.{Declared}
 use Rattle.npf_expand.specs.Step.{Adding, AddsToModel, IsStmtRead, env_behind}
 use Rattle.npf_expand.specs.Summary.{counted}
 use Rattle.npf_expand.specs.Table.{tables_of}

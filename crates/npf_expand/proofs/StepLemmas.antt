@@ -1,7 +1,6 @@
 -- What is met behind what was met before.
-use Rattle.std.proofs.Common.{◌≡◌, ◌≤◌, ◌<◌, ◌+◌, ℕ, zero, suc, Bool, true, false, min, ◌&&◌, nat_le, nat_lt, if◌then◌else◌, Option, Some, None, List, [], ◌∷◌, ◌++◌, length, get_or, take, drop, map, refl, sym, ap, subst, ◌∙◌, append-nil, append_assoc, arith}
-use Rattle.std.proofs.lemmas.Grind.{common_steps}
-use Rattle.std.proofs.lemmas.List.{drop_more, drop_all, take_more, take_all}
+use Rattle.std.proofs.Common.{◌≡◌, ◌≤◌, ◌<◌, ◌+◌, ℕ, ◌&&◌, nat_le, nat_lt, Option, None, List, [], ◌∷◌, ◌++◌, length, get_or, drop, map, refl, sym, ap, ◌∙◌, append-nil, append_assoc, arith}
+use Rattle.std.proofs.lemmas.List.{drop_more, drop_all}
 use Rattle.npf_types.specs.declared.limits.TheConstants.{MAX_LIST_ELEMENTS}
 use Rattle.npf_types.specs.declared.span.Span.{Span}
 use Rattle.npf_lexer.specs.declared.fault.ConfFault.{ConfFault}
@@ -21,13 +20,12 @@ use Rattle.npf_faults.specs.First.{earlier, fault_if, first_fault}
 use Rattle.npf_faults.proofs.FirstLemmas.{earlier-assoc, earlier-none, first_fault-append, none_of_earlier}
 use Rattle.npf_expand.specs.declared.met.Met.{Met}
 use Rattle.npf_expand.specs.Atom.{Env}
-use Rattle.npf_expand.specs.Elaborates.{behind, default_group, gathered, named_group, stmt_elements, stmt_faults, stmts_faults}
+use Rattle.npf_expand.specs.Elaborates.{default_group, named_group}
 use Rattle.npf_expand.specs.Group.{group_of_tree, item_elements, item_faults, item_of_tree, items_elements, items_faults}
 use Rattle.npf_expand.specs.Meets.{Meets}
 use Rattle.npf_expand.specs.Rule.{Declared, passing_faults, rule_faults}
 use Rattle.npf_expand.specs.Summary.{counted}
 use Rattle.npf_expand.proofs.FaultLemmas.{first_of_both}
-use Rattle.npf_expand.specs.Variable.{Definition, env_of}
 
 same_passing : (a b m n : ℕ) → counted a ≡ counted b → counted m ≡ counted n → (nat_le a MAX_LIST_ELEMENTS && nat_lt MAX_LIST_ELEMENTS (a + m)) ≡ (nat_le b MAX_LIST_ELEMENTS && nat_lt MAX_LIST_ELEMENTS (b + n))
 same_passing a b m n one other = grind arith

@@ -1,6 +1,6 @@
 -- What is kept of values so that they need not be looked at where they are used: how many elements they are, up to one more
 -- than all lists may have, and what becomes of them in each place.
-use Rattle.std.specs.Prelude.{ℕ, ◌+◌, ◌||◌, min, Option, Some, None, List, [], ◌∷◌}
+use Rattle.std.specs.Prelude.{ℕ, ◌+◌, ◌||◌, min, List}
 use Rattle.std.specs.List.{flat_map, list_any}
 use Rattle.npf_faults.specs.First.{earlier, first_fault}
 use Rattle.npf_types.specs.declared.limits.TheConstants.{MAX_LIST_ELEMENTS}

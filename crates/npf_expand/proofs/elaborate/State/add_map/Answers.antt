@@ -1,9 +1,9 @@
 use Rattle.std.proofs.Common.{append-nil, refl, sym, ap, ◌∙◌}
 use Rattle.npf_expand.specs.Elaborates.{declared_in, filter_elements}
 use Rattle.npf_expand.specs.Kept.{env_in}
-use Rattle.npf_expand.specs.Map.{map_faults, map_of_tree}
+use Rattle.npf_expand.specs.Map.{map_faults}
 use Rattle.npf_model.specs.declared.map.Map.{Map}
-use Rattle.std.proofs.Common.{List, ◌++◌, ◌∷◌, []}
+use Rattle.std.proofs.Common.{◌++◌, ◌∷◌, []}
 use Rattle.npf_expand.proofs.FaultLemmas.{some_or_none}
 use Rattle.npf_expand.proofs.elaborate.State.add_map.Goals as goal
 

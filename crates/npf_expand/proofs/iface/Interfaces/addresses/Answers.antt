@@ -1,4 +1,4 @@
-use Rattle.std.proofs.Common.{◌<◌, ℕ, [], ap, subst, sym, get_or, ◌∙◌, arith}
+use Rattle.std.proofs.Common.{ℕ, [], ap, sym, get_or, ◌∙◌, arith}
 use Rattle.std.specs.List.{filter}
 use Rattle.npf_types.specs.Named.{named}
 use Rattle.npf_model.specs.declared.iface.Iface.{Iface}

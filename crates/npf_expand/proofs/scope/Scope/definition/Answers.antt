@@ -1,8 +1,7 @@
-use Rattle.std.proofs.Common.{[], List, ◌≤◌, length, subst, sym, ap, ◌∙◌, arith}
+use Rattle.std.proofs.Common.{[], sym, ◌∙◌, arith}
 use Rattle.npf_expand.specs.Scope.{env_of_scope, ifaces_of_scope, known_of_scope}
 use Rattle.npf_expand.specs.Variable.{definition_faults, listed_values, spliced}
-use Rattle.npf_expand.specs.Atom.{Atom}
-use Rattle.npf_expand.proofs.FaultLemmas.{not_refused, refused}
+use Rattle.npf_expand.proofs.FaultLemmas.{refused}
 use Rattle.npf_expand.proofs.KeptLemmas.{spliced_behind, spliced_binding}
 use Rattle.npf_expand.proofs.scope.Scope.definition.Goals as goal
 

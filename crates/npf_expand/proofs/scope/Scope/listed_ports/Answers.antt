@@ -1,4 +1,4 @@
-use Rattle.std.proofs.Common.{Some, List, ap, ◌∙◌}
+use Rattle.std.proofs.Common.{Some, ap, ◌∙◌}
 use Rattle.std.specs.List.{filter_map}
 use Rattle.npf_expand.specs.Atom.{kept_atom}
 use Rattle.npf_expand.specs.Port.{atom_ports}

@@ -1,4 +1,4 @@
-use Rattle.std.proofs.Common.{◌++◌, ◌∷◌, [], List, sym, ap, subst, ◌∙◌}
+use Rattle.std.proofs.Common.{◌++◌, ◌∷◌, [], sym, ap, subst, ◌∙◌}
 use Rattle.npf_syntax.specs.declared.group.Item.{Item as WrittenItem}
 use Rattle.npf_model.specs.declared.group.Item.{Item}
 use Rattle.npf_expand.specs.Group.{item_elements, item_faults, item_of_tree}

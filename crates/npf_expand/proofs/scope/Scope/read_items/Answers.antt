@@ -1,6 +1,6 @@
 use Rattle.std.proofs.Common.{refl, ◌∙◌, rules}
 use Rattle.npf_expand.specs.Scope.{declared_of_scope, env_of_scope, ifaces_of_scope}
-use Rattle.npf_expand.proofs.StepLemmas.{ItemsLeft, items_built, items_met, items_step}
+use Rattle.npf_expand.proofs.StepLemmas.{items_built, items_met, items_step}
 use Rattle.npf_expand.proofs.scope.Scope.read_items.Goals as goal
 
 pub loop-item-init : goal.loop-item-init

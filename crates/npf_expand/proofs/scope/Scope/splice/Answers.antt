@@ -1,4 +1,4 @@
-use Rattle.std.proofs.Common.{take, subst, sym}
+use Rattle.std.proofs.Common.{subst, sym}
 use Rattle.npf_expand.specs.Kept.{AreSpliced}
 use Rattle.npf_expand.specs.Scope.{env_of_scope, ifaces_of_scope, known_of_scope}
 use Rattle.npf_expand.specs.Use.{atoms_of}

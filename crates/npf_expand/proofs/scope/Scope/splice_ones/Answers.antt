@@ -1,4 +1,4 @@
-use Rattle.std.proofs.Common.{List, take, subst, sym}
+use Rattle.std.proofs.Common.{List, subst, sym}
 use Rattle.std.specs.List.{flat_map}
 use Rattle.std.proofs.lemmas.List.{take_all}
 use Rattle.npf_syntax.specs.declared.value.One.{One}

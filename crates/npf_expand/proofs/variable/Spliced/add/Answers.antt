@@ -1,8 +1,4 @@
-use Rattle.std.proofs.Common.{◌++◌, ◌∷◌, [], sym, ap, ◌∙◌, subst}
-use Rattle.std.proofs.lemmas.Grind.{flat_map-append}
-use Rattle.std.proofs.lemmas.List.Elements.{All-push}
-use Rattle.npf_expand.specs.Kept.{AreKeptBy, AreSpliced, IsOfFirst, part_atoms, parts_atoms}
-use Rattle.npf_expand.proofs.KeptLemmas.{kept_both, spliced_more}
+use Rattle.npf_expand.proofs.KeptLemmas.{spliced_more}
 use Rattle.npf_expand.proofs.variable.Spliced.add.Goals as goal
 
 pub returns : goal.returns

@@ -1,8 +1,6 @@
-use Rattle.std.proofs.Common.{◌≡◌, Some, length, refl, sym, ap, ◌∙◌, subst, arith}
-use Rattle.std.specs.Prelude.{slice_get}
+use Rattle.std.proofs.Common.{Some, refl, sym, ap, ◌∙◌, subst}
 use Rattle.std.proofs.lemmas.Option.{slice_get_read}
-use Rattle.npf_expand.specs.Atom.{Binding}
-use Rattle.npf_expand.specs.Kept.{IsBoundWhere, def_binding, known}
+use Rattle.npf_expand.specs.Kept.{IsBoundWhere, known}
 use Rattle.npf_expand.specs.Use.{atoms_of}
 use Rattle.npf_expand.proofs.KeptLemmas.{known_at}
 use Rattle.npf_expand.proofs.variable.Variables.bound.Goals as goal

@@ -1,4 +1,4 @@
-use Rattle.std.proofs.Common.{sym, ◌∙◌}
+use Rattle.std.proofs.Common.{sym}
 use Rattle.npf_expand.proofs.variable.Variables.find.Goals as goal
 
 pub bound-requires-clause-within : goal.bound-requires-clause-within

@@ -1,7 +1,7 @@
-use Rattle.std.proofs.Common.{◌≡◌, ◌<◌, ◌++◌, ◌∷◌, [], All, List, Some, length, map, reverse, append-nil, refl, sym, ap, subst, ◌∙◌, arith}
+use Rattle.std.proofs.Common.{◌≡◌, ◌<◌, ◌++◌, ◌∷◌, [], All, List, length, map, reverse, refl, sym, ap, subst, ◌∙◌, arith}
 use Rattle.std.proofs.lemmas.Option.{slice_get_read}
 use Rattle.npf_expand.specs.declared.variable.Part.{Part}
-use Rattle.npf_expand.specs.declared.variable.Part.TheVariants.{Single, Defined}
+use Rattle.npf_expand.specs.declared.variable.Part.TheVariants.{Defined}
 use Rattle.npf_expand.specs.Atom.{Atom, kept_atom}
 use Rattle.npf_expand.specs.Kept.{IsOfFirst, known, parts_atoms}
 use Rattle.npf_expand.proofs.KeptLemmas.{IsDefAt, known_at, last_of_first, length-known, map-reversed, no_parts, replaced_means, replaced_older}

@@ -1,7 +1,5 @@
-use Rattle.std.proofs.Common.{◌≡◌, ◌<◌, ◌≤◌, Some, List, All, length, get_or, refl, sym, ap, ◌∙◌, subst, arith}
-use Rattle.std.specs.Prelude.{slice_get}
+use Rattle.std.proofs.Common.{◌<◌, All, length, refl, sym, ap, ◌∙◌, subst}
 use Rattle.std.proofs.lemmas.Option.{slice_get_read}
-use Rattle.npf_expand.specs.declared.variable.Part.{Part}
 use Rattle.npf_expand.specs.Kept.{IsOfFirst, known, parts_atoms}
 use Rattle.npf_expand.specs.Use.{atoms_of}
 use Rattle.npf_expand.proofs.KeptLemmas.{known_at, length-known, only_part, only_older}
