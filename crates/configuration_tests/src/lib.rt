@@ -1,0 +1,13 @@
+// What no clause says of the meaning of configurations: that the definitions mean what npf.conf(5) says. The places are counted by hand.
+//
+// One file a subject: the faults of a text, what a text means, and texts near the limits. All of it goes through public calls.
+#![tactic(auto)]
+
+#[cfg(test)]
+mod answer;
+#[cfg(test)]
+mod fault;
+#[cfg(test)]
+mod limit;
+#[cfg(test)]
+mod meaning;
