@@ -1,0 +1,13 @@
+mod BindingLemmas
+mod BuildLemmas
+mod ConfigLemmas
+mod DescribesLemmas
+mod LayoutLemmas
+mod MatchLemmas
+mod NumberLemmas
+mod NumberedLemmas
+mod PairLemmas
+mod PlaceLemmas
+mod TableLemmas
+mod RowLemmas
+mod WalkLemmas
