@@ -17,7 +17,7 @@ use Rattle.npf_ruleset.specs.declared.flat.FlatRule.{FlatRule}
 use Rattle.npf_ruleset.specs.declared.place.Place.{Place}
 use Rattle.npf_ruleset.specs.Flat.{IsFlat, IsFlatGroup, IsFlatRule, IsPairwise}
 use Rattle.npf_ruleset.specs.Layout.{AddsRules, IsFlatAt, RefusesAt, Stops, StopsFor, fault_there, rules_in_group}
-use Rattle.npf_ruleset.specs.Place.{placed_at, rules_in, standing}
+use Rattle.npf_ruleset.specs.Place.{placed_at, rules_in, standing_rules}
 use Rattle.npf_ruleset.proofs.PairLemmas.{AreRelated, drop_here, pairs_of, related_append, related_of}
 
 -- a fault that is handed on
@@ -98,23 +98,23 @@ module _ (groups : List Group) where
   stops_within front rules behind old mid new NoMemory adds stops = tt
 
   -- one rule more
-  module _ (place : Place) (old now : List FlatRule) (within : place.number < length (standing groups place))
-      (so_far : AddsRules groups (take place.number (standing groups place)) old now) where
+  module _ (place : Place) (old now : List FlatRule) (within : place.number < length (standing_rules groups place))
+      (so_far : AddsRules groups (take place.number (standing_rules groups place)) old now) where
     here : (placed : PlacedRule) × (placed_at groups place ≡ Some placed)
-    here = let found = drop_here (standing groups place) place.number within in (found.0, found.2)
+    here = let found = drop_here (standing_rules groups place) place.number within in (found.0, found.2)
 
-    pub adds_one : (flat : FlatRule) → IsFlatAt groups place flat → AddsRules groups (take (place.number + 1) (standing groups place)) old (now ++ flat ∷ [])
+    pub adds_one : (flat : FlatRule) → IsFlatAt groups place flat → AddsRules groups (take (place.number + 1) (standing_rules groups place)) old (now ++ flat ∷ [])
     adds_one flat is =
-        subst (λ rules. AddsRules groups rules old (now ++ flat ∷ [])) (sym (up_to (standing groups place) place.number here.0 here.1))
-        (adds_both (take place.number (standing groups place)) (here.0 ∷ []) old now (now ++ flat ∷ []) so_far
+        subst (λ rules. AddsRules groups rules old (now ++ flat ∷ [])) (sym (up_to (standing_rules groups place) place.number here.0 here.1))
+        (adds_both (take place.number (standing_rules groups place)) (here.0 ∷ []) old now (now ++ flat ∷ []) so_far
         (record { added = flat ∷ []; are = refl; flat = pairs_of (IsFlatRule groups) (here.0 ∷ []) (flat ∷ []) (is here.0 here.1, tt) }))
 
-    pub stops_here : (fault : GenFault) → RefusesAt groups place fault → StopsFor groups (standing groups place) old now (fault_there (length now) fault)
+    pub stops_here : (fault : GenFault) → RefusesAt groups place fault → StopsFor groups (standing_rules groups place) old now (fault_there (length now) fault)
     stops_here (Gen.TooLong weight) refuses = record {
-      before = take place.number (standing groups place);
+      before = take place.number (standing_rules groups place);
       heavy = here.0;
-      behind = drop (suc place.number) (standing groups place);
-      are = around (standing groups place) place.number here.0 here.1;
+      behind = drop (suc place.number) (standing_rules groups place);
+      are = around (standing_rules groups place) place.number here.0 here.1;
       adds = so_far;
       at = refl;
       weighs = (refuses here.0 here.1).0;
@@ -125,7 +125,7 @@ module _ (groups : List Group) where
 -- what stands at an item's place, and in its group
 module _ (groups : List Group) (number : ℕ) (group : Group) (items : List Item) (item : Item) (at : ℕ)
     (is_group : slice_get groups number ≡ Some group) (are : items ≡ group.items) (is_item : slice_get items at ≡ Some item) where
-  pub stands_there : standing groups (record { group = number; item = at; number = 0 }) ≡ rules_at item
+  pub stands_there : standing_rules groups (record { group = number; item = at; number = 0 }) ≡ rules_at item
   stands_there =
       ap (λ o. rules_in (option_and_then (λ g. slice_get g.items at) o)) is_group ∙ ap rules_in (sym (ap (λ list. slice_get list at) are) ∙ is_item)
 

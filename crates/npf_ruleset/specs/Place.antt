@@ -18,13 +18,13 @@ rules_in None = []
 rules_in (Some item) = rules_at item
 
 -- the rules of the item at a place
-abbrev pub standing : List Group → Place → List PlacedRule
-standing groups place = rules_in (item_at groups place)
+abbrev pub standing_rules : List Group → Place → List PlacedRule
+standing_rules groups place = rules_in (item_at groups place)
 
 -- the rule at a place: the group, the item in it, and the number in the item, each counted from 0
 abbrev pub placed_at : List Group → Place → Option PlacedRule
-placed_at groups place = slice_get (standing groups place) place.number
+placed_at groups place = slice_get (standing_rules groups place) place.number
 
 -- a rule stands there
 abbrev pub IsPlaceOfRule : List Group → Place → Type 0
-IsPlaceOfRule groups place = place.number < length (standing groups place)
+IsPlaceOfRule groups place = place.number < length (standing_rules groups place)

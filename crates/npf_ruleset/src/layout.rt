@@ -3,7 +3,7 @@ ghost use Rattle.std.specs.Prelude.{◌≡◌, ◌≤◌, ◌<◌, ◌+◌, All,
 ghost use Rattle.npf_model.specs.Verdict.{all_rules};
 ghost use Rattle.npf_ruleset.specs.Flat.{IsFlat};
 ghost use Rattle.npf_ruleset.specs.Layout.{AddsRules, IsFlatAt, RefusesAt, Stops, StopsFor, fault_there, rules_in_group};
-ghost use Rattle.npf_ruleset.specs.Place.{IsPlaceOfRule, standing};
+ghost use Rattle.npf_ruleset.specs.Place.{IsPlaceOfRule, standing_rules};
 ghost use Rattle.npf_ruleset.specs.Refusal.{IsCompilable};
 
 use crate::binding::Binding;
@@ -76,11 +76,11 @@ fn add_item(
     first: Place,
     count: usize,
 ) -> Result<(), BuildFault>
-    requires all { count ≡ length (standing groups.now first) }
-    requires compilable { All IsCompilable (standing groups.now first) }
+    requires all { count ≡ length (standing_rules groups.now first) }
+    requires compilable { All IsCompilable (standing_rules groups.now first) }
     requires room { length rules.old.items + count ≤ 4096 }
-    ensures ok { OnOk result (AddsRules groups.now (standing groups.now first) rules.old.items rules.new.items) }
-    ensures refuses { IfErr result (StopsFor groups.now (standing groups.now first) rules.old.items rules.new.items) }
+    ensures ok { OnOk result (AddsRules groups.now (standing_rules groups.now first) rules.old.items rules.new.items) }
+    ensures refuses { IfErr result (StopsFor groups.now (standing_rules groups.now first) rules.old.items rules.new.items) }
 {
     for number in 0..count {
         let place = Place { number, ..first };
@@ -94,7 +94,7 @@ fn add_item(
 
 fn flat_rule(alloc: Global, groups: &[Group], place: Place) -> Result<FlatRule, GenFault>
     requires within { IsPlaceOfRule groups.now place }
-    requires compilable { All IsCompilable (standing groups.now place) }
+    requires compilable { All IsCompilable (standing_rules groups.now place) }
     ensures ok { IfOk result (IsFlatAt groups.now place) }
     ensures refuses { IfErr result (RefusesAt groups.now place) }
 {
