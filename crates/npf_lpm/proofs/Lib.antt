@@ -1,3 +1,2 @@
-pub mod BlockLemmas
-pub mod LengthLemmas
-pub mod MemberLemmas
+pub mod AgreeLemmas
+pub mod OutermostLemmas

@@ -1,2 +1,4 @@
-pub mod Length
+pub mod Agree
+pub mod Blocks
 pub mod Lpm
+pub mod Rows

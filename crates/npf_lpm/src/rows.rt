@@ -1,0 +1,110 @@
+// Rows of blocks in order: where a block stands, how many begin at or below an address, and which are outermost.
+ghost use Rattle.std.specs.Prelude.{◌≡◌, ◌≤◌, ◌<◌, ◌↔◌, IsTrue, length, slice_index, ◌+◌};
+ghost use Rattle.std.specs.List.{insert};
+ghost use Rattle.std.specs.Global.{Vec};
+ghost use Rattle.std.specs.Global.{vec_len, vec_capacity};
+ghost use Rattle.npf_types.specs.Address.{first_bits};
+ghost use Rattle.npf_lpm.specs.Agree.{AgreesIn};
+ghost use Rattle.npf_lpm.specs.Rows.{AreOrdered, AreOutermost, CountsTo, IsOutermost, IsPlaceOf, Rises, Stands};
+
+use crate::aligned::Aligned;
+
+/// How many blocks begin at or below the address.
+pub(crate) fn count_to(firsts: &[u128], addr: u128) -> usize
+    requires { Rises firsts.now }
+    ensures { CountsTo firsts.now addr result }
+{
+    let mut low = 0;
+    let mut high = firsts.len();
+    while low < high {
+        let middle = low + (high - low) / 2;
+        if firsts[middle] <= addr {
+            low = middle + 1;
+        } else {
+            high = middle;
+        }
+    }
+    low
+}
+
+/// Where the block stands, or would.
+pub(crate) fn place_of(firsts: &[u128], lengths: &[u8], block: Aligned) -> usize
+    requires { AreOrdered firsts.now lengths.now }
+    ensures { IsPlaceOf firsts.now lengths.now block.first block.len result }
+{
+    let mut low = 0;
+    let mut high = firsts.len();
+    while low < high {
+        let middle = low + (high - low) / 2;
+        let first = firsts[middle];
+        if first < block.first || first == block.first && lengths[middle] < block.len {
+            low = middle + 1;
+        } else {
+            high = middle;
+        }
+    }
+    low
+}
+
+/// Whether the block stands at its place.
+pub(crate) fn stands_at(firsts: &[u128], lengths: &[u8], block: Aligned, place: usize) -> bool
+    requires ordered { AreOrdered firsts.now lengths.now }
+    requires place { IsPlaceOf firsts.now lengths.now block.first block.len place }
+    ensures there { IsTrue result ↔ Stands firsts.now lengths.now block.first block.len }
+    ensures within { IsTrue result → place < length firsts.now }
+{
+    place < firsts.len() && firsts[place] == block.first && lengths[place] == block.len
+}
+
+/// Writes the outermost lengths anew from a place on.
+pub(crate) fn renew(firsts: &[u128], lengths: &[u8], outermost: &mut Vec<u8>, from: usize)
+    requires ordered { AreOrdered firsts.now lengths.now }
+    requires long { vec_len outermost.old ≡ length firsts.now }
+    requires front { AreOutermost firsts.now lengths.now outermost.old.items from }
+    ensures long { vec_len outermost.new ≡ length firsts.now }
+    ensures all { AreOutermost firsts.now lengths.now outermost.new.items (length firsts.now) }
+{
+    for place in from..firsts.len() {
+        outermost[place] = outermost_at(firsts, lengths, outermost, place);
+    }
+}
+
+// The length of the outermost block that has the first address of the place: it is that of the place before, if that
+// has it, since blocks that overlap are nested.
+fn outermost_at(firsts: &[u128], lengths: &[u8], outermost: &[u8], place: usize) -> u8
+    requires ordered { AreOrdered firsts.now lengths.now }
+    requires within { place < length firsts.now }
+    requires long { length outermost.now ≡ length firsts.now }
+    requires front { AreOutermost firsts.now lengths.now outermost.now place }
+    ensures { IsOutermost firsts.now lengths.now (slice_index firsts.now place) result }
+{
+    if place > 0 && agrees_in(outermost[place - 1], firsts[place - 1], firsts[place]) {
+        return outermost[place - 1];
+    }
+    lengths[place]
+}
+
+/// Whether the first `len` bits are the same.
+pub(crate) fn agrees_in(len: u8, a: u128, b: u128) -> bool
+    requires { len ≤ 128 }
+    ensures { IsTrue result ↔ AgreesIn len a b }
+{
+    first_bits_of(a, len) == first_bits_of(b, len)
+}
+
+fn first_bits_of(a: u128, len: u8) -> u128
+    requires { len ≤ 128 }
+    ensures { result ≡ first_bits 128 len a }
+{
+    if len == 0 { 0 } else { a >> (128 - len) }
+}
+
+/// Puts a value into a row that has room for it.
+pub(crate) fn insert_within<T: Drop>(row: &mut Vec<T>, place: usize, value: T)
+    requires within { place ≤ vec_len row.old }
+    requires room { vec_len row.old < vec_capacity row.old }
+    ensures items { row.new.items ≡ insert row.old.items place value }
+    ensures len { vec_len row.new ≡ vec_len row.old + 1 }
+{
+    let _room = row.insert(place, value).is_ok();
+}
