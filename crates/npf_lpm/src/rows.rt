@@ -2,10 +2,10 @@
 ghost use Rattle.std.specs.Prelude.{◌≡◌, ◌≤◌, ◌<◌, ◌↔◌, IsTrue, length, slice_index, ◌+◌};
 ghost use Rattle.std.specs.List.{insert};
 ghost use Rattle.std.specs.Global.{Vec};
-ghost use Rattle.std.specs.Global.{vec_len, vec_capacity};
+ghost use Rattle.std.specs.Vec.{vec_len, vec_capacity};
 ghost use Rattle.npf_types.specs.Address.{first_bits};
 ghost use Rattle.npf_lpm.specs.Agree.{AgreesIn};
-ghost use Rattle.npf_lpm.specs.Rows.{AreOrdered, AreOutermost, CountsTo, IsOutermost, IsPlaceOf, Rises, Stands};
+ghost use Rattle.npf_lpm.specs.Rows.{AreOrdered, AreOutermost, CountsTo, IsOutermost, IsPlaceOf, Rises, Stands, rank};
 
 use crate::aligned::Aligned;
 
@@ -36,8 +36,7 @@ pub(crate) fn place_of(firsts: &[u128], lengths: &[u8], block: Aligned) -> usize
     let mut high = firsts.len();
     while low < high {
         let middle = low + (high - low) / 2;
-        let first = firsts[middle];
-        if first < block.first || first == block.first && lengths[middle] < block.len {
+        if stands_before(firsts[middle], lengths[middle], block) {
             low = middle + 1;
         } else {
             high = middle;
@@ -53,7 +52,24 @@ pub(crate) fn stands_at(firsts: &[u128], lengths: &[u8], block: Aligned, place: 
     ensures there { IsTrue result ↔ Stands firsts.now lengths.now block.first block.len }
     ensures within { IsTrue result → place < length firsts.now }
 {
-    place < firsts.len() && firsts[place] == block.first && lengths[place] == block.len
+    if place == firsts.len() {
+        return false;
+    }
+    is_block(firsts[place], lengths[place], block)
+}
+
+// Whether the block of this first address and length stands before the other.
+fn stands_before(first: u128, len: u8, block: Aligned) -> bool
+    ensures { IsTrue result ↔ (rank first len < rank block.first block.len) }
+{
+    first < block.first || first == block.first && len < block.len
+}
+
+// Whether it is the other.
+fn is_block(first: u128, len: u8, block: Aligned) -> bool
+    ensures { IsTrue result ↔ ((first ≡ block.first) × (len ≡ block.len)) }
+{
+    first == block.first && len == block.len
 }
 
 /// Writes the outermost lengths anew from a place on.
