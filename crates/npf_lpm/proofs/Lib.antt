@@ -5,3 +5,4 @@ pub mod BlockListLemmas
 pub mod EditLemmas
 pub mod RemovalLemmas
 pub mod ContainsLemmas
+pub mod ChangeLemmas

@@ -7,7 +7,7 @@ ghost use Rattle.npf_lpm.specs.Rows.{HasNumber};
 ghost use Rattle.npf_lpm.specs.Blocks.{Adds, Drops};
 
 use crate::aligned::Aligned;
-use crate::rows::{agrees_in, count_to, insert_within, place_of, renew, stands_at};
+use crate::rows::{agrees_in, count_to, place_of, put_in, stands_at, take_out};
 use npf_types::NoMemory;
 use std::alloc::Global;
 use std::marker::Model;
@@ -84,10 +84,13 @@ impl Blocks {
         self.firsts.reserve(1)?;
         self.lengths.reserve(1)?;
         self.outermost.reserve(1)?;
-        insert_within(&mut self.firsts, place, block.first);
-        insert_within(&mut self.lengths, place, block.len);
-        insert_within(&mut self.outermost, place, block.len);
-        renew(&self.firsts, &self.lengths, &mut self.outermost, place);
+        put_in(
+            &mut self.firsts,
+            &mut self.lengths,
+            &mut self.outermost,
+            place,
+            block,
+        );
         Ok(true)
     }
 
@@ -102,10 +105,12 @@ impl Blocks {
         if !stands_at(&self.firsts, &self.lengths, block, place) {
             return false;
         }
-        let _first = self.firsts.remove(place);
-        let _len = self.lengths.remove(place);
-        let _outermost = self.outermost.remove(place);
-        renew(&self.firsts, &self.lengths, &mut self.outermost, place);
+        take_out(
+            &mut self.firsts,
+            &mut self.lengths,
+            &mut self.outermost,
+            place,
+        );
         true
     }
 

@@ -1,11 +1,11 @@
 // Rows of blocks in order: where a block stands, how many begin at or below an address, and which are outermost.
 ghost use Rattle.std.specs.Prelude.{◌≡◌, ◌≤◌, ◌<◌, ◌↔◌, IsTrue, length, slice_index, ◌+◌};
-ghost use Rattle.std.specs.List.{insert};
+ghost use Rattle.std.specs.List.{insert, remove};
 ghost use Rattle.std.specs.Global.{Vec};
 ghost use Rattle.std.specs.Vec.{vec_len, vec_capacity};
 ghost use Rattle.npf_types.specs.Address.{first_bits};
-ghost use Rattle.npf_lpm.specs.Agree.{AgreesIn};
-ghost use Rattle.npf_lpm.specs.Rows.{AreOrdered, AreOutermost, CountsTo, IsOutermost, IsPlaceOf, Rises, Stands, rank};
+ghost use Rattle.npf_lpm.specs.Agree.{AgreesIn, IsAligned};
+ghost use Rattle.npf_lpm.specs.Rows.{AreOrdered, AreOutermost, AreRows, CountsTo, IsOutermost, IsPlaceOf, Rises, Stands, rank};
 
 use crate::aligned::Aligned;
 
@@ -72,8 +72,8 @@ fn is_block(first: u128, len: u8, block: Aligned) -> bool
     first == block.first && len == block.len
 }
 
-/// Writes the outermost lengths anew from a place on.
-pub(crate) fn renew(firsts: &[u128], lengths: &[u8], outermost: &mut Vec<u8>, from: usize)
+// Writes the outermost lengths anew from a place on.
+fn renew(firsts: &[u128], lengths: &[u8], outermost: &mut Vec<u8>, from: usize)
     requires ordered { AreOrdered firsts.now lengths.now }
     requires long { vec_len outermost.old ≡ length firsts.now }
     requires front { AreOutermost firsts.now lengths.now outermost.old.items from }
@@ -115,8 +115,41 @@ fn first_bits_of(a: u128, len: u8) -> u128
     if len == 0 { 0 } else { a >> (128 - len) }
 }
 
-/// Puts a value into a row that has room for it.
-pub(crate) fn insert_within<T: Drop>(row: &mut Vec<T>, place: usize, value: T)
+/// Puts a block in at its place, where it isn't in the rows, and they have room for it.
+pub(crate) fn put_in(firsts: &mut Vec<u128>, lengths: &mut Vec<u8>, outermost: &mut Vec<u8>, place: usize, block: Aligned)
+    requires rows { AreRows firsts.old.items lengths.old.items outermost.old.items }
+    requires place { IsPlaceOf firsts.old.items lengths.old.items block.first block.len place }
+    requires absent { ¬ Stands firsts.old.items lengths.old.items block.first block.len }
+    requires aligned { IsAligned block }
+    requires firsts_room { vec_len firsts.old < vec_capacity firsts.old }
+    requires lengths_room { vec_len lengths.old < vec_capacity lengths.old }
+    requires outermost_room { vec_len outermost.old < vec_capacity outermost.old }
+    ensures rows { AreRows firsts.new.items lengths.new.items outermost.new.items }
+    ensures firsts { firsts.new.items ≡ insert firsts.old.items place block.first }
+    ensures lengths { lengths.new.items ≡ insert lengths.old.items place block.len }
+{
+    insert_within(firsts, place, block.first);
+    insert_within(lengths, place, block.len);
+    insert_within(outermost, place, block.len);
+    renew(firsts, lengths, outermost, place);
+}
+
+/// Takes the block at the place out.
+pub(crate) fn take_out(firsts: &mut Vec<u128>, lengths: &mut Vec<u8>, outermost: &mut Vec<u8>, place: usize)
+    requires rows { AreRows firsts.old.items lengths.old.items outermost.old.items }
+    requires within { place < length firsts.old.items }
+    ensures rows { AreRows firsts.new.items lengths.new.items outermost.new.items }
+    ensures firsts { firsts.new.items ≡ remove firsts.old.items place }
+    ensures lengths { lengths.new.items ≡ remove lengths.old.items place }
+{
+    let _first = firsts.remove(place);
+    let _len = lengths.remove(place);
+    let _outermost = outermost.remove(place);
+    renew(firsts, lengths, outermost, place);
+}
+
+// Puts a value into a row that has room for it.
+fn insert_within<T: Drop>(row: &mut Vec<T>, place: usize, value: T)
     requires within { place ≤ vec_len row.old }
     requires room { vec_len row.old < vec_capacity row.old }
     ensures items { row.new.items ≡ insert row.old.items place value }
