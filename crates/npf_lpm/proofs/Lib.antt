@@ -6,3 +6,6 @@ pub mod EditLemmas
 pub mod RemovalLemmas
 pub mod ContainsLemmas
 pub mod ChangeLemmas
+pub mod FoundLemmas
+pub mod FamilyLemmas
+pub mod BothLemmas

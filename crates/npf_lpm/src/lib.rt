@@ -4,4 +4,7 @@
 
 mod aligned;
 mod blocks;
+mod lpm;
 mod rows;
+
+pub use lpm::Lpm;

@@ -77,8 +77,7 @@ fn renew(firsts: &[u128], lengths: &[u8], outermost: &mut Vec<u8>, from: usize)
     requires ordered { AreOrdered firsts.now lengths.now }
     requires long { vec_len outermost.old ≡ length firsts.now }
     requires front { AreOutermost firsts.now lengths.now outermost.old.items from }
-    ensures long { vec_len outermost.new ≡ length firsts.now }
-    ensures all { AreOutermost firsts.now lengths.now outermost.new.items (length firsts.now) }
+    ensures { AreRows firsts.now lengths.now outermost.new.items }
 {
     for place in from..firsts.len() {
         outermost[place] = outermost_at(firsts, lengths, outermost, place);
