@@ -48,7 +48,7 @@ blocks_once fs ls h i j d lt within same =
     let inside : j < length fs = omega (arith, within, length-blocks fs ls h.pairs) in
     let less : rank (get_or fs i 0) (get_or ls i 0) < rank (get_or fs j 0) (get_or ls j 0) = h.ordered i j lt inside in
     let eq : record { first = get_or fs i 0; len = get_or ls i 0 } ≡ record { first = get_or fs j 0; len = get_or ls j 0 } =
-        sym (get_or-blocks fs ls h.pairs i d (omega arith)) ∙ same ∙ get_or-blocks fs ls h.pairs j d inside in
+    sym (get_or-blocks fs ls h.pairs i d (omega arith)) ∙ same ∙ get_or-blocks fs ls h.pairs j d inside in
     let first : get_or fs i 0 ≡ get_or fs j 0 = ap (λ (q : Aligned). q.first) eq in
     let len : get_or ls i 0 ≡ get_or ls j 0 = ap (λ (q : Aligned). q.len) eq in
     omega arith

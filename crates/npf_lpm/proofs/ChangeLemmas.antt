@@ -52,7 +52,7 @@ module _ (fs ls : List ℕ) (b : Aligned) (place : ℕ) (h : AreOrdered fs ls) (
           (removed_stood fs ls b.first b.len place h lt begins long other.first other.len (listed_stands (remove fs place) (remove ls place) after.pairs other now)).0,
       λ was. stands_listed (remove fs place) (remove ls place) after.pairs other
           (removed_stays fs ls b.first b.len place h lt begins long other.first other.len (listed_stands fs ls h.pairs other was)
-              (λ same. apart (same_block other b same.0 same.1))),
+          (λ same. apart (same_block other b same.0 same.1))),
     );
   }
 

@@ -22,8 +22,7 @@ last_decides fs ls os a count x o h counts some first len =
     let last = count - 1 in
     let within : last < length fs = omega (arith, counts.most) in
     let out : IsOutermost fs ls x o = subst (λ (l : ℕ). IsOutermost fs ls x l) (sym len) (subst (λ (f : ℕ). IsOutermost fs ls f (get_or os last 0)) (sym first) (h.outer last within)) in
-    let low : get_or fs last 0 ≤ a = counts.below last (omega arith) in
-    (
+    let low : get_or fs last 0 ≤ a = counts.below last (omega arith) in (
       λ same. numbered fs ls h.ordered.pairs a (decides_outermost fs ls a x o out same),
       λ has. subst (λ (f : ℕ). AgreesIn o f a) (sym first) (outermost_decides fs ls a last o h.ordered within low
           (λ k past lt. counts.above k (omega arith) lt) (subst (λ (f : ℕ). IsOutermost fs ls f o) first out) (in_rows fs ls h.ordered.pairs a has)),

@@ -23,17 +23,17 @@ module _ (fs ls : List ℕ) (f n place : ℕ) (h : AreOrdered fs ls) (is : IsPla
   found k lt = ⊎_elim
       (λ (low : k < place). Early low (get_or-insert_below fs place f 0 k low is.most) (get_or-insert_below ls place n 0 k low within_lengths))
       (λ (ge : place ≤ k). ⊎_elim
-          (λ (past : place < k).
-          let i = k - 1 in
-          let next : i + 1 ≡ k = omega arith in
-          Late i (sym next) (omega arith) (omega arith)
-              (ap (λ j. get_or (insert fs place f) j 0) (sym next) ∙ get_or-insert_above fs place f 0 i (omega arith) is.most)
-              (ap (λ j. get_or (insert ls place n) j 0) (sym next) ∙ get_or-insert_above ls place n 0 i (omega arith) within_lengths))
-          (λ (le : k ≤ place).
-          let same : k ≡ place = omega arith in
-          New same (ap (λ j. get_or (insert fs place f) j 0) same ∙ get_or-insert_at fs place f 0 is.most)
-              (ap (λ j. get_or (insert ls place n) j 0) same ∙ get_or-insert_at ls place n 0 within_lengths))
-          (cases_lt place k))
+      (λ (past : place < k).
+      let i = k - 1 in
+      let next : i + 1 ≡ k = omega arith in
+      Late i (sym next) (omega arith) (omega arith)
+      (ap (λ j. get_or (insert fs place f) j 0) (sym next) ∙ get_or-insert_above fs place f 0 i (omega arith) is.most)
+      (ap (λ j. get_or (insert ls place n) j 0) (sym next) ∙ get_or-insert_above ls place n 0 i (omega arith) within_lengths))
+      (λ (le : k ≤ place).
+      let same : k ≡ place = omega arith in
+      New same (ap (λ j. get_or (insert fs place f) j 0) same ∙ get_or-insert_at fs place f 0 is.most)
+      (ap (λ j. get_or (insert ls place n) j 0) same ∙ get_or-insert_at ls place n 0 within_lengths))
+      (cases_lt place k))
       (cases_lt k place)
 
   longer : length (insert fs place f) ≡ length fs + 1

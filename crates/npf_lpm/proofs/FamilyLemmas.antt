@@ -58,8 +58,8 @@ again_v4 p (V4 b) a is same =
     let cut : number p.addr / 2 ^ 96 ≡ b = ap (λ x. number x / 2 ^ 96) is ∙ mul-div_left b (pow_pos 96) in
     let zeroed : V4 b ≡ V4 (kept_bits 32 p.len b) = subst (λ (x : Addr). x ≡ cleared x p.len) is p.zeroed in
     Prefix-same (prefix_v4 (aligned p)) p
-        ((λ i. V4 (kept_bits 32 (min-eq_left fits i) (cut i))) ∙ sym zeroed ∙ sym is)
-        (min-eq_left fits)
+    ((λ i. V4 (kept_bits 32 (min-eq_left fits i) (cut i))) ∙ sym zeroed ∙ sym is)
+    (min-eq_left fits)
 
 again_v6 : (p : Prefix) (x : Addr) (a : ℕ) → p.addr ≡ x → x ≡ V6 a → prefix_v6 (aligned p) ≡ p
 again_v6 p (V4 b) a is same = cc
@@ -67,8 +67,8 @@ again_v6 p (V6 b) a is same =
     let fits : p.len ≤ 128 = subst (λ (x : Addr). p.len ≤ width x) is p.short in
     let zeroed : V6 b ≡ V6 (kept_bits 128 p.len b) = subst (λ (x : Addr). x ≡ cleared x p.len) is p.zeroed in
     Prefix-same (prefix_v6 (aligned p)) p
-        ((λ i. V6 (kept_bits 128 (min-eq_left fits i) (ap number is i))) ∙ sym zeroed ∙ sym is)
-        (min-eq_left fits)
+    ((λ i. V6 (kept_bits 128 (min-eq_left fits i) (ap number is i))) ∙ sym zeroed ∙ sym is)
+    (min-eq_left fits)
 
 pub prefix_again_v4 : (p : Prefix) (a : ℕ) → p.addr ≡ V4 a → prefix_v4 (aligned p) ≡ p
 prefix_again_v4 p a is = again_v4 p p.addr a refl is

@@ -9,3 +9,4 @@ pub mod ChangeLemmas
 pub mod FoundLemmas
 pub mod FamilyLemmas
 pub mod BothLemmas
+pub mod TableLemmas

@@ -42,9 +42,9 @@ outermost_decides fs ls a i o h within low above out b =
     let s = b.there in
     let below : f ≤ a = stands_first_below fs ls h f b.len a s b.has in
     let early : s.place ≤ i = ⊎_elim
-        (λ (lt : i < s.place). let past = above s.place lt s.within in absurd (omega (arith, s.begins)))
-        (λ (ge : s.place ≤ i). ge)
-        (cases_lt i s.place) in
+    (λ (lt : i < s.place). let past = above s.place lt s.within in absurd (omega (arith, s.begins)))
+    (λ (ge : s.place ≤ i). ge)
+    (cases_lt i s.place) in
     let under : f ≤ get_or fs i 0 = let up = rises fs ls h s.place i early within in omega (arith, s.begins) in
     let here : AgreesIn b.len f (get_or fs i 0) = agrees_between b.len f (get_or fs i 0) a under low b.has in
     agrees_wider o b.len (get_or fs i 0) a (out.least f b.len s here) (stands_short fs ls h f b.len s) (sym here ∙ b.has)
@@ -62,12 +62,12 @@ own_is_least fs ls k h lt f n s has late =
     let low : f ≤ get_or fs k 0 = stands_first_below fs ls h f n (get_or fs k 0) s has in
     let up : get_or fs k 0 ≤ get_or fs s.place 0 = rises fs ls h k s.place late s.within in
     ⊎_elim
-      (λ (past : k < s.place). let less = h.ordered k s.place past s.within in omega (arith, s.begins, s.long))
-      (λ (not : s.place ≤ k).
-      let same : s.place ≡ k = omega arith in
-      let is : get_or ls s.place 0 ≡ get_or ls k 0 = ap (λ i. get_or ls i 0) same in
-      omega (arith, s.long))
-      (cases_lt k s.place)
+    (λ (past : k < s.place). let less = h.ordered k s.place past s.within in omega (arith, s.begins, s.long))
+    (λ (not : s.place ≤ k).
+    let same : s.place ≡ k = omega arith in
+    let is : get_or ls s.place 0 ≡ get_or ls k 0 = ap (λ i. get_or ls i 0) same in
+    omega (arith, s.long))
+    (cases_lt k s.place)
 
 -- the first place's outermost block is its own
 pub outermost_first : (fs ls : List ℕ) (k : ℕ) → AreOrdered fs ls → k < length fs → k ≡ 0 → IsOutermost fs ls (get_or fs k 0) (get_or ls k 0)

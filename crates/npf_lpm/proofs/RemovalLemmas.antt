@@ -50,9 +50,9 @@ module _ (fs ls : List ℕ) (f n place : ℕ) (h : AreOrdered fs ls) (lt : place
   other_place k within apart same = ⊎_elim
       (λ (low : k < place). let less = h.ordered k place low lt in absurd (omega (arith, same.0, same.1, begins, long)))
       (λ (ge : place ≤ k). ⊎_elim
-          (λ (past : place < k). let less = h.ordered place k past within in absurd (omega (arith, same.0, same.1, begins, long)))
-          (λ (le : k ≤ place). absurd (apart (omega arith)))
-          (cases_lt place k))
+      (λ (past : place < k). let less = h.ordered place k past within in absurd (omega (arith, same.0, same.1, begins, long)))
+      (λ (le : k ≤ place). absurd (apart (omega arith)))
+      (cases_lt place k))
       (cases_lt k place)
 
   not_place : (k was : ℕ) → ((k < place) × (was ≡ k)) ⊎ ((place ≤ k) × (was ≡ k + 1)) → was ≡ place → ⊥
@@ -63,8 +63,7 @@ module _ (fs ls : List ℕ) (f n place : ℕ) (h : AreOrdered fs ls) (lt : place
 
   pub removed_stood : (g m : ℕ) → Stands (remove fs place) (remove ls place) g m → Stands fs ls g m × ¬ ((g ≡ f) × (m ≡ n))
   removed_stood g m s =
-      let l = left s.place s.within in
-      (
+      let l = left s.place s.within in (
         record { place = l.was; within = l.within; begins = sym l.begins ∙ s.begins; long = sym l.long ∙ s.long },
         λ same. other_place l.was l.within (not_place s.place l.was l.moved) (sym l.begins ∙ s.begins ∙ same.0, sym l.long ∙ s.long ∙ same.1),
       )
@@ -78,33 +77,34 @@ module _ (fs ls : List ℕ) (f n place : ℕ) (h : AreOrdered fs ls) (lt : place
         long = get_or-remove_below ls place 0 s.place low within_lengths ∙ s.long;
       })
       (λ (ge : place ≤ s.place). ⊎_elim
-          (λ (past : place < s.place).
-          let i = s.place - 1 in
-          let next : i + 1 ≡ s.place = omega arith in
-          record {
-            place = i;
-            within = omega (arith, shorter, s.within);
-            begins = get_or-remove_above fs place 0 i (omega arith) lt ∙ ap (λ j. get_or fs j 0) next ∙ s.begins;
-            long = get_or-remove_above ls place 0 i (omega arith) within_lengths ∙ ap (λ j. get_or ls j 0) next ∙ s.long;
-          })
-          (λ (le : s.place ≤ place).
-          let same : place ≡ s.place = omega arith in
-          absurd (other (
-            sym s.begins ∙ ap (λ j. get_or fs j 0) (sym same) ∙ begins,
-            sym s.long ∙ ap (λ j. get_or ls j 0) (sym same) ∙ long)))
-          (cases_lt place s.place))
+      (λ (past : place < s.place).
+      let i = s.place - 1 in
+      let next : i + 1 ≡ s.place = omega arith in
+      record {
+        place = i;
+        within = omega (arith, shorter, s.within);
+        begins = get_or-remove_above fs place 0 i (omega arith) lt ∙ ap (λ j. get_or fs j 0) next ∙ s.begins;
+        long = get_or-remove_above ls place 0 i (omega arith) within_lengths ∙ ap (λ j. get_or ls j 0) next ∙ s.long;
+      })
+      (λ (le : s.place ≤ place).
+      let same : place ≡ s.place = omega arith in
+      absurd (other (
+        sym s.begins ∙ ap (λ j. get_or fs j 0) (sym same) ∙ begins,
+        sym s.long ∙ ap (λ j. get_or ls j 0) (sym same) ∙ long,
+      )))
+      (cases_lt place s.place))
       (cases_lt s.place place)
 
   moved_on : (j k a b : ℕ) → j < k → ((j < place) × (a ≡ j)) ⊎ ((place ≤ j) × (a ≡ j + 1)) → ((k < place) × (b ≡ k)) ⊎ ((place ≤ k) × (b ≡ k + 1)) → a < b
   moved_on j k a b less from to = ⊎_elim
       (λ (x : (j < place) × (a ≡ j)). ⊎_elim
-          (λ (y : (k < place) × (b ≡ k)). omega (arith, x.1, y.1))
-          (λ (y : (place ≤ k) × (b ≡ k + 1)). omega (arith, x.1, y.1))
-          to)
+      (λ (y : (k < place) × (b ≡ k)). omega (arith, x.1, y.1))
+      (λ (y : (place ≤ k) × (b ≡ k + 1)). omega (arith, x.1, y.1))
+      to)
       (λ (x : (place ≤ j) × (a ≡ j + 1)). ⊎_elim
-          (λ (y : (k < place) × (b ≡ k)). absurd (omega (arith, x.0, y.0)))
-          (λ (y : (place ≤ k) × (b ≡ k + 1)). omega (arith, x.1, y.1))
-          to)
+      (λ (y : (k < place) × (b ≡ k)). absurd (omega (arith, x.0, y.0)))
+      (λ (y : (place ≤ k) × (b ≡ k + 1)). omega (arith, x.1, y.1))
+      to)
       from
 
   pub removed_ordered : AreOrdered (remove fs place) (remove ls place)
@@ -134,7 +134,7 @@ module _ (fs ls : List ℕ) (f n place : ℕ) (h : AreOrdered fs ls) (lt : place
         there = removed_stays out.first (get_or os k 0) out.there (λ gone.
             let s = out.there in
             let zeroed : out.first ≡ kept_bits 128 (get_or os k 0) out.first =
-                subst (λ (m : ℕ). out.first ≡ kept_bits 128 m out.first) s.long (subst (λ (g : ℕ). g ≡ kept_bits 128 (get_or ls s.place 0) g) s.begins (h.zeroed s.place s.within)) in
+            subst (λ (m : ℕ). out.first ≡ kept_bits 128 m out.first) s.long (subst (λ (g : ℕ). g ≡ kept_bits 128 (get_or ls s.place 0) g) s.begins (h.zeroed s.place s.within)) in
             let under : out.first ≤ get_or fs k 0 = first_below (get_or os k 0) out.first (get_or fs k 0) zeroed out.has in
             let less = h.ordered k place low lt in
             let small = h.short place lt in

@@ -69,15 +69,15 @@ pub stands_there : (fs ls : List ℕ) (f n place : ℕ) → AreOrdered fs ls →
     → (place < length fs) × ((get_or fs place 0 ≡ f) × (get_or ls place 0 ≡ n))
 stands_there fs ls f n place h is s =
     let same : s.place ≡ place = ⊎_elim
-        (λ (lt : s.place < place). let less = is.before s.place lt in absurd (omega (arith, s.begins, s.long)))
-        (λ (ge : place ≤ s.place). ⊎_elim
-            (λ (lt : place < s.place).
-            let less = h.ordered place s.place lt s.within in
-            let more = is.behind place (omega arith) (omega (arith, s.within)) in
-            absurd (omega (arith, s.begins, s.long)))
-            (λ (le : s.place ≤ place). omega arith)
-            (cases_lt place s.place))
-        (cases_lt s.place place) in
+    (λ (lt : s.place < place). let less = is.before s.place lt in absurd (omega (arith, s.begins, s.long)))
+    (λ (ge : place ≤ s.place). ⊎_elim
+    (λ (lt : place < s.place).
+    let less = h.ordered place s.place lt s.within in
+    let more = is.behind place (omega arith) (omega (arith, s.within)) in
+    absurd (omega (arith, s.begins, s.long)))
+    (λ (le : s.place ≤ place). omega arith)
+    (cases_lt place s.place))
+    (cases_lt s.place place) in
     (subst (λ (i : ℕ). i < length fs) same s.within, (ap (λ i. get_or fs i 0) (sym same) ∙ s.begins, ap (λ i. get_or ls i 0) (sym same) ∙ s.long))
 
 -- the outermost lengths are right before a place
@@ -91,10 +91,10 @@ renewed_more fs ls os place next o h lt is out = record {
   long = length-set os place o ∙ h.long;
   front = λ k less. ⊎_elim
       (λ (early : k < place). subst (λ (m : ℕ). IsOutermost fs ls (get_or fs k 0) m)
-          (sym (get_or-set_other os place k o 0 (λ e. absurd (omega (arith, e))))) (h.front k early))
+      (sym (get_or-set_other os place k o 0 (λ e. absurd (omega (arith, e))))) (h.front k early))
       (λ (ge : place ≤ k).
       let same : place ≡ k = omega arith in
       subst (λ (i : ℕ). IsOutermost fs ls (get_or fs i 0) (get_or (set os place o) i 0)) same
-          (subst (λ (m : ℕ). IsOutermost fs ls (get_or fs place 0) m) (sym (get_or-set_same os place o 0 (omega (arith, h.long)))) out))
+      (subst (λ (m : ℕ). IsOutermost fs ls (get_or fs place 0) m) (sym (get_or-set_same os place o 0 (omega (arith, h.long)))) out))
       (cases_lt k place);
 }

@@ -115,7 +115,13 @@ fn first_bits_of(a: u128, len: u8) -> u128
 }
 
 /// Puts a block in at its place, where it isn't in the rows, and they have room for it.
-pub(crate) fn put_in(firsts: &mut Vec<u128>, lengths: &mut Vec<u8>, outermost: &mut Vec<u8>, place: usize, block: Aligned)
+pub(crate) fn put_in(
+    firsts: &mut Vec<u128>,
+    lengths: &mut Vec<u8>,
+    outermost: &mut Vec<u8>,
+    place: usize,
+    block: Aligned,
+)
     requires rows { AreRows firsts.old.items lengths.old.items outermost.old.items }
     requires place { IsPlaceOf firsts.old.items lengths.old.items block.first block.len place }
     requires absent { ¬ Stands firsts.old.items lengths.old.items block.first block.len }
@@ -134,7 +140,12 @@ pub(crate) fn put_in(firsts: &mut Vec<u128>, lengths: &mut Vec<u8>, outermost: &
 }
 
 /// Takes the block at the place out.
-pub(crate) fn take_out(firsts: &mut Vec<u128>, lengths: &mut Vec<u8>, outermost: &mut Vec<u8>, place: usize)
+pub(crate) fn take_out(
+    firsts: &mut Vec<u128>,
+    lengths: &mut Vec<u8>,
+    outermost: &mut Vec<u8>,
+    place: usize,
+)
     requires rows { AreRows firsts.old.items lengths.old.items outermost.old.items }
     requires within { place < length firsts.old.items }
     ensures rows { AreRows firsts.new.items lengths.new.items outermost.new.items }

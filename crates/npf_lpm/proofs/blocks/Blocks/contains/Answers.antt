@@ -10,9 +10,11 @@ count_to-count-requires c = rw c.deref.ensures.value (rises c.self.inside.firsts
 
 pub returns-then-count-eq0 : goal.returns-then-count-eq0
 returns-then-count-eq0 c =
-    let counts : CountsTo c.self.inside.firsts.items c.args.addr c.count_to-count.result = rw (← c.deref.ensures.value) c.count_to-count.ensures in
-    (λ h. absurd (true≢false (sym h)), rw (← c.self.view_is) (λ has. absurd (none_below c.self.inside.firsts.items c.self.inside.lengths.items c.self.inside.outermost.items c.args.addr c.count_to-count.result
-    c.self.invariant counts c.if-count-eq0.true has)))
+    let counts : CountsTo c.self.inside.firsts.items c.args.addr c.count_to-count.result = rw (← c.deref.ensures.value) c.count_to-count.ensures in (
+      λ h. absurd (true≢false (sym h)),
+      rw (← c.self.view_is) (λ has. absurd (none_below c.self.inside.firsts.items c.self.inside.lengths.items c.self.inside.outermost.items c.args.addr c.count_to-count.result
+          c.self.invariant counts c.if-count-eq0.true has)),
+    )
 
 pub returns : goal.returns
 returns c =

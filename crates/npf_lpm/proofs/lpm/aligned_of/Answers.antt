@@ -1,0 +1,8 @@
+use Rattle.std.proofs.Common.{sym, subst}
+use Rattle.npf_lpm.specs.declared.aligned.Aligned.{Aligned}
+use Rattle.npf_lpm.specs.Agree.{IsAligned}
+use Rattle.npf_lpm.proofs.FamilyLemmas.{aligned_is}
+use Rattle.npf_lpm.proofs.lpm.aligned_of.Goals as goal
+
+pub returns-clause-aligned : goal.returns-clause-aligned
+returns-clause-aligned c = rw c.number_of.ensures (aligned_is c.args.prefix)
