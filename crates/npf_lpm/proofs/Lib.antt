@@ -10,3 +10,5 @@ pub mod FoundLemmas
 pub mod FamilyLemmas
 pub mod BothLemmas
 pub mod TableLemmas
+pub mod SortLemmas
+pub mod OrderLemmas

@@ -2,12 +2,14 @@
 ghost use Rattle.std.specs.Prelude.{◌≡◌, ◌≢◌, ◌≤◌, ◌+◌, ◌<◌, ◌^◌, ◌↔◌, ℕ, [], Contains, IsTrue, IfOk, OnOk, OnErr, length, if◌then◌else◌};
 ghost use Rattle.std.specs.Bool.{OnFalse};
 ghost use Rattle.std.specs.List.{AllPairs};
+ghost use Rattle.npf_lpm.specs.declared.aligned.Aligned.{Aligned};
 ghost use Rattle.npf_lpm.specs.Agree.{IsAligned};
-ghost use Rattle.npf_lpm.specs.Rows.{HasNumber};
+ghost use Rattle.npf_lpm.specs.Rows.{HasNumber, rank};
 ghost use Rattle.npf_lpm.specs.Blocks.{Adds, Drops};
 
 use crate::aligned::Aligned;
-use crate::rows::{agrees_in, count_to, place_of, put_in, stands_at, take_out};
+use crate::rows::{agrees_in, count_to, place_of, put_in, renew, stands_at, take_out};
+use crate::sorting::sort_once;
 use npf_types::NoMemory;
 use std::alloc::Global;
 use std::marker::Model;
@@ -43,6 +45,37 @@ impl Blocks {
             lengths: Vec::new(alloc),
             outermost: Vec::new(alloc),
         }
+    }
+
+    /// The table of these blocks, which may stand in any order and several times.
+    pub(crate) fn of_blocks(alloc: Global, mut blocks: Vec<Aligned>) -> Result<Blocks, NoMemory>
+        requires { (block : Aligned) → Contains blocks.items block → IsAligned block }
+        ensures { IfOk result
+            (λ table. (block : Aligned) → Contains table block ↔ Contains blocks.items block) }
+    {
+        sort_once(&mut blocks);
+        Blocks::in_order(alloc, &blocks)
+    }
+
+    fn in_order(alloc: Global, blocks: &[Aligned]) -> Result<Blocks, NoMemory>
+        requires aligned { (block : Aligned) → Contains blocks.now block → IsAligned block }
+        requires rises { AllPairs (λ p q. rank p.first p.len < rank q.first q.len) blocks.now }
+        ensures { IfOk result (λ table. table ≡ blocks.now) }
+    {
+        let mut firsts = Vec::with_capacity(alloc, blocks.len())?;
+        let mut lengths = Vec::with_capacity(alloc, blocks.len())?;
+        let mut outermost = Vec::with_capacity(alloc, blocks.len())?;
+        for block in blocks {
+            firsts.push(block.first)?;
+            lengths.push(block.len)?;
+            outermost.push(block.len)?;
+        }
+        renew(&firsts, &lengths, &mut outermost, 0);
+        Ok(Blocks {
+            firsts,
+            lengths,
+            outermost,
+        })
     }
 
     /// How many blocks there are. None is there twice.

@@ -6,5 +6,6 @@ mod aligned;
 mod blocks;
 mod lpm;
 mod rows;
+mod sorting;
 
 pub use lpm::Lpm;

@@ -72,8 +72,8 @@ fn is_block(first: u128, len: u8, block: Aligned) -> bool
     first == block.first && len == block.len
 }
 
-// Writes the outermost lengths anew from a place on.
-fn renew(firsts: &[u128], lengths: &[u8], outermost: &mut Vec<u8>, from: usize)
+/// Writes the outermost lengths anew from a place on.
+pub(crate) fn renew(firsts: &[u128], lengths: &[u8], outermost: &mut Vec<u8>, from: usize)
     requires ordered { AreOrdered firsts.now lengths.now }
     requires long { vec_len outermost.old ≡ length firsts.now }
     requires front { AreOutermost firsts.now lengths.now outermost.old.items from }
