@@ -12,3 +12,5 @@ pub mod BothLemmas
 pub mod TableLemmas
 pub mod SortLemmas
 pub mod OrderLemmas
+pub mod MemberLemmas
+pub mod PartLemmas

@@ -1,6 +1,7 @@
 ghost use Rattle.std.specs.Prelude.{◌≡◌, ◌≢◌, ◌≤◌, ◌+◌, ◌*◌, ◌<◌, ◌^◌, ◌↔◌, ℕ, [], Contains, IsTrue, IfOk, OnOk, OnErr, length, if◌then◌else◌};
 ghost use Rattle.std.specs.Bool.{OnFalse};
 ghost use Rattle.std.specs.List.{AllPairs};
+ghost use Rattle.npf_types.specs.declared.prefix.Prefix.{Prefix};
 ghost use Rattle.npf_types.specs.Prefix.{Covers};
 ghost use Rattle.npf_lpm.specs.Agree.{IsAligned};
 ghost use Rattle.npf_lpm.specs.Families.{aligned, number};
@@ -40,6 +41,25 @@ impl Lpm {
             v4: Blocks::new(alloc),
             v6: Blocks::new(alloc),
         }
+    }
+
+    /// The table of these prefixes, which may stand in any order and several times.
+    pub fn of_prefixes(alloc: Global, prefixes: &[Prefix]) -> Result<Lpm, NoMemory>
+        ensures { IfOk result
+            (λ table. (prefix : Prefix) → Contains table prefix ↔ Contains prefixes.now prefix) }
+    {
+        let mut v4 = Vec::new(alloc);
+        let mut v6 = Vec::new(alloc);
+        for prefix in prefixes {
+            match prefix.addr {
+                Addr::V4(_) => v4.push(aligned_of(*prefix))?,
+                Addr::V6(_) => v6.push(aligned_of(*prefix))?,
+            }
+        }
+        Ok(Lpm {
+            v4: Blocks::of_blocks(alloc, v4)?,
+            v6: Blocks::of_blocks(alloc, v6)?,
+        })
     }
 
     /// How many prefixes there are. None is there twice.
