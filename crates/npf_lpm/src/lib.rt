@@ -1,5 +1,15 @@
 // Longest prefix tables: sets of address blocks of both families (RFC 4632 section 3.1, RFC 4291 section 2.3), and
 // whether one of them has an address.
+//
+// Each family has a table of its own, with its addresses standing left in 128 bits. The blocks stand in the order of their first
+// addresses, and the shorter before the longer where these are equal; beside each stands the length of the outermost
+// block that has its first address. Blocks that overlap are nested, so whatever has an address has the first address
+// of the last block at or below it as well: a look-up is a search for that block and one comparison with its outermost
+// one. An entry takes 18 bytes in three rows. A change moves what stands behind its place, and renews its outermost
+// lengths; `of_prefixes` sorts and makes all in one pass.
+//
+// The contract: contracts see the table as the list of its prefixes, none of which is there twice. `contains` says
+// whether some prefix of the list has the address, `insert` and `remove` change the one prefix that they are given.
 #![tactic(auto)]
 
 mod aligned;

@@ -1,5 +1,5 @@
 -- The entries of a file's lines, line by line.
-use Rattle.std.proofs.Common.{◌≡◌, ◌≢◌, ◌<◌, ◌+◌, ℕ, List, Contains, length, take, get_or, ◌++◌, ◌∷◌, [], refl, sym, ap, subst, ◌∙◌, ◌⊎◌, ⊎_elim, inl, inr, true≢false, arith, add-one}
+use Rattle.std.proofs.Common.{◌↔◌, ◌≡◌, ◌≢◌, ◌<◌, ◌+◌, ℕ, List, Contains, length, take, get_or, ◌++◌, ◌∷◌, [], refl, sym, ap, subst, ◌∙◌, ◌⊎◌, ⊎_elim, inl, inr, true≢false, arith, add-one}
 use Rattle.std.proofs.lemmas.List.{get_or-take, length-take-le}
 use Rattle.std.proofs.lemmas.Option.{slice_get_read, get_or_from_slice_get}
 use Rattle.std.proofs.lemmas.List.Elements.{Contains-push, Contains-append_left, Contains-push_cases}
@@ -68,6 +68,24 @@ after_entry kind done line entry old new h only gains = record {
       ))
       (cases_Bool (same_prefix entry p));
   none_bad = good_more kind done line h.none_bad (λ bad. bad.no_entry entry only.reads);
+}
+
+-- a prefix put behind others joins them
+pub pushed_gains : (ps new : List Prefix) (p : Prefix) → new ≡ ps ++ p ∷ [] → Gains ps new p
+pushed_gains ps new p is = subst (λ (l : List Prefix). Gains ps l p) (sym is) (record {
+  there = Contains-push ps p;
+  others = λ other apart. (
+    λ h. ⊎_elim (λ (old : Contains ps other). old) (λ (now : p ≡ other). absurd (apart (sym now))) (Contains-push_cases ps p other h),
+    λ h. Contains-append_left ps (p ∷ []) other h,
+  );
+})
+
+-- the lines write what a list of the same prefixes has
+pub same_entries : (kind : Kind) (all : List (List ℕ)) (ps same : List Prefix) → AreEntries kind all ps → ((p : Prefix) → Contains same p ↔ Contains ps p)
+    → AreEntries kind all same
+same_entries kind all ps same h eq = record {
+  written = λ p. (λ there. (h.written p).0 ((eq p).0 there), λ w. (eq p).1 ((h.written p).1 w));
+  none_bad = h.none_bad;
 }
 
 -- a bad line behind good ones is the first
