@@ -1,11 +1,9 @@
 -- The rows as a list of blocks.
-use Rattle.std.proofs.Common.{◌≡◌, ◌≢◌, ◌↔◌, ℕ, List, Contains, ◌+◌, ◌<◌, ◌≤◌, min, length, get_or, map, refl, sym, ap, ◌∙◌, arith, subst, ⊎_elim, ◌⊎◌, inl, inr}
+use Rattle.std.proofs.Common.{◌≡◌, ◌≢◌, ℕ, List, Contains, ◌<◌, min, length, get_or, sym, ap, ◌∙◌, arith}
 use Rattle.std.specs.List.{zip, AllPairs}
-use Rattle.std.proofs.lemmas.Bool.{cases_lt}
 use Rattle.std.proofs.lemmas.List.{get_or-map, length-map}
 use Rattle.std.proofs.lemmas.Slice.Zip.{length-zip, get_or-zip}
 use Rattle.npf_lpm.specs.declared.aligned.Aligned.{Aligned}
-use Rattle.npf_lpm.specs.Agree.{AgreesIn}
 use Rattle.npf_lpm.specs.Rows.{Stands, AreOrdered, HasNumber, aligned_blocks, rank}
 use Rattle.npf_lpm.proofs.OutermostLemmas.{HasBlock}
 

@@ -1,5 +1,5 @@
 -- The prefixes of the two tables, and one table through a change of the other.
-use Rattle.std.proofs.Common.{◌≡◌, ◌≢◌, ◌↔◌, ◌≤◌, ◌<◌, ◌+◌, ◌-◌, ℕ, List, Contains, map, ◌++◌, length, get_or, refl, sym, ap, ◌∙◌, arith, subst, ⊎_elim, ◌⊎◌, inl, inr, length-append}
+use Rattle.std.proofs.Common.{◌≡◌, ◌≢◌, ◌↔◌, ◌≤◌, ◌<◌, ◌+◌, ◌-◌, ℕ, List, Contains, map, length, get_or, refl, sym, ap, ◌∙◌, arith, subst, ⊎_elim, ◌⊎◌, inl, inr, length-append}
 use Rattle.std.proofs.lemmas.List.{get_or-map, length-map, get_or_default, get_or-append_right}
 use Rattle.std.proofs.lemmas.List.{get_or_append_left}
 use Rattle.std.proofs.lemmas.Bool.{cases_eq, cases_lt}
@@ -8,14 +8,12 @@ use Rattle.std.proofs.lemmas.List.Elements.{Contains-append_left, Contains-appen
 use Rattle.npf_types.specs.declared.address.Addr.{Addr}
 use Rattle.npf_types.specs.declared.address.Addr.TheVariants.{V4, V6}
 use Rattle.npf_types.specs.declared.prefix.Prefix.{Prefix}
-use Rattle.npf_types.specs.Address.{width, SharesFirst}
+use Rattle.npf_types.specs.Address.{SharesFirst}
 use Rattle.npf_types.specs.Prefix.{Covers}
 use Rattle.npf_lpm.specs.declared.aligned.Aligned.{Aligned}
 use Rattle.npf_lpm.specs.Agree.{AgreesIn}
-use Rattle.npf_lpm.specs.Blocks.{Adds, Drops}
 use Rattle.npf_lpm.specs.Rows.{HasNumber}
 use Rattle.npf_lpm.specs.Families.{number, aligned, prefix_v4, prefix_v6, both, AreFamilies}
-use Rattle.npf_lpm.specs.Lpm.{Gains, Loses}
 use Rattle.npf_lpm.proofs.FamilyLemmas.{has_number, number_has_v4, prefix_again_v4, prefix_again_v6}
 
 mapped : (f : Aligned → Prefix) (bs : List Aligned) (b : Aligned) → Contains bs b → Contains (map f bs) (f b)

@@ -1,5 +1,5 @@
 -- The rows' blocks, once a block was put in or taken out.
-use Rattle.std.proofs.Common.{◌≡◌, ◌≢◌, ◌↔◌, ℕ, List, Contains, ◌+◌, ◌<◌, ◌≤◌, length, get_or, refl, sym, ap, ◌∙◌, arith, subst, ⊎_elim, ◌⊎◌, inl, inr}
+use Rattle.std.proofs.Common.{◌≡◌, ℕ, List, Contains, ◌+◌, ◌<◌, length, get_or, refl, sym, ap, ◌∙◌, ⊎_elim}
 use Rattle.std.specs.List.{insert, remove}
 use Rattle.std.proofs.lemmas.List.Edits.{length-insert, length-remove}
 use Rattle.npf_lpm.specs.declared.aligned.Aligned.{Aligned}
@@ -9,7 +9,6 @@ use Rattle.npf_lpm.specs.Rows.{Stands, AreOrdered, IsPlaceOf, aligned_blocks}
 use Rattle.npf_lpm.proofs.BlockListLemmas.{length-blocks, listed_stands, stands_listed}
 use Rattle.npf_lpm.proofs.EditLemmas.{inserted_cases, inserted_there, inserted_stays, inserted_ordered}
 use Rattle.npf_lpm.proofs.RemovalLemmas.{removed_stood, removed_stays, removed_ordered}
-use Rattle.npf_lpm.proofs.RowsLemmas.{stands_there}
 
 same_block : (p q : Aligned) → p.first ≡ q.first → p.len ≡ q.len → p ≡ q
 same_block p q first len = λ i. record { first = first i; len = len i }

@@ -1,9 +1,8 @@
 -- What the last place at or below an address says of it.
-use Rattle.std.proofs.Common.{◌≡◌, ◌↔◌, ◌+◌, ◌<◌, ◌≤◌, ◌-◌, ℕ, List, get_or, length, arith, refl, sym, ◌∙◌, subst}
+use Rattle.std.proofs.Common.{◌≡◌, ◌↔◌, ◌<◌, ◌≤◌, ◌-◌, ℕ, List, get_or, length, arith, sym, subst}
 use Rattle.npf_lpm.specs.Agree.{AgreesIn}
-use Rattle.npf_lpm.specs.Rows.{HasNumber, AreRows, CountsTo, IsOutermost, Stands, aligned_blocks, rank}
-use Rattle.npf_lpm.proofs.AgreeLemmas.{first_below}
-use Rattle.npf_lpm.proofs.OutermostLemmas.{rises, outermost_decides, decides_outermost, stands_short, stands_first_below, HasBlock}
+use Rattle.npf_lpm.specs.Rows.{HasNumber, AreRows, CountsTo, IsOutermost, aligned_blocks}
+use Rattle.npf_lpm.proofs.OutermostLemmas.{outermost_decides, decides_outermost, stands_short, stands_first_below}
 use Rattle.npf_lpm.proofs.BlockListLemmas.{numbered, in_rows}
 
 -- where no block begins at or below the address, none has it

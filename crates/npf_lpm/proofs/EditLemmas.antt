@@ -7,7 +7,7 @@ use Rattle.npf_types.specs.Address.{kept_bits}
 use Rattle.npf_lpm.specs.Agree.{AgreesIn}
 use Rattle.npf_lpm.specs.Rows.{Stands, AreOrdered, IsOutermost, AreOutermost, IsPlaceOf, rank}
 use Rattle.npf_lpm.proofs.AgreeLemmas.{first_below}
-use Rattle.npf_lpm.proofs.OutermostLemmas.{stands_short, stands_here}
+use Rattle.npf_lpm.proofs.OutermostLemmas.{stands_here}
 
 -- what stands at a place once a block was put in
 data Found (fs ls : List ℕ) (f n place k g m : ℕ) : Type 0 where

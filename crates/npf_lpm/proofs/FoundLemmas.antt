@@ -1,12 +1,12 @@
 -- What a search of the rows says of their list of blocks, and what a change leaves of it.
-use Rattle.std.proofs.Common.{◌≡◌, ◌↔◌, ℕ, Bool, true, false, IsTrue, List, Result, Ok, Err, OnErr, Contains, ◌+◌, ◌<◌, length, get_or, refl, sym, ap, ◌∙◌, subst, true≢false}
+use Rattle.std.proofs.Common.{◌≡◌, ℕ, Bool, false, IsTrue, List, Result, Ok, Err, OnErr, Contains, ◌+◌, ◌<◌, length, get_or, sym, ap, ◌∙◌, subst, true≢false}
 use Rattle.std.specs.List.{insert, remove}
 use Rattle.npf_lpm.specs.declared.aligned.Aligned.{Aligned}
 use Rattle.npf_lpm.specs.Agree.{IsAligned}
 use Rattle.npf_lpm.specs.Blocks.{Adds, Drops}
 use Rattle.npf_lpm.specs.Rows.{Stands, AreOrdered, IsPlaceOf, aligned_blocks}
 use Rattle.npf_lpm.proofs.BlockListLemmas.{listed_stands, stands_listed}
-use Rattle.npf_lpm.proofs.ChangeLemmas.{absent, put_in, put_in_longer, taken_out, taken_out_shorter}
+use Rattle.npf_lpm.proofs.ChangeLemmas.{put_in, put_in_longer, taken_out, taken_out_shorter}
 use Rattle.npf_lpm.proofs.RowsLemmas.{stands_there}
 
 pub on_err : {A E : Type 0} (r : Result A E) (P : Type 0) → P → OnErr r P

@@ -1,11 +1,11 @@
 -- Rows made of blocks in order.
-use Rattle.std.proofs.Common.{◌≡◌, ◌↔◌, ℕ, List, [], ◌∷◌, ◌++◌, Contains, Result, Ok, Err, IfOk, ◌+◌, ◌<◌, ◌≤◌, map, take, length, get_or, refl, sym, ap, ◌∙◌, arith, subst, length-append, take_all}
+use Rattle.std.proofs.Common.{◌≡◌, ℕ, List, [], ◌∷◌, ◌++◌, Contains, ◌+◌, ◌<◌, ◌≤◌, map, take, length, get_or, refl, sym, ap, ◌∙◌, arith, subst, length-append, take_all}
 use Rattle.std.specs.List.{AllPairs}
 use Rattle.std.proofs.lemmas.List.{get_or-map, length-map, get_or_default, map_more}
 use Rattle.npf_types.specs.Address.{kept_bits}
 use Rattle.npf_lpm.specs.declared.aligned.Aligned.{Aligned}
 use Rattle.npf_lpm.specs.Agree.{IsAligned}
-use Rattle.npf_lpm.specs.Rows.{AreOrdered, AreRows, aligned_blocks, rank}
+use Rattle.npf_lpm.specs.Rows.{AreOrdered, aligned_blocks, rank}
 
 abbrev pub first_of : Aligned → ℕ
 first_of b = b.first

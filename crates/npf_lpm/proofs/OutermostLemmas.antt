@@ -1,9 +1,9 @@
 -- What the outermost blocks say of the addresses.
-use Rattle.std.proofs.Common.{◌≡◌, ℕ, List, ◌+◌, ◌-◌, ◌*◌, ◌<◌, ◌≤◌, length, get_or, refl, sym, ap, ◌∙◌, arith, subst, ⊎_elim, ◌⊎◌, inl, inr}
+use Rattle.std.proofs.Common.{◌≡◌, ℕ, List, ◌+◌, ◌<◌, ◌≤◌, length, get_or, refl, sym, ap, ◌∙◌, arith, subst, ⊎_elim}
 use Rattle.std.proofs.lemmas.Bool.{cases_lt}
-use Rattle.npf_types.specs.Address.{first_bits, kept_bits}
+use Rattle.npf_types.specs.Address.{kept_bits}
 use Rattle.npf_lpm.specs.Agree.{AgreesIn}
-use Rattle.npf_lpm.specs.Rows.{Stands, AreOrdered, IsOutermost, AreOutermost, CountsTo}
+use Rattle.npf_lpm.specs.Rows.{Stands, AreOrdered, IsOutermost}
 use Rattle.npf_lpm.proofs.AgreeLemmas.{agrees_between, agrees_wider, first_below}
 
 -- some block has the address

@@ -4,10 +4,9 @@ use Rattle.std.specs.List.{remove}
 use Rattle.std.proofs.lemmas.Bool.{cases_lt}
 use Rattle.std.proofs.lemmas.List.Edits.{length-remove, get_or-remove_below, get_or-remove_above}
 use Rattle.npf_types.specs.Address.{kept_bits}
-use Rattle.npf_lpm.specs.Agree.{AgreesIn}
-use Rattle.npf_lpm.specs.Rows.{Stands, AreOrdered, IsOutermost, AreOutermost, IsPlaceOf, rank}
+use Rattle.npf_lpm.specs.Rows.{Stands, AreOrdered, IsOutermost, AreOutermost, rank}
 use Rattle.npf_lpm.proofs.AgreeLemmas.{first_below}
-use Rattle.npf_lpm.proofs.OutermostLemmas.{stands_short, stands_here}
+use Rattle.npf_lpm.proofs.OutermostLemmas.{stands_here}
 
 -- what stands at a place once a block was taken out: what stood at another
 record Left (fs ls : List ℕ) (place k g m : ℕ) : Type 0 where

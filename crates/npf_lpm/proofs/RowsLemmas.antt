@@ -1,8 +1,8 @@
 -- The search for a place in the rows, and their renewal place by place.
-use Rattle.std.proofs.Common.{◌≡◌, ℕ, List, ◌+◌, ◌<◌, ◌≤◌, length, get_or, set, refl, sym, ap, ◌∙◌, arith, subst, ⊎_elim, ◌⊎◌, inl, inr, get_or-set_same, get_or-set_other}
+use Rattle.std.proofs.Common.{◌≡◌, ℕ, List, ◌+◌, ◌<◌, ◌≤◌, length, get_or, set, sym, ap, ◌∙◌, arith, subst, ⊎_elim, get_or-set_same, get_or-set_other}
 use Rattle.std.proofs.lemmas.Bool.{cases_lt}
 use Rattle.std.proofs.Math.ListN.{length-set}
-use Rattle.npf_lpm.specs.Rows.{Stands, AreOrdered, IsOutermost, AreOutermost, CountsTo, IsPlaceOf, Rises, rank}
+use Rattle.npf_lpm.specs.Rows.{Stands, AreOrdered, IsOutermost, AreOutermost, IsPlaceOf, Rises, rank}
 
 -- the count lies between these two
 pub record CountsBetween (fs : List ℕ) (a low high : ℕ) : Type 0 where

@@ -1,5 +1,5 @@
 -- The order of blocks that `<` of two of them is.
-use Rattle.std.proofs.Common.{Less, Equal, Greater, ◌≡◌, ◌<◌, ◌≤◌, ℕ, Bool, true, Ordering, arith, sym, ◌∙◌, refl, ap, ⊎_elim, ◌⊎◌, inl, inr}
+use Rattle.std.proofs.Common.{Less, Equal, Greater, ◌≡◌, ◌<◌, ◌≤◌, ℕ, Bool, true, Ordering, arith, ◌∙◌, ap, ⊎_elim, ◌⊎◌, inl, inr}
 use Rattle.std.proofs.lemmas.Bool.{cases_lt, and_parts}
 use Rattle.std.specs.Ordering.{ordering_then, nat_cmp}
 use Rattle.std.specs.Cmp.{nat_cmp_is}

@@ -1,13 +1,12 @@
 -- The prefixes of the two tables through a change of one of them.
-use Rattle.std.proofs.Common.{◌≡◌, ◌≢◌, ◌↔◌, ◌≤◌, ◌<◌, ◌+◌, ◌-◌, ℕ, List, Contains, map, ◌++◌, length, get_or, refl, sym, ap, ◌∙◌, arith, subst, ⊎_elim, ◌⊎◌, inl, inr}
-use Rattle.std.specs.Prelude.{Bool, true, false, Result, Ok, Err, OnOk, OnErr, cond}
+use Rattle.std.proofs.Common.{◌≡◌, ◌≢◌, ◌↔◌, ◌+◌, ℕ, List, Contains, length, sym, ap, ◌∙◌, arith, subst, ⊎_elim}
+use Rattle.std.specs.Prelude.{Bool, true, false, Result, Ok, Err, OnOk, OnErr}
 use Rattle.std.specs.Bool.{OnFalse}
-use Rattle.npf_types.specs.declared.address.Addr.{Addr}
 use Rattle.npf_types.specs.declared.address.Addr.TheVariants.{V4, V6}
 use Rattle.npf_types.specs.declared.prefix.Prefix.{Prefix}
 use Rattle.npf_lpm.specs.declared.aligned.Aligned.{Aligned}
-use Rattle.npf_lpm.specs.Blocks.{Adds, Drops}
-use Rattle.npf_lpm.specs.Families.{number, aligned, prefix_v4, prefix_v6, both, AreFamilies}
+use Rattle.npf_lpm.specs.Blocks.{Adds}
+use Rattle.npf_lpm.specs.Families.{aligned, prefix_v4, prefix_v6, both, AreFamilies}
 use Rattle.npf_lpm.specs.Lpm.{Gains, Loses}
 use Rattle.npf_lpm.proofs.FamilyLemmas.{prefix_again_v4, prefix_again_v6}
 use Rattle.npf_lpm.proofs.BothLemmas.{by_family, in_v4, in_v6, keeps, both-length}

@@ -1,6 +1,5 @@
 -- Addresses of 128 bits by their first bits, and the blocks of them that rows of first addresses and of lengths list.
-use Rattle.std.specs.Prelude.{◌≡◌, ◌≤◌, ◌<◌, ℕ, List, length, slice_index, map}
-use Rattle.std.specs.List.{zip}
+use Rattle.std.specs.Prelude.{◌≡◌, ◌≤◌, ℕ}
 use Rattle.npf_types.specs.Address.{first_bits, kept_bits}
 use Rattle.npf_lpm.specs.declared.aligned.Aligned.{Aligned}
 

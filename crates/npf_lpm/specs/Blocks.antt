@@ -1,5 +1,5 @@
 -- A set of blocks through a change.
-use Rattle.std.specs.Prelude.{◌≡◌, ◌≢◌, ◌↔◌, List, Contains}
+use Rattle.std.specs.Prelude.{◌≢◌, ◌↔◌, List, Contains}
 use Rattle.npf_lpm.specs.declared.aligned.Aligned.{Aligned}
 
 -- the list has the block now, and every other exactly where it had it before

@@ -1,6 +1,3 @@
-use Rattle.std.proofs.Common.{sym, subst}
-use Rattle.npf_lpm.specs.declared.aligned.Aligned.{Aligned}
-use Rattle.npf_lpm.specs.Agree.{IsAligned}
 use Rattle.npf_lpm.proofs.FamilyLemmas.{aligned_is}
 use Rattle.npf_lpm.proofs.lpm.aligned_of.Goals as goal
 

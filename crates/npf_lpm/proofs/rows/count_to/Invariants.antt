@@ -1,4 +1,4 @@
-use Rattle.std.proofs.Common.{◌≤◌, ◌<◌, ◌-◌, ℕ, List, length, get_or}
+use Rattle.std.proofs.Common.{◌-◌}
 use Rattle.npf_lpm.proofs.RowsLemmas.{CountsBetween}
 use Rattle.npf_lpm.proofs.rows.count_to.Given as goal
 

@@ -1,4 +1,4 @@
-use Rattle.std.proofs.Common.{◌≡◌, ◌<◌, ◌-◌, ◌+◌, ℕ, get_or, arith, refl, true≢false, sym, ◌∙◌}
+use Rattle.std.proofs.Common.{◌-◌, get_or, arith, true≢false, sym, ◌∙◌}
 use Rattle.npf_lpm.proofs.OutermostLemmas.{outermost_same, outermost_own, outermost_first}
 use Rattle.npf_lpm.proofs.rows.outermost_at.Goals as goal
 use Rattle.npf_lpm.proofs.rows.outermost_at.Goals.{else-place-gt0-via-then-place-gt0+else-agrees_in, else-place-gt0-via-else-place-gt0}

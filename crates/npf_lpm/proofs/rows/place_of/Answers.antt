@@ -1,6 +1,5 @@
-use Rattle.std.proofs.Common.{ℕ, ◌≡◌, ◌<◌, ◌≤◌, ◌+◌, ◌-◌, ◌/◌, refl, arith, sym, ◌∙◌, true≢false, ⊎_elim}
+use Rattle.std.proofs.Common.{ℕ, ◌<◌, ◌≤◌, refl, arith, sym, ◌∙◌, true≢false, ⊎_elim}
 use Rattle.std.proofs.lemmas.Bool.{cases_lt}
-use Rattle.npf_lpm.specs.Rows.{rank}
 use Rattle.npf_lpm.proofs.RowsLemmas.{places_higher, places_lower}
 use Rattle.npf_lpm.proofs.rows.place_of.Goals as goal
 

@@ -1,4 +1,4 @@
-use Rattle.std.proofs.Common.{◌≤◌, ◌<◌, ◌-◌, ℕ, List, length, get_or}
+use Rattle.std.proofs.Common.{◌-◌}
 use Rattle.npf_lpm.proofs.RowsLemmas.{PlacesBetween}
 use Rattle.npf_lpm.proofs.rows.place_of.Given as goal
 

@@ -1,4 +1,3 @@
-use Rattle.std.proofs.Common.{◌≡◌, ◌<◌, ◌≤◌, ℕ, length, arith, sym, ◌∙◌, ap}
 use Rattle.npf_lpm.proofs.EditLemmas.{inserted_ordered, inserted_outermost}
 use Rattle.npf_lpm.proofs.rows.put_in.Goals as goal
 

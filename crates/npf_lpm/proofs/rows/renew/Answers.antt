@@ -1,5 +1,5 @@
 use Rattle.npf_lpm.proofs.RowsLemmas.{renewed_more}
-use Rattle.std.proofs.Common.{refl, arith, ◌≤◌}
+use Rattle.std.proofs.Common.{refl, arith}
 use Rattle.npf_lpm.proofs.rows.renew.Goals as goal
 
 pub loop-place-preserved : goal.loop-place-preserved

@@ -1,4 +1,3 @@
-use Rattle.std.proofs.Common.{◌≡◌, length}
 use Rattle.npf_lpm.proofs.RowsLemmas.{IsRenewedTo}
 use Rattle.npf_lpm.proofs.rows.renew.Given as goal
 

@@ -1,4 +1,4 @@
-use Rattle.std.proofs.Common.{◌<◌, length, arith}
+use Rattle.std.proofs.Common.{arith}
 use Rattle.npf_lpm.proofs.RowsLemmas.{stands_there}
 use Rattle.npf_lpm.proofs.rows.stands_at.Goals as goal
 

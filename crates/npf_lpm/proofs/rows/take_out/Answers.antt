@@ -1,4 +1,4 @@
-use Rattle.std.proofs.Common.{◌≡◌, ◌<◌, ◌≤◌, ℕ, length, arith, sym, ◌∙◌, ap, refl}
+use Rattle.std.proofs.Common.{refl}
 use Rattle.npf_lpm.proofs.RemovalLemmas.{removed_ordered, removed_outermost}
 use Rattle.npf_lpm.proofs.rows.take_out.Goals as goal
 

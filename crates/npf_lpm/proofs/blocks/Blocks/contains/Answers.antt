@@ -1,8 +1,8 @@
-use Rattle.std.proofs.Common.{◌≡◌, ◌<◌, ◌≤◌, ◌-◌, ℕ, List, get_or, length, arith, refl, true≢false, sym, ◌∙◌, ap, subst}
+use Rattle.std.proofs.Common.{◌<◌, ◌-◌, length, arith, true≢false, sym, ◌∙◌}
 use Rattle.std.proofs.lemmas.List.{get_or_default}
-use Rattle.npf_lpm.specs.Rows.{HasNumber, Stands, CountsTo, Rises, aligned_blocks}
+use Rattle.npf_lpm.specs.Rows.{CountsTo}
 use Rattle.npf_lpm.proofs.OutermostLemmas.{rises}
-use Rattle.npf_lpm.proofs.ContainsLemmas.{none_below, last_decides, outermost_short}
+use Rattle.npf_lpm.proofs.ContainsLemmas.{none_below, last_decides}
 use Rattle.npf_lpm.proofs.blocks.Blocks.contains.Goals as goal
 
 pub count_to-count-requires : goal.count_to-count-requires

@@ -1,4 +1,4 @@
-use Rattle.std.proofs.Common.{◌≡◌, ◌≤◌, ℕ, arith, refl, sym, ◌∙◌, ap, length}
+use Rattle.std.proofs.Common.{◌≡◌, arith, refl, ap, length}
 use Rattle.npf_lpm.proofs.OrderLemmas.{rows_more, all_ordered, all_blocks}
 use Rattle.npf_lpm.proofs.blocks.Blocks.in_order.Goals as goal
 

@@ -1,4 +1,4 @@
-use Rattle.std.proofs.Common.{◌≡◌, ℕ, List, Contains, refl, true≢false, sym, ◌∙◌, ap}
+use Rattle.std.proofs.Common.{refl, true≢false, sym, ◌∙◌, ap}
 use Rattle.std.specs.List.{insert}
 use Rattle.npf_lpm.proofs.ChangeLemmas.{absent}
 use Rattle.npf_lpm.proofs.FoundLemmas.{on_err, adds_nothing, place_in, not_there, is_there, put_adds, put_longer}

@@ -1,4 +1,4 @@
-use Rattle.std.proofs.Common.{◌≡◌, ◌↔◌, ℕ, List, Contains, sym, ◌∙◌, subst}
+use Rattle.std.proofs.Common.{◌≡◌, List, Contains, sym, ◌∙◌, subst}
 use Rattle.std.proofs.lemmas.Result.{IfOk-weaker}
 use Rattle.npf_lpm.specs.declared.aligned.Aligned.{Aligned}
 use Rattle.npf_lpm.proofs.blocks.Blocks.of_blocks.Goals as goal

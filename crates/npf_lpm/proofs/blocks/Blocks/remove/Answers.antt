@@ -1,4 +1,4 @@
-use Rattle.std.proofs.Common.{◌≡◌, ℕ, List, Contains, refl, true≢false, sym, ◌∙◌}
+use Rattle.std.proofs.Common.{refl, true≢false, sym}
 use Rattle.npf_lpm.proofs.ChangeLemmas.{absent}
 use Rattle.npf_lpm.proofs.FoundLemmas.{drops_nothing, place_in, not_there, is_there, take_drops, take_shorter}
 use Rattle.npf_lpm.proofs.blocks.Blocks.remove.Goals as goal

@@ -1,8 +1,3 @@
-use Rattle.std.proofs.Common.{◌≡◌, ◌↔◌, IsTrue, sym, subst}
-use Rattle.npf_types.specs.declared.address.Addr.{Addr}
-use Rattle.npf_types.specs.Prefix.{Covers}
-use Rattle.npf_lpm.specs.Rows.{HasNumber}
-use Rattle.npf_lpm.specs.Families.{number, both}
 use Rattle.npf_lpm.proofs.BothLemmas.{covers_v4, covers_v6}
 use Rattle.npf_lpm.proofs.lpm.Lpm.contains.Goals as goal
 

@@ -1,7 +1,5 @@
-use Rattle.std.proofs.Common.{◌≡◌, ℕ, List, Contains, Bool, IsTrue, ◌↔◌, cond, ap, length}
+use Rattle.std.proofs.Common.{◌≡◌, Contains, cond, ap}
 use Rattle.std.proofs.lemmas.Result.{IfOk-weaker, on_ok_weaker, on_err_weaker}
-use Rattle.std.specs.Bool.{OnFalse}
-use Rattle.npf_lpm.specs.declared.aligned.Aligned.{Aligned}
 use Rattle.npf_lpm.specs.Blocks.{Adds}
 use Rattle.npf_lpm.specs.Families.{aligned, both}
 use Rattle.npf_lpm.proofs.BothLemmas.{in_v4, in_v6}

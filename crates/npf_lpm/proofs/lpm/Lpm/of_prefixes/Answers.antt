@@ -1,5 +1,4 @@
-use Rattle.std.proofs.Common.{refl}
-use Rattle.npf_lpm.proofs.PartLemmas.{AreParted, none_parted, parted_v4, parted_v6, narrow_aligned, wide_aligned, same_families, whole_parted}
+use Rattle.npf_lpm.proofs.PartLemmas.{none_parted, parted_v4, parted_v6, narrow_aligned, wide_aligned, same_families, whole_parted}
 use Rattle.npf_lpm.proofs.lpm.Lpm.of_prefixes.Goals as goal
 use Rattle.npf_lpm.proofs.lpm.Lpm.of_prefixes.Goals.{in-V4+in_ok-push-in-V4, in-V6+in_ok-push-in-V6}
 

@@ -1,6 +1,4 @@
-use Rattle.std.proofs.Common.{◌≡◌, ◌+◌, ℕ, List, Contains, Bool, IsTrue, ◌↔◌, cond, ap, length, arith}
-use Rattle.std.specs.Bool.{OnFalse}
-use Rattle.npf_lpm.specs.declared.aligned.Aligned.{Aligned}
+use Rattle.std.proofs.Common.{Contains, IsTrue, ◌↔◌, ap, arith}
 use Rattle.npf_lpm.specs.Blocks.{Drops}
 use Rattle.npf_lpm.specs.Families.{aligned, both}
 use Rattle.npf_lpm.proofs.BothLemmas.{in_v4, in_v6, both-length}
