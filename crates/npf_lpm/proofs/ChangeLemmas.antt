@@ -4,7 +4,7 @@ use Rattle.std.specs.List.{insert, remove}
 use Rattle.std.proofs.lemmas.List.Edits.{length-insert, length-remove}
 use Rattle.npf_lpm.specs.declared.aligned.Aligned.{Aligned}
 use Rattle.npf_lpm.specs.Agree.{IsAligned}
-use Rattle.npf_lpm.specs.Blocks.{Adds, Drops}
+use Rattle.npf_lpm.specs.Blocks.{AddsBlock, DropsBlock}
 use Rattle.npf_lpm.specs.Rows.{Stands, AreOrdered, IsPlaceOf, aligned_blocks}
 use Rattle.npf_lpm.proofs.BlockListLemmas.{length-blocks, listed_stands, stands_listed}
 use Rattle.npf_lpm.proofs.EditLemmas.{inserted_cases, inserted_there, inserted_stays, inserted_ordered}
@@ -18,7 +18,7 @@ pub absent : (fs ls : List ℕ) → AreOrdered fs ls → (b : Aligned) → ¬ St
 absent fs ls h b not there = not (listed_stands fs ls h.pairs b there)
 
 module _ (fs ls : List ℕ) (b : Aligned) (place : ℕ) (h : AreOrdered fs ls) (is : IsPlaceOf fs ls b.first b.len place) where
-  pub put_in : IsAligned b → ¬ Stands fs ls b.first b.len → Adds (aligned_blocks fs ls) (aligned_blocks (insert fs place b.first) (insert ls place b.len)) b
+  pub put_in : IsAligned b → ¬ Stands fs ls b.first b.len → AddsBlock (aligned_blocks fs ls) (aligned_blocks (insert fs place b.first) (insert ls place b.len)) b
   put_in aligned not =
       let after : AreOrdered (insert fs place b.first) (insert ls place b.len) = inserted_ordered fs ls b.first b.len place h is aligned.short aligned.zeroed not in
       record {
@@ -43,7 +43,7 @@ module _ (fs ls : List ℕ) (b : Aligned) (place : ℕ) (h : AreOrdered fs ls) (
   after : AreOrdered (remove fs place) (remove ls place)
   after = removed_ordered fs ls b.first b.len place h lt begins long
 
-  pub taken_out : Drops (aligned_blocks fs ls) (aligned_blocks (remove fs place) (remove ls place)) b
+  pub taken_out : DropsBlock (aligned_blocks fs ls) (aligned_blocks (remove fs place) (remove ls place)) b
   taken_out = record {
     gone = λ there. (removed_stood fs ls b.first b.len place h lt begins long b.first b.len (listed_stands (remove fs place) (remove ls place) after.pairs b there)).1 (refl, refl);
     others = λ other apart. (

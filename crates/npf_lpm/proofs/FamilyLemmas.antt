@@ -8,7 +8,7 @@ use Rattle.npf_types.specs.declared.prefix.Prefix.{Prefix}
 use Rattle.npf_types.specs.Address.{width, cleared, SharesFirst, kept_bits, first_bits}
 use Rattle.npf_types.proofs.PrefixLemmas.{Prefix-same}
 use Rattle.npf_lpm.specs.Agree.{AgreesIn, IsAligned}
-use Rattle.npf_lpm.specs.Families.{number, aligned, prefix_v4, prefix_v6}
+use Rattle.npf_lpm.specs.Families.{number, aligned_block, prefix_v4, prefix_v6}
 
 size : (n : ℕ) → n ≤ 32 → 2 ^ (128 - n) ≡ 2 ^ (32 - n) * 2 ^ 96
 size n le = let e : 128 - n ≡ (32 - n) + 96 = omega arith in ap (λ k. 2 ^ k) e ∙ pow-add 2 (32 - n) 96
@@ -42,34 +42,34 @@ width_small : (x : Addr) → width x ≤ 128
 width_small (V4 a) = omega arith
 width_small (V6 a) = omega arith
 
-pub aligned_is : (p : Prefix) → IsAligned (aligned p)
+pub aligned_is : (p : Prefix) → IsAligned (aligned_block p)
 aligned_is p = record {
   short = let le = p.short in omega (arith, width_small p.addr);
   zeroed = aligned_addr p.len p.addr p.short p.zeroed;
 }
 
 -- a prefix is the one that its number and its length give
-again_v4 : (p : Prefix) (x : Addr) (a : ℕ) → p.addr ≡ x → x ≡ V4 a → prefix_v4 (aligned p) ≡ p
+again_v4 : (p : Prefix) (x : Addr) (a : ℕ) → p.addr ≡ x → x ≡ V4 a → prefix_v4 (aligned_block p) ≡ p
 again_v4 p (V6 b) a is same = cc
 again_v4 p (V4 b) a is same =
     let fits : p.len ≤ 32 = subst (λ (x : Addr). p.len ≤ width x) is p.short in
     let cut : number p.addr / 2 ^ 96 ≡ b = ap (λ x. number x / 2 ^ 96) is ∙ mul-div_left b (pow_pos 96) in
     let zeroed : V4 b ≡ V4 (kept_bits 32 p.len b) = subst (λ (x : Addr). x ≡ cleared x p.len) is p.zeroed in
-    Prefix-same (prefix_v4 (aligned p)) p
+    Prefix-same (prefix_v4 (aligned_block p)) p
     ((λ i. V4 (kept_bits 32 (min-eq_left fits i) (cut i))) ∙ sym zeroed ∙ sym is)
     (min-eq_left fits)
 
-again_v6 : (p : Prefix) (x : Addr) (a : ℕ) → p.addr ≡ x → x ≡ V6 a → prefix_v6 (aligned p) ≡ p
+again_v6 : (p : Prefix) (x : Addr) (a : ℕ) → p.addr ≡ x → x ≡ V6 a → prefix_v6 (aligned_block p) ≡ p
 again_v6 p (V4 b) a is same = cc
 again_v6 p (V6 b) a is same =
     let fits : p.len ≤ 128 = subst (λ (x : Addr). p.len ≤ width x) is p.short in
     let zeroed : V6 b ≡ V6 (kept_bits 128 p.len b) = subst (λ (x : Addr). x ≡ cleared x p.len) is p.zeroed in
-    Prefix-same (prefix_v6 (aligned p)) p
+    Prefix-same (prefix_v6 (aligned_block p)) p
     ((λ i. V6 (kept_bits 128 (min-eq_left fits i) (ap number is i))) ∙ sym zeroed ∙ sym is)
     (min-eq_left fits)
 
-pub prefix_again_v4 : (p : Prefix) (a : ℕ) → p.addr ≡ V4 a → prefix_v4 (aligned p) ≡ p
+pub prefix_again_v4 : (p : Prefix) (a : ℕ) → p.addr ≡ V4 a → prefix_v4 (aligned_block p) ≡ p
 prefix_again_v4 p a is = again_v4 p p.addr a refl is
 
-pub prefix_again_v6 : (p : Prefix) (a : ℕ) → p.addr ≡ V6 a → prefix_v6 (aligned p) ≡ p
+pub prefix_again_v6 : (p : Prefix) (a : ℕ) → p.addr ≡ V6 a → prefix_v6 (aligned_block p) ≡ p
 prefix_again_v6 p a is = again_v6 p p.addr a refl is

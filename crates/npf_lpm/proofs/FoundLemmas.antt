@@ -3,7 +3,7 @@ use Rattle.std.proofs.Common.{◌≡◌, ℕ, Bool, false, IsTrue, List, Result,
 use Rattle.std.specs.List.{insert, remove}
 use Rattle.npf_lpm.specs.declared.aligned.Aligned.{Aligned}
 use Rattle.npf_lpm.specs.Agree.{IsAligned}
-use Rattle.npf_lpm.specs.Blocks.{Adds, Drops}
+use Rattle.npf_lpm.specs.Blocks.{AddsBlock, DropsBlock}
 use Rattle.npf_lpm.specs.Rows.{Stands, AreOrdered, IsPlaceOf, aligned_blocks}
 use Rattle.npf_lpm.proofs.BlockListLemmas.{listed_stands, stands_listed}
 use Rattle.npf_lpm.proofs.ChangeLemmas.{put_in, put_in_longer, taken_out, taken_out_shorter}
@@ -13,10 +13,10 @@ pub on_err : {A E : Type 0} (r : Result A E) (P : Type 0) → P → OnErr r P
 on_err (Ok _) P p = tt
 on_err (Err _) P p = p
 
-pub adds_nothing : (bs : List Aligned) (b : Aligned) → Contains bs b → Adds bs bs b
+pub adds_nothing : (bs : List Aligned) (b : Aligned) → Contains bs b → AddsBlock bs bs b
 adds_nothing bs b there = record { there = there; others = λ other apart. (λ h. h, λ h. h) }
 
-pub drops_nothing : (bs : List Aligned) (b : Aligned) → ¬ Contains bs b → Drops bs bs b
+pub drops_nothing : (bs : List Aligned) (b : Aligned) → ¬ Contains bs b → DropsBlock bs bs b
 drops_nothing bs b gone = record { gone = gone; others = λ other apart. (λ h. h, λ h. h) }
 
 -- the rows as a call saw them are those of the table
@@ -35,8 +35,8 @@ module _ (fs ls fs' ls' : List ℕ) (b : Aligned) (place : ℕ) (h : AreOrdered 
   new_list : aligned_blocks fs' ls' ≡ aligned_blocks (insert fs place b.first) (insert ls place b.len)
   new_list = λ i. aligned_blocks (firsts i) (lengths i)
 
-  pub put_adds : Adds (aligned_blocks fs ls) (aligned_blocks fs' ls') b
-  put_adds = subst (λ (bs : List Aligned). Adds (aligned_blocks fs ls) bs b) (sym new_list) (put_in fs ls b place h is aligned not)
+  pub put_adds : AddsBlock (aligned_blocks fs ls) (aligned_blocks fs' ls') b
+  put_adds = subst (λ (bs : List Aligned). AddsBlock (aligned_blocks fs ls) bs b) (sym new_list) (put_in fs ls b place h is aligned not)
 
   pub put_longer : length (aligned_blocks fs' ls') ≡ length (aligned_blocks fs ls) + 1
   put_longer = ap length new_list ∙ put_in_longer fs ls b place h is aligned not
@@ -49,8 +49,8 @@ module _ (fs ls fs' ls' : List ℕ) (b : Aligned) (place : ℕ) (h : AreOrdered 
   old_list : aligned_blocks fs' ls' ≡ aligned_blocks (remove fs place) (remove ls place)
   old_list = λ i. aligned_blocks (firsts i) (lengths i)
 
-  pub take_drops : Drops (aligned_blocks fs ls) (aligned_blocks fs' ls') b
-  take_drops = subst (λ (bs : List Aligned). Drops (aligned_blocks fs ls) bs b) (sym old_list) (taken_out fs ls b place h at.0 at.1.0 at.1.1)
+  pub take_drops : DropsBlock (aligned_blocks fs ls) (aligned_blocks fs' ls') b
+  take_drops = subst (λ (bs : List Aligned). DropsBlock (aligned_blocks fs ls) bs b) (sym old_list) (taken_out fs ls b place h at.0 at.1.0 at.1.1)
 
   pub take_shorter : length (aligned_blocks fs' ls') + 1 ≡ length (aligned_blocks fs ls)
   take_shorter = ap (λ bs. length bs + 1) old_list ∙ taken_out_shorter fs ls b place h at.0 at.1.0 at.1.1

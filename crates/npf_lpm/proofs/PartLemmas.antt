@@ -8,7 +8,7 @@ use Rattle.npf_types.specs.declared.prefix.Prefix.{Prefix}
 use Rattle.npf_types.proofs.PrefixLemmas.{same_prefix, same_prefix_tells}
 use Rattle.npf_lpm.specs.declared.aligned.Aligned.{Aligned}
 use Rattle.npf_lpm.specs.Agree.{IsAligned}
-use Rattle.npf_lpm.specs.Families.{aligned, prefix_v4, prefix_v6, both, AreFamilies}
+use Rattle.npf_lpm.specs.Families.{aligned_block, prefix_v4, prefix_v6, both, AreFamilies}
 use Rattle.npf_lpm.specs.Lpm.{Gains}
 use Rattle.npf_lpm.proofs.BothLemmas.{by_family, in_v4, in_v6}
 use Rattle.npf_lpm.proofs.FamilyLemmas.{aligned_is}
@@ -54,22 +54,22 @@ same_more ps old new i p d lt is same gains q =
     (cases_Bool (same_prefix p q))
 
 pub parted_v4 : (ps : List Prefix) (v4 v6 new : List Aligned) (i a : ℕ) (p d : Prefix) (b : Aligned) → AreParted ps v4 v6 i → i < length ps → p ≡ get_or ps i d
-    → p.addr ≡ V4 a → b ≡ aligned p → new ≡ v4 ++ b ∷ [] → AreParted ps new v6 (i + 1)
+    → p.addr ≡ V4 a → b ≡ aligned_block p → new ≡ v4 ++ b ∷ [] → AreParted ps new v6 (i + 1)
 parted_v4 ps v4 v6 new i a p d b h lt is narrow block pushed =
-    let grown : new ≡ v4 ++ aligned p ∷ [] = pushed ∙ ap (λ x. v4 ++ x ∷ []) block in
-    let stay : OthersStay v4 new (aligned p) = subst (λ (l : List Aligned). OthersStay v4 l (aligned p)) (sym grown) (push_stays v4 (aligned p)) in
-    let there : Contains new (aligned p) = subst (λ (l : List Aligned). Contains l (aligned p)) (sym grown) (Contains-push v4 (aligned p)) in
+    let grown : new ≡ v4 ++ aligned_block p ∷ [] = pushed ∙ ap (λ x. v4 ++ x ∷ []) block in
+    let stay : OthersStay v4 new (aligned_block p) = subst (λ (l : List Aligned). OthersStay v4 l (aligned_block p)) (sym grown) (push_stays v4 (aligned_block p)) in
+    let there : Contains new (aligned_block p) = subst (λ (l : List Aligned). Contains l (aligned_block p)) (sym grown) (Contains-push v4 (aligned_block p)) in
     record {
       families = families_v4 v4 v6 new h.families p a narrow stay;
       same = same_more ps (both v4 v6) (both new v6) i p d lt is h.same (gains_v4 v4 v6 new h.families p a narrow stay there);
     }
 
 pub parted_v6 : (ps : List Prefix) (v4 v6 new : List Aligned) (i a : ℕ) (p d : Prefix) (b : Aligned) → AreParted ps v4 v6 i → i < length ps → p ≡ get_or ps i d
-    → p.addr ≡ V6 a → b ≡ aligned p → new ≡ v6 ++ b ∷ [] → AreParted ps v4 new (i + 1)
+    → p.addr ≡ V6 a → b ≡ aligned_block p → new ≡ v6 ++ b ∷ [] → AreParted ps v4 new (i + 1)
 parted_v6 ps v4 v6 new i a p d b h lt is wide block pushed =
-    let grown : new ≡ v6 ++ aligned p ∷ [] = pushed ∙ ap (λ x. v6 ++ x ∷ []) block in
-    let stay : OthersStay v6 new (aligned p) = subst (λ (l : List Aligned). OthersStay v6 l (aligned p)) (sym grown) (push_stays v6 (aligned p)) in
-    let there : Contains new (aligned p) = subst (λ (l : List Aligned). Contains l (aligned p)) (sym grown) (Contains-push v6 (aligned p)) in
+    let grown : new ≡ v6 ++ aligned_block p ∷ [] = pushed ∙ ap (λ x. v6 ++ x ∷ []) block in
+    let stay : OthersStay v6 new (aligned_block p) = subst (λ (l : List Aligned). OthersStay v6 l (aligned_block p)) (sym grown) (push_stays v6 (aligned_block p)) in
+    let there : Contains new (aligned_block p) = subst (λ (l : List Aligned). Contains l (aligned_block p)) (sym grown) (Contains-push v6 (aligned_block p)) in
     record {
       families = families_v6 v4 v6 new h.families p a wide stay;
       same = same_more ps (both v4 v6) (both v4 new) i p d lt is h.same (gains_v6 v4 v6 new h.families p a wide stay there);
@@ -92,11 +92,11 @@ module _ (v4 v6 t4 t6 : List Aligned) (h : AreFamilies v4 v6) (same4 : (b : Alig
       (λ (f : (a : ℕ) × (q.addr ≡ V4 a)).
       let was = in_v4 v4 v6 h q f.0 f.1 in
       let now = in_v4 t4 t6 same_families q f.0 f.1 in
-      (λ x. was.1 ((same4 (aligned q)).0 (now.0 x)), λ x. now.1 ((same4 (aligned q)).1 (was.0 x))))
+      (λ x. was.1 ((same4 (aligned_block q)).0 (now.0 x)), λ x. now.1 ((same4 (aligned_block q)).1 (was.0 x))))
       (λ (f : (a : ℕ) × (q.addr ≡ V6 a)).
       let was = in_v6 v4 v6 h q f.0 f.1 in
       let now = in_v6 t4 t6 same_families q f.0 f.1 in
-      (λ x. was.1 ((same6 (aligned q)).0 (now.0 x)), λ x. now.1 ((same6 (aligned q)).1 (was.0 x))))
+      (λ x. was.1 ((same6 (aligned_block q)).0 (now.0 x)), λ x. now.1 ((same6 (aligned_block q)).1 (was.0 x))))
       (by_family q.addr)
 
 pub whole_parted : (ps : List Prefix) (v4 v6 t4 t6 : List Aligned) (i : ℕ) → AreParted ps v4 v6 i → length ps ≤ i → ((b : Aligned) → Contains t4 b ↔ Contains v4 b)

@@ -10,8 +10,8 @@ abbrev pub number : Addr → ℕ
 number (V4 a) = a * 2 ^ 96
 number (V6 a) = a
 
-abbrev pub aligned : Prefix → Aligned
-aligned prefix = record { first = number prefix.addr; len = prefix.len }
+abbrev pub aligned_block : Prefix → Aligned
+aligned_block prefix = record { first = number prefix.addr; len = prefix.len }
 
 -- the prefix that a block of the family is
 abbrev pub prefix_v4 : Aligned → Prefix
@@ -26,5 +26,5 @@ both v4 v6 = map prefix_v4 v4 ++ map prefix_v6 v6
 
 -- each table has blocks of its family alone
 pub record AreFamilies (v4 v6 : List Aligned) : Type 0 where
-  pub narrow : (b : Aligned) → Contains v4 b → aligned (prefix_v4 b) ≡ b
-  pub wide : (b : Aligned) → Contains v6 b → aligned (prefix_v6 b) ≡ b
+  pub narrow : (b : Aligned) → Contains v4 b → aligned_block (prefix_v4 b) ≡ b
+  pub wide : (b : Aligned) → Contains v6 b → aligned_block (prefix_v6 b) ≡ b

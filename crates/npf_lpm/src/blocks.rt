@@ -5,7 +5,7 @@ ghost use Rattle.std.specs.List.{AllPairs};
 ghost use Rattle.npf_lpm.specs.declared.aligned.Aligned.{Aligned};
 ghost use Rattle.npf_lpm.specs.Agree.{IsAligned};
 ghost use Rattle.npf_lpm.specs.Rows.{HasNumber, rank};
-ghost use Rattle.npf_lpm.specs.Blocks.{Adds, Drops};
+ghost use Rattle.npf_lpm.specs.Blocks.{AddsBlock, DropsBlock};
 
 use crate::aligned::Aligned;
 use crate::rows::{agrees_in, count_to, place_of, put_in, renew, stands_at, take_out};
@@ -99,11 +99,11 @@ impl Blocks {
         agrees_in(self.outermost[last], self.firsts[last], addr)
     }
 
-    /// Adds a block. False exactly where it is there already.
+    /// AddsBlock a block. False exactly where it is there already.
     pub(crate) fn insert(&mut self, block: Aligned) -> Result<bool, NoMemory>
         requires { IsAligned block }
         ensures added { IfOk result (λ added. IsTrue added ↔ ¬ Contains self.old block) }
-        ensures ok { OnOk result (Adds self.old self.new block) }
+        ensures ok { OnOk result (AddsBlock self.old self.new block) }
         ensures len { IfOk result
             (λ added. length self.new ≡ length self.old + (if added then 1 else 0)) }
         ensures kept { IfOk result (λ added. OnFalse added (self.new ≡ self.old)) }
@@ -130,7 +130,7 @@ impl Blocks {
     /// Takes a block out. False exactly where it isn't there.
     pub(crate) fn remove(&mut self, block: Aligned) -> bool
         ensures removed { IsTrue result ↔ Contains self.old block }
-        ensures changes { Drops self.old self.new block }
+        ensures changes { DropsBlock self.old self.new block }
         ensures len { length self.new + (if result then 1 else 0) ≡ length self.old }
         ensures kept { OnFalse result (self.new ≡ self.old) }
     {

@@ -4,7 +4,7 @@ ghost use Rattle.std.specs.List.{AllPairs};
 ghost use Rattle.npf_types.specs.declared.prefix.Prefix.{Prefix};
 ghost use Rattle.npf_types.specs.Prefix.{Covers};
 ghost use Rattle.npf_lpm.specs.Agree.{IsAligned};
-ghost use Rattle.npf_lpm.specs.Families.{aligned, number};
+ghost use Rattle.npf_lpm.specs.Families.{aligned_block, number};
 ghost use Rattle.npf_lpm.specs.Lpm.{Gains, Loses};
 
 use crate::aligned::Aligned;
@@ -80,7 +80,7 @@ impl Lpm {
         }
     }
 
-    /// Adds a prefix. False exactly where it is there already.
+    /// AddsBlock a prefix. False exactly where it is there already.
     pub fn insert(&mut self, prefix: Prefix) -> Result<bool, NoMemory>
         ensures added { IfOk result (λ added. IsTrue added ↔ ¬ Contains self.old prefix) }
         ensures ok { OnOk result (Gains self.old self.new prefix) }
@@ -122,7 +122,7 @@ impl Lpm {
 
 // The prefix with its address standing left in 128 bits.
 fn aligned_of(prefix: Prefix) -> Aligned
-    ensures value { result ≡ aligned prefix }
+    ensures value { result ≡ aligned_block prefix }
     ensures aligned { IsAligned result }
 {
     Aligned {

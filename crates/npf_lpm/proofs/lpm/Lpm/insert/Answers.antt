@@ -1,7 +1,7 @@
 use Rattle.std.proofs.Common.{◌≡◌, Contains, cond, ap}
 use Rattle.std.proofs.lemmas.Result.{IfOk-weaker, on_ok_weaker, on_err_weaker}
-use Rattle.npf_lpm.specs.Blocks.{Adds}
-use Rattle.npf_lpm.specs.Families.{aligned, both}
+use Rattle.npf_lpm.specs.Blocks.{AddsBlock}
+use Rattle.npf_lpm.specs.Families.{aligned_block, both}
 use Rattle.npf_lpm.proofs.BothLemmas.{in_v4, in_v6}
 use Rattle.npf_lpm.proofs.TableLemmas.{gains_v4, gains_v6, families_after_v4, families_after_v6, longer_v4, longer_v6, on_false_weaker}
 use Rattle.npf_lpm.proofs.lpm.Lpm.insert.Goals as goal
@@ -17,7 +17,7 @@ returns-in-V4-clause-added c = rw (← c.self.view_is) (IfOk-weaker c.insert.res
 
 pub returns-in-V4-clause-ok : goal.returns-in-V4-clause-ok
 returns-in-V4-clause-ok c = rw (← c.self.view_is) (on_ok_weaker c.insert.result
-    (λ (adds : Adds c.self.inside.v4 c.insert.new.self (aligned c.args.prefix)). gains_v4 c.self.inside.v4 c.self.inside.v6 c.insert.new.self c.self.invariant c.args.prefix c.in-V4.field-0 c.in-V4.is adds.others adds.there)
+    (λ (adds : AddsBlock c.self.inside.v4 c.insert.new.self (aligned_block c.args.prefix)). gains_v4 c.self.inside.v4 c.self.inside.v6 c.insert.new.self c.self.invariant c.args.prefix c.in-V4.field-0 c.in-V4.is adds.others adds.there)
     (rw c.aligned_of.ensures.value at c.insert.ensures.ok))
 
 pub returns-in-V4-clause-len : goal.returns-in-V4-clause-len
@@ -28,7 +28,7 @@ returns-in-V4-clause-kept c = rw (← c.self.view_is) (IfOk-weaker c.insert.resu
 
 pub returns-in-V4-clause-absent : goal.returns-in-V4-clause-absent
 returns-in-V4-clause-absent c = rw (← c.self.view_is) (on_err_weaker c.insert.result
-    (λ (gone : ¬ Contains c.self.inside.v4 (aligned c.args.prefix)). λ there. gone ((in_v4 c.self.inside.v4 c.self.inside.v6 c.self.invariant c.args.prefix c.in-V4.field-0 c.in-V4.is).0 there))
+    (λ (gone : ¬ Contains c.self.inside.v4 (aligned_block c.args.prefix)). λ there. gone ((in_v4 c.self.inside.v4 c.self.inside.v6 c.self.invariant c.args.prefix c.in-V4.field-0 c.in-V4.is).0 there))
     (rw c.aligned_of.ensures.value at c.insert.ensures.absent))
 
 pub returns-in-V4-clause-err : goal.returns-in-V4-clause-err
@@ -45,7 +45,7 @@ returns-in-V6-clause-added c = rw (← c.self.view_is) (IfOk-weaker c.insert-in-
 
 pub returns-in-V6-clause-ok : goal.returns-in-V6-clause-ok
 returns-in-V6-clause-ok c = rw (← c.self.view_is) (on_ok_weaker c.insert-in-V6.result
-    (λ (adds : Adds c.self.inside.v6 c.insert-in-V6.new.self (aligned c.args.prefix)). gains_v6 c.self.inside.v4 c.self.inside.v6 c.insert-in-V6.new.self c.self.invariant c.args.prefix c.in-V6.field-0 c.in-V6.is adds.others adds.there)
+    (λ (adds : AddsBlock c.self.inside.v6 c.insert-in-V6.new.self (aligned_block c.args.prefix)). gains_v6 c.self.inside.v4 c.self.inside.v6 c.insert-in-V6.new.self c.self.invariant c.args.prefix c.in-V6.field-0 c.in-V6.is adds.others adds.there)
     (rw c.aligned_of-in-V6.ensures.value at c.insert-in-V6.ensures.ok))
 
 pub returns-in-V6-clause-len : goal.returns-in-V6-clause-len
@@ -56,7 +56,7 @@ returns-in-V6-clause-kept c = rw (← c.self.view_is) (IfOk-weaker c.insert-in-V
 
 pub returns-in-V6-clause-absent : goal.returns-in-V6-clause-absent
 returns-in-V6-clause-absent c = rw (← c.self.view_is) (on_err_weaker c.insert-in-V6.result
-    (λ (gone : ¬ Contains c.self.inside.v6 (aligned c.args.prefix)). λ there. gone ((in_v6 c.self.inside.v4 c.self.inside.v6 c.self.invariant c.args.prefix c.in-V6.field-0 c.in-V6.is).0 there))
+    (λ (gone : ¬ Contains c.self.inside.v6 (aligned_block c.args.prefix)). λ there. gone ((in_v6 c.self.inside.v4 c.self.inside.v6 c.self.invariant c.args.prefix c.in-V6.field-0 c.in-V6.is).0 there))
     (rw c.aligned_of-in-V6.ensures.value at c.insert-in-V6.ensures.absent))
 
 pub returns-in-V6-clause-err : goal.returns-in-V6-clause-err

@@ -1,23 +1,23 @@
 use Rattle.std.proofs.Common.{Contains, IsTrue, ◌↔◌, ap, arith}
-use Rattle.npf_lpm.specs.Blocks.{Drops}
-use Rattle.npf_lpm.specs.Families.{aligned, both}
+use Rattle.npf_lpm.specs.Blocks.{DropsBlock}
+use Rattle.npf_lpm.specs.Families.{aligned_block, both}
 use Rattle.npf_lpm.proofs.BothLemmas.{in_v4, in_v6, both-length}
 use Rattle.npf_lpm.proofs.TableLemmas.{loses_v4, loses_v6, families_v4, families_v6, on_false_weaker}
 use Rattle.npf_lpm.proofs.lpm.Lpm.remove.Goals as goal
 
 pub invariant_of-self : goal.invariant_of-self
 invariant_of-self c =
-    let drops : Drops c.self.inside.v4 c.remove.new.self (aligned c.args.prefix) = rw c.aligned_of.ensures.value at c.remove.ensures.changes in
+    let drops : DropsBlock c.self.inside.v4 c.remove.new.self (aligned_block c.args.prefix) = rw c.aligned_of.ensures.value at c.remove.ensures.changes in
     families_v4 c.self.inside.v4 c.self.inside.v6 c.remove.new.self c.self.invariant c.args.prefix c.in-V4.field-0 c.in-V4.is drops.others
 
 pub returns-in-V4-clause-removed : goal.returns-in-V4-clause-removed
 returns-in-V4-clause-removed c =
-    let is : IsTrue c.remove.result ↔ Contains c.self.inside.v4 (aligned c.args.prefix) = rw c.aligned_of.ensures.value at c.remove.ensures.removed in
+    let is : IsTrue c.remove.result ↔ Contains c.self.inside.v4 (aligned_block c.args.prefix) = rw c.aligned_of.ensures.value at c.remove.ensures.removed in
     rw (← c.self.view_is) (λ h. (in_v4 c.self.inside.v4 c.self.inside.v6 c.self.invariant c.args.prefix c.in-V4.field-0 c.in-V4.is).1 (is.0 h), λ there. is.1 ((in_v4 c.self.inside.v4 c.self.inside.v6 c.self.invariant c.args.prefix c.in-V4.field-0 c.in-V4.is).0 there))
 
 pub returns-in-V4-clause-changes : goal.returns-in-V4-clause-changes
 returns-in-V4-clause-changes c =
-    let drops : Drops c.self.inside.v4 c.remove.new.self (aligned c.args.prefix) = rw c.aligned_of.ensures.value at c.remove.ensures.changes in
+    let drops : DropsBlock c.self.inside.v4 c.remove.new.self (aligned_block c.args.prefix) = rw c.aligned_of.ensures.value at c.remove.ensures.changes in
     rw (← c.self.view_is) (loses_v4 c.self.inside.v4 c.self.inside.v6 c.remove.new.self c.self.invariant c.args.prefix c.in-V4.field-0 c.in-V4.is drops.others drops.gone)
 
 pub returns-in-V4-clause-len : goal.returns-in-V4-clause-len
@@ -28,17 +28,17 @@ returns-in-V4-clause-kept c = rw (← c.self.view_is) (on_false_weaker c.remove.
 
 pub invariant_of-self-in-V6 : goal.invariant_of-self-in-V6
 invariant_of-self-in-V6 c =
-    let drops : Drops c.self.inside.v6 c.remove-in-V6.new.self (aligned c.args.prefix) = rw c.aligned_of-in-V6.ensures.value at c.remove-in-V6.ensures.changes in
+    let drops : DropsBlock c.self.inside.v6 c.remove-in-V6.new.self (aligned_block c.args.prefix) = rw c.aligned_of-in-V6.ensures.value at c.remove-in-V6.ensures.changes in
     families_v6 c.self.inside.v4 c.self.inside.v6 c.remove-in-V6.new.self c.self.invariant c.args.prefix c.in-V6.field-0 c.in-V6.is drops.others
 
 pub returns-in-V6-clause-removed : goal.returns-in-V6-clause-removed
 returns-in-V6-clause-removed c =
-    let is : IsTrue c.remove-in-V6.result ↔ Contains c.self.inside.v6 (aligned c.args.prefix) = rw c.aligned_of-in-V6.ensures.value at c.remove-in-V6.ensures.removed in
+    let is : IsTrue c.remove-in-V6.result ↔ Contains c.self.inside.v6 (aligned_block c.args.prefix) = rw c.aligned_of-in-V6.ensures.value at c.remove-in-V6.ensures.removed in
     rw (← c.self.view_is) (λ h. (in_v6 c.self.inside.v4 c.self.inside.v6 c.self.invariant c.args.prefix c.in-V6.field-0 c.in-V6.is).1 (is.0 h), λ there. is.1 ((in_v6 c.self.inside.v4 c.self.inside.v6 c.self.invariant c.args.prefix c.in-V6.field-0 c.in-V6.is).0 there))
 
 pub returns-in-V6-clause-changes : goal.returns-in-V6-clause-changes
 returns-in-V6-clause-changes c =
-    let drops : Drops c.self.inside.v6 c.remove-in-V6.new.self (aligned c.args.prefix) = rw c.aligned_of-in-V6.ensures.value at c.remove-in-V6.ensures.changes in
+    let drops : DropsBlock c.self.inside.v6 c.remove-in-V6.new.self (aligned_block c.args.prefix) = rw c.aligned_of-in-V6.ensures.value at c.remove-in-V6.ensures.changes in
     rw (← c.self.view_is) (loses_v6 c.self.inside.v4 c.self.inside.v6 c.remove-in-V6.new.self c.self.invariant c.args.prefix c.in-V6.field-0 c.in-V6.is drops.others drops.gone)
 
 pub returns-in-V6-clause-len : goal.returns-in-V6-clause-len
