@@ -3,4 +3,10 @@
 #![tactic(auto)]
 
 #[cfg(test)]
+mod full;
+#[cfg(test)]
 mod lives;
+#[cfg(test)]
+mod sharing;
+#[cfg(test)]
+mod sum;
