@@ -1,0 +1,43 @@
+-- Groups and rules laid out flat: what a flat rule and a flat group have of those that they stand for.
+use Rattle.std.specs.Prelude.{◌≡◌, ℕ, ◌≤◌, List, length, map, slice_get, Some}
+use Rattle.std.specs.List.{sum_by}
+use Rattle.npf_model.specs.declared.group.Group.{Group}
+use Rattle.npf_model.specs.Verdict.{PlacedRule, all_rules, rules_of}
+use Rattle.npf_bpf.specs.declared.insn.Insn.{Insn}
+use Rattle.npf_bpfgen.specs.Program.{IsProgramOf}
+use Rattle.npf_bpfgen.specs.RuleWeight.{weight_of}
+use Rattle.npf_ruleset.specs.declared.flat.FlatGroup.{FlatGroup}
+use Rattle.npf_ruleset.specs.declared.flat.FlatRule.{FlatRule}
+use Rattle.npf_ruleset.specs.Binding.{IsBindingOf, IsBoundTo}
+use Rattle.npf_ruleset.specs.Place.{placed_at}
+use Rattle.npf_ruleset.specs.Row.{IsRowOf}
+
+-- the flat rule stands for a rule of the groups
+pub record IsFlatRule (groups : List Group) (placed : PlacedRule) (flat : FlatRule) : Type 0 where
+  pub place : placed_at groups flat.place ≡ Some placed
+  pub binding : IsBindingOf placed flat.binding
+  pub last : flat.last ≡ placed.rule.last
+  pub row : IsRowOf placed.rule flat.row
+  pub program : IsProgramOf placed.rule flat.program
+  pub weight : weight_of placed.rule ≤ 4096
+
+pub record IsFlatGroup (group : Group) (flat : FlatGroup) : Type 0 where
+  pub binding : IsBoundTo group.dir group.on flat.binding
+  pub count : flat.count ≡ length (rules_of group)
+
+-- as many of the one as of the other, and each is related to what has its place
+pub record IsPairwise {X Y : Type 0} (Rel : X → Y → Type 0) (xs : List X) (ys : List Y) : Type 0 where
+  pub len : length ys ≡ length xs
+  pub each : (k : ℕ) (x : X) (y : Y) → slice_get xs k ≡ Some x → slice_get ys k ≡ Some y → Rel x y
+
+-- the groups and all their rules in the order of inspection are laid out
+pub record IsFlat (groups : List Group) (flat_groups : List FlatGroup) (flat_rules : List FlatRule) : Type 0 where
+  pub for_groups : IsPairwise IsFlatGroup groups flat_groups
+  pub for_rules : IsPairwise (IsFlatRule groups) (all_rules groups) flat_rules
+
+-- the programs, and how many instructions they have together
+abbrev pub programs_of : List FlatRule → List (List Insn)
+programs_of rules = map (λ rule. rule.program) rules
+
+abbrev pub instructions : List (List Insn) → ℕ
+instructions programs = sum_by length programs

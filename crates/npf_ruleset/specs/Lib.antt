@@ -1,0 +1,10 @@
+pub mod Binding
+pub mod Configuration
+pub mod Flat
+pub mod Layout
+pub mod Packet
+pub mod Place
+pub mod Refusal
+pub mod Row
+pub mod RuleAt
+pub mod Tables

@@ -1,0 +1,36 @@
+-- How a walk sees a packet.
+use Rattle.std.specs.Prelude.{◌≡◌, ℕ, Bool, true, false, not, ◌==◌, ◌&&◌, List, Option}
+use Rattle.std.specs.Option.{option_or}
+use Rattle.npf_model.specs.Describes.{Tables, table_has}
+use Rattle.npf_model.specs.Verdict.{first_where, last_where}
+use Rattle.npf_bpf.specs.Coprocessor.{Coprocessor}
+use Rattle.npf_bpf.specs.Value.{program_value}
+use Rattle.npf_bpfgen.specs.Premise.{header_words}
+use Rattle.npf_ruleset.specs.declared.flat.FlatRule.{FlatRule}
+use Rattle.npf_ruleset.specs.declared.packet.Packet.{Packet}
+use Rattle.npf_ruleset.specs.Binding.{is_bound}
+use Rattle.npf_ruleset.specs.Row.{meets_row}
+use Rattle.npf_ruleset.specs.Tables.{entries}
+
+-- whether a table has the packet's source, or at `false` its destination
+abbrev pub has_end : Packet → ℕ → Bool → Bool
+has_end packet table true = table_has (entries packet.tables.now) table packet.facts.now.src
+has_end packet table false = table_has (entries packet.tables.now) table packet.facts.now.dst
+
+-- what the packet tells a program
+abbrev pub coprocessor : Packet → Coprocessor
+coprocessor packet = record { header = header_words packet.facts.now; member = has_end packet }
+
+-- a flat rule isn't bound elsewhere, its row admits the packet, and its program describes it
+abbrev pub flat_matches : Packet → FlatRule → Bool
+flat_matches packet rule =
+    is_bound rule.binding packet.ifid packet.dir
+    && meets_row rule.row packet.facts.now
+    && program_value rule.program packet.ip.now (coprocessor packet) == 4294967295
+
+abbrev pub flat_decides : Packet → FlatRule → Bool
+flat_decides packet rule = rule.last && flat_matches packet rule
+
+-- the first match with `final`, or else the last match
+abbrev pub flat_answer : Packet → List FlatRule → Option ℕ
+flat_answer packet rules = option_or (first_where (flat_decides packet) 0 rules) (last_where (flat_matches packet) 0 rules)

@@ -1,0 +1,30 @@
+-- Where a rule stands in a model, and what stands there.
+use Rattle.std.specs.Prelude.{ℕ, ◌<◌, List, [], Option, Some, None, length, slice_get, option_and_then}
+use Rattle.npf_model.specs.declared.group.Group.{Group}
+use Rattle.npf_model.specs.declared.group.Item.{Item}
+use Rattle.npf_model.specs.Verdict.{PlacedRule, rules_at}
+use Rattle.npf_ruleset.specs.declared.place.Place.{Place}
+use Rattle.npf_ruleset.specs.declared.place.Placed.{Placed}
+
+abbrev pub placed_rule : Placed → PlacedRule
+placed_rule placed = record { within_dir = placed.within_dir; within_on = placed.within_on; rule = placed.rule.now }
+
+abbrev pub item_at : List Group → Place → Option Item
+item_at groups place = option_and_then (λ group. slice_get group.items place.item) (slice_get groups place.group)
+
+-- the rules that stand at an item's place, if an item does
+abbrev pub rules_in : Option Item → List PlacedRule
+rules_in None = []
+rules_in (Some item) = rules_at item
+
+-- the rules of the item at a place
+abbrev pub standing : List Group → Place → List PlacedRule
+standing groups place = rules_in (item_at groups place)
+
+-- the rule at a place: the group, the item in it, and the number in the item, each counted from 0
+abbrev pub placed_at : List Group → Place → Option PlacedRule
+placed_at groups place = slice_get (standing groups place) place.number
+
+-- a rule stands there
+abbrev pub IsPlaced : List Group → Place → Type 0
+IsPlaced groups place = place.number < length (standing groups place)

@@ -1,0 +1,70 @@
+-- The row of a rule: conditions that each packet meets which the rule's packet part describes. They are the family, the
+-- protocols as a set of bits, and for both ends the least and the greatest number of the addresses and of the ports.
+use Rattle.std.specs.Prelude.{◌≡◌, ℕ, ◌%◌, Bool, true, ◌==◌, ◌&&◌, nat_le, List, Option, Some, None}
+use Rattle.std.specs.Int.{bit_at}
+use Rattle.npf_types.specs.declared.address.Addr.{Addr}
+use Rattle.npf_types.specs.declared.address.Addr.TheVariants.{V4, V6}
+use Rattle.npf_types.specs.declared.facts.Facts.{Facts}
+use Rattle.npf_types.specs.declared.prefix.Prefix.{Prefix}
+use Rattle.npf_types.specs.Prefix.{has_address}
+use Rattle.npf_model.specs.declared.ends.AddrItem.{AddrItem}
+use Rattle.npf_model.specs.declared.ends.Ends.{Ends}
+use Rattle.npf_model.specs.declared.rule.Rule.{Rule}
+use Rattle.npf_model.specs.Describes.{Tables, describes_packet, destination_of, fits_addrs, fits_ends, fits_family, fits_ports, fits_protocol, source_of}
+use Rattle.npf_model.specs.MapOf.{fits_side_port}
+use Rattle.npf_ruleset.specs.declared.addr_hull.AddrHull.{AddrHull}
+use Rattle.npf_ruleset.specs.declared.protocol_set.ProtocolSet.{ProtocolSet}
+use Rattle.npf_ruleset.specs.declared.row.EndRow.{EndRow}
+use Rattle.npf_ruleset.specs.declared.row.Row.{Row}
+
+-- an address of either family as a number
+abbrev pub number_of_addr : Addr → ℕ
+number_of_addr (V4 number) = number
+number_of_addr (V6 number) = number
+
+-- the address lies in the hull; without one any address does
+abbrev pub in_hull : Option AddrHull → Addr → Bool
+in_hull None addr = true
+in_hull (Some hull) addr = nat_le hull.first (number_of_addr addr) && nat_le (number_of_addr addr) hull.last
+
+-- the protocol's bit is set, which it shares with those of the same number modulo 64
+abbrev pub has_protocol : ProtocolSet → ℕ → Bool
+has_protocol set proto = bit_at set.bits (proto % 64) == 1
+
+-- an end meets the hulls of its addresses and of its ports
+abbrev pub meets_end : EndRow → Addr → Option ℕ → Bool
+meets_end row addr port = fits_side_port row.ports port && in_hull row.addrs addr
+
+abbrev pub meets_row : Row → Facts → Bool
+meets_row row facts =
+    has_protocol row.protocols facts.proto
+    && fits_family row.v6 facts.src
+    && meets_end row.from facts.src (source_of facts.l4)
+    && meets_end row.to facts.dst (destination_of facts.l4)
+
+-- a packet that the rule's packet part describes meets the row
+abbrev pub IsRowOf : Rule → Row → Type 0
+IsRowOf rule row = (tables : Tables) (facts : Facts) → describes_packet rule tables facts ≡ true → meets_row row facts ≡ true
+
+-- the same of one end
+abbrev pub IsEndRowOf : Ends → EndRow → Type 0
+IsEndRowOf ends row =
+    (tables : Tables) (addr : Addr) (port : Option ℕ) → fits_ends ends tables addr port ≡ true → meets_end row addr port ≡ true
+
+-- and of each part: what fits the list lies in the hull
+abbrev pub HasProtocols : List ℕ → ProtocolSet → Type 0
+HasProtocols protos set = (proto : ℕ) → fits_protocol protos proto ≡ true → has_protocol set proto ≡ true
+
+abbrev pub IsHullOfAddrs : Option (List AddrItem) → Option AddrHull → Type 0
+IsHullOfAddrs addrs hull = (tables : Tables) (addr : Addr) → fits_addrs addrs tables addr ≡ true → in_hull hull addr ≡ true
+
+abbrev pub IsHullOfPorts : Option (List (ℕ × ℕ)) → Option (ℕ × ℕ) → Type 0
+IsHullOfPorts ports hull = (port : Option ℕ) → fits_ports ports port ≡ true → fits_side_port hull port ≡ true
+
+-- one hull lies in the other
+abbrev pub IsWithin : AddrHull → AddrHull → Type 0
+IsWithin inner outer = (addr : Addr) → in_hull (Some inner) addr ≡ true → in_hull (Some outer) addr ≡ true
+
+-- the addresses of a block lie in the hull
+abbrev pub IsHullOfBlock : Prefix → AddrHull → Type 0
+IsHullOfBlock prefix hull = (addr : Addr) → has_address prefix addr ≡ true → in_hull (Some hull) addr ≡ true

@@ -1,0 +1,91 @@
+// The hull of a list of addresses.
+ghost use Rattle.std.specs.Prelude.{◌≡◌, ◌≤◌, ◌-◌, ◌^◌, Some};
+ghost use Rattle.npf_ruleset.specs.Row.{IsHullOfAddrs, IsHullOfBlock, IsWithin, in_hull};
+
+use npf_model::AddrItem;
+use npf_types::{Addr, List, Prefix};
+
+/// The least and the greatest number of some addresses. An address of either family is its number.
+#[derive(Clone, Copy, Drop)]
+pub(crate) struct AddrHull {
+    pub(crate) first: u128,
+    pub(crate) last: u128,
+}
+
+/// The hull of all blocks that are listed. None where any address may be meant: without a list, or
+/// where the list names a table, whose addresses change.
+pub(crate) fn addr_hull(addrs: &Option<List<AddrItem>>) -> Option<AddrHull>
+    ensures { IsHullOfAddrs addrs.now result }
+{
+    match addrs {
+        Some(items) => items_hull(items.as_slice()),
+        None => None,
+    }
+}
+
+fn items_hull(items: &[AddrItem]) -> Option<AddrHull>
+    ensures { IsHullOfAddrs (Some items.now) result }
+{
+    let mut hull = AddrHull {
+        first: u128::MAX,
+        last: 0,
+    };
+    for item in items {
+        match item {
+            AddrItem::Net(prefix) => hull = joined(hull, block_hull(prefix)),
+            AddrItem::InTable(_) => return None,
+        }
+    }
+    Some(hull)
+}
+
+fn joined(one: AddrHull, other: AddrHull) -> AddrHull
+    ensures one { IsWithin one result }
+    ensures other { IsWithin other result }
+{
+    AddrHull {
+        first: one.first.min(other.first),
+        last: one.last.max(other.last),
+    }
+}
+
+fn block_hull(prefix: &Prefix) -> AddrHull
+    ensures { IsHullOfBlock prefix.now result }
+{
+    match prefix.addr {
+        Addr::V4(first) => AddrHull {
+            first: u128::from(first),
+            last: u128::from(first) + ((1 << (32 - prefix.len)) - 1),
+        },
+        Addr::V6(first) => AddrHull {
+            first,
+            last: first.saturating_add(host_bits(prefix.len)),
+        },
+    }
+}
+
+// The greatest number of the bits behind the first `len` of 128.
+fn host_bits(len: u8) -> u128
+    requires { len ≤ 128 }
+    ensures { result ≡ 2 ^ (128 - len) - 1 }
+{
+    if len == 0 {
+        u128::MAX
+    } else {
+        (1 << (128 - len)) - 1
+    }
+}
+
+/// Whether the address lies in the hull; without one any address does.
+pub(crate) fn in_hull(hull: Option<AddrHull>, addr: Addr) -> bool
+    ensures { result ≡ in_hull hull addr }
+{
+    let number = match addr {
+        Addr::V4(number) => u128::from(number),
+        Addr::V6(number) => number,
+    };
+    match hull {
+        Some(hull) => hull.first <= number && number <= hull.last,
+        None => true,
+    }
+}

@@ -1,0 +1,80 @@
+// The flat configuration.
+ghost use Rattle.std.specs.Prelude.{◌≤◌, length};
+ghost use Rattle.npf_ruleset.specs.Flat.{IsFlat};
+
+use crate::flat::{FlatGroup, FlatRule};
+use crate::place::placed_at;
+use npf_bpf::Program;
+use npf_model::{Map, Model, Rule};
+use npf_table::Table;
+use std::sync::Arc;
+
+/// A model laid out flat, with its tables.
+#[derive(Drop)]
+pub struct Config {
+    pub(crate) model: Model,
+    pub(crate) tables: Vec<Arc<Table>>,
+    pub(crate) groups: Vec<FlatGroup>,
+    pub(crate) rules: Vec<FlatRule>,
+    ghost flat: { IsFlat model.groups groups.items rules.items },
+    ghost few_rules: { length rules.items ≤ 4096 },
+    ghost few_maps: { length model.maps ≤ 256 },
+}
+
+impl Config {
+    ghost use Rattle.std.specs.Prelude.{◌≡◌, ◌<◌, Some, length, slice_get};
+    ghost use Rattle.npf_model.specs.Verdict.{all_rules};
+    ghost use Rattle.npf_ruleset.specs.Configuration.{programs};
+    ghost use Rattle.npf_ruleset.specs.RuleAt.{IsProgramAt, rule_at};
+
+    /// The rule at a place, counted from 0 in the order of inspection, which must be in range.
+    pub fn rule(&self, i: u32) -> &Rule
+        requires { i < length (all_rules self.now.model.groups) }
+        ensures { rule_at self.now.model i ≡ Some result.now }
+    {
+        placed_at(self.model.groups.as_slice(), self.rules[i as usize].place).rule
+    }
+
+    /// The map at a place, counted from 0, which must be in range.
+    pub fn map(&self, i: u32) -> &Map
+        requires { i < length self.now.model.maps }
+        ensures { slice_get self.now.model.maps i ≡ Some result.now }
+    {
+        &self.model.maps.as_slice()[i as usize]
+    }
+
+    /// The compiled program of the rule at a place, which must be in range.
+    pub fn program(&self, i: u32) -> &Program
+        requires { i < length (all_rules self.now.model.groups) }
+        ensures value { slice_get (programs self.now) i ≡ Some result.now }
+        ensures describes { IsProgramAt self.now.model i result.now }
+    {
+        &self.rules[i as usize].program
+    }
+
+    /// The model that was laid out, with the interfaces' numbers that were set since.
+    pub fn model(&self) -> &Model
+        ensures { result.now ≡ self.now.model }
+    {
+        &self.model
+    }
+
+    /// The tables that were given, in the order in which the model declares them.
+    pub fn tables(&self) -> &[Arc<Table>]
+        ensures { result.now ≡ self.now.tables.items }
+    {
+        &self.tables
+    }
+
+    pub(crate) fn rules(&self) -> &[FlatRule]
+        ensures { result.now ≡ self.now.rules.items }
+    {
+        &self.rules
+    }
+
+    pub(crate) fn groups(&self) -> &[FlatGroup]
+        ensures { result.now ≡ self.now.groups.items }
+    {
+        &self.groups
+    }
+}

@@ -1,0 +1,41 @@
+// The flat configuration: the rules of a model laid out one after another, each compiled to classic
+// BPF, and walked fast.
+//
+// A flat rule has the program of its rule, and beside it a small row of conditions that each packet
+// meets which the rule describes: the family, the protocols as a set of bits, and the hulls of the
+// addresses and ports of both ends. What a rule is bound to by direction and interface stands there
+// too, with what its ruleset is bound to. A walk passes over a rule whose row excludes the packet,
+// and runs the program of any other: that alone decides that the rule describes the packet.
+//
+// In a group the rules with `final` are tried upwards first, and, where none of them matched, the
+// others downwards, so that the first match ends it (npf.conf(5), "Groups" and "Rules"). A group
+// that doesn't apply is one step.
+//
+// The contract in words: a walk gives the place of the rule that decides on the packet by the
+// configuration's meaning, and none exactly where no rule matches. A configuration is refused
+// exactly for its first rule whose weight passes 4,096, or else for its count of instructions.
+#![tactic(auto)]
+
+mod addr_hull;
+mod binding;
+mod building;
+mod config;
+mod describes;
+mod fault;
+mod flat;
+mod layout;
+mod map_choice;
+// mod number;
+mod packet;
+mod place;
+mod port_hull;
+mod protocol_set;
+mod row;
+mod tables;
+mod walking;
+
+pub use building::build;
+pub use config::Config;
+pub use fault::BuildFault;
+pub use map_choice::map_for;
+pub use walking::walk;

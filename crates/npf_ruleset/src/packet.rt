@@ -1,0 +1,66 @@
+// A packet, as a walk sees it and as a program asks of it.
+ghost use Rattle.std.specs.Prelude.{◌≡◌};
+ghost use Rattle.npf_bpfgen.specs.Premise.{ip_version};
+ghost use Rattle.npf_ruleset.specs.Packet.{coprocessor, flat_matches};
+
+use crate::flat::FlatRule;
+use crate::tables::table_has;
+use npf_bpfvm::{Cop, run};
+use npf_table::Table;
+use npf_types::{Addr, Dir, Facts, IfId};
+use std::sync::Arc;
+
+/// A packet's facts and bytes, where it passes, and the tables that its addresses are looked up in.
+#[derive(Clone, Copy, Drop)]
+pub(crate) struct Packet<'a> {
+    pub(crate) facts: &'a Facts,
+    pub(crate) ip: &'a [u8],
+    pub(crate) ifid: IfId,
+    pub(crate) dir: Dir,
+    pub(crate) tables: &'a [Arc<Table>],
+}
+
+/// What a program returns on the packets that its rule describes.
+const DESCRIBED: u32 = u32::MAX;
+
+impl Packet<'_> {
+    /// Whether the rule matches: it isn't bound to elsewhere, its row admits the packet, and its
+    /// program describes it.
+    pub(crate) fn meets(&self, rule: &FlatRule) -> bool
+        ensures { result ≡ flat_matches self.now rule.now }
+    {
+        rule.binding.leaves(self.ifid, self.dir)
+            && rule.row.admits(self.facts)
+            && run(&rule.program, self.ip, self) == DESCRIBED
+    }
+}
+
+impl Cop for Packet<'_> {
+    ghost tells = { coprocessor };
+
+    fn header(&self) -> (u32, u32, u32) {
+        (
+            version(self.facts.src),
+            self.facts.l4_at.saturating_sub(self.facts.ip_at),
+            u32::from(self.facts.proto),
+        )
+    }
+
+    fn member(&self, table: u32, source: bool) -> bool {
+        let addr = if source {
+            self.facts.src
+        } else {
+            self.facts.dst
+        };
+        table_has(self.tables, table, addr)
+    }
+}
+
+fn version(addr: Addr) -> u32
+    ensures { result ≡ ip_version addr }
+{
+    match addr {
+        Addr::V4(_) => 4,
+        Addr::V6(_) => 6,
+    }
+}
