@@ -1,11 +1,12 @@
 -- How a walk sees a packet.
-use Rattle.std.specs.Prelude.{◌≡◌, ℕ, Bool, true, false, not, ◌==◌, ◌&&◌, List, Option}
+use Rattle.std.specs.Prelude.{◌≡◌, ℕ, Bool, true, false, not, ◌==◌, ◌&&◌, if◌then◌else◌, List, Option, None}
 use Rattle.std.specs.Option.{option_or}
 use Rattle.npf_model.specs.Describes.{Tables, table_has}
 use Rattle.npf_model.specs.Verdict.{first_where, last_where}
 use Rattle.npf_bpf.specs.Coprocessor.{Coprocessor}
 use Rattle.npf_bpf.specs.Value.{program_value}
 use Rattle.npf_bpfgen.specs.Premise.{header_words}
+use Rattle.npf_ruleset.specs.declared.flat.FlatGroup.{FlatGroup}
 use Rattle.npf_ruleset.specs.declared.flat.FlatRule.{FlatRule}
 use Rattle.npf_ruleset.specs.declared.packet.Packet.{Packet}
 use Rattle.npf_ruleset.specs.Binding.{is_bound}
@@ -31,6 +32,14 @@ flat_matches packet rule =
 abbrev pub flat_decides : Packet → FlatRule → Bool
 flat_decides packet rule = rule.last && flat_matches packet rule
 
+-- a match that isn't `final`
+abbrev pub is_other : Packet → FlatRule → Bool
+is_other packet rule = not rule.last && flat_matches packet rule
+
 -- the first match with `final`, or else the last match
 abbrev pub flat_answer : Packet → List FlatRule → Option ℕ
 flat_answer packet rules = option_or (first_where (flat_decides packet) 0 rules) (last_where (flat_matches packet) 0 rules)
+
+-- the answer of a group with these rules, where it applies
+abbrev pub answer_in : Packet → FlatGroup → List FlatRule → Option ℕ
+answer_in packet group rules = if is_bound group.binding packet.ifid packet.dir then flat_answer packet rules else None

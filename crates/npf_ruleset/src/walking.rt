@@ -1,13 +1,13 @@
 // The rule that decides on a packet.
-ghost use Rattle.std.specs.Prelude.{◌≡◌, None};
+ghost use Rattle.std.specs.Prelude.{◌≡◌, ◌<◌, IfSome, length};
 ghost use Rattle.npf_model.specs.Configuration.{verdict_of};
 ghost use Rattle.npf_model.specs.Verdict.{first_where, last_where};
 ghost use Rattle.npf_packet.specs.PacketField.{IsPacketOf};
 ghost use Rattle.npf_ruleset.specs.Configuration.{configuration};
-ghost use Rattle.npf_ruleset.specs.Packet.{flat_answer, flat_decides, flat_matches};
+ghost use Rattle.npf_ruleset.specs.Packet.{answer_in, flat_answer, flat_decides, is_other};
 
 use crate::config::Config;
-use crate::flat::FlatRule;
+use crate::flat::{FlatGroup, FlatRule};
 use crate::packet::Packet;
 use npf_types::{Dir, Facts, IfId};
 
@@ -29,10 +29,8 @@ pub fn walk(config: &Config, facts: &Facts, ip: &[u8], ifid: IfId, dir: Dir) -> 
     let mut first = 0;
     for group in config.groups() {
         let (inside, behind) = rules.split_at(group.count);
-        if group.binding.leaves(ifid, dir) {
-            if let Some(at) = packet.answer_of(inside) {
-                return Some(first + at as u32);
-            }
+        if let Some(at) = packet.answer_in(group, inside) {
+            return Some(first + at as u32);
         }
         first += group.count as u32;
         rules = behind;
@@ -41,9 +39,22 @@ pub fn walk(config: &Config, facts: &Facts, ip: &[u8], ifid: IfId, dir: Dir) -> 
 }
 
 impl Packet<'_> {
-    // A group's answer: its first match with `final`, or else its last match.
+    // The answer of a group with these rules: none where it doesn't apply.
+    fn answer_in(&self, group: &FlatGroup, rules: &[FlatRule]) -> Option<usize>
+        ensures value { result ≡ answer_in self.now group.now rules.now }
+        ensures bound { IfSome result (λ at. at < length rules.now) }
+    {
+        if group.binding.leaves(self.ifid, self.dir) {
+            return self.answer_of(rules);
+        }
+        None
+    }
+
+    // A group's answer: its first match with `final`, or else its last match, which is then one
+    // without `final`.
     fn answer_of(&self, rules: &[FlatRule]) -> Option<usize>
-        ensures { result ≡ flat_answer self.now rules.now }
+        ensures value { result ≡ flat_answer self.now rules.now }
+        ensures bound { IfSome result (λ at. at < length rules.now) }
     {
         match self.first_final(rules) {
             Some(at) => Some(at),
@@ -52,26 +63,39 @@ impl Packet<'_> {
     }
 
     fn first_final(&self, rules: &[FlatRule]) -> Option<usize>
-        ensures { result ≡ first_where (flat_decides self.now) 0 rules.now }
+        ensures value { result ≡ first_where (flat_decides self.now) 0 rules.now }
+        ensures bound { IfSome result (λ at. at < length rules.now) }
     {
         for (at, rule) in rules.iter().enumerate() {
-            if rule.last && self.meets(rule) {
+            if self.decides(rule) {
                 return Some(at);
             }
         }
         None
     }
 
-    // Without a match that is `final` those that aren't are all that is left.
     fn last_other(&self, rules: &[FlatRule]) -> Option<usize>
-        requires { first_where (flat_decides self.now) 0 rules.now ≡ None }
-        ensures { result ≡ last_where (flat_matches self.now) 0 rules.now }
+        ensures value { result ≡ last_where (is_other self.now) 0 rules.now }
+        ensures bound { IfSome result (λ at. at < length rules.now) }
     {
         for at in (0..rules.len()).rev() {
-            if !rules[at].last && self.meets(&rules[at]) {
+            if self.is_other(&rules[at]) {
                 return Some(at);
             }
         }
         None
+    }
+
+    // A match that decides at once.
+    fn decides(&self, rule: &FlatRule) -> bool
+        ensures { result ≡ flat_decides self.now rule.now }
+    {
+        rule.last && self.meets(rule)
+    }
+
+    fn is_other(&self, rule: &FlatRule) -> bool
+        ensures { result ≡ is_other self.now rule.now }
+    {
+        !rule.last && self.meets(rule)
     }
 }

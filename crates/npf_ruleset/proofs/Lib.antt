@@ -1,0 +1,4 @@
+mod PairLemmas
+mod PlaceLemmas
+mod TableLemmas
+mod WalkLemmas

@@ -1,0 +1,196 @@
+-- A walk over the flat rules gives the configuration's verdict.
+use Rattle.std.proofs.Common.{◌≡◌, ◌<◌, ◌≤◌, ℕ, ◌+◌, Bool, true, false, not, ◌&&◌, List, [], ◌∷◌, ◌++◌, Option, Some, None, length, take, drop, refl, sym, subst, ap, ◌∙◌, arith, ◌==◌, suc, get_or, slice_get, drop_of_length-le}
+use Rattle.std.proofs.lemmas.List.{length-append, length-drop}
+use Rattle.std.proofs.lemmas.Option.{slice_get_within}
+use Rattle.std.specs.Prelude.{if◌then◌else◌}
+use Rattle.std.specs.Option.{option_map, option_or}
+use Rattle.std.proofs.lemmas.Option.{none-some}
+use Rattle.npf_types.specs.declared.direction.Dir.{Dir}
+use Rattle.npf_types.specs.declared.interface.IfId.{IfId}
+use Rattle.npf_model.specs.declared.group.Group.{Group}
+use Rattle.npf_model.specs.Describes.{Tables, describes_packet}
+use Rattle.npf_model.specs.Place.{fits_dir, fits_on}
+use Rattle.npf_model.specs.Verdict.{PlacedRule, all_rules, decides, first_where, group_answer, last_where, matches, rules_of, verdict}
+use Rattle.npf_model.specs.Configuration.{verdict_of}
+use Rattle.npf_bpfgen.specs.Premise.{AreBytes, IsSeen}
+use Rattle.npf_packet.specs.PacketField.{IsPacketOf}
+use Rattle.npf_bpf.specs.Value.{program_value}
+use Rattle.npf_ruleset.specs.declared.config.Config.{Config}
+use Rattle.npf_ruleset.specs.declared.flat.FlatGroup.{FlatGroup}
+use Rattle.npf_ruleset.specs.declared.flat.FlatRule.{FlatRule}
+use Rattle.npf_ruleset.specs.declared.packet.Packet.{Packet}
+use Rattle.npf_ruleset.specs.Binding.{is_bound}
+use Rattle.npf_ruleset.specs.Configuration.{configuration}
+use Rattle.npf_ruleset.specs.Flat.{IsFlatGroup, IsFlatRule}
+use Rattle.npf_ruleset.specs.Packet.{answer_in, coprocessor, flat_answer, flat_decides, flat_matches, is_other}
+use Rattle.npf_ruleset.specs.Row.{meets_row}
+use Rattle.npf_ruleset.specs.Tables.{entries}
+use Rattle.npf_ruleset.proofs.PairLemmas.{AreRelated, drop_here, related_behind, related_front, related_len, related_of}
+use Rattle.npf_ruleset.proofs.PlaceLemmas.{first_from, last_from}
+
+-- the exact tests of the binding and the program decide, since the row holds where the rule describes
+combined : (d1 o1 d2 o2 bound row described : Bool) (value : ℕ)
+    → bound ≡ (d1 && o1 && d2 && o2) → (described ≡ true → row ≡ true) → value ≡ (if described then 4294967295 else 0)
+    → (bound && row && value == 4294967295) ≡ (d1 && o1 && (d2 && o2 && described))
+combined d1 o1 d2 o2 bound row true value is holds gives = rw is (rw (holds refl) (rw gives (bools d1 o1 d2 o2)))
+  where
+  bools : (a b c d : Bool) → ((a && b && c && d) && true && true) ≡ (a && b && (c && d && true))
+  bools true true true true = refl
+  bools true true true false = refl
+  bools true true false d = refl
+  bools true false c d = refl
+  bools false b c d = refl
+combined d1 o1 d2 o2 bound row false value is holds gives = rw is (rw gives (bools d1 o1 d2 o2 row))
+  where
+  bools : (a b c d r : Bool) → ((a && b && c && d) && r && false) ≡ (a && b && (c && d && false))
+  bools true true true true true = refl
+  bools true true true true false = refl
+  bools true true true false r = refl
+  bools true true false d r = refl
+  bools true false c d r = refl
+  bools false b c d r = refl
+
+module _ (packet : Packet) (bytes : AreBytes packet.ip.now) (seen : IsPacketOf packet.ip.now packet.facts.now) where
+  told : IsSeen packet.ip.now (coprocessor packet) (entries packet.tables.now) packet.facts.now
+  told = record {
+    bytes = bytes;
+    packet = seen;
+    told = record { header = refl; source = λ table. refl; destination = λ table. refl };
+  }
+
+  module _ (groups : List Group) where
+    matches_alike : (placed : PlacedRule) (flat : FlatRule) → IsFlatRule groups placed flat
+        → flat_matches packet flat ≡ matches (entries packet.tables.now) packet.facts.now packet.ifid packet.dir placed
+    matches_alike placed flat is =
+        combined (fits_dir placed.within_dir packet.dir) (fits_on placed.within_on packet.ifid) (fits_dir placed.rule.dir packet.dir) (fits_on placed.rule.on packet.ifid)
+        (is_bound flat.binding packet.ifid packet.dir) (meets_row flat.row packet.facts.now) (describes_packet placed.rule (entries packet.tables.now) packet.facts.now) (program_value flat.program packet.ip.now (coprocessor packet))
+        (is.binding packet.ifid packet.dir) (is.row (entries packet.tables.now) packet.facts.now) (is.program packet.ip.now (coprocessor packet) (entries packet.tables.now) packet.facts.now told)
+
+    decides_alike : (placed : PlacedRule) (flat : FlatRule) → IsFlatRule groups placed flat
+        → flat_decides packet flat ≡ decides (entries packet.tables.now) packet.facts.now packet.ifid packet.dir placed
+    decides_alike placed flat is = rw is.last (ap (λ b. placed.rule.last && b) (matches_alike placed flat is))
+
+    -- tests that agree on related elements find the same places
+    module _ (test : FlatRule → Bool) (asked : PlacedRule → Bool) (alike : (placed : PlacedRule) (flat : FlatRule) → IsFlatRule groups placed flat → test flat ≡ asked placed) where
+      first_alike : (n : ℕ) (placed : List PlacedRule) (flats : List FlatRule) → AreRelated (IsFlatRule groups) placed flats → first_where test n flats ≡ first_where asked n placed
+      first_alike n [] [] all = refl
+      first_alike n (p ∷ ps) (f ∷ fs) all = rw (alike p f all.0) (ap (λ o. if asked p then Some n else o) (first_alike (n + 1) ps fs all.1))
+      first_alike n [] (f ∷ fs) all = absurd all
+      first_alike n (p ∷ ps) [] all = absurd all
+
+      last_alike : (n : ℕ) (placed : List PlacedRule) (flats : List FlatRule) → AreRelated (IsFlatRule groups) placed flats → last_where test n flats ≡ last_where asked n placed
+      last_alike n [] [] all = refl
+      last_alike n (p ∷ ps) (f ∷ fs) all = rw (alike p f all.0) (ap (λ o. option_or o (if asked p then Some n else None)) (last_alike (n + 1) ps fs all.1))
+      last_alike n [] (f ∷ fs) all = absurd all
+      last_alike n (p ∷ ps) [] all = absurd all
+
+    -- a group's answer on its flat rules, counted from where the group begins
+    pub answer_alike : (n : ℕ) (placed : List PlacedRule) (flats : List FlatRule) → AreRelated (IsFlatRule groups) placed flats
+        → group_answer (entries packet.tables.now) packet.facts.now packet.ifid packet.dir n placed ≡ option_map (λ k. n + k) (flat_answer packet flats)
+    answer_alike n placed flats all =
+        let D = decides (entries packet.tables.now) packet.facts.now packet.ifid packet.dir in
+        let M = matches (entries packet.tables.now) packet.facts.now packet.ifid packet.dir in
+        let zero_behind : n + 0 ≡ n = omega arith in
+        let first : first_where D n placed ≡ option_map (λ k. n + k) (first_where (flat_decides packet) 0 flats) =
+          sym (ap (λ k. first_where D k placed) zero_behind) ∙ first_from D n 0 placed ∙ sym (ap (option_map (λ k. n + k)) (first_alike (flat_decides packet) D decides_alike 0 placed flats all)) in
+        let last : last_where M n placed ≡ option_map (λ k. n + k) (last_where (flat_matches packet) 0 flats) =
+          sym (ap (λ k. last_where M k placed) zero_behind) ∙ last_from M n 0 placed ∙ sym (ap (option_map (λ k. n + k)) (last_alike (flat_matches packet) M matches_alike 0 placed flats all)) in
+        rw first (rw last (either n (first_where (flat_decides packet) 0 flats) (last_where (flat_matches packet) 0 flats)))
+      where
+      either : (n : ℕ) (o q : Option ℕ) → option_or (option_map (λ k. n + k) o) (option_map (λ k. n + k) q) ≡ option_map (λ k. n + k) (option_or o q)
+      either n None q = refl
+      either n (Some k) q = refl
+
+-- without a match that is `final` the last match is the last of those that aren't
+pub last_of_others : (packet : Packet) (n m : ℕ) (flats : List FlatRule) → first_where (flat_decides packet) n flats ≡ None
+    → last_where (is_other packet) m flats ≡ last_where (flat_matches packet) m flats
+last_of_others packet n m [] none = refl
+last_of_others packet n m (f ∷ fs) none =
+    let fails = front_fails (flat_decides packet f) none in
+    rw (other (f.last) (flat_matches packet f) fails.0) (ap (λ o. option_or o (if flat_matches packet f then Some m else None)) (last_of_others packet (n + 1) (m + 1) fs fails.1))
+  where
+  front_fails : (b : Bool) → (if b then Some n else first_where (flat_decides packet) (n + 1) fs) ≡ None → (b ≡ false) × (first_where (flat_decides packet) (n + 1) fs ≡ None)
+  front_fails true is = absurd (none-some n (sym is))
+  front_fails false is = (refl, is)
+  other : (last met : Bool) → (last && met) ≡ false → (not last && met) ≡ met
+  other true true is = sym is
+  other true false is = refl
+  other false met is = refl
+
+-- what is left of a walk: the groups from a place on, and their rules
+pub record Remains (config : Config) (packet : Packet) (first index : ℕ) (rules : List FlatRule) : Type 0 where
+  pub verdict_is : verdict_of (configuration config) packet.facts.now packet.ifid packet.dir
+      ≡ verdict (entries packet.tables.now) packet.facts.now packet.ifid packet.dir first (drop index config.model.groups)
+  pub related : AreRelated (IsFlatRule config.model.groups) (all_rules (drop index config.model.groups)) rules
+  pub room : first + length rules ≡ length config.rules.items
+
+module _ (config : Config) (packet : Packet) where
+  pub begins : packet.tables.now ≡ config.tables.items → Remains config packet 0 0 config.rules.items
+  begins same = record {
+    verdict_is = ap (λ tables. verdict (entries tables) packet.facts.now packet.ifid packet.dir 0 config.model.groups) (sym same);
+    related = related_of (IsFlatRule config.model.groups) (all_rules config.model.groups) config.rules.items config.flat.for_rules;
+    room = (let whole : 0 + length config.rules.items ≡ length config.rules.items = omega arith in whole);
+  }
+
+  pub ends : (first index : ℕ) (rules : List FlatRule) → Remains config packet first index rules → length config.groups.items ≤ index
+      → None ≡ verdict_of (configuration config) packet.facts.now packet.ifid packet.dir
+  ends first index rules left past =
+      let none : drop index config.model.groups ≡ [] = drop_of_length-le config.model.groups (let e = config.flat.for_groups.len in omega arith) in
+      sym (left.verdict_is ∙ ap (verdict (entries packet.tables.now) packet.facts.now packet.ifid packet.dir first) none)
+
+  module _ (first index : ℕ) (rules : List FlatRule) (left : Remains config packet first index rules) (flat : FlatGroup)
+      (is : slice_get config.groups.items index ≡ Some flat) where
+    -- the group there, which is the first of those that are left
+    here : (group : Group) × (drop index config.model.groups ≡ group ∷ drop (suc index) config.model.groups) × (slice_get config.model.groups index ≡ Some group)
+    here = drop_here config.model.groups index (let within = slice_get_within config.groups.items index flat is in let e = config.flat.for_groups.len in omega arith)
+
+    stands : IsFlatGroup here.0 flat
+    stands = config.flat.for_groups.each index here.0 flat here.2 is
+
+    parts : AreRelated (IsFlatRule config.model.groups) (rules_of here.0 ++ all_rules (drop (suc index) config.model.groups)) rules
+    parts = subst (λ groups. AreRelated (IsFlatRule config.model.groups) (all_rules groups) rules) here.1 left.related
+
+    pub count_fits : flat.count ≤ length rules
+    count_fits =
+        let len = related_len (IsFlatRule config.model.groups) (rules_of here.0 ++ all_rules (drop (suc index) config.model.groups)) rules parts in
+        let sum = length-append (rules_of here.0) (all_rules (drop (suc index) config.model.groups)) in
+        let count = stands.count in omega arith
+
+    inside : AreRelated (IsFlatRule config.model.groups) (rules_of here.0) (take flat.count rules)
+    inside = subst (λ k. AreRelated (IsFlatRule config.model.groups) (rules_of here.0) (take k rules)) (sym stands.count)
+        (related_front (IsFlatRule config.model.groups) (rules_of here.0) (all_rules (drop (suc index) config.model.groups)) rules parts)
+
+    behind : AreRelated (IsFlatRule config.model.groups) (all_rules (drop (suc index) config.model.groups)) (drop flat.count rules)
+    behind = subst (λ k. AreRelated (IsFlatRule config.model.groups) (all_rules (drop (suc index) config.model.groups)) (drop k rules)) (sym stands.count)
+        (related_behind (IsFlatRule config.model.groups) (rules_of here.0) (all_rules (drop (suc index) config.model.groups)) rules parts)
+
+    module _ (bytes : AreBytes packet.ip.now) (seen : IsPacketOf packet.ip.now packet.facts.now) where
+      -- the group's answer, or else that of those behind it
+      divided : verdict_of (configuration config) packet.facts.now packet.ifid packet.dir
+          ≡ option_or (option_map (λ k. first + k) (answer_in packet flat (take flat.count rules)))
+            (verdict (entries packet.tables.now) packet.facts.now packet.ifid packet.dir (first + flat.count) (drop (suc index) config.model.groups))
+      divided =
+          left.verdict_is
+          ∙ ap (verdict (entries packet.tables.now) packet.facts.now packet.ifid packet.dir first) here.1
+          ∙ rw (sym (stands.binding packet.ifid packet.dir)) (rw (sym stands.count) (
+            ap (λ o. option_or o (verdict (entries packet.tables.now) packet.facts.now packet.ifid packet.dir (first + flat.count) (drop (suc index) config.model.groups)))
+            (applied (is_bound flat.binding packet.ifid packet.dir) (group_answer (entries packet.tables.now) packet.facts.now packet.ifid packet.dir first (rules_of here.0)) (flat_answer packet (take flat.count rules)) (answer_alike packet bytes seen config.model.groups first (rules_of here.0) (take flat.count rules) inside))))
+        where
+        applied : (b : Bool) (o q : Option ℕ) → o ≡ option_map (λ k. first + k) q → (if b then o else None) ≡ option_map (λ k. first + k) (if b then q else None)
+        applied true o q same = same
+        applied false o q same = refl
+
+      pub decided : (at : ℕ) → Some at ≡ answer_in packet flat (take flat.count rules) → Some (first + at) ≡ verdict_of (configuration config) packet.facts.now packet.ifid packet.dir
+      decided at answer = sym (divided ∙ sym (ap (λ o. option_or (option_map (λ k. first + k) o) (verdict (entries packet.tables.now) packet.facts.now packet.ifid packet.dir (first + flat.count) (drop (suc index) config.model.groups))) answer))
+
+      pub goes_on : None ≡ answer_in packet flat (take flat.count rules) → Remains config packet (first + flat.count) (index + 1) (drop flat.count rules)
+      goes_on answer =
+          let next : suc index ≡ index + 1 = omega arith in
+          let fits = count_fits in
+          let len = length-drop flat.count rules in
+          let room = left.room in
+          subst (λ k. Remains config packet (first + flat.count) k (drop flat.count rules)) next (record {
+            verdict_is = divided ∙ sym (ap (λ o. option_or (option_map (λ k. first + k) o) (verdict (entries packet.tables.now) packet.facts.now packet.ifid packet.dir (first + flat.count) (drop (suc index) config.model.groups))) answer);
+            related = behind;
+            room = omega arith;
+          })
