@@ -1,4 +1,6 @@
+mod BindingLemmas
 mod PairLemmas
 mod PlaceLemmas
 mod TableLemmas
+mod RowLemmas
 mod WalkLemmas

@@ -5,12 +5,11 @@ use Rattle.std.specs.Int.{bit_at}
 use Rattle.npf_types.specs.declared.address.Addr.{Addr}
 use Rattle.npf_types.specs.declared.address.Addr.TheVariants.{V4, V6}
 use Rattle.npf_types.specs.declared.facts.Facts.{Facts}
-use Rattle.npf_types.specs.declared.prefix.Prefix.{Prefix}
-use Rattle.npf_types.specs.Prefix.{has_address}
+use Rattle.npf_types.specs.Address.{shares_first}
 use Rattle.npf_model.specs.declared.ends.AddrItem.{AddrItem}
 use Rattle.npf_model.specs.declared.ends.Ends.{Ends}
 use Rattle.npf_model.specs.declared.rule.Rule.{Rule}
-use Rattle.npf_model.specs.Describes.{Tables, describes_packet, destination_of, fits_addrs, fits_ends, fits_family, fits_ports, fits_protocol, source_of}
+use Rattle.npf_model.specs.Describes.{Tables, describes_packet, destination_of, fits_addrs, fits_ends, fits_family, fits_ports, fits_protocol, in_range, source_of}
 use Rattle.npf_model.specs.MapOf.{fits_side_port}
 use Rattle.npf_ruleset.specs.declared.addr_hull.AddrHull.{AddrHull}
 use Rattle.npf_ruleset.specs.declared.protocol_set.ProtocolSet.{ProtocolSet}
@@ -65,6 +64,9 @@ IsHullOfPorts ports hull = (port : Option ℕ) → fits_ports ports port ≡ tru
 abbrev pub IsWithin : AddrHull → AddrHull → Type 0
 IsWithin inner outer = (addr : Addr) → in_hull (Some inner) addr ≡ true → in_hull (Some outer) addr ≡ true
 
--- the addresses of a block lie in the hull
-abbrev pub IsHullOfBlock : Prefix → AddrHull → Type 0
-IsHullOfBlock prefix hull = (addr : Addr) → has_address prefix addr ≡ true → in_hull (Some hull) addr ≡ true
+-- the addresses with these first bits lie in the hull
+abbrev pub IsHullOfBits : ℕ → Addr → AddrHull → Type 0
+IsHullOfBits len first hull = (addr : Addr) → shares_first len first addr ≡ true → in_hull (Some hull) addr ≡ true
+
+abbrev pub IsWithinRange : ℕ × ℕ → ℕ × ℕ → Type 0
+IsWithinRange inner outer = (port : ℕ) → in_range port inner ≡ true → in_range port outer ≡ true

@@ -1,6 +1,8 @@
 // The hull of a list of addresses.
 ghost use Rattle.std.specs.Prelude.{◌≡◌, ◌≤◌, ◌-◌, ◌^◌, Some};
-ghost use Rattle.npf_ruleset.specs.Row.{IsHullOfAddrs, IsHullOfBlock, IsWithin, in_hull};
+ghost use Rattle.npf_types.specs.Address.{kept_bits};
+ghost use Rattle.npf_ruleset.specs.Row.{IsHullOfAddrs, IsHullOfBits, IsWithin, in_hull};
+ghost use Rattle.npf_types.specs.declared.address.Addr.TheVariants.{V6};
 
 use npf_model::AddrItem;
 use npf_types::{Addr, List, Prefix};
@@ -50,17 +52,25 @@ fn joined(one: AddrHull, other: AddrHull) -> AddrHull
 }
 
 fn block_hull(prefix: &Prefix) -> AddrHull
-    ensures { IsHullOfBlock prefix.now result }
+    ensures { IsHullOfBits prefix.now.len prefix.now.addr result }
 {
     match prefix.addr {
         Addr::V4(first) => AddrHull {
             first: u128::from(first),
             last: u128::from(first) + ((1 << (32 - prefix.len)) - 1),
         },
-        Addr::V6(first) => AddrHull {
-            first,
-            last: first.saturating_add(host_bits(prefix.len)),
-        },
+        Addr::V6(first) => block_hull_v6(first, prefix.len),
+    }
+}
+
+fn block_hull_v6(first: u128, len: u8) -> AddrHull
+    requires short { len ≤ 128 }
+    requires zeroed { first ≡ kept_bits 128 len first }
+    ensures { IsHullOfBits len (V6 first) result }
+{
+    AddrHull {
+        first,
+        last: first.saturating_add(host_bits(len)),
     }
 }
 

@@ -1,5 +1,5 @@
 // What a rule or a group is bound to by direction and interface.
-ghost use Rattle.std.specs.Prelude.{◌≡◌};
+ghost use Rattle.std.specs.Prelude.{◌≡◌, ◌&&◌};
 ghost use Rattle.npf_model.specs.Place.{fits_dir};
 ghost use Rattle.npf_ruleset.specs.Binding.{IsBindingOf, IsBoundTo, bound_id, fits_id, is_bound};
 ghost use Rattle.npf_ruleset.specs.Place.{placed_rule};
@@ -24,8 +24,8 @@ impl Binding {
     {
         let own = placed.rule.dir;
         Binding {
-            incoming: fits_dir(placed.within_dir, Dir::In) && fits_dir(own, Dir::In),
-            outgoing: fits_dir(placed.within_dir, Dir::Out) && fits_dir(own, Dir::Out),
+            incoming: fit_dir(placed.within_dir, own, Dir::In),
+            outgoing: fit_dir(placed.within_dir, own, Dir::Out),
             within: id_of(placed.within_on),
             on: id_of(placed.rule.on),
         }
@@ -61,6 +61,12 @@ fn fits_dir(asked: Option<Dir>, dir: Dir) -> bool
         Some(asked) => asked == dir,
         None => true,
     }
+}
+
+fn fit_dir(one: Option<Dir>, other: Option<Dir>, dir: Dir) -> bool
+    ensures { result ≡ (fits_dir one dir && fits_dir other dir) }
+{
+    fits_dir(one, dir) && fits_dir(other, dir)
 }
 
 fn id_of(on: Option<OnIf>) -> Option<IfId>

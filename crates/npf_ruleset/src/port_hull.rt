@@ -1,6 +1,6 @@
 // The hull of a list of ranges of ports.
 ghost use Rattle.std.specs.Prelude.{Some};
-ghost use Rattle.npf_ruleset.specs.Row.{IsHullOfPorts};
+ghost use Rattle.npf_ruleset.specs.Row.{IsHullOfPorts, IsWithinRange};
 
 use npf_types::List;
 
@@ -19,7 +19,14 @@ fn ranges_hull(ranges: &[(u16, u16)]) -> (u16, u16)
 {
     let mut hull = (u16::MAX, 0);
     for range in ranges {
-        hull = (hull.0.min(range.0), hull.1.max(range.1));
+        hull = joined(hull, *range);
     }
     hull
+}
+
+fn joined(one: (u16, u16), other: (u16, u16)) -> (u16, u16)
+    ensures one { IsWithinRange one result }
+    ensures other { IsWithinRange other result }
+{
+    (one.0.min(other.0), one.1.max(other.1))
 }

@@ -1,5 +1,5 @@
 // Protocols as a set of bits.
-ghost use Rattle.std.specs.Prelude.{◌≡◌};
+ghost use Rattle.std.specs.Prelude.{◌≡◌, ℕ, true};
 ghost use Rattle.npf_ruleset.specs.Row.{HasProtocols, has_protocol};
 
 /// A set of protocols by their numbers modulo 64, so that it may have more than were put in.
@@ -13,14 +13,23 @@ impl ProtocolSet {
     pub(crate) fn of(protos: &[u8]) -> ProtocolSet
         ensures { HasProtocols protos.now result }
     {
-        let mut bits = 0;
-        for proto in protos {
-            bits |= 1 << (proto % 64);
-        }
         if protos.is_empty() {
-            bits = u64::MAX;
+            return ProtocolSet { bits: u64::MAX };
         }
-        ProtocolSet { bits }
+        let mut set = ProtocolSet { bits: 0 };
+        for proto in protos {
+            set = set.with(*proto);
+        }
+        set
+    }
+
+    fn with(self, proto: u8) -> ProtocolSet
+        ensures added { has_protocol result proto ≡ true }
+        ensures kept { (other : ℕ) → has_protocol self other ≡ true → has_protocol result other ≡ true }
+    {
+        ProtocolSet {
+            bits: self.bits | 1 << (proto % 64),
+        }
     }
 
     pub(crate) fn has(&self, proto: u8) -> bool
