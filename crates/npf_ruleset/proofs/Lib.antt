@@ -1,4 +1,6 @@
 mod BindingLemmas
+mod ConfigLemmas
+mod DescribesLemmas
 mod PairLemmas
 mod PlaceLemmas
 mod TableLemmas

@@ -36,7 +36,13 @@ pub(crate) fn fits_family(v6: Option<bool>, addr: Addr) -> bool
 fn fits_protocol(protos: &[u8], proto: u8) -> bool
     ensures { result ≡ fits_protocol protos.now proto }
 {
-    protos.is_empty() || protos.iter().any(|listed| *listed == proto)
+    protos.is_empty() || lists_protocol(protos, proto)
+}
+
+fn lists_protocol(protos: &[u8], proto: u8) -> bool
+    ensures { result ≡ list_any (λ listed. listed == proto) protos.now }
+{
+    protos.iter().any(|listed| *listed == proto)
 }
 
 fn fits_flags(flags: Option<(u8, u8)>, decision: Decision, state: StateOpt, l4: &L4) -> bool

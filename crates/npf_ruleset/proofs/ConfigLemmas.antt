@@ -1,0 +1,32 @@
+-- What a flat rule of a configuration says of the rule at its place.
+use Rattle.std.proofs.Common.{◌≡◌, ◌<◌, ℕ, List, Option, Some, length, get_or, slice_get, unwrap_or, refl, sym, subst, ap, ◌∙◌, arith}
+use Rattle.std.specs.Option.{option_map}
+use Rattle.std.proofs.lemmas.Option.{slice_get_read, slice_get_within}
+use Rattle.npf_model.specs.declared.rule.Rule.{Rule}
+use Rattle.npf_model.specs.Verdict.{PlacedRule, all_rules}
+use Rattle.npf_bpfgen.specs.Program.{IsProgramOf}
+use Rattle.npf_ruleset.specs.declared.config.Config.{Config}
+use Rattle.npf_ruleset.specs.declared.flat.FlatRule.{FlatRule}
+use Rattle.npf_ruleset.specs.Flat.{IsFlatRule}
+use Rattle.npf_ruleset.specs.Place.{IsPlaced, placed_at}
+use Rattle.npf_ruleset.specs.RuleAt.{IsProgramAt, rule_at}
+use Rattle.npf_ruleset.proofs.PairLemmas.{drop_here}
+
+module _ (config : Config) (i : ℕ) (flat : FlatRule) (within : i < length (all_rules config.model.groups)) (is : flat ≡ get_or config.rules.items i flat) where
+  there : (placed : PlacedRule) × (slice_get (all_rules config.model.groups) i ≡ Some placed)
+  there = let found = drop_here (all_rules config.model.groups) i within in (found.0, found.2)
+
+  stands : IsFlatRule config.model.groups there.0 flat
+  stands =
+      let len = config.flat.for_rules.len in
+      config.flat.for_rules.each i there.0 flat there.1 (slice_get_read config.rules.items (length config.rules.items) i flat refl (omega arith) is)
+
+  pub has_program : IsProgramAt config.model i flat.program
+  has_program = λ rule at.
+      subst (λ r. IsProgramOf r flat.program) (ap (λ o. unwrap_or o there.0.rule) (sym (ap (option_map (λ placed. placed.rule)) there.1) ∙ at)) stands.program
+
+  pub is_placed : IsPlaced config.model.groups flat.place
+  is_placed = slice_get_within _ flat.place.number there.0 stands.place
+
+  pub has_rule : (placed : PlacedRule) → placed_at config.model.groups flat.place ≡ Some placed → rule_at config.model i ≡ Some placed.rule
+  has_rule placed at = ap (option_map (λ p. p.rule)) (there.1 ∙ sym stands.place ∙ at)
