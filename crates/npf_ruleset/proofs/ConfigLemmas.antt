@@ -1,5 +1,6 @@
 -- What a flat rule of a configuration says of the rule at its place.
-use Rattle.std.proofs.Common.{◌≡◌, ◌<◌, ℕ, List, Option, Some, length, get_or, slice_get, unwrap_or, refl, sym, subst, ap, ◌∙◌, arith}
+use Rattle.std.proofs.Common.{◌≡◌, ◌<◌, ℕ, List, Option, Some, length, get_or, slice_get, refl, sym, subst, ap, ◌∙◌, arith}
+use Rattle.std.specs.Prelude.{unwrap_or}
 use Rattle.std.specs.Option.{option_map}
 use Rattle.std.proofs.lemmas.Option.{slice_get_read, slice_get_within}
 use Rattle.npf_model.specs.declared.rule.Rule.{Rule}

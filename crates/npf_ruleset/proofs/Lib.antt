@@ -1,6 +1,8 @@
 mod BindingLemmas
+mod BuildLemmas
 mod ConfigLemmas
 mod DescribesLemmas
+mod LayoutLemmas
 mod PairLemmas
 mod PlaceLemmas
 mod TableLemmas
