@@ -13,14 +13,14 @@ use Rattle.npf_ruleset.specs.Place.{IsPlaced, placed_at}
 use Rattle.npf_ruleset.specs.RuleAt.{IsProgramAt, rule_at}
 use Rattle.npf_ruleset.proofs.PairLemmas.{drop_here}
 
-module _ (config : Config) (i : ℕ) (flat : FlatRule) (within : i < length (all_rules config.model.groups)) (is : flat ≡ get_or config.rules.items i flat) where
+module _ (config : Config) (i : ℕ) (flat : FlatRule) (within : i < length (all_rules config.model.groups)) (is : flat ≡ get_or config.rules i flat) where
   there : (placed : PlacedRule) × (slice_get (all_rules config.model.groups) i ≡ Some placed)
   there = let found = drop_here (all_rules config.model.groups) i within in (found.0, found.2)
 
   stands : IsFlatRule config.model.groups there.0 flat
   stands =
       let len = config.flat.for_rules.len in
-      config.flat.for_rules.each i there.0 flat there.1 (slice_get_read config.rules.items (length config.rules.items) i flat refl (omega arith) is)
+      config.flat.for_rules.each i there.0 flat there.1 (slice_get_read config.rules (length config.rules) i flat refl (omega arith) is)
 
   pub has_program : IsProgramAt config.model i flat.program
   has_program = λ rule at.

@@ -25,6 +25,7 @@ use Rattle.npf_ruleset.specs.Flat.{IsFlatGroup, IsFlatRule}
 use Rattle.npf_ruleset.specs.Packet.{answer_in, coprocessor, flat_answer, flat_decides, flat_matches, is_other}
 use Rattle.npf_ruleset.specs.Row.{meets_row}
 use Rattle.npf_ruleset.specs.Tables.{entries}
+use Rattle.npf_ruleset.proofs.BindingLemmas.{bound_group, bound_rule}
 use Rattle.npf_ruleset.proofs.PairLemmas.{AreRelated, drop_here, related_behind, related_front, related_len, related_of}
 use Rattle.npf_ruleset.proofs.PlaceLemmas.{first_from, last_from}
 
@@ -64,7 +65,7 @@ module _ (packet : Packet) (bytes : AreBytes packet.ip.now) (seen : IsPacketOf p
     matches_alike placed flat is =
         combined (fits_dir placed.within_dir packet.dir) (fits_on placed.within_on packet.ifid) (fits_dir placed.rule.dir packet.dir) (fits_on placed.rule.on packet.ifid)
         (is_bound flat.binding packet.ifid packet.dir) (meets_row flat.row packet.facts.now) (describes_packet placed.rule (entries packet.tables.now) packet.facts.now) (program_value flat.program packet.ip.now (coprocessor packet))
-        (is.binding packet.ifid packet.dir) (is.row (entries packet.tables.now) packet.facts.now) (is.program packet.ip.now (coprocessor packet) (entries packet.tables.now) packet.facts.now told)
+        (bound_rule placed flat.binding is.binding packet.ifid packet.dir) (is.row (entries packet.tables.now) packet.facts.now) (is.program packet.ip.now (coprocessor packet) (entries packet.tables.now) packet.facts.now told)
 
     decides_alike : (placed : PlacedRule) (flat : FlatRule) → IsFlatRule groups placed flat
         → flat_decides packet flat ≡ decides (entries packet.tables.now) packet.facts.now packet.ifid packet.dir placed
@@ -122,27 +123,27 @@ pub record Remains (config : Config) (packet : Packet) (first index : ℕ) (rule
   pub verdict_is : verdict_of (configuration config) packet.facts.now packet.ifid packet.dir
       ≡ verdict (entries packet.tables.now) packet.facts.now packet.ifid packet.dir first (drop index config.model.groups)
   pub related : AreRelated (IsFlatRule config.model.groups) (all_rules (drop index config.model.groups)) rules
-  pub room : first + length rules ≡ length config.rules.items
+  pub room : first + length rules ≡ length config.rules
 
 module _ (config : Config) (packet : Packet) where
-  pub begins : packet.tables.now ≡ config.tables.items → Remains config packet 0 0 config.rules.items
+  pub begins : packet.tables.now ≡ config.tables.items → Remains config packet 0 0 config.rules
   begins same = record {
     verdict_is = ap (λ tables. verdict (entries tables) packet.facts.now packet.ifid packet.dir 0 config.model.groups) (sym same);
-    related = related_of (IsFlatRule config.model.groups) (all_rules config.model.groups) config.rules.items config.flat.for_rules;
-    room = (let whole : 0 + length config.rules.items ≡ length config.rules.items = omega arith in whole);
+    related = related_of (IsFlatRule config.model.groups) (all_rules config.model.groups) config.rules config.flat.for_rules;
+    room = (let whole : 0 + length config.rules ≡ length config.rules = omega arith in whole);
   }
 
-  pub ends : (first index : ℕ) (rules : List FlatRule) → Remains config packet first index rules → length config.groups.items ≤ index
+  pub ends : (first index : ℕ) (rules : List FlatRule) → Remains config packet first index rules → length config.groups ≤ index
       → None ≡ verdict_of (configuration config) packet.facts.now packet.ifid packet.dir
   ends first index rules left past =
       let none : drop index config.model.groups ≡ [] = drop_of_length-le config.model.groups (let e = config.flat.for_groups.len in omega arith) in
       sym (left.verdict_is ∙ ap (verdict (entries packet.tables.now) packet.facts.now packet.ifid packet.dir first) none)
 
   module _ (first index : ℕ) (rules : List FlatRule) (left : Remains config packet first index rules) (flat : FlatGroup)
-      (is : slice_get config.groups.items index ≡ Some flat) where
+      (is : slice_get config.groups index ≡ Some flat) where
     -- the group there, which is the first of those that are left
     here : (group : Group) × (drop index config.model.groups ≡ group ∷ drop (suc index) config.model.groups) × (slice_get config.model.groups index ≡ Some group)
-    here = drop_here config.model.groups index (let within = slice_get_within config.groups.items index flat is in let e = config.flat.for_groups.len in omega arith)
+    here = drop_here config.model.groups index (let within = slice_get_within config.groups index flat is in let e = config.flat.for_groups.len in omega arith)
 
     stands : IsFlatGroup here.0 flat
     stands = config.flat.for_groups.each index here.0 flat here.2 is
@@ -172,7 +173,7 @@ module _ (config : Config) (packet : Packet) where
       divided =
           left.verdict_is
           ∙ ap (verdict (entries packet.tables.now) packet.facts.now packet.ifid packet.dir first) here.1
-          ∙ rw (sym (stands.binding packet.ifid packet.dir)) (rw (sym stands.count) (
+          ∙ rw (sym (bound_group here.0.dir here.0.on flat.binding stands.binding packet.ifid packet.dir)) (rw (sym stands.count) (
             ap (λ o. option_or o (verdict (entries packet.tables.now) packet.facts.now packet.ifid packet.dir (first + flat.count) (drop (suc index) config.model.groups)))
             (applied (is_bound flat.binding packet.ifid packet.dir) (group_answer (entries packet.tables.now) packet.facts.now packet.ifid packet.dir first (rules_of here.0)) (flat_answer packet (take flat.count rules)) (answer_alike packet bytes seen config.model.groups first (rules_of here.0) (take flat.count rules) inside))))
         where

@@ -11,4 +11,4 @@ configuration config = record { model = config.model; tables = entries config.ta
 
 -- the program of each rule, in the order of inspection
 abbrev pub programs : Config → List (List Insn)
-programs config = programs_of config.rules.items
+programs config = programs_of config.rules

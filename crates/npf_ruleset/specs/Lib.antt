@@ -2,6 +2,7 @@ pub mod Binding
 pub mod Configuration
 pub mod Flat
 pub mod Layout
+pub mod Numbered
 pub mod Packet
 pub mod Place
 pub mod Refusal

@@ -1,7 +1,7 @@
 // What a rule or a group is bound to by direction and interface.
 ghost use Rattle.std.specs.Prelude.{◌≡◌, ◌&&◌};
-ghost use Rattle.npf_model.specs.Place.{fits_dir};
-ghost use Rattle.npf_ruleset.specs.Binding.{IsBindingOf, IsBoundTo, bound_id, fits_id, is_bound};
+ghost use Rattle.npf_model.specs.Place.{fits_dir, fits_on};
+ghost use Rattle.npf_ruleset.specs.Binding.{IsBindingOf, IsBoundTo, is_bound};
 ghost use Rattle.npf_ruleset.specs.Place.{placed_rule};
 
 use crate::place::Placed;
@@ -12,10 +12,10 @@ use npf_types::{Dir, IfId};
 /// that of the ruleset.
 #[derive(Clone, Copy, Drop)]
 pub(crate) struct Binding {
-    incoming: bool,
-    outgoing: bool,
-    within: Option<IfId>,
-    on: Option<IfId>,
+    pub(crate) incoming: bool,
+    pub(crate) outgoing: bool,
+    pub(crate) within: Option<OnIf>,
+    pub(crate) on: Option<OnIf>,
 }
 
 impl Binding {
@@ -26,8 +26,8 @@ impl Binding {
         Binding {
             incoming: fit_dir(placed.within_dir, own, Dir::In),
             outgoing: fit_dir(placed.within_dir, own, Dir::Out),
-            within: id_of(placed.within_on),
-            on: id_of(placed.rule.on),
+            within: placed.within_on,
+            on: placed.rule.on,
         }
     }
 
@@ -38,7 +38,7 @@ impl Binding {
             incoming: fits_dir(group.dir, Dir::In),
             outgoing: fits_dir(group.dir, Dir::Out),
             within: None,
-            on: id_of(group.on),
+            on: group.on,
         }
     }
 
@@ -50,7 +50,7 @@ impl Binding {
             Dir::In => self.incoming,
             Dir::Out => self.outgoing,
         };
-        way && fits_id(self.within, ifid) && fits_id(self.on, ifid)
+        way && fits_on(self.within, ifid) && fits_on(self.on, ifid)
     }
 }
 
@@ -69,21 +69,12 @@ fn fit_dir(one: Option<Dir>, other: Option<Dir>, dir: Dir) -> bool
     fits_dir(one, dir) && fits_dir(other, dir)
 }
 
-fn id_of(on: Option<OnIf>) -> Option<IfId>
-    ensures { result ≡ bound_id on }
-{
-    match on {
-        Some(on) => Some(on.id),
-        None => None,
-    }
-}
-
-// A number of 0 is no interface of the run, and no packet's.
-fn fits_id(asked: Option<IfId>, ifid: IfId) -> bool
-    ensures { result ≡ fits_id asked ifid }
+// An interface that the run doesn't know, whose number is 0, is no packet's.
+fn fits_on(asked: Option<OnIf>, ifid: IfId) -> bool
+    ensures { result ≡ fits_on asked ifid }
 {
     match asked {
-        Some(id) => id == ifid && id != IfId(0),
+        Some(on) => on.id == ifid && on.id != IfId(0),
         None => true,
     }
 }

@@ -10,6 +10,7 @@ use crate::flat::FlatRule;
 use crate::layout::Layout;
 use npf_model::Model;
 use npf_table::Table;
+use npf_types::List;
 use npf_types::limits::MAX_INSTRUCTIONS;
 use std::alloc::Global;
 use std::sync::Arc;
@@ -34,8 +35,8 @@ pub fn build(alloc: Global, model: Model, tables: Vec<Arc<Table>>) -> Result<Con
     Ok(Config {
         model,
         tables,
-        groups: layout.groups,
-        rules: layout.rules,
+        groups: List::of_vec(layout.groups),
+        rules: List::of_vec(layout.rules),
     })
 }
 

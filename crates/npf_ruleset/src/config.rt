@@ -7,6 +7,7 @@ use crate::place::placed_at;
 use npf_bpf::Program;
 use npf_model::{Map, Model, Rule};
 use npf_table::Table;
+use npf_types::List;
 use std::sync::Arc;
 
 /// A model laid out flat, with its tables.
@@ -14,10 +15,10 @@ use std::sync::Arc;
 pub struct Config {
     pub(crate) model: Model,
     pub(crate) tables: Vec<Arc<Table>>,
-    pub(crate) groups: Vec<FlatGroup>,
-    pub(crate) rules: Vec<FlatRule>,
-    ghost flat: { IsFlat model.groups groups.items rules.items },
-    ghost few_rules: { length rules.items ≤ 4096 },
+    pub(crate) groups: List<FlatGroup>,
+    pub(crate) rules: List<FlatRule>,
+    ghost flat: { IsFlat model.groups groups rules },
+    ghost few_rules: { length rules ≤ 4096 },
     ghost few_maps: { length model.maps ≤ 256 },
 }
 
@@ -32,7 +33,7 @@ impl Config {
         requires { i < length (all_rules self.now.model.groups) }
         ensures { rule_at self.now.model i ≡ Some result.now }
     {
-        placed_at(self.model.groups.as_slice(), self.rules[i as usize].place).rule
+        placed_at(self.model.groups.as_slice(), self.rules.as_slice()[i as usize].place).rule
     }
 
     /// The map at a place, counted from 0, which must be in range.
@@ -49,7 +50,7 @@ impl Config {
         ensures value { slice_get (programs self.now) i ≡ Some result.now }
         ensures describes { IsProgramAt self.now.model i result.now }
     {
-        &self.rules[i as usize].program
+        &self.rules.as_slice()[i as usize].program
     }
 
     /// The model that was laid out, with the interfaces' numbers that were set since.
@@ -67,14 +68,14 @@ impl Config {
     }
 
     pub(crate) fn rules(&self) -> &[FlatRule]
-        ensures { result.now ≡ self.now.rules.items }
+        ensures { result.now ≡ self.now.rules }
     {
-        &self.rules
+        self.rules.as_slice()
     }
 
     pub(crate) fn groups(&self) -> &[FlatGroup]
-        ensures { result.now ≡ self.now.groups.items }
+        ensures { result.now ≡ self.now.groups }
     {
-        &self.groups
+        self.groups.as_slice()
     }
 }

@@ -25,7 +25,7 @@ mod fault;
 mod flat;
 mod layout;
 mod map_choice;
-// mod number;
+mod numbering;
 mod packet;
 mod place;
 mod port_hull;
