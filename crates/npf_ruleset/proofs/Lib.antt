@@ -3,6 +3,8 @@ mod BuildLemmas
 mod ConfigLemmas
 mod DescribesLemmas
 mod LayoutLemmas
+mod NumberLemmas
+mod NumberedLemmas
 mod PairLemmas
 mod PlaceLemmas
 mod TableLemmas

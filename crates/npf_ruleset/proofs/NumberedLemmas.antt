@@ -1,0 +1,120 @@
+-- The flat rules of a configuration whose interfaces' numbers are set anew.
+use Rattle.std.proofs.Common.{◌≡◌, ◌≤◌, ℕ, zero, suc, List, [], ◌∷◌, ◌++◌, Option, Some, None, length, map, flat_map, option_and_then, slice_get, refl, sym, subst, ap, ◌∙◌}
+use Rattle.std.specs.Option.{option_map}
+use Rattle.std.proofs.lemmas.List.{length-map, map-append}
+use Rattle.std.proofs.lemmas.List.Concat.{flat_map-cons}
+use Rattle.std.proofs.lemmas.Option.{slice_get-map}
+use Rattle.npf_types.specs.declared.direction.Dir.{Dir}
+use Rattle.npf_model.specs.declared.group.Group.{Group}
+use Rattle.npf_model.specs.declared.group.Item.{Item}
+use Rattle.npf_model.specs.declared.group.Item.TheVariants.{One, Dynamic}
+use Rattle.npf_model.specs.declared.iface.Iface.{Iface}
+use Rattle.npf_model.specs.declared.rule.OnIf.{OnIf}
+use Rattle.npf_model.specs.declared.rule.Rule.{Rule}
+use Rattle.npf_model.specs.Numbering.{numbered_entry, numbered_group, numbered_item, numbered_on, numbered_rule}
+use Rattle.npf_model.specs.Verdict.{PlacedRule, all_rules, rules_at, rules_of}
+use Rattle.npf_ruleset.specs.declared.flat.FlatGroup.{FlatGroup}
+use Rattle.npf_ruleset.specs.declared.flat.FlatRule.{FlatRule}
+use Rattle.npf_ruleset.specs.declared.place.Place.{Place}
+use Rattle.npf_ruleset.specs.Flat.{IsFlat, IsFlatGroup, IsFlatRule, programs_of}
+use Rattle.npf_ruleset.specs.Numbered.{numbered_flat_group, numbered_flat_rule}
+use Rattle.npf_ruleset.specs.Place.{placed_at, rules_in}
+use Rattle.npf_ruleset.proofs.PairLemmas.{AreRelated, pairs_of, related_of}
+
+module _ (ifaces : List Iface) where
+  numbered_placed : PlacedRule → PlacedRule
+  numbered_placed placed = record { within_dir = placed.within_dir; within_on = option_map (numbered_on ifaces) placed.within_on; rule = numbered_rule ifaces placed.rule }
+
+  in_ruleset : (dir : Option Dir) (on : Option OnIf) (rules : List (ℕ × Rule))
+      → map (λ entry. record { within_dir = dir; within_on = option_map (numbered_on ifaces) on; rule = entry.1 }) (map (numbered_entry ifaces) rules)
+      ≡ map numbered_placed (map (λ entry. record { within_dir = dir; within_on = on; rule = entry.1 }) rules)
+  unfolding numbered_placed
+  in_ruleset dir on [] = refl
+  in_ruleset dir on (entry ∷ rules) =
+      let head : PlacedRule = record { within_dir = dir; within_on = option_map (numbered_on ifaces) on; rule = numbered_rule ifaces entry.1 } in
+      ap (λ rest. head ∷ rest) (in_ruleset dir on rules)
+
+  in_item : (item : Item) → rules_at (numbered_item ifaces item) ≡ map numbered_placed (rules_at item)
+  unfolding numbered_placed
+  in_item (One rule) = refl
+  in_item (Dynamic name dir on next_id rules) = in_ruleset dir on rules
+
+-- what is made of changed elements is what is made of the elements, changed
+spread : {X Y : Type 0} (f : X → List Y) (change : X → X) (changed : Y → Y) → ((x : X) → f (change x) ≡ map changed (f x))
+    → (xs : List X) → flat_map f (map change xs) ≡ map changed (flat_map f xs)
+spread f change changed each [] = refl
+spread f change changed each (x ∷ xs) =
+    flat_map-cons f (change x) (map change xs) ∙ ap (λ ys. ys ++ flat_map f (map change xs)) (each x) ∙ ap (λ ys. map changed (f x) ++ ys) (spread f change changed each xs)
+    ∙ sym (map-append changed (f x) (flat_map f xs)) ∙ sym (ap (map changed) (flat_map-cons f x xs))
+
+module _ (ifaces : List Iface) where
+  in_group : (group : Group) → rules_of (numbered_group ifaces group) ≡ map (numbered_placed ifaces) (rules_of group)
+  in_group group = spread rules_at (numbered_item ifaces) (numbered_placed ifaces) (in_item ifaces) group.items
+
+  in_all : (groups : List Group) → all_rules (map (numbered_group ifaces) groups) ≡ map (numbered_placed ifaces) (all_rules groups)
+  in_all groups = spread rules_of (numbered_group ifaces) (numbered_placed ifaces) in_group groups
+
+  at_item : (o : Option Item) (n : ℕ) → slice_get (rules_in (option_map (numbered_item ifaces) o)) n ≡ option_map (numbered_placed ifaces) (slice_get (rules_in o) n)
+  at_item None n = slice_get-map (numbered_placed ifaces) [] n
+  at_item (Some item) n = ap (λ rules. slice_get rules n) (in_item ifaces item) ∙ slice_get-map (numbered_placed ifaces) (rules_at item) n
+
+  at_group : (o : Option Group) (k : ℕ) → option_and_then (λ g. slice_get g.items k) (option_map (numbered_group ifaces) o) ≡ option_map (numbered_item ifaces) (option_and_then (λ g. slice_get g.items k) o)
+  at_group None k = refl
+  at_group (Some group) k = slice_get-map (numbered_item ifaces) group.items k
+
+  at_place : (groups : List Group) (place : Place) → placed_at (map (numbered_group ifaces) groups) place ≡ option_map (numbered_placed ifaces) (placed_at groups place)
+  at_place groups place =
+      ap (λ o. slice_get (rules_in (option_and_then (λ g. slice_get g.items place.item) o)) place.number) (slice_get-map (numbered_group ifaces) groups place.group)
+      ∙ ap (λ o. slice_get (rules_in o) place.number) (at_group (slice_get groups place.group) place.item)
+      ∙ at_item (option_and_then (λ g. slice_get g.items place.item) (slice_get groups place.group)) place.number
+
+  module _ (groups : List Group) where
+    rule_numbered : (placed : PlacedRule) (flat : FlatRule) → IsFlatRule groups placed flat → IsFlatRule (map (numbered_group ifaces) groups) (numbered_placed ifaces placed) (numbered_flat_rule ifaces flat)
+    unfolding numbered_placed
+    rule_numbered placed flat is = record {
+      place = at_place groups flat.place ∙ ap (option_map (numbered_placed ifaces)) is.place;
+      binding = record {
+        incoming = is.binding.incoming;
+        outgoing = is.binding.outgoing;
+        within = ap (option_map (numbered_on ifaces)) is.binding.within;
+        own = ap (option_map (numbered_on ifaces)) is.binding.own;
+      };
+      last = is.last;
+      row = is.row;
+      program = is.program;
+      weight = is.weight;
+    }
+
+    rules_numbered : (rules : List PlacedRule) (flats : List FlatRule) → AreRelated (IsFlatRule groups) rules flats
+        → AreRelated (IsFlatRule (map (numbered_group ifaces) groups)) (map (numbered_placed ifaces) rules) (map (numbered_flat_rule ifaces) flats)
+    rules_numbered [] [] all = tt
+    rules_numbered (p ∷ ps) (f ∷ fs) all = (rule_numbered p f all.0, rules_numbered ps fs all.1)
+    rules_numbered [] (f ∷ fs) all = absurd all
+    rules_numbered (p ∷ ps) [] all = absurd all
+
+  groups_numbered : (groups : List Group) (flats : List FlatGroup) → AreRelated IsFlatGroup groups flats → AreRelated IsFlatGroup (map (numbered_group ifaces) groups) (map (numbered_flat_group ifaces) flats)
+  groups_numbered [] [] all = tt
+  groups_numbered (g ∷ gs) (f ∷ fs) all = (record {
+      binding = record {
+        incoming = all.0.binding.incoming;
+        outgoing = all.0.binding.outgoing;
+        within = ap (option_map (numbered_on ifaces)) all.0.binding.within;
+        own = ap (option_map (numbered_on ifaces)) all.0.binding.own;
+      };
+      count = all.0.count ∙ sym (ap length (in_group g) ∙ length-map (rules_of g) (numbered_placed ifaces));
+    }, groups_numbered gs fs all.1)
+  groups_numbered [] (f ∷ fs) all = absurd all
+  groups_numbered (g ∷ gs) [] all = absurd all
+
+  pub flat_numbered : (groups : List Group) (flat_groups : List FlatGroup) (flat_rules : List FlatRule) → IsFlat groups flat_groups flat_rules
+      → IsFlat (map (numbered_group ifaces) groups) (map (numbered_flat_group ifaces) flat_groups) (map (numbered_flat_rule ifaces) flat_rules)
+  flat_numbered groups flat_groups flat_rules flat = record {
+    for_groups = pairs_of IsFlatGroup (map (numbered_group ifaces) groups) (map (numbered_flat_group ifaces) flat_groups) (groups_numbered groups flat_groups (related_of IsFlatGroup groups flat_groups flat.for_groups));
+    for_rules = pairs_of (IsFlatRule (map (numbered_group ifaces) groups)) (all_rules (map (numbered_group ifaces) groups)) (map (numbered_flat_rule ifaces) flat_rules)
+      (subst (λ rules. AreRelated (IsFlatRule (map (numbered_group ifaces) groups)) rules (map (numbered_flat_rule ifaces) flat_rules)) (sym (in_all groups))
+      (rules_numbered groups (all_rules groups) flat_rules (related_of (IsFlatRule groups) (all_rules groups) flat_rules flat.for_rules)));
+  }
+
+  pub programs_numbered : (rules : List FlatRule) → programs_of (map (numbered_flat_rule ifaces) rules) ≡ programs_of rules
+  programs_numbered [] = refl
+  programs_numbered (rule ∷ rules) = ap (λ rest. rule.program ∷ rest) (programs_numbered rules)
