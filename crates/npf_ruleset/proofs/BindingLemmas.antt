@@ -1,5 +1,5 @@
 -- What a binding leaves is what the rule and its ruleset, or the group, ask for.
-use Rattle.std.proofs.Common.{◌≡◌, Bool, true, false, ◌&&◌, Option, refl, sym, ap, ◌∙◌}
+use Rattle.std.proofs.Common.{◌≡◌, Bool, true, false, ◌&&◌, Option, refl, ap, ◌∙◌}
 use Rattle.npf_types.specs.declared.direction.Dir.{Dir}
 use Rattle.npf_types.specs.declared.direction.Dir.TheVariants.{In, Out}
 use Rattle.npf_types.specs.declared.interface.IfId.{IfId}

@@ -1,10 +1,8 @@
 -- What is laid out has a program for each rule, none of which is too heavy, and what isn't is refused.
-use Rattle.std.proofs.Common.{◌≡◌, ◌<◌, ◌≤◌, ℕ, zero, suc, ◌+◌, List, [], ◌∷◌, ◌++◌, All, length, map, get_or, refl, sym, subst, ap, ◌∙◌, arith}
-use Rattle.std.proofs.lemmas.Option.{none-some}
+use Rattle.std.proofs.Common.{◌<◌, ℕ, zero, suc, List, [], ◌∷◌, All, length, get_or, ap, arith}
 use Rattle.npf_model.specs.declared.group.Group.{Group}
 use Rattle.npf_model.specs.declared.model.Model.{Model}
 use Rattle.npf_model.specs.Verdict.{PlacedRule, all_rules}
-use Rattle.npf_bpf.specs.declared.insn.Insn.{Insn}
 use Rattle.npf_bpfgen.specs.Program.{IsProgramOf}
 use Rattle.npf_ruleset.specs.declared.fault.BuildFault.{BuildFault}
 use Rattle.npf_ruleset.specs.declared.fault.BuildFault.TheVariants.{TooLong, TooMuch, NoMemory}

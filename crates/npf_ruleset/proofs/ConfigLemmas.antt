@@ -1,15 +1,14 @@
 -- What a flat rule of a configuration says of the rule at its place.
-use Rattle.std.proofs.Common.{◌≡◌, ◌<◌, ℕ, List, Option, Some, length, get_or, slice_get, refl, sym, subst, ap, ◌∙◌, arith}
+use Rattle.std.proofs.Common.{◌≡◌, ◌<◌, ℕ, Some, length, get_or, slice_get, refl, sym, subst, ap, ◌∙◌, arith}
 use Rattle.std.specs.Prelude.{unwrap_or}
 use Rattle.std.specs.Option.{option_map}
 use Rattle.std.proofs.lemmas.Option.{slice_get_read, slice_get_within}
-use Rattle.npf_model.specs.declared.rule.Rule.{Rule}
 use Rattle.npf_model.specs.Verdict.{PlacedRule, all_rules}
 use Rattle.npf_bpfgen.specs.Program.{IsProgramOf}
 use Rattle.npf_ruleset.specs.declared.config.Config.{Config}
 use Rattle.npf_ruleset.specs.declared.flat.FlatRule.{FlatRule}
 use Rattle.npf_ruleset.specs.Flat.{IsFlatRule}
-use Rattle.npf_ruleset.specs.Place.{IsPlaced, placed_at}
+use Rattle.npf_ruleset.specs.Place.{IsPlaceOfRule, placed_at}
 use Rattle.npf_ruleset.specs.RuleAt.{IsProgramAt, rule_at}
 use Rattle.npf_ruleset.proofs.PairLemmas.{drop_here}
 
@@ -26,7 +25,7 @@ module _ (config : Config) (i : ℕ) (flat : FlatRule) (within : i < length (all
   has_program = λ rule at.
       subst (λ r. IsProgramOf r flat.program) (ap (λ o. unwrap_or o there.0.rule) (sym (ap (option_map (λ placed. placed.rule)) there.1) ∙ at)) stands.program
 
-  pub is_placed : IsPlaced config.model.groups flat.place
+  pub is_placed : IsPlaceOfRule config.model.groups flat.place
   is_placed = slice_get_within _ flat.place.number there.0 stands.place
 
   pub has_rule : (placed : PlacedRule) → placed_at config.model.groups flat.place ≡ Some placed → rule_at config.model i ≡ Some placed.rule

@@ -1,5 +1,5 @@
 -- A list of protocols that isn't empty fits those that it lists.
-use Rattle.std.proofs.Common.{◌≡◌, ◌==◌, ℕ, Bool, true, false, List, [], ◌∷◌, length, refl, sym, true≢false}
+use Rattle.std.proofs.Common.{◌≡◌, ◌==◌, ℕ, false, List, [], ◌∷◌, length, refl, true≢false}
 use Rattle.std.specs.List.{list_any}
 use Rattle.npf_model.specs.Describes.{fits_protocol}
 

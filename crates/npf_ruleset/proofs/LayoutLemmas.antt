@@ -1,5 +1,5 @@
 -- Rules that are laid out part after part.
-use Rattle.std.proofs.Common.{◌≡◌, ◌<◌, ◌≤◌, ℕ, zero, suc, ◌+◌, Bool, true, false, List, [], ◌∷◌, ◌++◌, Option, Some, None, All, Result, Ok, Err, IfErr, IsErrAnd, length, take, drop, get_or, slice_get, flat_map, option_and_then, refl, sym, subst, ap, ◌∙◌, arith}
+use Rattle.std.proofs.Common.{◌≡◌, ◌<◌, ◌≤◌, ℕ, suc, ◌+◌, List, [], ◌∷◌, ◌++◌, Some, All, Result, Ok, Err, IfErr, IsErrAnd, length, take, drop, slice_get, flat_map, option_and_then, refl, sym, subst, ap, ◌∙◌, arith}
 use Rattle.std.specs.Prelude.{unwrap_or}
 use Rattle.std.proofs.Math.Seq.{take-suc}
 use Rattle.std.proofs.lemmas.List.{append_assoc, append-nil, get_or-append-add, get_or_append_left, length-append, take-append-drop}
@@ -10,14 +10,13 @@ use Rattle.npf_model.specs.Verdict.{PlacedRule, all_rules, rules_at}
 use Rattle.npf_model.specs.declared.group.Item.{Item}
 use Rattle.npf_bpfgen.specs.declared.fault.GenFault.{GenFault}
 use Rattle.npf_bpfgen.specs.declared.fault.GenFault.TheVariants as Gen
-use Rattle.npf_bpfgen.specs.Program.{RefusesRule}
 use Rattle.npf_ruleset.specs.declared.fault.BuildFault.{BuildFault}
 use Rattle.npf_ruleset.specs.declared.fault.BuildFault.TheVariants.{TooLong, TooMuch, NoMemory}
 use Rattle.npf_ruleset.specs.declared.flat.FlatGroup.{FlatGroup}
 use Rattle.npf_ruleset.specs.declared.flat.FlatRule.{FlatRule}
 use Rattle.npf_ruleset.specs.declared.place.Place.{Place}
 use Rattle.npf_ruleset.specs.Flat.{IsFlat, IsFlatGroup, IsFlatRule, IsPairwise}
-use Rattle.npf_ruleset.specs.Layout.{AddsRules, IsFlatAt, RefusesAt, Stops, StopsAt, StopsFor, fault_there, rules_in_group}
+use Rattle.npf_ruleset.specs.Layout.{AddsRules, IsFlatAt, RefusesAt, Stops, StopsFor, fault_there, rules_in_group}
 use Rattle.npf_ruleset.specs.Place.{placed_at, rules_in, standing}
 use Rattle.npf_ruleset.proofs.PairLemmas.{AreRelated, drop_here, pairs_of, related_append, related_of}
 
@@ -76,7 +75,7 @@ module _ (groups : List Group) where
     added = one.added ++ two.added;
     are = two.are ∙ ap (λ rules. rules ++ two.added) one.are ∙ append_assoc old one.added two.added;
     flat = pairs_of (IsFlatRule groups) (front ++ behind) (one.added ++ two.added)
-      (related_append (IsFlatRule groups) front behind one.added two.added (related_of (IsFlatRule groups) front one.added one.flat) (related_of (IsFlatRule groups) behind two.added two.flat));
+        (related_append (IsFlatRule groups) front behind one.added two.added (related_of (IsFlatRule groups) front one.added one.flat) (related_of (IsFlatRule groups) behind two.added two.flat));
   }
 
   pub adds_len : (rules : List PlacedRule) (old new : List FlatRule) → AddsRules groups rules old new → length new ≡ length old + length rules

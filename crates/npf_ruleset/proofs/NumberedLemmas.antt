@@ -1,5 +1,5 @@
 -- The flat rules of a configuration whose interfaces' numbers are set anew.
-use Rattle.std.proofs.Common.{◌≡◌, ◌≤◌, ℕ, zero, suc, List, [], ◌∷◌, ◌++◌, Option, Some, None, length, map, flat_map, option_and_then, slice_get, refl, sym, subst, ap, ◌∙◌}
+use Rattle.std.proofs.Common.{◌≡◌, ℕ, List, [], ◌∷◌, ◌++◌, Option, Some, None, length, map, flat_map, option_and_then, slice_get, refl, sym, subst, ap, ◌∙◌}
 use Rattle.std.specs.Option.{option_map}
 use Rattle.std.proofs.lemmas.List.{length-map, map-append}
 use Rattle.std.proofs.lemmas.List.Concat.{flat_map-cons}
@@ -94,7 +94,8 @@ module _ (ifaces : List Iface) where
 
   groups_numbered : (groups : List Group) (flats : List FlatGroup) → AreRelated IsFlatGroup groups flats → AreRelated IsFlatGroup (map (numbered_group ifaces) groups) (map (numbered_flat_group ifaces) flats)
   groups_numbered [] [] all = tt
-  groups_numbered (g ∷ gs) (f ∷ fs) all = (record {
+  groups_numbered (g ∷ gs) (f ∷ fs) all = (
+    record {
       binding = record {
         incoming = all.0.binding.incoming;
         outgoing = all.0.binding.outgoing;
@@ -102,7 +103,9 @@ module _ (ifaces : List Iface) where
         own = ap (option_map (numbered_on ifaces)) all.0.binding.own;
       };
       count = all.0.count ∙ sym (ap length (in_group g) ∙ length-map (rules_of g) (numbered_placed ifaces));
-    }, groups_numbered gs fs all.1)
+    },
+    groups_numbered gs fs all.1,
+  )
   groups_numbered [] (f ∷ fs) all = absurd all
   groups_numbered (g ∷ gs) [] all = absurd all
 
@@ -111,8 +114,8 @@ module _ (ifaces : List Iface) where
   flat_numbered groups flat_groups flat_rules flat = record {
     for_groups = pairs_of IsFlatGroup (map (numbered_group ifaces) groups) (map (numbered_flat_group ifaces) flat_groups) (groups_numbered groups flat_groups (related_of IsFlatGroup groups flat_groups flat.for_groups));
     for_rules = pairs_of (IsFlatRule (map (numbered_group ifaces) groups)) (all_rules (map (numbered_group ifaces) groups)) (map (numbered_flat_rule ifaces) flat_rules)
-      (subst (λ rules. AreRelated (IsFlatRule (map (numbered_group ifaces) groups)) rules (map (numbered_flat_rule ifaces) flat_rules)) (sym (in_all groups))
-      (rules_numbered groups (all_rules groups) flat_rules (related_of (IsFlatRule groups) (all_rules groups) flat_rules flat.for_rules)));
+        (subst (λ rules. AreRelated (IsFlatRule (map (numbered_group ifaces) groups)) rules (map (numbered_flat_rule ifaces) flat_rules)) (sym (in_all groups))
+        (rules_numbered groups (all_rules groups) flat_rules (related_of (IsFlatRule groups) (all_rules groups) flat_rules flat.for_rules)));
   }
 
   pub programs_numbered : (rules : List FlatRule) → programs_of (map (numbered_flat_rule ifaces) rules) ≡ programs_of rules

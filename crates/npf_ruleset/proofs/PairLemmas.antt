@@ -1,5 +1,5 @@
 -- Two lists of the same length, whose elements are related pairwise.
-use Rattle.std.proofs.Common.{◌≡◌, ◌≤◌, ◌<◌, ℕ, zero, suc, ◌+◌, List, [], ◌∷◌, ◌++◌, Some, None, length, take, drop, refl, sym, subst, ap, ◌∙◌, arith, slice_get}
+use Rattle.std.proofs.Common.{◌≡◌, ◌<◌, ℕ, zero, suc, List, [], ◌∷◌, ◌++◌, Some, length, take, drop, refl, subst, ap, arith, slice_get}
 use Rattle.std.specs.Prelude.{⊤, unwrap_or}
 use Rattle.std.proofs.lemmas.Option.{none-some}
 use Rattle.npf_ruleset.specs.Flat.{IsPairwise}
@@ -14,9 +14,10 @@ module _ {X Y : Type 0} (Rel : X → Y → Type 0) where
 
   pub related_of : (xs : List X) (ys : List Y) → IsPairwise Rel xs ys → AreRelated xs ys
   related_of [] [] pairs = tt
-  related_of (x ∷ xs) (y ∷ ys) pairs =
-      (pairs.each 0 x y refl refl,
-       related_of xs ys (record { len = (let e = pairs.len in omega arith); each = λ k. pairs.each (suc k) }))
+  related_of (x ∷ xs) (y ∷ ys) pairs = (
+    pairs.each 0 x y refl refl,
+    related_of xs ys (record { len = (let e = pairs.len in omega arith); each = λ k. pairs.each (suc k) }),
+  )
   related_of [] (y ∷ ys) pairs = let e = pairs.len in omega arith
   related_of (x ∷ xs) [] pairs = let e = pairs.len in omega arith
 

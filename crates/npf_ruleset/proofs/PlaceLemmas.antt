@@ -1,5 +1,5 @@
 -- The first and the last place of what passes a test.
-use Rattle.std.proofs.Common.{◌≡◌, ◌<◌, ◌≤◌, ℕ, zero, suc, ◌+◌, Bool, true, false, List, [], ◌∷◌, ◌++◌, Option, Some, None, length, get_or, take, drop, min, refl, sym, subst, ap, ◌∙◌, arith, inl, inr, drop_of_length-le}
+use Rattle.std.proofs.Common.{◌≡◌, ◌<◌, ◌≤◌, ℕ, suc, ◌+◌, Bool, true, false, List, [], ◌∷◌, ◌++◌, Option, Some, None, length, get_or, take, drop, refl, sym, subst, ap, ◌∙◌, arith, inl, inr, drop_of_length-le}
 use Rattle.std.specs.Prelude.{if◌then◌else◌}
 use Rattle.std.specs.Option.{option_map, option_or}
 use Rattle.std.proofs.Math.Seq.{drop-cons, take-suc, take-length}
@@ -38,26 +38,26 @@ module _ {X : Type 0} (test : X → Bool) where
       let others = ap (λ k. last_where test k xs) next ∙ last_from n (m + 1) xs in
       rw others (joined (last_where test (m + 1) xs) (test x))
     where
-    joined : (o : Option ℕ) (b : Bool) → option_or (option_map (λ k. n + k) o) (if b then Some (n + m) else None) ≡ option_map (λ k. n + k) (option_or o (if b then Some m else None))
-    joined (Some k) b = refl
-    joined None true = refl
-    joined None false = refl
+      joined : (o : Option ℕ) (b : Bool) → option_or (option_map (λ k. n + k) o) (if b then Some (n + m) else None) ≡ option_map (λ k. n + k) (option_or o (if b then Some m else None))
+      joined (Some k) b = refl
+      joined None true = refl
+      joined None false = refl
 
   last_snoc : (n : ℕ) (xs : List X) (x : X) → last_where test n (xs ++ x ∷ []) ≡ (if test x then Some (n + length xs) else last_where test n xs)
   last_snoc n [] x = ended (test x) (let same : n ≡ n + 0 = omega arith in same)
     where
-    ended : (b : Bool) → n ≡ n + 0 → (if b then Some n else None) ≡ (if b then Some (n + 0) else None)
-    ended true same = ap (λ k. Some k) same
-    ended false same = refl
+      ended : (b : Bool) → n ≡ n + 0 → (if b then Some n else None) ≡ (if b then Some (n + 0) else None)
+      ended true same = ap (λ k. Some k) same
+      ended false same = refl
   last_snoc n (y ∷ ys) x =
       let next : n + 1 + length ys ≡ n + suc (length ys) = omega arith in
       ap (λ o. option_or o (if test y then Some n else None)) (last_snoc (n + 1) ys x) ∙ chosen (test x) next
     where
-    chosen : (b : Bool) → n + 1 + length ys ≡ n + suc (length ys)
-        → option_or (if b then Some (n + 1 + length ys) else last_where test (n + 1) ys) (if test y then Some n else None)
-        ≡ (if b then Some (n + suc (length ys)) else option_or (last_where test (n + 1) ys) (if test y then Some n else None))
-    chosen true next = ap (λ k. Some k) next
-    chosen false next = refl
+      chosen : (b : Bool) → n + 1 + length ys ≡ n + suc (length ys)
+          → option_or (if b then Some (n + 1 + length ys) else last_where test (n + 1) ys) (if test y then Some n else None)
+          ≡ (if b then Some (n + suc (length ys)) else option_or (last_where test (n + 1) ys) (if test y then Some n else None))
+      chosen true next = ap (λ k. Some k) next
+      chosen false next = refl
 
   -- the one in front passes, or those before it decide
   pub last_here : (n : ℕ) (xs : List X) (x : X) → n < length xs → x ≡ get_or xs n x → test x ≡ true

@@ -11,38 +11,36 @@ use Rattle.std.proofs.lemmas.Nat.{pow-add, pow_pos}
 use Rattle.std.proofs.lemmas.Nat.Bits.{bit_at-lt, bit_at-pow_same, bit_at_ones, bit_at_or}
 use Rattle.npf_types.specs.declared.address.Addr.{Addr}
 use Rattle.npf_types.specs.declared.address.Addr.TheVariants.{V4, V6}
-use Rattle.npf_types.specs.declared.facts.Facts.{Facts}
 use Rattle.npf_types.specs.Address.{shares_first}
 use Rattle.npf_types.specs.declared.prefix.Prefix.{Prefix}
 use Rattle.npf_model.specs.declared.ends.AddrItem.{AddrItem}
 use Rattle.npf_model.specs.declared.ends.AddrItem.TheVariants.{Net}
 use Rattle.npf_model.specs.declared.ends.Ends.{Ends}
 use Rattle.npf_model.specs.declared.rule.Rule.{Rule}
-use Rattle.npf_model.specs.Describes.{Tables, destination_of, fits_addrs, fits_ends, fits_family, fits_flags, fits_icmp, fits_ports, fits_protocol, in_range, item_has, source_of}
+use Rattle.npf_model.specs.Describes.{destination_of, fits_addrs, fits_ends, fits_family, fits_flags, fits_icmp, fits_ports, fits_protocol, in_range, item_has, source_of}
 use Rattle.npf_model.specs.MapOf.{fits_side_port}
 use Rattle.npf_ruleset.specs.declared.addr_hull.AddrHull.{AddrHull}
-use Rattle.npf_ruleset.specs.declared.protocol_set.ProtocolSet.{ProtocolSet}
 use Rattle.npf_ruleset.specs.declared.row.EndRow.{EndRow}
 use Rattle.npf_ruleset.specs.declared.row.Row.{Row}
-use Rattle.npf_ruleset.specs.Row.{HasProtocols, IsEndRowOf, IsHullOfAddrs, IsHullOfBits, IsHullOfPorts, IsRowOf, IsWithin, IsWithinRange, has_protocol, in_hull, meets_end, number_of_addr}
+use Rattle.npf_ruleset.specs.Row.{HasProtocols, IsEndRowOf, IsHullOfAddrs, IsHullOfBits, IsHullOfPorts, IsRowOf, IsWithin, IsWithinRange, in_hull, number_of_addr}
 
 -- what follows of the elements so far and of the next one follows of all up to it
 pub more : {X : Type 0} (test : X → Bool) (xs : List X) (n : ℕ) (d : X) (P : Type 0) → n < length xs
     → (list_any test (take n xs) ≡ true → P) → (test (get_or xs n d) ≡ true → P) → list_any test (take (n + 1) xs) ≡ true → P
 more test xs n d P lt so_far next any = chosen (list_any test (take n xs)) so_far (sym (list_any_more test xs n d lt) ∙ any)
   where
-  chosen : (b : Bool) → (b ≡ true → P) → (b || test (get_or xs n d)) ≡ true → P
-  chosen true known whole = known refl
-  chosen false known whole = next whole
+    chosen : (b : Bool) → (b ≡ true → P) → (b || test (get_or xs n d)) ≡ true → P
+    chosen true known whole = known refl
+    chosen false known whole = next whole
 
 pub more_ranges : (ranges : List (ℕ × ℕ)) (n : ℕ) (hull wider : ℕ × ℕ) → n < length ranges
     → IsHullOfPorts (Some (take n ranges)) (Some hull) → IsWithinRange hull wider → IsWithinRange (get_or ranges n (0, 0)) wider
     → IsHullOfPorts (Some (take (n + 1) ranges)) (Some wider)
 more_ranges ranges n hull wider lt so_far old next = λ port any. found port any
   where
-  found : (port : Option ℕ) → fits_ports (Some (take (n + 1) ranges)) port ≡ true → fits_side_port (Some wider) port ≡ true
-  found None any = absurd (true≢false (sym any))
-  found (Some port) any = more (in_range port) ranges n (0, 0) (in_range port wider ≡ true) lt (λ h. old port (so_far (Some port) h)) (λ h. next port h) any
+    found : (port : Option ℕ) → fits_ports (Some (take (n + 1) ranges)) port ≡ true → fits_side_port (Some wider) port ≡ true
+    found None any = absurd (true≢false (sym any))
+    found (Some port) any = more (in_range port) ranges n (0, 0) (in_range port wider ≡ true) lt (λ h. old port (so_far (Some port) h)) (λ h. next port h) any
 
 pub more_items : (items : List AddrItem) (n : ℕ) (prefix : Prefix) (hull block wider : AddrHull) → n < length items → (d : AddrItem) → Net prefix ≡ get_or items n d
     → IsHullOfAddrs (Some (take n items)) (Some hull) → IsHullOfBits prefix.len prefix.addr block → IsWithin hull wider → IsWithin block wider

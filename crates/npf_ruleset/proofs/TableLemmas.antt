@@ -1,7 +1,6 @@
 -- A look-up in the tables answers what the lists of their blocks say.
-use Rattle.std.proofs.Common.{◌≡◌, ◌↔◌, ◌<◌, ◌≤◌, ℕ, Bool, true, false, IsTrue, List, [], ◌∷◌, Option, Some, None, Contains, length, map, get_or, refl, sym, subst, ap, ◌∙◌, arith, true≢false, suc, inl, inr}
-use Rattle.std.specs.Prelude.{◌||◌, slice_get}
-use Rattle.std.specs.List.{list_any}
+use Rattle.std.proofs.Common.{◌≡◌, ◌↔◌, ◌<◌, ◌≤◌, ℕ, Bool, true, false, IsTrue, List, [], ◌∷◌, length, get_or, refl, sym, subst, ap, ◌∙◌, arith, true≢false, suc, inl, inr}
+use Rattle.std.specs.Prelude.{◌||◌}
 use Rattle.std.specs.Option.{option_map}
 use Rattle.std.specs.Arc.{arc_value}
 use Rattle.std.specs.declared.sync.Arc.{Arc}
@@ -12,7 +11,7 @@ use Rattle.npf_types.specs.declared.address.Addr.{Addr}
 use Rattle.npf_types.specs.declared.address.Addr.TheVariants.{V4, V6}
 use Rattle.npf_types.specs.declared.prefix.Prefix.{Prefix}
 use Rattle.npf_types.specs.Address.{SharesFirst, first_bits, shares_first}
-use Rattle.npf_types.specs.Prefix.{Covers, HasAddress, covers, has_address}
+use Rattle.npf_types.specs.Prefix.{Covers, covers, has_address}
 use Rattle.npf_table.specs.declared.table.Table.{Table}
 use Rattle.npf_table.specs.Table.{prefixes}
 use Rattle.npf_model.specs.Describes.{entries_have, table_has}

@@ -1,14 +1,12 @@
 -- A walk over the flat rules gives the configuration's verdict.
-use Rattle.std.proofs.Common.{◌≡◌, ◌<◌, ◌≤◌, ℕ, ◌+◌, Bool, true, false, not, ◌&&◌, List, [], ◌∷◌, ◌++◌, Option, Some, None, length, take, drop, refl, sym, subst, ap, ◌∙◌, arith, ◌==◌, suc, get_or, slice_get, drop_of_length-le}
+use Rattle.std.proofs.Common.{◌≡◌, ◌≤◌, ℕ, ◌+◌, Bool, true, false, not, ◌&&◌, List, [], ◌∷◌, ◌++◌, Option, Some, None, length, take, drop, refl, sym, subst, ap, ◌∙◌, arith, ◌==◌, suc, slice_get, drop_of_length-le}
 use Rattle.std.proofs.lemmas.List.{length-append, length-drop}
 use Rattle.std.proofs.lemmas.Option.{slice_get_within}
 use Rattle.std.specs.Prelude.{if◌then◌else◌}
 use Rattle.std.specs.Option.{option_map, option_or}
 use Rattle.std.proofs.lemmas.Option.{none-some}
-use Rattle.npf_types.specs.declared.direction.Dir.{Dir}
-use Rattle.npf_types.specs.declared.interface.IfId.{IfId}
 use Rattle.npf_model.specs.declared.group.Group.{Group}
-use Rattle.npf_model.specs.Describes.{Tables, describes_packet}
+use Rattle.npf_model.specs.Describes.{describes_packet}
 use Rattle.npf_model.specs.Place.{fits_dir, fits_on}
 use Rattle.npf_model.specs.Verdict.{PlacedRule, all_rules, decides, first_where, group_answer, last_where, matches, rules_of, verdict}
 use Rattle.npf_model.specs.Configuration.{verdict_of}
@@ -35,21 +33,21 @@ combined : (d1 o1 d2 o2 bound row described : Bool) (value : ℕ)
     → (bound && row && value == 4294967295) ≡ (d1 && o1 && (d2 && o2 && described))
 combined d1 o1 d2 o2 bound row true value is holds gives = rw is (rw (holds refl) (rw gives (bools d1 o1 d2 o2)))
   where
-  bools : (a b c d : Bool) → ((a && b && c && d) && true && true) ≡ (a && b && (c && d && true))
-  bools true true true true = refl
-  bools true true true false = refl
-  bools true true false d = refl
-  bools true false c d = refl
-  bools false b c d = refl
+    bools : (a b c d : Bool) → ((a && b && c && d) && true && true) ≡ (a && b && (c && d && true))
+    bools true true true true = refl
+    bools true true true false = refl
+    bools true true false d = refl
+    bools true false c d = refl
+    bools false b c d = refl
 combined d1 o1 d2 o2 bound row false value is holds gives = rw is (rw gives (bools d1 o1 d2 o2 row))
   where
-  bools : (a b c d r : Bool) → ((a && b && c && d) && r && false) ≡ (a && b && (c && d && false))
-  bools true true true true true = refl
-  bools true true true true false = refl
-  bools true true true false r = refl
-  bools true true false d r = refl
-  bools true false c d r = refl
-  bools false b c d r = refl
+    bools : (a b c d r : Bool) → ((a && b && c && d) && r && false) ≡ (a && b && (c && d && false))
+    bools true true true true true = refl
+    bools true true true true false = refl
+    bools true true true false r = refl
+    bools true true false d r = refl
+    bools true false c d r = refl
+    bools false b c d r = refl
 
 module _ (packet : Packet) (bytes : AreBytes packet.ip.now) (seen : IsPacketOf packet.ip.now packet.facts.now) where
   told : IsSeen packet.ip.now (coprocessor packet) (entries packet.tables.now) packet.facts.now
@@ -93,14 +91,14 @@ module _ (packet : Packet) (bytes : AreBytes packet.ip.now) (seen : IsPacketOf p
         let M = matches (entries packet.tables.now) packet.facts.now packet.ifid packet.dir in
         let zero_behind : n + 0 ≡ n = omega arith in
         let first : first_where D n placed ≡ option_map (λ k. n + k) (first_where (flat_decides packet) 0 flats) =
-          sym (ap (λ k. first_where D k placed) zero_behind) ∙ first_from D n 0 placed ∙ sym (ap (option_map (λ k. n + k)) (first_alike (flat_decides packet) D decides_alike 0 placed flats all)) in
+        sym (ap (λ k. first_where D k placed) zero_behind) ∙ first_from D n 0 placed ∙ sym (ap (option_map (λ k. n + k)) (first_alike (flat_decides packet) D decides_alike 0 placed flats all)) in
         let last : last_where M n placed ≡ option_map (λ k. n + k) (last_where (flat_matches packet) 0 flats) =
-          sym (ap (λ k. last_where M k placed) zero_behind) ∙ last_from M n 0 placed ∙ sym (ap (option_map (λ k. n + k)) (last_alike (flat_matches packet) M matches_alike 0 placed flats all)) in
+        sym (ap (λ k. last_where M k placed) zero_behind) ∙ last_from M n 0 placed ∙ sym (ap (option_map (λ k. n + k)) (last_alike (flat_matches packet) M matches_alike 0 placed flats all)) in
         rw first (rw last (either n (first_where (flat_decides packet) 0 flats) (last_where (flat_matches packet) 0 flats)))
       where
-      either : (n : ℕ) (o q : Option ℕ) → option_or (option_map (λ k. n + k) o) (option_map (λ k. n + k) q) ≡ option_map (λ k. n + k) (option_or o q)
-      either n None q = refl
-      either n (Some k) q = refl
+        either : (n : ℕ) (o q : Option ℕ) → option_or (option_map (λ k. n + k) o) (option_map (λ k. n + k) q) ≡ option_map (λ k. n + k) (option_or o q)
+        either n None q = refl
+        either n (Some k) q = refl
 
 -- without a match that is `final` the last match is the last of those that aren't
 pub last_of_others : (packet : Packet) (n m : ℕ) (flats : List FlatRule) → first_where (flat_decides packet) n flats ≡ None
@@ -110,13 +108,14 @@ last_of_others packet n m (f ∷ fs) none =
     let fails = front_fails (flat_decides packet f) none in
     rw (other (f.last) (flat_matches packet f) fails.0) (ap (λ o. option_or o (if flat_matches packet f then Some m else None)) (last_of_others packet (n + 1) (m + 1) fs fails.1))
   where
-  front_fails : (b : Bool) → (if b then Some n else first_where (flat_decides packet) (n + 1) fs) ≡ None → (b ≡ false) × (first_where (flat_decides packet) (n + 1) fs ≡ None)
-  front_fails true is = absurd (none-some n (sym is))
-  front_fails false is = (refl, is)
-  other : (last met : Bool) → (last && met) ≡ false → (not last && met) ≡ met
-  other true true is = sym is
-  other true false is = refl
-  other false met is = refl
+    front_fails : (b : Bool) → (if b then Some n else first_where (flat_decides packet) (n + 1) fs) ≡ None → (b ≡ false) × (first_where (flat_decides packet) (n + 1) fs ≡ None)
+    front_fails true is = absurd (none-some n (sym is))
+    front_fails false is = (refl, is)
+
+    other : (last met : Bool) → (last && met) ≡ false → (not last && met) ≡ met
+    other true true is = sym is
+    other true false is = refl
+    other false met is = refl
 
 -- what is left of a walk: the groups from a place on, and their rules
 pub record Remains (config : Config) (packet : Packet) (first index : ℕ) (rules : List FlatRule) : Type 0 where
@@ -169,17 +168,17 @@ module _ (config : Config) (packet : Packet) where
       -- the group's answer, or else that of those behind it
       divided : verdict_of (configuration config) packet.facts.now packet.ifid packet.dir
           ≡ option_or (option_map (λ k. first + k) (answer_in packet flat (take flat.count rules)))
-            (verdict (entries packet.tables.now) packet.facts.now packet.ifid packet.dir (first + flat.count) (drop (suc index) config.model.groups))
+          (verdict (entries packet.tables.now) packet.facts.now packet.ifid packet.dir (first + flat.count) (drop (suc index) config.model.groups))
       divided =
           left.verdict_is
           ∙ ap (verdict (entries packet.tables.now) packet.facts.now packet.ifid packet.dir first) here.1
           ∙ rw (sym (bound_group here.0.dir here.0.on flat.binding stands.binding packet.ifid packet.dir)) (rw (sym stands.count) (
-            ap (λ o. option_or o (verdict (entries packet.tables.now) packet.facts.now packet.ifid packet.dir (first + flat.count) (drop (suc index) config.model.groups)))
-            (applied (is_bound flat.binding packet.ifid packet.dir) (group_answer (entries packet.tables.now) packet.facts.now packet.ifid packet.dir first (rules_of here.0)) (flat_answer packet (take flat.count rules)) (answer_alike packet bytes seen config.model.groups first (rules_of here.0) (take flat.count rules) inside))))
+          ap (λ o. option_or o (verdict (entries packet.tables.now) packet.facts.now packet.ifid packet.dir (first + flat.count) (drop (suc index) config.model.groups)))
+          (applied (is_bound flat.binding packet.ifid packet.dir) (group_answer (entries packet.tables.now) packet.facts.now packet.ifid packet.dir first (rules_of here.0)) (flat_answer packet (take flat.count rules)) (answer_alike packet bytes seen config.model.groups first (rules_of here.0) (take flat.count rules) inside))))
         where
-        applied : (b : Bool) (o q : Option ℕ) → o ≡ option_map (λ k. first + k) q → (if b then o else None) ≡ option_map (λ k. first + k) (if b then q else None)
-        applied true o q same = same
-        applied false o q same = refl
+          applied : (b : Bool) (o q : Option ℕ) → o ≡ option_map (λ k. first + k) q → (if b then o else None) ≡ option_map (λ k. first + k) (if b then q else None)
+          applied true o q same = same
+          applied false o q same = refl
 
       pub decided : (at : ℕ) → Some at ≡ answer_in packet flat (take flat.count rules) → Some (first + at) ≡ verdict_of (configuration config) packet.facts.now packet.ifid packet.dir
       decided at answer = sym (divided ∙ sym (ap (λ o. option_or (option_map (λ k. first + k) o) (verdict (entries packet.tables.now) packet.facts.now packet.ifid packet.dir (first + flat.count) (drop (suc index) config.model.groups))) answer))

@@ -1,5 +1,5 @@
 -- How rules are laid out one after another: what a part of the work adds, and where it stops.
-use Rattle.std.specs.Prelude.{◌≡◌, ℕ, ◌<◌, List, [], ◌∷◌, ◌++◌, Option, Some, None, length, slice_get}
+use Rattle.std.specs.Prelude.{◌≡◌, ℕ, ◌<◌, List, [], ◌∷◌, ◌++◌, Option, Some, None, length}
 use Rattle.npf_model.specs.declared.group.Group.{Group}
 use Rattle.npf_model.specs.Verdict.{PlacedRule, rules_of}
 use Rattle.npf_bpfgen.specs.declared.fault.GenFault.{GenFault}

@@ -1,7 +1,7 @@
 -- How a walk sees a packet.
-use Rattle.std.specs.Prelude.{◌≡◌, ℕ, Bool, true, false, not, ◌==◌, ◌&&◌, if◌then◌else◌, List, Option, None}
+use Rattle.std.specs.Prelude.{ℕ, Bool, true, false, not, ◌==◌, ◌&&◌, if◌then◌else◌, List, Option, None}
 use Rattle.std.specs.Option.{option_or}
-use Rattle.npf_model.specs.Describes.{Tables, table_has}
+use Rattle.npf_model.specs.Describes.{table_has}
 use Rattle.npf_model.specs.Verdict.{first_where, last_where}
 use Rattle.npf_bpf.specs.Coprocessor.{Coprocessor}
 use Rattle.npf_bpf.specs.Value.{program_value}

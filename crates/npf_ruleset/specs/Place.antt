@@ -1,5 +1,5 @@
 -- Where a rule stands in a model, and what stands there.
-use Rattle.std.specs.Prelude.{ℕ, ◌<◌, List, [], Option, Some, None, length, slice_get, option_and_then}
+use Rattle.std.specs.Prelude.{◌<◌, List, [], Option, Some, None, length, slice_get, option_and_then}
 use Rattle.npf_model.specs.declared.group.Group.{Group}
 use Rattle.npf_model.specs.declared.group.Item.{Item}
 use Rattle.npf_model.specs.Verdict.{PlacedRule, rules_at}
@@ -26,5 +26,5 @@ abbrev pub placed_at : List Group → Place → Option PlacedRule
 placed_at groups place = slice_get (standing groups place) place.number
 
 -- a rule stands there
-abbrev pub IsPlaced : List Group → Place → Type 0
-IsPlaced groups place = place.number < length (standing groups place)
+abbrev pub IsPlaceOfRule : List Group → Place → Type 0
+IsPlaceOfRule groups place = place.number < length (standing groups place)

@@ -1,7 +1,6 @@
 -- Which models are laid out, and for what one is refused.
 use Rattle.std.specs.Prelude.{◌≡◌, ℕ, ◌≤◌, ◌<◌, List, ◌∷◌, ◌++◌, length, All}
 use Rattle.npf_types.specs.declared.limits.TheConstants.{MAX_INSTRUCTIONS, MAX_MAPS, MAX_RULES, MAX_RULE_WEIGHT}
-use Rattle.npf_model.specs.declared.group.Group.{Group}
 use Rattle.npf_model.specs.declared.model.Model.{Model}
 use Rattle.npf_model.specs.Verdict.{PlacedRule, all_rules}
 use Rattle.npf_bpf.specs.declared.insn.Insn.{Insn}

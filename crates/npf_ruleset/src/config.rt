@@ -33,7 +33,11 @@ impl Config {
         requires { i < length (all_rules self.now.model.groups) }
         ensures { rule_at self.now.model i ≡ Some result.now }
     {
-        placed_at(self.model.groups.as_slice(), self.rules.as_slice()[i as usize].place).rule
+        placed_at(
+            self.model.groups.as_slice(),
+            self.rules.as_slice()[i as usize].place,
+        )
+        .rule
     }
 
     /// The map at a place, counted from 0, which must be in range.

@@ -3,7 +3,7 @@ ghost use Rattle.std.specs.Prelude.{◌≡◌, ◌≤◌, ◌<◌, ◌+◌, All,
 ghost use Rattle.npf_model.specs.Verdict.{all_rules};
 ghost use Rattle.npf_ruleset.specs.Flat.{IsFlat};
 ghost use Rattle.npf_ruleset.specs.Layout.{AddsRules, IsFlatAt, RefusesAt, Stops, StopsFor, fault_there, rules_in_group};
-ghost use Rattle.npf_ruleset.specs.Place.{IsPlaced, standing};
+ghost use Rattle.npf_ruleset.specs.Place.{IsPlaceOfRule, standing};
 ghost use Rattle.npf_ruleset.specs.Refusal.{IsCompilable};
 
 use crate::binding::Binding;
@@ -93,7 +93,7 @@ fn add_item(
 }
 
 fn flat_rule(alloc: Global, groups: &[Group], place: Place) -> Result<FlatRule, GenFault>
-    requires within { IsPlaced groups.now place }
+    requires within { IsPlaceOfRule groups.now place }
     requires compilable { All IsCompilable (standing groups.now place) }
     ensures ok { IfOk result (IsFlatAt groups.now place) }
     ensures refuses { IfErr result (RefusesAt groups.now place) }

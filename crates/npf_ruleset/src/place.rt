@@ -1,7 +1,7 @@
 // Where a rule stands in a model.
 ghost use Rattle.std.specs.Prelude.{◌≡◌, ◌<◌, Some, length, slice_get};
 ghost use Rattle.npf_model.specs.Verdict.{rules_at};
-ghost use Rattle.npf_ruleset.specs.Place.{IsPlaced, placed_at, placed_rule};
+ghost use Rattle.npf_ruleset.specs.Place.{IsPlaceOfRule, placed_at, placed_rule};
 
 use npf_model::{Group, Item, OnIf, Rule};
 use npf_types::Dir;
@@ -24,7 +24,7 @@ pub(crate) struct Placed<'a> {
 }
 
 pub(crate) fn placed_at(groups: &[Group], place: Place) -> Placed<'_>
-    requires { IsPlaced groups.now place }
+    requires { IsPlaceOfRule groups.now place }
     ensures { placed_at groups.now place ≡ Some (placed_rule result) }
 {
     let group = &groups[place.group];

@@ -1,6 +1,6 @@
-use Rattle.std.proofs.Common.{◌≡◌, ◌≤◌, subst, sym, ap, ◌∙◌}
+use Rattle.std.proofs.Common.{◌≤◌, subst, sym, ap, ◌∙◌}
 use Rattle.npf_model.specs.Verdict.{all_rules}
-use Rattle.npf_ruleset.specs.Flat.{IsFlat, IsFlatRule, IsPairwise, instructions, programs_of}
+use Rattle.npf_ruleset.specs.Flat.{IsFlat, instructions, programs_of}
 use Rattle.npf_ruleset.specs.Layout.{Stops}
 use Rattle.npf_ruleset.specs.Refusal.{IsWithinLimits, RefusesModel}
 use Rattle.npf_ruleset.proofs.LayoutLemmas.{passed}
@@ -16,7 +16,7 @@ returns-in_err-layout-clause-refuses c =
 pub returns-then-total-clause-refuses : goal.returns-then-total-clause-refuses
 returns-then-total-clause-refuses c =
     let flat : IsFlat c.args.model.groups c.in_ok-layout.layout.groups.items c.in_ok-layout.layout.rules.items =
-      subst (λ groups. IsFlat groups c.in_ok-layout.layout.groups.items c.in_ok-layout.layout.rules.items) c.as_slice.ensures c.in_ok-layout.ensures.ok in
+    subst (λ groups. IsFlat groups c.in_ok-layout.layout.groups.items c.in_ok-layout.layout.rules.items) c.as_slice.ensures c.in_ok-layout.ensures.ok in
     record {
       programs = programs_of c.in_ok-layout.layout.rules.items;
       compiled = programs_are c.args.model.groups (all_rules c.args.model.groups) c.in_ok-layout.layout.rules.items flat.for_rules;
@@ -27,7 +27,7 @@ returns-then-total-clause-refuses c =
 pub returns-clause-accepts : goal.returns-clause-accepts
 returns-clause-accepts c =
     let flat : IsFlat c.args.model.groups c.in_ok-layout.layout.groups.items c.in_ok-layout.layout.rules.items =
-      subst (λ groups. IsFlat groups c.in_ok-layout.layout.groups.items c.in_ok-layout.layout.rules.items) c.as_slice.ensures c.in_ok-layout.ensures.ok in
+    subst (λ groups. IsFlat groups c.in_ok-layout.layout.groups.items c.in_ok-layout.layout.rules.items) c.as_slice.ensures c.in_ok-layout.ensures.ok in
     subst (λ rules. IsWithinLimits c.args.model (programs_of rules)) (sym c.of_vec-2.ensures) (record {
       compiled = programs_are c.args.model.groups (all_rules c.args.model.groups) c.in_ok-layout.layout.rules.items flat.for_rules;
       few = subst (λ rules. instructions (programs_of rules) ≤ 524288) c.deref.ensures.value (subst (λ n. n ≤ 524288) c.instructions-total.ensures c.if-total.false);

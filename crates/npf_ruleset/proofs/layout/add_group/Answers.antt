@@ -1,9 +1,8 @@
-use Rattle.std.proofs.Common.{◌≡◌, ◌<◌, ◌≤◌, ◌+◌, ℕ, Some, All, List, flat_map, length, slice_get, take, drop, suc, refl, subst, sym, ap, ◌∙◌, arith, get_or}
+use Rattle.std.proofs.Common.{◌≡◌, ◌<◌, ℕ, Some, All, List, flat_map, length, slice_get, take, drop, suc, refl, subst, sym, ap, ◌∙◌, arith, get_or}
 use Rattle.std.proofs.Math.Seq.{take-length}
 use Rattle.std.proofs.lemmas.Option.{slice_get-get_or, slice_get_read}
 use Rattle.npf_model.specs.Verdict.{rules_at}
 use Rattle.npf_ruleset.specs.Layout.{AddsRules, StopsFor, rules_in_group}
-use Rattle.npf_ruleset.specs.Place.{standing}
 use Rattle.npf_ruleset.specs.Refusal.{IsCompilable}
 use Rattle.npf_ruleset.proofs.LayoutLemmas.{passed, adds_both, adds_len, adds_none, all_in_part, in_group, next_part, part_fits, parts, stands_there, stops_within}
 use Rattle.npf_ruleset.proofs.layout.add_group.Goals as goal
@@ -44,11 +43,11 @@ returns-in_err-add_item-clause-refuses c =
     let item = read c.as_slice-item-items.result.now c.loop-at.at c.item-item.result c.loop-at-test.true c.item-item.is in
     let items = c.as_slice-item-items.result.now in
     let stops : StopsFor c.args.groups.now (rules_in_group (slice_get c.args.groups.now c.args.number)) c.args.rules.now.items c.add_item.new.rules.items c.in_err-add_item.field-0.0 =
-      subst (λ rules. StopsFor c.args.groups.now rules c.args.rules.now.items c.add_item.new.rules.items c.in_err-add_item.field-0.0)
-      (sym (in_group c.args.groups.now c.args.number (get_or c.args.groups.now c.args.number c.index-groups-number.result) items group c.as_slice-item-items.ensures ∙ parts rules_at items c.loop-at.at c.item-item.result item))
-      (stops_within c.args.groups.now (flat_map rules_at (take c.loop-at.at items)) (rules_at c.item-item.result) (flat_map rules_at (drop (suc c.loop-at.at) items)) c.args.rules.now.items c.loop-at.rules.items c.add_item.new.rules.items c.in_err-add_item.field-0.0 c.loop-at.invariant
-      (subst (λ rules. StopsFor c.args.groups.now rules c.loop-at.rules.items c.add_item.new.rules.items c.in_err-add_item.field-0.0)
-      (stands_there c.args.groups.now c.args.number (get_or c.args.groups.now c.args.number c.index-groups-number.result) items c.item-item.result c.loop-at.at group c.as_slice-item-items.ensures item) c.in_err-add_item.ensures.refuses)) in
+    subst (λ rules. StopsFor c.args.groups.now rules c.args.rules.now.items c.add_item.new.rules.items c.in_err-add_item.field-0.0)
+    (sym (in_group c.args.groups.now c.args.number (get_or c.args.groups.now c.args.number c.index-groups-number.result) items group c.as_slice-item-items.ensures ∙ parts rules_at items c.loop-at.at c.item-item.result item))
+    (stops_within c.args.groups.now (flat_map rules_at (take c.loop-at.at items)) (rules_at c.item-item.result) (flat_map rules_at (drop (suc c.loop-at.at) items)) c.args.rules.now.items c.loop-at.rules.items c.add_item.new.rules.items c.in_err-add_item.field-0.0 c.loop-at.invariant
+    (subst (λ rules. StopsFor c.args.groups.now rules c.loop-at.rules.items c.add_item.new.rules.items c.in_err-add_item.field-0.0)
+    (stands_there c.args.groups.now c.args.number (get_or c.args.groups.now c.args.number c.index-groups-number.result) items c.item-item.result c.loop-at.at group c.as_slice-item-items.ensures item) c.in_err-add_item.ensures.refuses)) in
     passed c.from_residual.result c.in_err-add_item.field-0.0 (StopsFor c.args.groups.now (rules_in_group (slice_get c.args.groups.now c.args.number)) c.args.rules.now.items c.add_item.new.rules.items) c.from_residual.ensures.1 stops
 
 pub loop-at-preserved : goal.loop-at-preserved

@@ -1,4 +1,4 @@
-use Rattle.std.proofs.Common.{◌≡◌, ◌<◌, ◌+◌, length, take, subst, sym, ap, ◌∙◌, arith}
+use Rattle.std.proofs.Common.{◌+◌, take, subst, sym, ap, ◌∙◌, arith}
 use Rattle.npf_ruleset.specs.declared.place.Place.{Place}
 use Rattle.npf_ruleset.specs.Layout.{AddsRules, StopsFor, fault_there}
 use Rattle.npf_ruleset.specs.Place.{standing}
@@ -15,6 +15,6 @@ returns-in-Err-clause-refuses c =
 pub loop-number-preserved : goal.loop-number-preserved
 loop-number-preserved c =
     let place : Place = record { group = c.args.first.group; item = c.args.first.item; number = c.loop-number.number } in
-    let test = c.loop-number-test.true in let all = c.requires.all in 
+    let test = c.loop-number-test.true in let all = c.requires.all in
     subst (AddsRules c.args.groups.now (take (c.loop-number.number + 1) (standing c.args.groups.now c.args.first)) c.args.rules.now.items) (sym c.in_ok-push-in-Ok.ensures.items)
     (adds_one c.args.groups.now place c.args.rules.now.items c.loop-number.rules.items (omega arith) c.loop-number.invariant c.in-Ok.rule c.in-Ok.ensures.ok)

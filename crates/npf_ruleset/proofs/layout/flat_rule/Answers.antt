@@ -1,9 +1,8 @@
-use Rattle.std.proofs.Common.{◌≡◌, ◌<◌, ◌≤◌, ℕ, Some, inl, inr, is_ok, subst, refl, sym, ap, ◌∙◌, true≢false}
+use Rattle.std.proofs.Common.{◌<◌, ◌≤◌, ℕ, inl, inr, is_ok, subst, refl, sym, ap, ◌∙◌, true≢false}
 use Rattle.std.specs.Prelude.{unwrap_or}
 use Rattle.std.proofs.lemmas.Bool.Decides.{leb_tells}
 use Rattle.npf_ruleset.specs.declared.flat.FlatRule.{FlatRule}
 use Rattle.npf_ruleset.specs.Flat.{IsFlatRule}
-use Rattle.npf_ruleset.specs.Place.{placed_rule}
 use Rattle.npf_ruleset.proofs.layout.flat_rule.Goals as goal
 
 fits : (weight : ℕ) → (4096 < weight → ⊥) → weight ≤ 4096

@@ -1,4 +1,4 @@
-use Rattle.std.proofs.Common.{◌≡◌, subst, sym, ap, ◌∙◌}
+use Rattle.std.proofs.Common.{sym, ap, ◌∙◌}
 use Rattle.npf_model.specs.MapOf.{map_applies}
 use Rattle.npf_ruleset.specs.Tables.{entries}
 use Rattle.npf_ruleset.proofs.PlaceLemmas.{first_here, first_behind}

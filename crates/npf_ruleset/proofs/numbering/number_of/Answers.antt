@@ -2,7 +2,6 @@ use Rattle.std.proofs.Common.{◌≡◌, ◌+◌, ℕ, Option, Some, bytes_eq, s
 use Rattle.std.specs.Option.{option_map}
 use Rattle.npf_types.specs.Name.{name_bytes}
 use Rattle.npf_model.specs.Numbering.{is_named, number_of_place}
-use Rattle.npf_model.specs.Verdict.{first_where}
 use Rattle.npf_types.specs.declared.interface.IfId.{IfId}
 use Rattle.npf_ruleset.proofs.PlaceLemmas.{first_behind, first_from, first_here, first_nowhere}
 use Rattle.npf_ruleset.proofs.numbering.number_of.Goals as goal

@@ -1,4 +1,4 @@
-use Rattle.std.proofs.Common.{◌↔◌, IsTrue, subst, refl}
+use Rattle.std.proofs.Common.{◌↔◌, IsTrue, subst}
 use Rattle.npf_types.specs.Prefix.{Covers}
 use Rattle.npf_table.specs.Table.{prefixes}
 use Rattle.npf_ruleset.proofs.TableLemmas.{found_in_table, found_nowhere}

@@ -1,7 +1,6 @@
-use Rattle.std.proofs.Common.{◌≡◌, ◌<◌, ◌≤◌, ◌+◌, ℕ, None, Some, List, length, refl, slice_get, slice_index_or, sym, subst, ap, ◌∙◌, arith}
+use Rattle.std.proofs.Common.{◌≡◌, ◌<◌, ◌≤◌, ◌+◌, ℕ, Some, List, length, refl, slice_get, slice_index_or, sym, subst, ap, ◌∙◌, arith}
 use Rattle.std.proofs.lemmas.Option.{slice_get_read}
 use Rattle.npf_ruleset.specs.declared.flat.FlatGroup.{FlatGroup}
-use Rattle.npf_ruleset.specs.declared.flat.FlatRule.{FlatRule}
 use Rattle.npf_ruleset.specs.declared.packet.Packet.{Packet}
 use Rattle.npf_ruleset.specs.Packet.{answer_in}
 use Rattle.npf_ruleset.proofs.WalkLemmas.{Remains, begins, ends, count_fits, decided, goes_on}

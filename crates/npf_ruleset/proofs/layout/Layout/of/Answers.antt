@@ -1,4 +1,4 @@
-use Rattle.std.proofs.Common.{◌≡◌, ◌<◌, ◌≤◌, ◌+◌, ◌-◌, ℕ, Some, All, List, [], length, slice_get, take, drop, suc, flat_map, get_or, refl, subst, sym, ap, ◌∙◌, arith}
+use Rattle.std.proofs.Common.{◌≡◌, ◌<◌, ◌-◌, ℕ, Some, All, List, [], length, slice_get, take, drop, suc, flat_map, get_or, refl, subst, sym, ap, ◌∙◌, arith}
 use Rattle.std.proofs.Math.Seq.{take-length}
 use Rattle.std.proofs.lemmas.Option.{slice_get_read}
 use Rattle.npf_model.specs.Verdict.{all_rules, rules_of}
@@ -14,9 +14,10 @@ read : {X : Type 0} (xs : List X) (n : ℕ) (x : X) → n < length xs → x ≡ 
 read xs n x lt is = slice_get_read xs (length xs) n x refl lt is
 
 pub loop-number-init : goal.loop-number-init
-loop-number-init c =
-    (subst (AddsRules c.args.groups.now [] []) (sym c.new.ensures.items) (adds_none c.args.groups.now []),
-    subst (AreRelated IsFlatGroup []) (sym c.in_ok-with_capacity.ensures.items) tt)
+loop-number-init c = (
+  subst (AddsRules c.args.groups.now [] []) (sym c.new.ensures.items) (adds_none c.args.groups.now []),
+  subst (AreRelated IsFlatGroup []) (sym c.in_ok-with_capacity.ensures.items) tt,
+)
 
 pub add_group-requires-clause-compilable : goal.add_group-requires-clause-compilable
 add_group-requires-clause-compilable c =
@@ -46,15 +47,16 @@ loop-number-preserved c =
     let groups = c.args.groups.now in let n = c.loop-number.number in
     let group = read groups n c.index-groups-number.result c.loop-number-test.true c.index-groups-number.is in
     let added : AddsRules groups (rules_of c.index-groups-number.result) c.loop-number.layout.rules.items c.add_group.new.rules.items =
-      subst (λ rules. AddsRules groups rules c.loop-number.layout.rules.items c.add_group.new.rules.items) (ap rules_in_group group) c.in_ok-add_group.ensures.ok in
+    subst (λ rules. AddsRules groups rules c.loop-number.layout.rules.items c.add_group.new.rules.items) (ap rules_in_group group) c.in_ok-add_group.ensures.ok in
     let count = adds_len groups (rules_of c.index-groups-number.result) c.loop-number.layout.rules.items c.add_group.new.rules.items added in
     let before : c.len-before.result ≡ length c.loop-number.layout.rules.items = c.len-before.ensures ∙ c.loop-number.layout.rules.ok.0 in
     let after : c.len.result ≡ length c.add_group.new.rules.items = c.len.ensures ∙ c.add_group.new.rules.ok.0 in
-    let flat : FlatGroup = record { binding = c.of_group.result; count = c.len.result - c.len-before.result } in
-    (subst (λ rules. AddsRules groups rules [] c.add_group.new.rules.items) (sym (next_part rules_of groups n c.index-groups-number.result group))
-    (adds_both groups (all_rules (take n groups)) (rules_of c.index-groups-number.result) [] c.loop-number.layout.rules.items c.add_group.new.rules.items c.loop-number.invariant.0 added),
-    group_related groups n c.index-groups-number.result flat c.loop-number.layout.groups.items c.push.new.self.items group c.loop-number.invariant.1
-    (record { binding = c.of_group.ensures; count = omega arith }) c.in_ok-push.ensures.items)
+    let flat : FlatGroup = record { binding = c.of_group.result; count = c.len.result - c.len-before.result } in (
+      subst (λ rules. AddsRules groups rules [] c.add_group.new.rules.items) (sym (next_part rules_of groups n c.index-groups-number.result group))
+          (adds_both groups (all_rules (take n groups)) (rules_of c.index-groups-number.result) [] c.loop-number.layout.rules.items c.add_group.new.rules.items c.loop-number.invariant.0 added),
+      group_related groups n c.index-groups-number.result flat c.loop-number.layout.groups.items c.push.new.self.items group c.loop-number.invariant.1
+          (record { binding = c.of_group.ensures; count = omega arith }) c.in_ok-push.ensures.items,
+    )
 
 pub returns-clause-ok : goal.returns-clause-ok
 returns-clause-ok c =

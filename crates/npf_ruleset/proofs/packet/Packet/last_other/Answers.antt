@@ -1,4 +1,4 @@
-use Rattle.std.proofs.Common.{◌≡◌, ◌<◌, ◌-◌, ℕ, suc, length, take, sym, subst, ap, ◌∙◌, arith}
+use Rattle.std.proofs.Common.{◌≡◌, ◌-◌, suc, take, sym, ap, ◌∙◌, arith}
 use Rattle.npf_model.specs.Verdict.{last_where}
 use Rattle.npf_ruleset.specs.Packet.{is_other}
 use Rattle.npf_ruleset.proofs.PlaceLemmas.{last_here, last_before, last_whole}
