@@ -121,3 +121,33 @@ fn known_connection_of_one_turn_is_not_freed(rt: HostRuntime) -> Result<(), Fail
     assert_eq!(rt; sights.freed, Some(NEXT));
     Ok(())
 }
+
+// A connection is killed while a second pass rests outside any stay: after three collections its slot comes again. The second
+// pass is joined at last.
+fn freed_beside_a_resting_pass<C: Connections<Sum>>(
+    rt: &impl Wait,
+    conns: &C,
+    pass: &mut C::Pass,
+) -> Option<ConnId>
+    requires own { C.fits conns.now pass.old }
+    requires legal { IsPass sum_law (C.view pass.old) }
+    requires out { (C.view pass.old).entered ≡ false }
+    requires place { 2 ≤ (C.view pass.old).places }
+{
+    let second = conns.split(rt, pass);
+    open(rt, conns, pass, 1, KEY);
+    conns.expire(rt, pass, 100);
+    conns.collect(rt, pass);
+    conns.collect(rt, pass);
+    conns.collect(rt, pass);
+    let again = open(rt, conns, pass, 2, KEY);
+    conns.join(rt, pass, second);
+    again
+}
+
+#[test]
+fn slot_of_one_turn_is_freed_beside_a_resting_pass(rt: HostRuntime) -> Result<(), Fail> {
+    let (conns, mut pass) = OneTurn::<Sum>::new(rt.alloc(), 1)?;
+    assert_eq!(rt; freed_beside_a_resting_pass(&rt, &conns, &mut pass), Some(NEXT));
+    Ok(())
+}

@@ -15,9 +15,10 @@ use std::env;
 use std::time::Instant;
 use text::{Hard, hard_texts};
 
-// When each stage ended, in microseconds from the start.
+// When each stage ended, in microseconds from the start, and the lines that the walk over the text's bytes counted.
 #[derive(Drop)]
 struct Ends {
+    lines: usize,
     walked: u128,
     lexed: u128,
     parsed: u128,
@@ -30,6 +31,7 @@ fn main(rt: HostRuntime) -> Result<(), Error> {
     let texts = hard_texts(rt.alloc(), most.unwrap_or(2000).min(MAX_TEXT_BYTES))?;
     for text in &texts {
         let mut ends = Ends {
+            lines: 0,
             walked: 0,
             lexed: 0,
             parsed: 0,
@@ -39,8 +41,8 @@ fn main(rt: HostRuntime) -> Result<(), Error> {
         let answer = told(rt.alloc(), read(&rt, text, &mut ends)?)?;
         println!(rt; "{}: {answer}", text.name)?;
         if most.is_some() {
-            let lines = text.conf.as_bytes().len();
-            println!(rt; "  {lines} bytes walked in {} us", ends.walked)?;
+            let bytes = text.conf.as_bytes().len();
+            println!(rt; "  {bytes} bytes, {} lines, walked in {} us", ends.lines, ends.walked)?;
             print_stages(&rt, &ends)?;
         }
     }
@@ -71,8 +73,8 @@ fn read(rt: &HostRuntime, text: &Hard, ends: &mut Ends) -> Result<Result<(), Ref
         return Err(anyhow!("the interfaces are refused"));
     };
     let start = Instant::now(rt)?;
-    let lines = conf.iter().filter(|byte| **byte == b'\n').count();
-    ends.walked = start.elapsed(rt)?.as_micros().max((lines > 0) as u128);
+    ends.lines = conf.iter().filter(|byte| **byte == b'\n').count();
+    ends.walked = start.elapsed(rt)?.as_micros();
     let Ok(tokens) = lex(rt.alloc(), conf) else {
         return Err(anyhow!("the text has no tokens"));
     };
