@@ -1,5 +1,27 @@
-// Random addresses and prefixes, the same in each run.
+// Random addresses and prefixes, the same in each run and in bench/lpm.c.
 use npf_types::{Addr, Prefix};
+
+// What a table is made of.
+#[derive(Clone, Copy)]
+pub enum Sort {
+    RandomV4,
+    // Six of ten prefixes are 24 bits long, as in a table of routes.
+    RoutesV4,
+    RandomV6,
+    // All prefixes lie in 1,024 blocks of 32 bits.
+    ClusteredV6,
+}
+
+impl Sort {
+    pub fn name(&self) -> &'static str {
+        match self {
+            Sort::RandomV4 => "random IPv4",
+            Sort::RoutesV4 => "/24-heavy IPv4",
+            Sort::RandomV6 => "random IPv6",
+            Sort::ClusteredV6 => "clustered IPv6",
+        }
+    }
+}
 
 // Knuth's MMIX generator, its high bits folded over the low ones.
 #[derive(Drop)]
@@ -16,22 +38,46 @@ impl Draws {
         self.state ^ (self.state >> 29)
     }
 
-    pub fn addr(&mut self) -> Addr {
+    pub fn addr(&mut self, sort: Sort) -> Addr {
+        let high = self.next();
         let low = self.next();
-        if low % 2 == 0 {
-            Addr::V4((low >> 32) as u32)
-        } else {
-            Addr::V6((self.next() as u128) << 64 | low as u128)
+        match sort {
+            Sort::RandomV4 | Sort::RoutesV4 => Addr::V4((high >> 32) as u32),
+            Sort::RandomV6 => Addr::V6(u128::from(high) << 64 | u128::from(low)),
+            Sort::ClusteredV6 => {
+                let cluster = 0x2001_0000 + (high >> 32) % 1024;
+                let rest = high & 0xffff_ffff;
+                Addr::V6(u128::from(cluster) << 96 | u128::from(rest) << 64 | u128::from(low))
+            }
         }
     }
 
-    // Lengths of 20 to 32 and of 40 to 128.
-    pub fn prefix(&mut self) -> Option<Prefix> {
-        let addr = self.addr();
-        let len = match addr {
-            Addr::V4(_) => 20 + self.next() % 13,
-            Addr::V6(_) => 40 + self.next() % 89,
+    pub fn prefix(&mut self, sort: Sort) -> Option<Prefix> {
+        let addr = self.addr(sort);
+        let draw = self.next() >> 8;
+        let len = match sort {
+            Sort::RandomV4 => 20 + draw % 13,
+            Sort::RoutesV4 if draw % 10 < 6 => 24,
+            Sort::RoutesV4 => 16 + draw % 8,
+            Sort::RandomV6 => 40 + draw % 89,
+            Sort::ClusteredV6 => 48 + draw % 17,
         };
         Prefix::of(addr, len as u8)
+    }
+
+    // An address of the block.
+    pub fn inside(&mut self, block: &Prefix) -> Addr {
+        let high = self.next();
+        let low = self.next();
+        match block.addr {
+            Addr::V4(first) => {
+                let host = u32::MAX.checked_shr(u32::from(block.len)).unwrap_or(0);
+                Addr::V4(first | (high >> 32) as u32 & host)
+            }
+            Addr::V6(first) => {
+                let host = u128::MAX.checked_shr(u32::from(block.len)).unwrap_or(0);
+                Addr::V6(first | (u128::from(high) << 64 | u128::from(low)) & host)
+            }
+        }
     }
 }

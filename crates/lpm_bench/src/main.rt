@@ -1,116 +1,116 @@
-// Counts how long look-ups take in a longest prefix table, beside a scan of its prefixes and a hash set for each length.
-// The argument is the number of look-ups; with none the program only fills the table.
+// Counts how long look-ups and changes of tables of 131,072 prefixes take. The first argument is the number of look-ups in each
+// table, and with none the program only fills them; the second is how many more copies of the last table are kept, which tells
+// what one takes of memory.
 #![tactic(auto)]
 
+mod changes;
 mod draws;
 
 use anyhow::Error;
-use draws::Draws;
+use changes::{count_changes, count_text};
+use draws::{Draws, Sort};
 use npf_lpm::Lpm;
 use npf_types::{Addr, Prefix};
-use std::alloc::{AllocError, Global};
-use std::collections::HashSet;
+use std::alloc::Global;
 use std::env;
 use std::time::Instant;
 
 const PREFIXES: u32 = 131_072;
 
+// So many addresses are looked up in turn, half of them in listed prefixes.
+const ADDRESSES: u32 = 65_536;
+
 const SEED: u64 = 20_240_229;
 
-// A hash set of blocks for each length, which a look-up asks one after another.
-#[derive(Drop)]
-struct Lengths {
-    sets: Vec<HashSet<Prefix>>,
-}
-
-impl Lengths {
-    fn new(alloc: Global) -> Result<Lengths, AllocError> {
-        let mut sets = Vec::new(alloc);
-        for _ in 0..129 {
-            sets.push(HashSet::new(alloc))?;
-        }
-        Ok(Lengths { sets })
-    }
-
-    fn insert(&mut self, prefix: Prefix) -> Result<(), AllocError> {
-        if let Some(set) = self.sets.get_mut(prefix.len as usize) {
-            let _added = set.insert(prefix)?;
-        }
-        Ok(())
-    }
-
-    fn contains(&self, addr: Addr) -> bool {
-        for (len, set) in self.sets.iter().enumerate() {
-            if len <= addr.width() as usize
-                && Prefix::of(addr, len as u8).is_some_and(|block| set.contains(&block))
-            {
-                return true;
-            }
-        }
-        false
-    }
-}
-
 fn main(rt: HostRuntime) -> Result<(), Error> {
-    let look_ups = look_ups(&rt)?;
-    let start = Instant::now(&rt)?;
+    let look_ups = argument(&rt, 1)?;
+    for sort in [
+        Sort::RandomV4,
+        Sort::RoutesV4,
+        Sort::RandomV6,
+        Sort::ClusteredV6,
+    ] {
+        count_look_ups(&rt, sort, look_ups)?;
+    }
+    let mut draws = Draws { state: !SEED };
+    let blocks = blocks(rt.alloc(), &mut draws, Sort::RandomV4)?;
+    if look_ups > 0 {
+        count_changes(&rt, &blocks, &mut draws)?;
+        count_text(&rt, &blocks)?;
+    }
+    keep_copies(&rt, &blocks, argument(&rt, 2)?)
+}
+
+fn count_look_ups(rt: &HostRuntime, sort: Sort, look_ups: u64) -> Result<(), Error> {
     let mut draws = Draws { state: SEED };
-    let mut table = Lpm::new(rt.alloc());
-    let mut blocks = Vec::new(rt.alloc());
-    let mut lengths = Lengths::new(rt.alloc())?;
-    for _ in 0..PREFIXES {
-        if let Some(block) = draws.prefix() {
-            blocks.push(block)?;
-        }
-    }
-    let drawn = start.elapsed(&rt)?;
-    for block in &blocks {
-        let _added = table.insert(*block)?;
-    }
-    let filled = start.elapsed(&rt)?;
-    for block in &blocks {
-        lengths.insert(*block)?;
-    }
-    println!(rt; "{} prefixes", table.len())?;
+    let blocks = blocks(rt.alloc(), &mut draws, sort)?;
+    let table = Lpm::of_prefixes(rt.alloc(), &blocks)?;
+    println!(rt; "{}: {} prefixes", sort.name(), table.len())?;
     if look_ups == 0 {
         return Ok(());
     }
-    let insertion = filled.saturating_sub(drawn).as_millis();
-    println!(rt; "inserted in {insertion} ms")?;
-    let start = Instant::now(&rt)?;
-    let hits = count(look_ups, |addr| table.contains(addr));
-    let took = start.elapsed(&rt)?.as_micros();
-    println!(rt; "table: {look_ups} look-ups, {hits} found, {took} us")?;
-    let start = Instant::now(&rt)?;
-    let hits = count(look_ups, |addr| lengths.contains(addr));
-    let took = start.elapsed(&rt)?.as_micros();
-    println!(rt; "sets: {look_ups} look-ups, {hits} found, {took} us")?;
-    let few = look_ups / 1000;
-    let start = Instant::now(&rt)?;
-    let hits = count(few, |addr| blocks.iter().any(|block| block.has(addr)));
-    let took = start.elapsed(&rt)?.as_micros();
-    println!(rt; "scan: {few} look-ups, {hits} found, {took} us")?;
+    let addrs = addresses(rt.alloc(), &mut draws, sort, &blocks)?;
+    let rounds = look_ups / u64::from(ADDRESSES) + 1;
+    let start = Instant::now(rt)?;
+    let found = found(&table, &addrs, rounds);
+    let took = start.elapsed(rt)?.as_nanos();
+    let each = took / u128::from(rounds) / u128::from(ADDRESSES);
+    println!(rt; "{found} found, {each} ns a look-up")?;
     Ok(())
 }
 
-// How many of the drawn addresses are found.
-fn count<F: Fn(Addr) -> bool>(look_ups: u64, found: F) -> u64
-    requires { F.IsAlwaysCallable found }
-{
-    let mut draws = Draws { state: !SEED };
-    let mut hits = 0u64;
-    for _ in 0..look_ups {
-        if found(draws.addr()) {
-            hits = hits.wrapping_add(1);
+fn blocks(alloc: Global, draws: &mut Draws, sort: Sort) -> Result<Vec<Prefix>, Error> {
+    let mut blocks = Vec::new(alloc);
+    for _ in 0..PREFIXES {
+        if let Some(block) = draws.prefix(sort) {
+            blocks.push(block)?;
         }
     }
-    hits
+    Ok(blocks)
 }
 
-// The number in the first argument, or 0.
-fn look_ups(rt: &HostRuntime) -> Result<u64, Error> {
+fn addresses(
+    alloc: Global,
+    draws: &mut Draws,
+    sort: Sort,
+    blocks: &[Prefix],
+) -> Result<Vec<Addr>, Error> {
+    let mut addrs = Vec::new(alloc);
+    for at in 0..ADDRESSES {
+        let place = draws.next() >> 8;
+        match blocks.get(place as usize % blocks.len().max(1)) {
+            Some(block) if at % 2 == 0 => addrs.push(draws.inside(block))?,
+            _ => addrs.push(draws.addr(sort))?,
+        }
+    }
+    Ok(addrs)
+}
+
+// How many of the addresses are found, each as often.
+fn found(table: &Lpm, addrs: &[Addr], rounds: u64) -> u64 {
+    let mut found = 0u64;
+    for _ in 0..rounds {
+        for addr in addrs {
+            found = found.wrapping_add(u64::from(table.contains(*addr)));
+        }
+    }
+    found
+}
+
+fn keep_copies(rt: &HostRuntime, blocks: &[Prefix], copies: u64) -> Result<(), Error> {
+    let table = Lpm::of_prefixes(rt.alloc(), blocks)?;
+    let mut kept = Vec::new(rt.alloc());
+    for _ in 0..copies {
+        kept.push(table.copy()?)?;
+    }
+    println!(rt; "{} copies of {} prefixes", kept.len(), table.len())?;
+    Ok(())
+}
+
+// The number in an argument, or 0.
+fn argument(rt: &HostRuntime, place: usize) -> Result<u64, Error> {
     for (at, word) in env::args(rt)?.enumerate() {
-        if at == 1 {
+        if at == place {
             return Ok(word.as_str().parse::<u64>().unwrap_or(0));
         }
     }

@@ -1,3 +1,8 @@
-pub mod BlockLemmas
-pub mod LengthLemmas
-pub mod MemberLemmas
+mod AgreeLemmas
+mod CutLemmas
+mod FamilyLemmas
+mod SortLemmas
+mod RowLemmas
+mod ChangeLemmas
+mod TopLemmas
+mod BothLemmas

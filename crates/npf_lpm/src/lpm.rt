@@ -1,37 +1,35 @@
-ghost use Rattle.std.specs.Prelude.{◌≡◌, ◌≢◌, ◌≤◌, ◌+◌, ◌<◌, ◌↔◌, ℕ, [], Contains, IsTrue, IfOk, OnOk, OnErr, length, if◌then◌else◌};
+ghost use Rattle.std.specs.Prelude.{◌≡◌, ◌≢◌, ◌≤◌, ◌+◌, ◌<◌, ◌↔◌, ℕ, [], Contains, IsTrue, IfOk, OnOk, OnErr, length, map, if◌then◌else◌, true, false};
 ghost use Rattle.std.specs.Bool.{OnFalse};
-ghost use Rattle.std.specs.List.{AllPairs};
-ghost use Rattle.npf_types.specs.Address.{width};
+ghost use Rattle.std.specs.List.{AllPairs, filter};
+ghost use Rattle.npf_types.specs.declared.prefix.Prefix.{Prefix};
 ghost use Rattle.npf_types.specs.Prefix.{Covers};
-ghost use Rattle.npf_lpm.specs.Length.{place_of};
-ghost use Rattle.npf_lpm.specs.Lpm.{CoversAt, Gains, Loses};
+ghost use Rattle.npf_lpm.specs.Blocks.{Inserts, Removes};
+ghost use Rattle.npf_lpm.specs.Families.{aligned_block, is_narrow};
+ghost use Rattle.npf_lpm.specs.Lpm.{Gains, Loses};
 
+use crate::aligned::{Aligned, aligned_of, number_of};
+use crate::blocks::Blocks;
 use npf_types::{Addr, NoMemory, Prefix};
 use std::alloc::Global;
-use std::collections::HashSet;
 use std::marker::Model;
-
-// How many lengths a prefix may have: 33 of IPv4 and 129 of IPv6.
-const LENGTHS: usize = 162;
 
 /// A set of prefixes of both families.
 #[derive(Drop)]
 pub struct Lpm {
-    prefixes: HashSet<Prefix>,
-    // How many of them have each length, so that a look-up tries only the lengths that occur.
-    counts: [u64; LENGTHS],
+    v4: Blocks,
+    v6: Blocks,
 }
 
 impl Model for Lpm {
     ghost use Rattle.std.specs.Prelude.{List};
     ghost use Rattle.npf_types.specs.declared.prefix.Prefix.{Prefix};
-    ghost use Rattle.npf_lpm.specs.Length.{CountsLengths};
+    ghost use Rattle.npf_lpm.specs.Families.{AreFamilies, both};
 
     ghost Value = { List Prefix };
 
-    ghost view = { λ lpm. lpm.prefixes.keys };
+    ghost view = { λ lpm. both lpm.v4 lpm.v6 };
 
-    ghost invariant = { λ lpm. CountsLengths lpm.prefixes.keys lpm.counts };
+    ghost invariant = { λ lpm. AreFamilies lpm.v4 lpm.v6 };
 }
 
 impl Lpm {
@@ -40,9 +38,20 @@ impl Lpm {
         ensures { result ≡ [] }
     {
         Lpm {
-            prefixes: HashSet::new(alloc),
-            counts: [0; LENGTHS],
+            v4: Blocks::new(alloc),
+            v6: Blocks::new(alloc),
         }
+    }
+
+    /// The table of these prefixes, which may stand in any order and several times.
+    pub fn of_prefixes(alloc: Global, prefixes: &[Prefix]) -> Result<Lpm, NoMemory>
+        ensures { IfOk result
+            (λ table. (prefix : Prefix) → Contains table prefix ↔ Contains prefixes.now prefix) }
+    {
+        Ok(Lpm {
+            v4: Blocks::of_blocks(alloc, narrow_blocks(alloc, prefixes)?)?,
+            v6: Blocks::of_blocks(alloc, wide_blocks(alloc, prefixes)?)?,
+        })
     }
 
     /// How many prefixes there are. None is there twice.
@@ -50,19 +59,17 @@ impl Lpm {
         ensures value { result ≡ length self.now }
         ensures once { AllPairs (λ p q. p ≢ q) self.now }
     {
-        self.prefixes.len() as u64
+        self.v4.len() as u64 + self.v6.len() as u64
     }
 
     /// Whether some prefix has the address.
     pub fn contains(&self, addr: Addr) -> bool
         ensures { IsTrue result ↔ Covers self.now addr }
     {
-        for len in 0..addr.width() + 1 {
-            if self.counts[place(addr, len)] > 0 && lists_block(&self.prefixes, addr, len) {
-                return true;
-            }
+        match addr {
+            Addr::V4(_) => self.v4.contains(number_of(addr)),
+            Addr::V6(_) => self.v6.contains(number_of(addr)),
         }
-        false
     }
 
     /// Adds a prefix. False exactly where it is there already.
@@ -75,13 +82,16 @@ impl Lpm {
         ensures absent { OnErr result (¬ Contains self.old prefix) }
         ensures err { OnErr result (self.new ≡ self.old) }
     {
-        let added = self.prefixes.insert(prefix)?;
-        if added {
-            // No count passes the number of the prefixes, which memory bounds.
-            prove!(self.prefixes.len() < usize::MAX);
-            self.counts[place(prefix.addr, prefix.len)] += 1;
+        self.put(prefix)
+    }
+
+    fn put(&mut self, prefix: Prefix) -> Result<bool, NoMemory>
+        ensures { Inserts self.old self.new prefix result }
+    {
+        match prefix.addr {
+            Addr::V4(_) => self.v4.insert(aligned_of(prefix)),
+            Addr::V6(_) => self.v6.insert(aligned_of(prefix)),
         }
-        Ok(added)
     }
 
     /// Takes a prefix out. False exactly where it isn't there.
@@ -91,11 +101,16 @@ impl Lpm {
         ensures len { length self.new + (if result then 1 else 0) ≡ length self.old }
         ensures kept { OnFalse result (self.new ≡ self.old) }
     {
-        let removed = self.prefixes.remove(&prefix);
-        if removed {
-            self.counts[place(prefix.addr, prefix.len)] -= 1;
+        self.take(prefix)
+    }
+
+    fn take(&mut self, prefix: Prefix) -> bool
+        ensures { Removes self.old self.new prefix result }
+    {
+        match prefix.addr {
+            Addr::V4(_) => self.v4.remove(aligned_of(prefix)),
+            Addr::V6(_) => self.v6.remove(aligned_of(prefix)),
         }
-        removed
     }
 
     /// An equal table.
@@ -103,30 +118,42 @@ impl Lpm {
         ensures { IfOk result (λ copy. copy ≡ self.now) }
     {
         Ok(Lpm {
-            prefixes: self.prefixes.clone()?,
-            counts: self.counts,
+            v4: self.v4.copy()?,
+            v6: self.v6.copy()?,
         })
     }
 }
 
-// Where the family's length is counted.
-fn place(addr: Addr, len: u8) -> usize
-    requires { len ≤ width addr }
-    ensures value { result ≡ place_of addr len }
-    ensures small { result < 162 }
+// The blocks of the prefixes of IPv4.
+fn narrow_blocks(alloc: Global, prefixes: &[Prefix]) -> Result<Vec<Aligned>, NoMemory>
+    ensures { IfOk result (λ blocks. blocks.items ≡ map aligned_block (filter (λ p. is_narrow p.addr) prefixes.now)) }
 {
-    match addr {
-        Addr::V4(_) => len as usize,
-        Addr::V6(_) => 33 + len as usize,
-    }
+    Ok(
+        prefixes
+            .iter()
+            .copied()
+            .filter(|prefix| is_narrow(prefix.addr))
+            .map(|prefix| aligned_of(prefix))
+            .collect(alloc)?,
+    )
 }
 
-// Whether the block of that length that the address lies in is one of the prefixes.
-fn lists_block(prefixes: &HashSet<Prefix>, addr: Addr, len: u8) -> bool
-    ensures { IsTrue result ↔ CoversAt prefixes.now.keys addr len }
+// The blocks of the prefixes of IPv6.
+fn wide_blocks(alloc: Global, prefixes: &[Prefix]) -> Result<Vec<Aligned>, NoMemory>
+    ensures { IfOk result (λ blocks. blocks.items ≡ map aligned_block (filter (λ p. if is_narrow p.addr then false else true) prefixes.now)) }
 {
-    match Prefix::of(addr, len) {
-        Some(block) => prefixes.contains(&block),
-        None => false,
-    }
+    Ok(
+        prefixes
+            .iter()
+            .copied()
+            .filter(|prefix| !is_narrow(prefix.addr))
+            .map(|prefix| aligned_of(prefix))
+            .collect(alloc)?,
+    )
+}
+
+fn is_narrow(addr: Addr) -> bool
+    ensures { result ≡ is_narrow addr }
+{
+    matches!(addr, Addr::V4(_))
 }

@@ -1,5 +1,5 @@
 -- The entries of a file's lines, line by line.
-use Rattle.std.proofs.Common.{◌≡◌, ◌≢◌, ◌<◌, ◌+◌, ℕ, List, Contains, length, take, get_or, ◌++◌, ◌∷◌, [], refl, sym, ap, subst, ◌∙◌, ◌⊎◌, ⊎_elim, inl, inr, true≢false, arith, add-one}
+use Rattle.std.proofs.Common.{◌↔◌, ◌≡◌, ◌≢◌, ◌<◌, ◌+◌, ℕ, List, Contains, length, take, get_or, ◌++◌, ◌∷◌, [], refl, sym, ap, subst, ◌∙◌, ◌⊎◌, ⊎_elim, inl, inr, true≢false, arith, add-one}
 use Rattle.std.proofs.lemmas.List.{get_or-take, length-take-le}
 use Rattle.std.proofs.lemmas.Option.{slice_get_read, get_or_from_slice_get}
 use Rattle.std.proofs.lemmas.List.Elements.{Contains-push, Contains-append_left, Contains-push_cases}
@@ -7,8 +7,7 @@ use Rattle.std.proofs.Math.Seq.{take-suc}
 use Rattle.npf_model.specs.declared.table.Kind.{Kind}
 use Rattle.npf_types.specs.declared.prefix.Prefix.{Prefix}
 use Rattle.npf_lpm.specs.Lpm.{Gains}
-use Rattle.npf_types.proofs.PrefixLemmas.{same_prefix, same_prefix_tells}
-use Rattle.npf_lpm.proofs.MemberLemmas.{same_prefix_decides}
+use Rattle.npf_types.proofs.PrefixLemmas.{same_prefix, same_prefix_laws, same_prefix_tells}
 use Rattle.std.proofs.lemmas.Bool.{cases_Bool}
 use Rattle.npf_table.specs.Line.{IsBlankLine, IsEntry, IsBad}
 use Rattle.npf_types.specs.Reading.{IsOnly}
@@ -59,7 +58,7 @@ after_entry kind done line entry old new h only gains = record {
         λ _. subst (λ (q : Prefix). Contains new q) is gains.there,
       ))
       (λ other.
-      let apart : p ≢ entry = λ is. true≢false (sym ((same_prefix_decides entry p).1 (sym is)) ∙ other) in (
+      let apart : p ≢ entry = λ is. true≢false (sym (ap (same_prefix entry) is ∙ same_prefix_laws.refl entry) ∙ other) in (
         λ there. writes_more kind done line p ((h.written p).0 ((gains.others p apart).0 there)),
         λ w. (gains.others p apart).1 (⊎_elim
             (λ (was : Writes kind done p). (h.written p).1 was)
@@ -68,6 +67,24 @@ after_entry kind done line entry old new h only gains = record {
       ))
       (cases_Bool (same_prefix entry p));
   none_bad = good_more kind done line h.none_bad (λ bad. bad.no_entry entry only.reads);
+}
+
+-- a prefix put behind others joins them
+pub pushed_gains : (ps new : List Prefix) (p : Prefix) → new ≡ ps ++ p ∷ [] → Gains ps new p
+pushed_gains ps new p is = subst (λ (l : List Prefix). Gains ps l p) (sym is) (record {
+  there = Contains-push ps p;
+  others = λ other apart. (
+    λ h. ⊎_elim (λ (old : Contains ps other). old) (λ (now : p ≡ other). absurd (apart (sym now))) (Contains-push_cases ps p other h),
+    λ h. Contains-append_left ps (p ∷ []) other h,
+  );
+})
+
+-- the lines write what a list of the same prefixes has
+pub same_entries : (kind : Kind) (all : List (List ℕ)) (ps same : List Prefix) → AreEntries kind all ps → ((p : Prefix) → Contains same p ↔ Contains ps p)
+    → AreEntries kind all same
+same_entries kind all ps same h eq = record {
+  written = λ p. (λ there. (h.written p).0 ((eq p).0 there), λ w. (eq p).1 ((h.written p).1 w));
+  none_bad = h.none_bad;
 }
 
 -- a bad line behind good ones is the first

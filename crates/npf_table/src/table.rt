@@ -27,19 +27,20 @@ impl Table {
         ensures ok { IfOk result (IsTableOf kind text.now) }
         ensures err { IfErr result (RefusesFile kind text.now) }
     {
-        let mut prefixes = Lpm::new(alloc);
+        let mut prefixes = Vec::new(alloc);
         let mut number = 0u32;
         for line in text.split(|byte| *byte == b'\n') {
             number += 1;
             match read_line(kind, line) {
                 Line::Blank => {}
-                Line::Entry(prefix) => {
-                    prefixes.insert(prefix)?;
-                }
+                Line::Entry(prefix) => append(&mut prefixes, prefix)?,
                 Line::Bad => return Err(TableFault::BadLine(number)),
             }
         }
-        Ok(Table { kind, prefixes })
+        Ok(Table {
+            kind,
+            prefixes: Lpm::of_prefixes(alloc, &prefixes)?,
+        })
     }
 
     /// Whether some prefix of the table has the address.
@@ -102,6 +103,13 @@ impl Table {
         }
         Err(TableFault::Absent)
     }
+}
+
+// Puts the prefix behind the others.
+fn append(prefixes: &mut Vec<Prefix>, prefix: Prefix) -> Result<(), NoMemory>
+    ensures { OnOk result (Gains prefixes.old.items prefixes.new.items prefix) }
+{
+    Ok(prefixes.push(prefix)?)
 }
 
 // Whether a table of this kind may be changed by the prefix.

@@ -1,23 +1,14 @@
-use Rattle.std.proofs.Common.{◌<◌, ◌+◌, ℕ, arith, sym, below_more, refl, true≢false}
-use Rattle.npf_types.specs.Address.{width}
-use Rattle.npf_lpm.specs.Lpm.{CoversAt}
-use Rattle.npf_lpm.proofs.BlockLemmas.{none_of_length, covered_at, covered_nowhere}
+use Rattle.std.proofs.Common.{ap, true, false}
+use Rattle.npf_lpm.specs.Families.{is_narrow}
+use Rattle.npf_lpm.proofs.BothLemmas.{covers_in}
 use Rattle.npf_lpm.proofs.lpm.Lpm.contains.Goals as goal
-use Rattle.npf_lpm.proofs.lpm.Lpm.contains.Goals.{else-self-place-gt0-via-then-self-place-gt0+else-lists_block, else-self-place-gt0-via-else-self-place-gt0}
 
-pub returns-then-lists_block : goal.returns-then-lists_block
-returns-then-lists_block c = rw (← c.self.view_is)
-    (λ _. covered_at c.self.inside.prefixes.keys c.args.addr c.loop-len.len (c.if-lists_block.ensures.0 refl), λ _. refl)
+pub returns-in-V4 : goal.returns-in-V4
+returns-in-V4 c =
+    let d = covers_in c.self.inside.v4 c.self.inside.v6 c.self.invariant true c.args.addr (ap is_narrow c.in-V4.is) in
+    rw (← c.self.view_is) (λ h. d.0 (rw c.number_of.ensures at (c.contains.ensures.0 h)), λ cov. c.contains.ensures.1 (rw c.number_of.ensures (d.1 cov)))
 
-pub loop-len-preserved : goal.loop-len-preserved
-loop-len-preserved c = elim c.else-self-place-gt0.branch [
-  | else-self-place-gt0-via-then-self-place-gt0+else-lists_block w ↦ below_more _ _ c.loop-len.invariant
-      (rw (← c.self.view_is) (λ covers. true≢false (sym (w.if-lists_block.ensures.1 covers))))
-  | else-self-place-gt0-via-else-self-place-gt0 w ↦ below_more _ _ c.loop-len.invariant
-      (rw (← c.self.view_is) (none_of_length c.self.inside.prefixes.keys c.self.inside.counts c.args.addr c.loop-len.len c.place.result c.self.invariant c.place.ensures.value c.place.ensures.small w.if-self-place-gt0.false))
-]
-
-pub returns : goal.returns
-returns c =
-    let none : (n : ℕ) → n < width c.args.addr + 1 → ¬ CoversAt c.args.self.now c.args.addr n = λ n lt. c.loop-len.invariant n (omega arith) in
-    (λ h. absurd (true≢false (sym h)), λ covers. absurd (covered_nowhere c.args.self.now c.args.addr none covers))
+pub returns-in-V6 : goal.returns-in-V6
+returns-in-V6 c =
+    let d = covers_in c.self.inside.v4 c.self.inside.v6 c.self.invariant false c.args.addr (ap is_narrow c.in-V6.is) in
+    rw (← c.self.view_is) (λ h. d.0 (rw c.number_of-in-V6.ensures at (c.contains-in-V6.ensures.0 h)), λ cov. c.contains-in-V6.ensures.1 (rw c.number_of-in-V6.ensures (d.1 cov)))

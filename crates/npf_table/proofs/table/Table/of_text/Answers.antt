@@ -3,7 +3,7 @@ use Rattle.std.proofs.lemmas.List.{length_push, take_all}
 use Rattle.std.proofs.lemmas.Iterator.Consumers.{YieldsList-turn, YieldsList-end}
 use Rattle.std.proofs.lemmas.Iterator.Splits.{YieldsList-from_slice_split}
 use Rattle.npf_table.specs.TableFile.{is_line_feed, lines, AreEntries}
-use Rattle.npf_table.proofs.TableFileLemmas.{after_blank, after_entry, first_bad, one_line_more}
+use Rattle.npf_table.proofs.TableFileLemmas.{after_blank, after_entry, first_bad, one_line_more, same_entries}
 use Rattle.npf_table.proofs.table.Table.of_text.Goals as goal
 
 pub loop-line-preserved-in-Blank : goal.loop-line-preserved-in-Blank
@@ -17,8 +17,8 @@ loop-line-preserved-in-Blank c =
       can = search rules;
       finite = search rules;
       counted = grind (arith, length_push);
-      entries = subst (λ (ls : List (List ℕ)). AreEntries c.args.kind ls c.loop-line.prefixes) (sym more)
-          (after_blank c.args.kind (take n all) line c.loop-line.prefixes c.loop-line.invariant.entries c.in-Blank.ensures.0 c.in-Blank.ensures.1);
+      entries = subst (λ (ls : List (List ℕ)). AreEntries c.args.kind ls c.loop-line.prefixes.items) (sym more)
+          (after_blank c.args.kind (take n all) line c.loop-line.prefixes.items c.loop-line.invariant.entries c.in-Blank.ensures.0 c.in-Blank.ensures.1);
     }
 
 pub loop-line-preserved : goal.loop-line-preserved
@@ -32,14 +32,14 @@ loop-line-preserved c =
       can = search rules;
       finite = search rules;
       counted = grind (arith, length_push);
-      entries = subst (λ (ls : List (List ℕ)). AreEntries c.args.kind ls c.insert.new.self) (sym more)
-          (after_entry c.args.kind (take n all) line c.in-Entry.prefix c.loop-line.prefixes c.insert.new.self c.loop-line.invariant.entries c.in-Entry.ensures c.in_ok-insert-in-Entry.ensures.ok);
+      entries = subst (λ (ls : List (List ℕ)). AreEntries c.args.kind ls c.append.new.prefixes.items) (sym more)
+          (after_entry c.args.kind (take n all) line c.in-Entry.prefix c.loop-line.prefixes.items c.append.new.prefixes.items c.loop-line.invariant.entries c.in-Entry.ensures c.in_ok-append-in-Entry.ensures);
     }
 
 pub returns-in-Bad-clause-err : goal.returns-in-Bad-clause-err
 returns-in-Bad-clause-err c =
     let t = YieldsList-turn (YieldsList-from_slice_split _ is_line_feed c.args.text.now (cc) (cc) (cc) (λ x b q k. search (rules, tests))) c.loop-line.yielded _ c.loop-line.yielded_by _ _ c.in-Some.line c.in-Some.is c.next.ensures.steps in
-    first_bad c.args.kind (lines c.args.text.now) (length c.loop-line.yielded) c.in-Some.line.now c.loop-line.prefixes _
+    first_bad c.args.kind (lines c.args.text.now) (length c.loop-line.yielded) c.in-Some.line.now c.loop-line.prefixes.items _
     c.loop-line.invariant.entries t.0 t.1 c.in-Bad.ensures (ap (λ k. k + 1) c.loop-line.invariant.counted)
 
 pub returns-clause-ok : goal.returns-clause-ok
@@ -48,5 +48,7 @@ returns-clause-ok c =
     let all = lines c.args.text.now in
     record {
       of_kind = refl;
-      entries = subst (λ (ls : List (List ℕ)). AreEntries c.args.kind ls c.loop-line.prefixes) (take_all (length c.loop-line.yielded) all (omega (arith, e.1))) c.loop-line.invariant.entries;
+      entries = same_entries c.args.kind all c.loop-line.prefixes.items c.in_ok-of_prefixes.field-0
+          (subst (λ (ls : List (List ℕ)). AreEntries c.args.kind ls c.loop-line.prefixes.items) (take_all (length c.loop-line.yielded) all (omega (arith, e.1))) c.loop-line.invariant.entries)
+          (λ p. rw (← c.deref.ensures.value) (c.in_ok-of_prefixes.ensures p));
     }

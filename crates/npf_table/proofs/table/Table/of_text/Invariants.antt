@@ -7,5 +7,5 @@ invariant-loop-line l = record {
   can : (goal.iterator-loop-line).can_next l.line-iterator;
   finite : (goal.iterator-loop-line).is_finite l.line-iterator;
   counted : l.number ≡ length l.yielded;
-  entries : AreEntries l.kind (take (length l.yielded) (lines l.text)) l.prefixes;
+  entries : AreEntries l.kind (take (length l.yielded) (lines l.text)) l.prefixes.items;
 }
