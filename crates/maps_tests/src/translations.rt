@@ -1,6 +1,3 @@
-ghost use Rattle.std.specs.Prelude.{◌≡◌, IsTrue};
-ghost use Rattle.npf_nat.specs.PrefixPair.{IsOrdered};
-
 use npf_model::{Algo, Arrow, Map, OnIf, Side};
 use npf_nat::{MapPlan, drawn, laws, npt66, plan};
 use npf_types::{Addr, Change, Dir, End, Facts, IfId, L4, Name, Prefix, Segment};
@@ -94,15 +91,6 @@ fn interface() -> Result<OnIf, Fail> {
     }
 }
 
-fn is_ordered(ports: Option<(u16, u16)>) -> bool
-    ensures { IsTrue result → IsOrdered ports }
-{
-    match ports {
-        Some((first, last)) => first <= last,
-        None => true,
-    }
-}
-
 /// What a dynamic map between these sides makes of the packet.
 fn dynamic(
     arrow: Arrow,
@@ -112,9 +100,6 @@ fn dynamic(
     dir: Dir,
 ) -> Result<Option<MapPlan>, Fail> {
     let (inside, outside) = sides;
-    if !is_ordered(outside.ports) {
-        return Err(Fail::from("a range that goes down"));
-    }
     let map = Map {
         on: interface()?,
         algo: Algo::Dynamic,
@@ -196,6 +181,13 @@ fn outward_maps_draw_a_port(rt: HostRuntime) -> Result<(), Fail> {
             udp(9, 53),
             Some((80, 80)),
             Some((80, 80, 80)),
+        ),
+        (
+            "a range that goes down",
+            17,
+            udp(150, 53),
+            Some((200, 100)),
+            Some((200, 100, 200)),
         ),
         ("no echo", 1, icmp(None), None, None),
         ("another protocol", 47, L4::Other, None, None),

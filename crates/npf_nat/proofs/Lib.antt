@@ -1,4 +1,3 @@
 pub mod AnswerLemmas
 pub mod NetmapLemmas
 pub mod NptLemmas
-pub mod PrefixPairLemmas

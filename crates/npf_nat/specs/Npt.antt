@@ -34,7 +34,13 @@ address_number (V6 a) = a
 abbrev pub npt66 : Prefix → Prefix → ℕ → ℕ
 npt66 from to a = npt66_number (address_number from.addr) (address_number to.addr) to.len a
 
--- an address of IPv6 translated; IPv4 has no such translation
+-- an address translated to a block; IPv4 has no such translation, so it leaves an address of IPv4, and one for which the block
+-- is of IPv4
+abbrev pub translated_v6 : ℕ → Addr → ℕ → Addr → Addr
+translated_v6 from (V6 to) n (V6 a) = V6 (npt66_number from to n a)
+translated_v6 from (V6 _) n (V4 a) = V4 a
+translated_v6 from (V4 _) n (V6 a) = V6 a
+translated_v6 from (V4 _) n (V4 a) = V4 a
+
 abbrev pub npt66_address : Prefix → Prefix → Addr → Addr
-npt66_address from to (V6 a) = V6 (npt66 from to a)
-npt66_address from to (V4 a) = V4 a
+npt66_address from to addr = translated_v6 (address_number from.addr) to.addr to.len addr

@@ -54,17 +54,17 @@ pub fn drawn_range(ports: Option<(u16, u16)>) -> (u16, u16)
     ports.unwrap_or(DEFAULT_RANGE)
 }
 
-/// The number that is tried first for a packet that has this one.
+/// The number that is tried first for a packet that has this one. Where the range is in order it is
+/// one of them.
 pub fn first_candidate(range: (u16, u16), number: u16) -> u16
-    requires { range.0 ≤ range.1 }
     ensures value { result ≡ first_candidate range number }
     ensures low { range.0 ≤ result }
-    ensures high { result ≤ range.1 }
+    ensures high { range.0 ≤ range.1 → result ≤ range.1 }
 {
     let (min, max) = range;
     if min <= number && number <= max {
         return number;
     }
-    let count = u32::from(max - min) + 1;
+    let count = u32::from(max.saturating_sub(min)) + 1;
     min + (u32::from(number) % count) as u16
 }

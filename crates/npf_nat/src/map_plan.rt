@@ -1,7 +1,7 @@
 ghost use Rattle.std.specs.Prelude.{◌≡◌, ◌≤◌, IfSome};
 ghost use Rattle.npf_nat.specs.Draw.{drawn_range};
 ghost use Rattle.npf_nat.specs.MapPlan.{plan, plan_by, outward, outward_change, inward_change, translated_address, is_neutral, fixed, draw, TriesWithin};
-ghost use Rattle.npf_nat.specs.PrefixPair.{FitsAlgo, IsOrdered};
+ghost use Rattle.npf_nat.specs.PrefixPair.{IsOrdered};
 
 use crate::answer::answer_change;
 use crate::draw::{drawn_for, drawn_range, first_candidate};
@@ -30,12 +30,10 @@ pub enum MapPlan {
 
 /// What the map makes of a packet that crosses its interface this way. None exactly where the
 /// packet's protocol or direction, or its end on the map's side, isn't the map's. Interface and
-/// filter are not looked at.
+/// filter are not looked at. Where the range of ports is in order, a port of it is tried first.
 pub fn plan(map: &Map, facts: &Facts, dir: Dir) -> Option<MapPlan>
-    requires ports { IsOrdered map.now.outside.ports }
-    requires prefixes { FitsAlgo map.now.algo map.now.inside.net map.now.outside.net }
     ensures value { result ≡ plan map.now facts.now dir }
-    ensures first { IfSome result TriesWithin }
+    ensures first { IsOrdered map.now.outside.ports → IfSome result TriesWithin }
 {
     if !fits_protocol(map.proto, facts.proto) || !fits_segment(map, facts, dir) {
         return None;
@@ -47,10 +45,8 @@ pub fn plan(map: &Map, facts: &Facts, dir: Dir) -> Option<MapPlan>
 }
 
 fn outward(map: &Map, facts: &Facts) -> MapPlan
-    requires ports { IsOrdered map.now.outside.ports }
-    requires prefixes { FitsAlgo map.now.algo map.now.inside.net map.now.outside.net }
     ensures value { result ≡ plan_by Dir.Out map.now facts.now }
-    ensures first { TriesWithin result }
+    ensures first { IsOrdered map.now.outside.ports → TriesWithin result }
 {
     match drawn_for(map.algo, &facts.l4) {
         Some(number) => draw(map.outside.net.addr, map.outside.ports, number),
@@ -59,9 +55,8 @@ fn outward(map: &Map, facts: &Facts) -> MapPlan
 }
 
 fn draw(addr: Addr, ports: Option<(u16, u16)>, number: u16) -> MapPlan
-    requires { IsOrdered ports }
     ensures value { result ≡ draw addr (drawn_range ports) number }
-    ensures first { TriesWithin result }
+    ensures first { IsOrdered ports → TriesWithin result }
 {
     let (min, max) = drawn_range(ports);
     MapPlan::Draw {
@@ -83,7 +78,6 @@ fn fixed(facts: &Facts, there: Change) -> MapPlan
 }
 
 fn outward_change(map: &Map, facts: &Facts) -> Change
-    requires { FitsAlgo map.now.algo map.now.inside.net map.now.outside.net }
     ensures { result ≡ outward_change map.now facts.now }
 {
     let addr = translated_address(map.algo, map.inside.net, map.outside.net, facts.src);
@@ -95,7 +89,6 @@ fn outward_change(map: &Map, facts: &Facts) -> Change
 }
 
 fn inward_change(map: &Map, facts: &Facts) -> Change
-    requires { FitsAlgo map.now.algo map.now.inside.net map.now.outside.net }
     ensures { result ≡ inward_change map.now facts.now }
 {
     let addr = translated_address(map.algo, map.outside.net, map.inside.net, facts.dst);
@@ -110,7 +103,6 @@ fn inward_change(map: &Map, facts: &Facts) -> Change
 }
 
 fn translated_address(algo: Algo, from: Prefix, to: Prefix, addr: Addr) -> Addr
-    requires { FitsAlgo algo from to }
     ensures { result ≡ translated_address algo from to addr }
 {
     match algo {

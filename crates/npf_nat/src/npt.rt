@@ -1,5 +1,7 @@
 ghost use Rattle.std.specs.Prelude.{◌≡◌, ◌≤◌, ◌+◌, ◌-◌, ◌*◌, ◌%◌};
-ghost use Rattle.npf_nat.specs.Npt.{prefix_sum, fourth_word, adjusted_word, with_fourth_word, npt66, npt66_address, address_number};
+ghost use Rattle.npf_types.specs.Address.{kept_bits};
+ghost use Rattle.npf_types.specs.declared.address.Addr.TheVariants.{V6};
+ghost use Rattle.npf_nat.specs.Npt.{prefix_sum, fourth_word, adjusted_word, with_fourth_word, npt66_number, npt66, translated_v6, npt66_address, address_number};
 ghost use Rattle.npf_nat.specs.PrefixPair.{ArePrefixes};
 
 use crate::netmap::in_block_v6;
@@ -11,21 +13,43 @@ pub fn npt66(from: Prefix, to: Prefix, addr: u128) -> u128
     requires { ArePrefixes from to }
     ensures { result ≡ npt66 from to addr }
 {
-    let old = address_number(from.addr);
-    let new = address_number(to.addr);
-    let word = adjusted_word(fourth_word(addr), prefix_sum(old), prefix_sum(new));
-    with_fourth_word(in_block_v6(new, to.len, addr), word)
+    npt66_number(
+        address_number(from.addr),
+        address_number(to.addr),
+        to.len,
+        addr,
+    )
 }
 
-/// The same of an address of either family: one of IPv4 stays.
+/// The same of an address and a block of either family: an address of IPv4 stays, and so does one
+/// for which the block is of IPv4.
 pub fn npt66_address(from: Prefix, to: Prefix, addr: Addr) -> Addr
-    requires { ArePrefixes from to }
     ensures { result ≡ npt66_address from to addr }
 {
-    match addr {
-        Addr::V6(a) => Addr::V6(npt66(from, to, a)),
+    match to.addr {
+        Addr::V6(block) => translated_v6(address_number(from.addr), block, to.len, addr),
         Addr::V4(_) => addr,
     }
+}
+
+fn translated_v6(from: u128, to: u128, n: u8, addr: Addr) -> Addr
+    requires short { n ≤ 128 }
+    requires zeroed { to ≡ kept_bits 128 n to }
+    ensures { result ≡ translated_v6 from (V6 to) n addr }
+{
+    match addr {
+        Addr::V6(a) => Addr::V6(npt66_number(from, to, n, a)),
+        Addr::V4(_) => addr,
+    }
+}
+
+fn npt66_number(from: u128, to: u128, n: u8, a: u128) -> u128
+    requires short { n ≤ 128 }
+    requires zeroed { to ≡ kept_bits 128 n to }
+    ensures { result ≡ npt66_number from to n a }
+{
+    let word = adjusted_word(fourth_word(a), prefix_sum(from), prefix_sum(to));
+    with_fourth_word(in_block_v6(to, n, a), word)
 }
 
 fn address_number(addr: Addr) -> u128

@@ -1,4 +1,4 @@
-ghost use Rattle.std.specs.Prelude.{◌≡◌, ◌≤◌, ◌++◌, ℕ, List, slice_get, drop};
+ghost use Rattle.std.specs.Prelude.{◌≡◌, ◌++◌, ℕ, List, slice_get, drop};
 ghost use Rattle.npf_portmap.specs.Candidate.{candidates};
 
 use crate::run::Run;
@@ -18,10 +18,9 @@ impl Model for PortDraw {
 }
 
 /// The ports of the range from `min` to `max`, both of which belong to it, in the order in which
-/// they are tried: `first` to `max`, then `min` up to the port before `first`.
+/// they are tried: `first` to `max`, then `min` up to the port before `first`, also where `first`
+/// isn't one of them.
 pub fn candidates(min: u16, max: u16, first: u16) -> PortDraw
-    requires low { min ≤ first }
-    requires high { first ≤ max }
     ensures { result ≡ candidates min max first }
 {
     PortDraw {
