@@ -1,0 +1,9 @@
+pub mod AnswerLemmas
+pub mod FindingLemmas
+pub mod HandlingLemmas
+pub mod LongerLemmas
+pub mod OpeningLemmas
+pub mod OwnLemmas
+pub mod PlaceLemmas
+pub mod SightLemmas
+pub mod TellingLemmas

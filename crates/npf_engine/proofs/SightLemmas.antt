@@ -1,0 +1,108 @@
+-- What a pass saw of a work is what it saw of the work's parts.
+use Rattle.std.proofs.Common.{◌≡◌, ◌<◌, ℕ, Bool, List, [], ◌∷◌, ◌++◌, ap, sym, ◌∙◌, subst, append_assoc, append-nil}
+use Rattle.std.proofs.lemmas.List.{append_cancel_left}
+use Rattle.npf_core.specs.declared.conn_id.ConnId.{ConnId}
+use Rattle.npf_core.specs.History.{IsPrefix, by}
+use Rattle.npf_core.proofs.HistoryLemmas.{by-append}
+use Rattle.npf_connections.specs.Adding.{Adds}
+use Rattle.npf_connections.specs.Beginning.{IsFullBetween}
+use Rattle.npf_connections.specs.Pass.{Pass}
+use Rattle.npf_connections.specs.Said.{Did, under}
+use Rattle.npf_connections.proofs.AddLemmas.{adds_more}
+use Rattle.npf_flow.specs.Flows.{flow_law}
+use Rattle.npf_engine.specs.Answer.{Spans}
+use Rattle.npf_engine.specs.Explains.{Sight, WasFull}
+use Rattle.npf_engine.specs.Handles.{sight_of}
+use Rattle.npf_opening.specs.Saying.{FlowSaid}
+use Rattle.npf_engine.specs.Histories.{FlowEntry, History}
+
+nested : (first second third : History) → IsPrefix first second → IsPrefix second third → IsPrefix first third
+nested first second third p q = record {
+  rest = p.rest ++ q.rest;
+  goes_on = q.goes_on ∙ ap (λ h. h ++ q.rest) p.goes_on ∙ append_assoc first p.rest q.rest;
+}
+
+last_none : {E : Type 0} (xs ys : List E) → xs ++ ys ≡ [] → ys ≡ []
+last_none [] ys none = none
+last_none (x ∷ xs) ys none = absurd cc
+
+module _ (sight : Sight) where
+  -- a sight of a work is one of the work's later part
+  pub later_part : (old mid new : Pass FlowEntry) (said : List FlowSaid) → Did old mid said → Spans sight old new → Spans sight mid new
+  later_part old mid new said did spans = record {
+    slots = spans.slots ∙ sym did.same.slots;
+    seat = spans.seat ∙ sym did.same.number;
+    begins = nested sight.before old.history mid.history spans.begins (record { rest = did.adds.rest; goes_on = did.adds.goes_on });
+    behind = spans.behind;
+    goes_on = spans.goes_on;
+    quiet = spans.quiet;
+  }
+
+  -- where the pass said nothing and the table was full for it, it was so in the sight
+  pub was_full : (old new : Pass FlowEntry) → Did old new [] → IsFullBetween flow_law old new.history → Spans sight old new → WasFull sight
+  was_full old new did full spans slot below =
+      let at = full slot (subst (λ n. slot < n) spans.slots below) in
+      let whole : old.history ++ did.adds.rest ≡ old.history ++ (at.begins.rest ++ at.goes_on.rest) =
+      sym did.adds.goes_on ∙ at.goes_on.goes_on ∙ ap (λ h. h ++ at.goes_on.rest) at.begins.goes_on ∙ append_assoc old.history at.begins.rest at.goes_on.rest in
+      let parts : did.adds.rest ≡ at.begins.rest ++ at.goes_on.rest = append_cancel_left old.history did.adds.rest (at.begins.rest ++ at.goes_on.rest) whole in
+      let none : by old.number at.goes_on.rest ≡ [] =
+      last_none (by old.number at.begins.rest) (by old.number at.goes_on.rest)
+      (sym (by-append old.number at.begins.rest at.goes_on.rest) ∙ ap (λ (es : History). by old.number es) (sym parts) ∙ did.adds.own) in
+      record {
+        point = at.point;
+        behind = at.goes_on.rest ++ spans.behind;
+        begins = nested sight.before old.history at.point spans.begins at.begins;
+        goes_on = spans.goes_on ∙ ap (λ h. h ++ spans.behind) at.goes_on.goes_on ∙ append_assoc at.point at.goes_on.rest spans.behind;
+        quiet = by-append sight.seat at.goes_on.rest spans.behind
+            ∙ (λ i. subst (λ n. by n at.goes_on.rest ≡ []) (sym spans.seat) none i ++ spans.quiet i);
+        claimed = at.claimed;
+      }
+
+-- the pass began its stay or ended it: it is the same but for that, and said nothing
+pub record Turns (old new : Pass FlowEntry) : Type 0 where
+  pub slots : new.slots ≡ old.slots
+  pub number : new.number ≡ old.number
+  pub places : new.places ≡ old.places
+  pub joined : new.joined ≡ old.joined
+  pub adds : Adds old new.history []
+
+pub turns : (old new : Pass FlowEntry) {history : History} {entered : Bool} {answered : List ConnId} {epoch : ℕ} →
+    new ≡ record old { history = history; entered = entered; answered = answered; epoch = epoch } → Adds old new.history [] → Turns old new
+turns old new is adds = record {
+  slots = ap (λ (p : Pass FlowEntry). p.slots) is;
+  number = ap (λ (p : Pass FlowEntry). p.number) is;
+  places = ap (λ (p : Pass FlowEntry). p.places) is;
+  joined = ap (λ (p : Pass FlowEntry). p.joined) is;
+  adds = adds;
+}
+
+module _ (first old new last : Pass FlowEntry) (said : List FlowSaid) (begins : Turns first old) (does : Did old new said) (ends : Turns new last) where
+  -- what is said in a stay is what the pass says from before it until after it
+  pub whole_did : last.entered ≡ first.entered → Did first last said
+  whole_did entered =
+      let later : Adds old last.history (under old.number said ++ []) =
+      adds_more old new last.history (under old.number said) [] does.same.number does.same.joined does.adds ends.adds in
+      let all : Adds first last.history (under old.number said ++ []) =
+      adds_more first old last.history [] (under old.number said ++ []) begins.number begins.joined begins.adds later in
+      let same : under old.number said ++ [] ≡ under first.number said = append-nil (under old.number said) ∙ ap (λ n. under n said) begins.number in
+      record {
+        same = record {
+          slots = ends.slots ∙ does.same.slots ∙ begins.slots;
+          number = ends.number ∙ does.same.number ∙ begins.number;
+          entered = entered;
+          places = ends.places ∙ does.same.places ∙ begins.places;
+          joined = ends.joined ∙ does.same.joined ∙ begins.joined;
+        };
+        adds = subst (λ (mine : History). Adds first last.history mine) same all;
+      }
+
+  -- and its sight from before the stay until after it is one of the stay
+  pub whole_sight : Spans (sight_of first last) old new
+  whole_sight = record {
+    slots = sym begins.slots;
+    seat = sym begins.number;
+    begins = record { rest = begins.adds.rest; goes_on = begins.adds.goes_on };
+    behind = ends.adds.rest;
+    goes_on = ends.adds.goes_on;
+    quiet = subst (λ n. by n ends.adds.rest ≡ []) (does.same.number ∙ begins.number) ends.adds.own;
+  }

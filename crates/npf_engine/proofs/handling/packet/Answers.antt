@@ -1,0 +1,32 @@
+use Rattle.std.proofs.Common.{None, [], refl, sym, ap, ◌∙◌}
+use Rattle.npf_connections.specs.Pass.{Pass}
+use Rattle.npf_connections.proofs.SaidLemmas.{did_nothing}
+use Rattle.npf_engine.specs.Explains.{Explains}
+use Rattle.npf_engine.specs.Histories.{FlowEntry}
+use Rattle.npf_engine.proofs.HandlingLemmas.{handled}
+use Rattle.npf_engine.proofs.SightLemmas.{turns}
+use Rattle.npf_engine.proofs.handling.packet.Goals as goal
+
+pub returns-in-Skip-clause-handles : goal.returns-in-Skip-clause-handles
+returns-in-Skip-clause-handles g c = record {
+  asked = None;
+  said = [];
+  asks = (refl, refl);
+  did = did_nothing (g.C.Connections.view c.args.pass.now);
+  explains = Explains.skip (rw c.in-Skip.is at c.decode.ensures);
+}
+
+pub returns-in-Malformed-clause-handles : goal.returns-in-Malformed-clause-handles
+returns-in-Malformed-clause-handles g c = record {
+  asked = None;
+  said = [];
+  asks = (refl, refl);
+  did = did_nothing (g.C.Connections.view c.args.pass.now);
+  explains = Explains.malformed (rw c.in-Malformed.is at c.decode.ensures);
+}
+
+pub returns-clause-handles : goal.returns-clause-handles
+returns-clause-handles g c =
+    handled _ _ _ _ _ _ _ _ _ c.rewrite.new.bytes (turns _ _ c.enter.ensures.view c.enter.ensures.adds) c.answer-answer.ensures.answers
+    (turns _ _ c.leave.ensures.view c.leave.ensures.adds) (ap (λ (p : Pass FlowEntry). p.entered) c.leave.ensures.view ∙ sym c.requires.out)
+    c.answer-answer.ensures.passes c.rewrite.ensures.sent

@@ -1,0 +1,88 @@
+-- What an answer to a packet of IP means: it explains the packet's outcome in each sight that the pass has of the work.
+use Rattle.std.specs.Prelude.{◌≡◌, ℕ, Option, Some, None, List, [], ◌++◌}
+use Rattle.npf_types.specs.declared.facts.Facts.{Facts}
+use Rattle.npf_core.specs.History.{IsPrefix, by}
+use Rattle.npf_connections.specs.Pass.{Pass}
+use Rattle.npf_connections.specs.Said.{Did}
+use Rattle.npf_model.specs.Configuration.{Configuration}
+use Rattle.npf_publish.specs.declared.conf_reader.ConfReader.{ConfReader}
+use Rattle.npf_opening.specs.declared.attempt.Opened.{Opened}
+use Rattle.npf_engine.specs.declared.answer.Answer.{Answer}
+use Rattle.npf_engine.specs.declared.answer.Rewriting.{Rewriting}
+use Rattle.npf_engine.specs.declared.crossing.Crossing.{Crossing}
+use Rattle.npf_engine.specs.declared.finding.Met.{Met}
+use Rattle.npf_engine.specs.declared.outcome.DropWhy.{DropWhy}
+use Rattle.npf_engine.specs.declared.outcome.DropWhy.TheVariants as Drops
+use Rattle.npf_engine.specs.declared.outcome.Unkept.{Unkept}
+use Rattle.npf_engine.specs.declared.outcome.Unkept.TheVariants as Unkepts
+use Rattle.npf_engine.specs.declared.ruling.Mapping.{Mapping}
+use Rattle.npf_engine.specs.declared.ruling.Ruling.{Ruling}
+use Rattle.npf_engine.specs.declared.trying.Passed.{Passed}
+use Rattle.npf_engine.specs.Arrival.{Arrival, arrival}
+use Rattle.npf_engine.specs.Explains.{Sight, IsSent, IsByConn, IsTried, IsDecided, Explains}
+use Rattle.npf_engine.specs.Handles.{Asks}
+use Rattle.npf_opening.specs.Saying.{FlowSaid}
+use Rattle.npf_engine.specs.Histories.{FlowEntry, History}
+use Rattle.npf_engine.specs.Ruling.{mapping_of, ruling_of}
+
+-- the packet that crosses
+abbrev pub arrival_of : Crossing → Arrival
+arrival_of crossing = arrival crossing.number crossing.time crossing.link crossing.ifid crossing.dir crossing.bytes.now
+
+-- what is sent of a packet that is rewritten so: none where it isn't rewritten
+abbrev pub IsSentSo : List ℕ → Facts → Option Rewriting → Option (List ℕ) → Type 0
+IsSentSo bytes facts None sent = sent ≡ None
+IsSentSo bytes facts (Some rewriting) sent = IsSent bytes facts rewriting.action rewriting.change sent
+
+-- the sight begins no later than the pass at one moment, and goes on from the pass at another without an entry of it
+pub record Spans (sight : Sight) (old new : Pass FlowEntry) : Type 0 where
+  pub slots : sight.slots ≡ old.slots
+  pub seat : sight.seat ≡ old.number
+  pub begins : IsPrefix sight.before old.history
+  pub behind : History
+  pub goes_on : sight.after ≡ new.history ++ behind
+  pub quiet : by sight.seat behind ≡ []
+
+-- so it is in each sight of the work, whatever is sent by the answer
+abbrev pub InSight : Crossing → Answer → Pass FlowEntry → Pass FlowEntry → (Sight → Option (List ℕ) → Type 0) → Type 0
+InSight crossing answer old new Holds =
+    (sight : Sight) (sent : Option (List ℕ)) → Spans sight old new →
+    IsSentSo crossing.bytes.now crossing.facts.now answer.rewriting sent → Holds sight sent
+
+-- a connection took the packet
+abbrev pub AnswersByConn : Met → Answer → Type 0
+AnswersByConn taken answer =
+    (bytes : List ℕ) (facts : Facts) (sent : Option (List ℕ)) → IsSentSo bytes facts answer.rewriting sent →
+    IsByConn bytes facts taken answer.outcome sent
+
+-- why a packet that isn't dropped for a reason is unkept; that no port is left is no such reason
+abbrev pub unkept_by : DropWhy → Unkept
+unkept_by Drops.Full = Unkepts.Full
+unkept_by Drops.NoNode = Unkepts.NoNode
+unkept_by (Drops.Taken holder) = Unkepts.Taken holder
+unkept_by Drops.NoPort = Unkepts.Kept
+
+-- the packet was to open a connection, of which this became
+abbrev pub AnswersTried : Passed → Opened → Answer → Sight → Type 0
+AnswersTried passed opened answer sight =
+    (bytes : List ℕ) (facts : Facts) (sent : Option (List ℕ)) → IsSentSo bytes facts answer.rewriting sent →
+    IsTried bytes facts sight passed.config passed.ruling passed.mapping opened answer.outcome sent
+
+-- the configuration of this number answers the packet, by these of its maps and rules
+abbrev pub AnswersRuled : Crossing → ℕ → Mapping → Option Ruling → Answer → Pass FlowEntry → Pass FlowEntry → List FlowSaid → Type 0
+AnswersRuled crossing config mapped ruled answer old new said =
+    InSight crossing answer old new
+    (λ sight sent. IsDecided crossing.bytes.now crossing.facts.now sight (arrival_of crossing) config mapped ruled said answer.outcome sent)
+
+-- so a configuration answers the packet
+abbrev pub AnswersUnder : Crossing → ℕ → Configuration → Answer → Pass FlowEntry → Pass FlowEntry → List FlowSaid → Type 0
+AnswersUnder crossing number config =
+    AnswersRuled crossing number (mapping_of config crossing.facts.now crossing.ifid crossing.dir) (ruling_of config crossing.facts.now crossing.ifid crossing.dir)
+
+-- the packet is answered, by what the pass said and the number that the reader read
+pub record Answers (configs : List Configuration) (old new : Pass FlowEntry) (reader next : ConfReader) (crossing : Crossing) (answer : Answer) : Type 0 where
+  pub asked : Option ℕ
+  pub said : List FlowSaid
+  pub asks : Asks reader next asked
+  pub did : Did old new said
+  pub explains : InSight crossing answer old new (λ sight sent. Explains configs sight (arrival_of crossing) asked said answer.outcome sent)

@@ -1,0 +1,145 @@
+-- Why a packet has its outcome: by what its bytes say, what it asked of connections and was answered, and what a published
+-- configuration means. Nothing here depends on how a packet is worked on.
+use Rattle.std.specs.Prelude.{◌≡◌, ◌≢◌, ◌<◌, ℕ, Bool, true, false, Option, Some, None, List, [], ◌++◌, slice_get}
+use Rattle.npf_types.specs.declared.action.Action.{Action}
+use Rattle.npf_types.specs.declared.change.Change.{Change}
+use Rattle.npf_types.specs.declared.decision.Decision.TheVariants.{Pass, Block}
+use Rattle.npf_types.specs.declared.decision.Return.{Return}
+use Rattle.npf_types.specs.declared.decision.Return.TheVariants.{Nothing}
+use Rattle.npf_types.specs.declared.facts.Facts.{Facts}
+use Rattle.npf_core.specs.declared.conn_id.ConnId.{ConnId}
+use Rattle.npf_core.specs.declared.found.Found.{Found}
+use Rattle.npf_core.specs.declared.stepped.Stepped.TheVariants as Steps
+use Rattle.npf_core.specs.History.{IsPrefix, by, state_of}
+use Rattle.npf_core.specs.Machine.{IsClaimed}
+use Rattle.npf_flow.specs.declared.step.FlowReply.{FlowReply}
+use Rattle.npf_flow.specs.Flows.{flow_law}
+use Rattle.npf_key.specs.Key.{key_of}
+use Rattle.npf_model.specs.Configuration.{Configuration}
+use Rattle.npf_opening.specs.declared.attempt.Opened.{Opened}
+use Rattle.npf_opening.specs.declared.attempt.Opened.TheVariants as Openings
+use Rattle.npf_opening.specs.Opening.{OpensConnection}
+use Rattle.npf_packet.specs.declared.decoded.BadPacket.{BadPacket}
+use Rattle.npf_packet.specs.declared.decoded.Decoded.TheVariants as Says
+use Rattle.npf_packet.specs.Decoding.{Decodes}
+use Rattle.npf_rewrite.specs.Sent.{Sent}
+use Rattle.npf_engine.specs.declared.finding.Met.{Met}
+use Rattle.npf_engine.specs.declared.outcome.DropWhy.{DropWhy}
+use Rattle.npf_engine.specs.declared.outcome.DropWhy.TheVariants as Drops
+use Rattle.npf_engine.specs.declared.outcome.Outcome.{Outcome}
+use Rattle.npf_engine.specs.declared.outcome.Outcome.TheVariants.{Skip, Malformed, ByConn, ByRule, Dropped}
+use Rattle.npf_engine.specs.declared.outcome.Unkept.{Unkept}
+use Rattle.npf_engine.specs.declared.outcome.Unkept.TheVariants.{Kept, Full, NoNode, Taken}
+use Rattle.npf_engine.specs.declared.ruling.Mapping.{Mapping}
+use Rattle.npf_engine.specs.declared.ruling.Mapping.TheVariants.{Unmapped}
+use Rattle.npf_engine.specs.declared.ruling.Ruling.{Ruling}
+use Rattle.npf_engine.specs.Arrival.{Arrival, any_interface, arg_of}
+use Rattle.npf_engine.specs.Finding.{FindsEither, met}
+use Rattle.npf_opening.specs.Saying.{FlowSaid}
+use Rattle.npf_engine.specs.Histories.{History}
+use Rattle.npf_engine.specs.Ruling.{ruling_of, mapping_of, unchanged, static_change, OpensOne, attempt_of}
+
+-- What a pass saw while a packet was worked on: its table's number of slots, the pass's number, and the history before and after.
+pub record Sight : Type 0 where
+  pub slots : ℕ
+  pub seat : ℕ
+  pub before : History
+  pub after : History
+
+-- The slot was claimed at a point of the history after all entries of the pass, and so after the packet's last one.
+pub record SlotWasClaimed (sight : Sight) (slot : ℕ) : Type 0 where
+  pub point : History
+  pub behind : History
+  pub begins : IsPrefix sight.before point
+  pub goes_on : sight.after ≡ point ++ behind
+  pub quiet : by sight.seat behind ≡ []
+  pub claimed : IsClaimed ((state_of flow_law point).slot slot).stage
+
+-- each slot was, at a point of its own
+abbrev pub WasFull : Sight → Type 0
+WasFull sight = (slot : ℕ) → slot < sight.slots → SlotWasClaimed sight slot
+
+-- why a packet has no connection of its own
+pub data IsUnkept (sight : Sight) : Opened → Unkept → Type 0 where
+  full : WasFull sight → IsUnkept sight Openings.Full Full
+  no_node : IsUnkept sight Openings.NoNode NoNode
+  ended : {holder : Found} → IsUnkept sight (Openings.Known holder Steps.NotLive) (Taken holder)
+  crossed : {holder : Found} → IsUnkept sight (Openings.Taken holder) (Taken holder)
+
+-- why a packet that a map was to translate is dropped
+pub data IsDropped (sight : Sight) : Opened → DropWhy → Type 0 where
+  full : WasFull sight → IsDropped sight Openings.Full Drops.Full
+  no_node : IsDropped sight Openings.NoNode Drops.NoNode
+  ended : {holder : Found} → IsDropped sight (Openings.Known holder Steps.NotLive) (Drops.Taken holder)
+  crossed : {holder : Found} → IsDropped sight (Openings.Taken holder) (Drops.Taken holder)
+  no_port : IsDropped sight Openings.NoPort Drops.NoPort
+
+-- the outcome of a packet that a connection took
+abbrev pub by_conn : Met → Outcome
+by_conn taken = ByConn taken.id taken.reply.opener taken.place taken.reply.pass taken.reply.action.log
+
+-- the outcome of a packet on which a rule decided
+abbrev pub by_ruling : ℕ → Ruling → Option ConnId → Unkept → Outcome
+by_ruling config ruled opened why = ByRule config (Some ruled.place) ruled.decision opened why ruled.action.log
+
+module _ (bytes : List ℕ) (facts : Facts) where
+  -- it is sent: normalised by the action and then translated by the change
+  pub record IsSent (action : Action) (change : Change) (sent : Option (List ℕ)) : Type 0 where
+    pub output : List ℕ
+    pub are : sent ≡ Some output
+    pub rewritten : Sent bytes facts action change output
+
+  -- it is sent exactly where it passes
+  abbrev pub IsSentIf : Bool → Action → Change → Option (List ℕ) → Type 0
+  IsSentIf true action change sent = IsSent action change sent
+  IsSentIf false action change sent = sent ≡ None
+
+  -- a connection took it: its law's answer tells the rest
+  pub record IsByConn (taken : Met) (outcome : Outcome) (sent : Option (List ℕ)) : Type 0 where
+    pub is : outcome ≡ by_conn taken
+    pub sends : IsSentIf taken.reply.pass taken.reply.action taken.reply.change sent
+
+  -- What became of a packet that was to open a connection, under the configuration of this number. It opened one; its forward key was
+  -- another's by then, which took it; or it has none, and is sent without translation where no map applies, and is dropped where one does.
+  pub data IsTried (sight : Sight) (config : ℕ) (ruled : Ruling) (mapped : Mapping) : Opened → Outcome → Option (List ℕ) → Type 0 where
+    opened : {id : ConnId} {there : Change} {sent : Option (List ℕ)} → IsSent ruled.action there sent →
+        IsTried sight config ruled mapped (Openings.Open id there) (by_ruling config ruled (Some id) Kept) sent
+    known : {holder : Found} {reply : FlowReply} {place : ℕ} {outcome : Outcome} {sent : Option (List ℕ)} →
+        IsByConn (met holder reply place) outcome sent →
+        IsTried sight config ruled mapped (Openings.Known holder (Steps.Done reply place)) outcome sent
+    unkept : {result : Opened} {why : Unkept} {sent : Option (List ℕ)} → mapped ≡ Unmapped → IsUnkept sight result why →
+        IsSent ruled.action unchanged sent → IsTried sight config ruled mapped result (by_ruling config ruled None why) sent
+    dropped : {result : Opened} {why : DropWhy} → mapped ≢ Unmapped → IsDropped sight result why →
+        IsTried sight config ruled mapped result (Dropped config ruled.place why) None
+
+  -- What the configuration of this number made of a packet that no connection took, by what it then asked. No rule decides, and it is
+  -- blocked; a rule blocks it; a rule passes it and it opens no connection; or it was to open one.
+  pub data IsDecided (sight : Sight) (arrival : Arrival) (config : ℕ) (mapped : Mapping) : Option Ruling → List FlowSaid → Outcome → Option (List ℕ) → Type 0 where
+    unruled : IsDecided sight arrival config mapped None [] (ByRule config None (Block Nothing) None Kept None) None
+    blocked : {ruled : Ruling} {answer : Return} → ruled.decision ≡ Block answer →
+        IsDecided sight arrival config mapped (Some ruled) [] (by_ruling config ruled None Kept) None
+    passed : {ruled : Ruling} {sent : Option (List ℕ)} → ruled.decision ≡ Pass → ¬ OpensOne ruled mapped →
+        IsSent ruled.action (static_change mapped) sent → IsDecided sight arrival config mapped (Some ruled) [] (by_ruling config ruled None Kept) sent
+    tried : {ruled : Ruling} {said : List FlowSaid} {result : Opened} {outcome : Outcome} {sent : Option (List ℕ)} →
+        ruled.decision ≡ Pass → OpensOne ruled mapped → OpensConnection (attempt_of arrival facts ruled mapped) said result →
+        IsTried sight config ruled mapped result outcome sent → IsDecided sight arrival config mapped (Some ruled) said outcome sent
+
+-- What a packet that is one of IP with these facts asked first: which live connection takes it, if one does.
+abbrev pub AsksConnections : Arrival → Facts → List FlowSaid → Option Met → Type 0
+AsksConnections arrival facts =
+    FindsEither arrival.number (arg_of arrival.time facts) (key_of facts arrival.ifid) (key_of facts any_interface)
+
+-- The packet has this outcome, and is sent so, by what it asked of connections and was answered, and by the configuration of this
+-- number, if it asked one.
+pub data Explains (configs : List Configuration) (sight : Sight) (arrival : Arrival) : Option ℕ → List FlowSaid → Outcome → Option (List ℕ) → Type 0 where
+  skip : Decodes arrival.link arrival.bytes Says.Skip → Explains configs sight arrival None [] Skip None
+  malformed : {why : BadPacket} {at : ℕ} → Decodes arrival.link arrival.bytes (Says.Malformed why at) →
+      Explains configs sight arrival None [] (Malformed why at) None
+  to_conn : {facts : Facts} {said : List FlowSaid} {taken : Met} {outcome : Outcome} {sent : Option (List ℕ)} →
+      Decodes arrival.link arrival.bytes (Says.Ip facts) → AsksConnections arrival facts said (Some taken) →
+      IsByConn arrival.bytes facts taken outcome sent → Explains configs sight arrival None said outcome sent
+  to_rules : {facts : Facts} {number : ℕ} {config : Configuration} {looked said : List FlowSaid} {outcome : Outcome} {sent : Option (List ℕ)} →
+      Decodes arrival.link arrival.bytes (Says.Ip facts) → AsksConnections arrival facts looked None → slice_get configs number ≡ Some config →
+      IsDecided arrival.bytes facts sight arrival number (mapping_of config facts arrival.ifid arrival.dir)
+      (ruling_of config facts arrival.ifid arrival.dir) said outcome sent →
+      Explains configs sight arrival (Some number) (looked ++ said) outcome sent

@@ -1,0 +1,131 @@
+// What becomes of a packet of IP.
+ghost use Rattle.std.specs.Prelude.{◌≡◌, None, Some, false, is_some};
+ghost use Rattle.npf_types.specs.declared.decision.Decision.TheVariants.{Block};
+ghost use Rattle.npf_types.specs.declared.decision.Return.TheVariants.{Nothing};
+ghost use Rattle.npf_engine.specs.Answer.{AnswersByConn};
+ghost use Rattle.npf_engine.specs.Explains.{by_ruling};
+ghost use Rattle.npf_engine.specs.Outcome.{passes, lacks_node};
+
+use crate::finding::Met;
+use crate::outcome::{DropWhy, Outcome, Unkept};
+use crate::ruling::Ruling;
+use npf_core::ConnId;
+use npf_flow::FlowReply;
+use npf_types::{Action, Change, Decision, Return};
+
+/// What is done to a packet that is sent: it is normalised by the action and then translated by the change.
+#[derive(Clone, Copy, Debug, PartialEq, Eq)]
+pub(crate) struct Rewriting {
+    pub(crate) action: Action,
+    pub(crate) change: Change,
+}
+
+/// A packet's outcome, and how it is rewritten where it passes.
+#[derive(Clone, Copy, Debug, PartialEq, Eq)]
+pub(crate) struct Answer {
+    pub(crate) outcome: Outcome,
+    pub(crate) rewriting: Option<Rewriting>,
+}
+
+impl Answer {
+    /// A connection took the packet.
+    pub(crate) fn by_conn(met: &Met) -> Answer
+        ensures explains { AnswersByConn met.now result }
+        ensures passes { passes result.outcome ≡ is_some result.rewriting }
+        ensures lacks { lacks_node result.outcome ≡ false }
+    {
+        let FlowReply {
+            pass,
+            opener,
+            change,
+            action,
+        } = met.reply;
+        let outcome = Outcome::ByConn {
+            id: met.id,
+            opener,
+            place: met.place,
+            pass,
+            log: action.log,
+        };
+        let rewriting = if pass {
+            Some(Rewriting { action, change })
+        } else {
+            None
+        };
+        Answer { outcome, rewriting }
+    }
+
+    /// No rule decides, and the packet is blocked.
+    pub(crate) fn unruled(config: u64) -> Answer
+        ensures outcome { result.outcome ≡ Outcome.ByRule config None (Block Nothing) None Unkept.Kept None }
+        ensures rewriting { result.rewriting ≡ None }
+    {
+        Answer {
+            outcome: Outcome::ByRule {
+                config,
+                rule: None,
+                decision: Decision::Block(Return::Nothing),
+                opened: None,
+                unkept: Unkept::Kept,
+                log: None,
+            },
+            rewriting: None,
+        }
+    }
+
+    /// A rule blocks the packet.
+    pub(crate) fn blocked(config: u64, ruling: &Ruling) -> Answer
+        ensures outcome { result.outcome ≡ by_ruling config ruling.now None Unkept.Kept }
+        ensures rewriting { result.rewriting ≡ None }
+    {
+        Answer {
+            outcome: by_ruling(config, ruling, None, Unkept::Kept),
+            rewriting: None,
+        }
+    }
+
+    /// A rule passes the packet, which opened this connection, or has none for this reason.
+    pub(crate) fn passed(
+        config: u64,
+        ruling: &Ruling,
+        opened: Option<ConnId>,
+        unkept: Unkept,
+        change: Change,
+    ) -> Answer
+        ensures outcome { result.outcome ≡ by_ruling config ruling.now opened unkept }
+        ensures rewriting { result.rewriting ≡ Some (record { action = ruling.now.action; change = change }) }
+    {
+        Answer {
+            outcome: by_ruling(config, ruling, opened, unkept),
+            rewriting: Some(Rewriting {
+                action: ruling.action,
+                change,
+            }),
+        }
+    }
+
+    /// The packet can't be translated.
+    pub(crate) fn dropped(config: u64, rule: u32, why: DropWhy) -> Answer
+        ensures outcome { result.outcome ≡ Outcome.Dropped config rule why }
+        ensures rewriting { result.rewriting ≡ None }
+    {
+        Answer {
+            outcome: Outcome::Dropped { config, rule, why },
+            rewriting: None,
+        }
+    }
+}
+
+/// The outcome of a packet on which a rule decided.
+fn by_ruling(config: u64, ruling: &Ruling, opened: Option<ConnId>, unkept: Unkept) -> Outcome
+    ensures { result ≡ by_ruling config ruling.now opened unkept }
+{
+    Outcome::ByRule {
+        config,
+        rule: Some(ruling.place),
+        decision: ruling.decision,
+        opened,
+        unkept,
+        log: ruling.action.log,
+    }
+}

@@ -1,0 +1,8 @@
+// What follows of an explanation. The function does nothing: it is a theorem.
+ghost use Rattle.npf_engine.specs.Handles.{ExplainsInLonger};
+
+/// What explains a packet's outcome to the pass that worked on it explains it in each longer legal history whose further entries
+/// aren't the packet's: its entries there are those that the pass made, but for the keys that were given back.
+pub fn explanation_lasts()
+    ensures { ExplainsInLonger }
+{}

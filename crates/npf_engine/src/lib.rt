@@ -1,0 +1,25 @@
+// One packet: its outcome, and what is sent of it (npf.conf(5); the order of work is docs/FORMATS.md, "Outcomes").
+//
+// A packet of IP is a step of the live connection that holds its key, on its interface or on every interface. Where there is none,
+// one published configuration is asked: a rule decides, and where it keeps the packet or a dynamic map translates it, a connection
+// is opened. What passes is normalised and then translated, in place.
+//
+// The contract: `packet` adds to the history of connections what explains its outcome, and nothing else (specs/Handles): the
+// outcome, the bytes that are sent and the entries stand in the relation `Explains`, which doesn't speak of how a
+// packet is worked on. It is proved from the contracts of `Connections`, of the published number and of the layers below alone. It takes no
+// memory. `laws`: an explanation holds in a longer history too.
+#![tactic(auto)]
+
+mod answer;
+mod asking;
+mod crossing;
+mod finding;
+mod handling;
+pub mod laws;
+mod outcome;
+mod ruling;
+mod sending;
+mod trying;
+
+pub use handling::packet;
+pub use outcome::{DropWhy, Outcome, Unkept};

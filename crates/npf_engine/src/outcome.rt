@@ -1,0 +1,81 @@
+ghost use Rattle.std.specs.Prelude.{◌≡◌};
+ghost use Rattle.npf_engine.specs.Outcome.{passes};
+
+use npf_core::{ConnId, Found};
+use npf_packet::BadPacket;
+use npf_types::{Decision, Name};
+
+/// Why a packet that a rule passed has no connection of its own; `Kept` where it has one, or nothing was to be kept.
+#[derive(Clone, Copy, Debug, PartialEq, Eq)]
+pub enum Unkept {
+    Kept,
+    /// Each slot of the table of connections was claimed.
+    Full,
+    /// The table had no node left to keep a key in.
+    NoNode,
+    /// A key of the packet had this holder.
+    Taken(Found),
+}
+
+/// Why a packet that a map was to translate is dropped.
+#[derive(Clone, Copy, Debug, PartialEq, Eq)]
+pub enum DropWhy {
+    /// Each slot of the table of connections was claimed.
+    Full,
+    /// The table had no node left to keep a key in.
+    NoNode,
+    /// A key of the packet had this holder.
+    Taken(Found),
+    /// Each port that might be drawn had a holder.
+    NoPort,
+}
+
+/// What happened to a packet.
+#[derive(Clone, Copy, Debug, PartialEq, Eq)]
+pub enum Outcome {
+    /// It isn't looked into, and doesn't pass.
+    Skip,
+    /// It is malformed at this place of its bytes.
+    Malformed {
+        why: BadPacket,
+        at: u32,
+    },
+    /// A live connection took it as its step of this place, and passed it or not. `opener` is the number of the packet that opened
+    /// the connection, and `log` the interface that the connection's packets are logged to.
+    ByConn {
+        id: ConnId,
+        opener: u64,
+        place: u64,
+        pass: bool,
+        log: Option<Name>,
+    },
+    /// The configuration of this number, from 0, was asked, and the rule at this place, from 0, decided, None where none did.
+    /// `opened` is the connection that the packet opened.
+    ByRule {
+        config: u64,
+        rule: Option<u32>,
+        decision: Decision,
+        opened: Option<ConnId>,
+        unkept: Unkept,
+        log: Option<Name>,
+    },
+    /// The rule at this place of that configuration passed it, and it couldn't be translated.
+    Dropped {
+        config: u64,
+        rule: u32,
+        why: DropWhy,
+    },
+}
+
+impl Outcome {
+    /// Whether the packet goes on.
+    pub fn passes(&self) -> bool
+        ensures { result ≡ passes self.now }
+    {
+        match *self {
+            Outcome::ByConn { pass, .. } => pass,
+            Outcome::ByRule { decision, .. } => decision == Decision::Pass,
+            Outcome::Skip | Outcome::Malformed { .. } | Outcome::Dropped { .. } => false,
+        }
+    }
+}

@@ -1,0 +1,157 @@
+// A packet that a rule passes, and what becomes of the connection that it is to open.
+ghost use Rattle.std.specs.Prelude.{◌≡◌, ◌≢◌, ◌≤◌, ◌+◌, true, false, Some, [], is_some};
+ghost use Rattle.npf_connections.specs.Pass.{IsPass};
+ghost use Rattle.npf_connections.specs.Said.{Does};
+ghost use Rattle.npf_flow.specs.Flows.{flow_law};
+ghost use Rattle.npf_opening.specs.declared.attempt.Opened.{Opened as IsOpened};
+ghost use Rattle.npf_engine.specs.Answer.{AnswersRuled, AnswersTried, arrival_of, unkept_by};
+ghost use Rattle.npf_engine.specs.Arrival.{arg_of};
+ghost use Rattle.npf_engine.specs.Explains.{IsDropped, Sight, WasFull};
+ghost use Rattle.npf_engine.specs.Outcome.{lacks_node, passes};
+ghost use Rattle.npf_engine.specs.Ruling.{attempt_of};
+
+use crate::answer::Answer;
+use crate::crossing::Crossing;
+use crate::finding::Met;
+use crate::outcome::{DropWhy, Unkept};
+use crate::ruling::{Mapping, Ruling, UNCHANGED, key_interface, opens_one, plan_of, static_change};
+use npf_connections::Connections;
+use npf_core::{Found, Stepped};
+use npf_flow::{FlowArg, FlowLaw, FlowReply};
+use npf_opening::{Attempt, Opened, open};
+use npf_types::Decision;
+use std::sync::Wait;
+
+/// The rule that passes a packet, in the configuration of this number, and the map that translates it.
+#[derive(Clone, Copy, Debug, PartialEq, Eq)]
+pub(crate) struct Passed {
+    pub(crate) config: u64,
+    pub(crate) ruling: Ruling,
+    pub(crate) mapping: Mapping,
+}
+
+/// What becomes of a packet that a rule passes: it opens a connection where it should.
+pub(crate) fn answer_passed<R: Wait, C: Connections<FlowLaw>>(
+    rt: &R,
+    conns: &C,
+    pass: &mut C::Pass,
+    crossing: &Crossing,
+    arg: &FlowArg,
+    passed: &Passed,
+) -> Answer
+    requires own { C.fits conns.now pass.old }
+    requires legal { IsPass flow_law (C.view pass.old) }
+    requires entered { (C.view pass.old).entered ≡ true }
+    requires idle { (C.view pass.old).builds ≡ [] }
+    requires arg { arg.now ≡ arg_of crossing.now.time crossing.now.facts.now }
+    requires decided { passed.now.ruling.decision ≡ Decision.Pass }
+    ensures own { C.fits conns.now pass.new }
+    ensures legal { IsPass flow_law (C.view pass.new) }
+    ensures idle { (C.view pass.new).builds ≡ [] }
+    ensures does { Does (C.view pass.old) (C.view pass.new) (AnswersRuled crossing.now passed.now.config passed.now.mapping (Some passed.now.ruling) result (C.view pass.old) (C.view pass.new)) }
+    ensures passes { passes result.outcome ≡ is_some result.rewriting }
+    ensures sweep { lacks_node result.outcome ≡ true → (C.view pass.old).sweeps + 1 ≤ (C.view pass.new).sweeps }
+    ensures sweeps { (C.view pass.old).sweeps ≤ (C.view pass.new).sweeps }
+    ensures epoch { (C.view pass.old).epoch ≤ (C.view pass.new).epoch }
+{
+    if !opens_one(&passed.ruling, &passed.mapping) {
+        let change = static_change(&passed.mapping);
+        return Answer::passed(passed.config, &passed.ruling, None, Unkept::Kept, change);
+    }
+    let attempt = attempt_of(crossing, arg, passed);
+    let opened = open(rt, conns, pass, &attempt);
+    answer_tried(passed, opened)
+}
+
+/// What the packet would open.
+fn attempt_of(crossing: &Crossing, arg: &FlowArg, passed: &Passed) -> Attempt
+    requires { arg.now ≡ arg_of crossing.now.time crossing.now.facts.now }
+    ensures { result ≡ attempt_of (arrival_of crossing.now) crossing.now.facts.now passed.now.ruling passed.now.mapping }
+{
+    Attempt {
+        packet: crossing.number,
+        facts: *crossing.facts,
+        ifid: key_interface(passed.ruling.state, crossing.ifid),
+        arg: *arg,
+        action: passed.ruling.action,
+        plan: plan_of(&passed.mapping),
+    }
+}
+
+/// What becomes of a packet that was to open a connection.
+fn answer_tried(passed: &Passed, opened: Opened) -> Answer
+    requires decided { passed.now.ruling.decision ≡ Decision.Pass }
+    requires port { opened ≡ Opened.NoPort → passed.now.mapping ≢ Mapping.Unmapped }
+    ensures explains { (sight : Sight) → (opened ≡ Opened.Full → WasFull sight) → AnswersTried passed.now opened result sight }
+    ensures passes { passes result.outcome ≡ is_some result.rewriting }
+    ensures lacks { lacks_node result.outcome ≡ true → opened ≡ Opened.NoNode }
+{
+    match opened {
+        Opened::Open { id, there } => Answer::passed(
+            passed.config,
+            &passed.ruling,
+            Some(id),
+            Unkept::Kept,
+            there,
+        ),
+        Opened::Known { holder, answer } => answer_known(passed, holder, answer),
+        Opened::Taken(holder) => answer_refused(passed, DropWhy::Taken(holder)),
+        Opened::Full => answer_refused(passed, DropWhy::Full),
+        Opened::NoNode => answer_refused(passed, DropWhy::NoNode),
+        Opened::NoPort => answer_refused(passed, DropWhy::NoPort),
+    }
+}
+
+/// What becomes of a packet whose key has this holder, which was stepped: a live one takes it.
+fn answer_known(passed: &Passed, holder: Found, answer: Stepped<FlowReply>) -> Answer
+    requires { passed.now.ruling.decision ≡ Decision.Pass }
+    ensures explains { (sight : Sight) → AnswersTried passed.now (Opened.Known holder answer) result sight }
+    ensures passes { passes result.outcome ≡ is_some result.rewriting }
+    ensures lacks { lacks_node result.outcome ≡ false }
+{
+    match answer {
+        Stepped::Done { reply, place } => Answer::by_conn(&Met {
+            id: holder.id,
+            reply,
+            place,
+        }),
+        Stepped::NotLive => answer_refused(passed, DropWhy::Taken(holder)),
+    }
+}
+
+/// What becomes of a packet that has no connection: it is sent without translation where no map applies, and dropped where
+/// one does.
+fn answer_refused(passed: &Passed, why: DropWhy) -> Answer
+    requires decided { passed.now.ruling.decision ≡ Decision.Pass }
+    requires port { why ≡ DropWhy.NoPort → passed.now.mapping ≢ Mapping.Unmapped }
+    ensures explains { (sight : Sight) (opened : IsOpened) → IsDropped sight opened why → AnswersTried passed.now opened result sight }
+    ensures passes { passes result.outcome ≡ is_some result.rewriting }
+    ensures lacks { lacks_node result.outcome ≡ true → why ≡ DropWhy.NoNode }
+{
+    match passed.mapping {
+        Mapping::Unmapped => Answer::passed(
+            passed.config,
+            &passed.ruling,
+            None,
+            unkept_of(why),
+            UNCHANGED,
+        ),
+        Mapping::Static { .. } | Mapping::Dynamic(_) => {
+            Answer::dropped(passed.config, passed.ruling.place, why)
+        }
+    }
+}
+
+/// Why a packet that isn't dropped for it is unkept.
+fn unkept_of(why: DropWhy) -> Unkept
+    requires { why ≢ DropWhy.NoPort }
+    ensures unkept { result ≡ unkept_by why }
+    ensures node { result ≡ Unkept.NoNode → why ≡ DropWhy.NoNode }
+{
+    match why {
+        DropWhy::Full => Unkept::Full,
+        DropWhy::NoNode => Unkept::NoNode,
+        DropWhy::Taken(holder) => Unkept::Taken(holder),
+        DropWhy::NoPort => unreachable!(),
+    }
+}

@@ -1,0 +1,4 @@
+pub mod DrawingLemmas
+pub mod SayingLemmas
+pub mod StartingLemmas
+pub mod WayLemmas

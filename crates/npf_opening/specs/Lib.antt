@@ -1,0 +1,5 @@
+pub mod Drawing
+pub mod Opening
+pub mod Saying
+pub mod Starting
+pub mod Ways

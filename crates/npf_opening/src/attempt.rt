@@ -1,0 +1,39 @@
+use npf_core::{ConnId, Found, Stepped};
+use npf_flow::{FlowArg, FlowReply};
+use npf_nat::MapPlan;
+use npf_types::{Action, Change, Facts, IfId};
+
+/// A packet that would open a connection, by its number `packet` in the run. `ifid` is the interface of its keys: 0 for a
+/// connection of all interfaces. `plan` is what a map makes of the packet: two changes that name nothing where there is none.
+#[derive(Clone, Copy, Debug, PartialEq, Eq)]
+pub struct Attempt {
+    pub packet: u64,
+    pub facts: Facts,
+    pub ifid: IfId,
+    pub arg: FlowArg,
+    pub action: Action,
+    pub plan: MapPlan,
+}
+
+/// What became of a packet that would open a connection.
+#[derive(Debug, PartialEq, Eq, Drop)]
+pub enum Opened {
+    /// It opened this connection, which translates it so.
+    Open {
+        id: ConnId,
+        there: Change,
+    },
+    /// Its key has this holder, and this is what the holder's step by it was answered.
+    Known {
+        holder: Found,
+        answer: Stepped<FlowReply>,
+    },
+    /// Each slot of the table is claimed.
+    Full,
+    /// The table has no node left to keep a key in.
+    NoNode,
+    /// The key of its answers has this holder.
+    Taken(Found),
+    /// Each port that it could draw has a holder.
+    NoPort,
+}
