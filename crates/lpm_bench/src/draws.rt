@@ -54,15 +54,7 @@ impl Draws {
 
     pub fn prefix(&mut self, sort: Sort) -> Option<Prefix> {
         let addr = self.addr(sort);
-        let draw = self.next() >> 8;
-        let len = match sort {
-            Sort::RandomV4 => 20 + draw % 13,
-            Sort::RoutesV4 if draw % 10 < 6 => 24,
-            Sort::RoutesV4 => 16 + draw % 8,
-            Sort::RandomV6 => 40 + draw % 89,
-            Sort::ClusteredV6 => 48 + draw % 17,
-        };
-        Prefix::of(addr, len as u8)
+        Prefix::of(addr, length(sort, self.next() >> 8))
     }
 
     // An address of the block.
@@ -80,4 +72,20 @@ impl Draws {
             }
         }
     }
+}
+
+fn length(sort: Sort, draw: u64) -> u8 {
+    match sort {
+        Sort::RandomV4 => 20 + (draw % 13) as u8,
+        Sort::RoutesV4 => route_length(draw),
+        Sort::RandomV6 => 40 + (draw % 89) as u8,
+        Sort::ClusteredV6 => 48 + (draw % 17) as u8,
+    }
+}
+
+fn route_length(draw: u64) -> u8 {
+    if draw % 10 < 6 {
+        return 24;
+    }
+    16 + (draw % 8) as u8
 }

@@ -33,8 +33,10 @@ pub record IsGap (blocks : List Aligned) (block : Aligned) (place : ℕ) : Type 
 pub record IsTop (firsts lengths tops : List ℕ) (place top : ℕ) : Type 0 where
   pub short : top ≤ 128
   pub starts : place ≡ 0 → top ≡ slice_index lengths 0
-  pub stays : (k : ℕ) → place ≡ k + 1 → AgreesIn (slice_index tops k) (slice_index firsts k) (slice_index firsts place) → top ≡ slice_index tops k
-  pub begins : (k : ℕ) → place ≡ k + 1 → ¬ AgreesIn (slice_index tops k) (slice_index firsts k) (slice_index firsts place) → top ≡ slice_index lengths place
+  pub stays : (k : ℕ) → place ≡ k + 1 → AgreesIn (slice_index tops k) (slice_index firsts k) (slice_index firsts place)
+      → top ≡ slice_index tops k
+  pub begins : (k : ℕ) → place ≡ k + 1 → ¬ AgreesIn (slice_index tops k) (slice_index firsts k) (slice_index firsts place)
+      → top ≡ slice_index lengths place
 
 -- so at the places below `end`
 abbrev pub AreTops : List ℕ → List ℕ → List ℕ → ℕ → Type 0

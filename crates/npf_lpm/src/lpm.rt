@@ -140,7 +140,8 @@ fn narrow_blocks(alloc: Global, prefixes: &[Prefix]) -> Result<Vec<Aligned>, NoM
 
 // The blocks of the prefixes of IPv6.
 fn wide_blocks(alloc: Global, prefixes: &[Prefix]) -> Result<Vec<Aligned>, NoMemory>
-    ensures { IfOk result (λ blocks. blocks.items ≡ map aligned_block (filter (λ p. if is_narrow p.addr then false else true) prefixes.now)) }
+    ensures { IfOk result
+        (λ blocks. blocks.items ≡ map aligned_block (filter (λ p. if is_narrow p.addr then false else true) prefixes.now)) }
 {
     Ok(
         prefixes

@@ -38,7 +38,9 @@ pub(crate) fn find(
     requires ordered { AreOrdered firsts.now lengths.now }
     requires short { block.len ≤ 128 }
     requires count { IsCut (λ first. first) (block.first + 1) firsts.now count }
-    ensures { MatchResult result (IsAt (aligned_blocks firsts.now lengths.now) block) (IsGap (aligned_blocks firsts.now lengths.now) block) }
+    ensures { MatchResult result
+        (IsAt (aligned_blocks firsts.now lengths.now) block)
+        (IsGap (aligned_blocks firsts.now lengths.now) block) }
 {
     let place = count_before(firsts, lengths, count, block);
     if stands_at(firsts, lengths, place, block) {
@@ -127,7 +129,8 @@ pub(crate) fn put_in(
     requires place { IsGap (aligned_blocks firsts.old.items lengths.old.items) block place }
     requires aligned { IsAligned block }
     ensures rows { AreRows firsts.new.items lengths.new.items outermost.new.items }
-    ensures ok { OnOk result (aligned_blocks firsts.new.items lengths.new.items ≡ insert (aligned_blocks firsts.old.items lengths.old.items) place block) }
+    ensures ok { OnOk result (aligned_blocks firsts.new.items lengths.new.items
+        ≡ insert (aligned_blocks firsts.old.items lengths.old.items) place block) }
     ensures firsts { OnErr result (firsts.new.items ≡ firsts.old.items) }
     ensures lengths { OnErr result (lengths.new.items ≡ lengths.old.items) }
 {
@@ -161,7 +164,8 @@ pub(crate) fn take_out(
     requires rows { AreRows firsts.old.items lengths.old.items outermost.old.items }
     requires within { place < length (aligned_blocks firsts.old.items lengths.old.items) }
     ensures rows { AreRows firsts.new.items lengths.new.items outermost.new.items }
-    ensures taken { aligned_blocks firsts.new.items lengths.new.items ≡ remove (aligned_blocks firsts.old.items lengths.old.items) place }
+    ensures taken { aligned_blocks firsts.new.items lengths.new.items
+        ≡ remove (aligned_blocks firsts.old.items lengths.old.items) place }
 {
     let _first = firsts.remove(place);
     let _len = lengths.remove(place);
