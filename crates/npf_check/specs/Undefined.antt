@@ -84,3 +84,7 @@ undefined_table_faults tree = flat_map (tables_of_stmt (is_given Names.Table tre
 
 abbrev pub undefined_procedure_faults : Tree → List ConfFault
 undefined_procedure_faults tree = flat_map (procedures_of_stmt (is_given Names.Procedure tree.stmts)) tree.stmts
+
+-- the text is the name of one of these statements' tables
+abbrev pub is_table_in : List Stmt → List ℕ → Bool
+is_table_in stmts = is_given Names.Table stmts

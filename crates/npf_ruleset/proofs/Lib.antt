@@ -6,7 +6,7 @@ mod LayoutLemmas
 mod MatchLemmas
 mod NumberLemmas
 mod NumberedLemmas
-mod PairLemmas
+pub mod PairLemmas
 mod PlaceLemmas
 mod TableLemmas
 mod RowLemmas

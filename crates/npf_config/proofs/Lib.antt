@@ -1,0 +1,11 @@
+mod BuildableLemmas
+mod CountLemmas
+mod ElementLemmas
+mod FaultLemmas
+mod LawLemmas
+mod LoadLemmas
+mod ModelLemmas
+mod NoneLemmas
+mod TableLemmas
+mod TableNameLemmas
+mod TextNameLemmas

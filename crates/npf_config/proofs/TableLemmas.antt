@@ -1,0 +1,183 @@
+-- What is read of tables so far, and where reading them stops.
+use Rattle.std.proofs.Common.{◌≡◌, ◌≢◌, ◌≤◌, ◌<◌, ◌+◌, ℕ, min, Option, Some, None, List, [], ◌∷◌, ◌++◌, length, get_or, map, take, drop, refl, sym, ap, subst, ◌∙◌, arith}
+use Rattle.std.specs.List.{AllPairs, sum_by}
+use Rattle.std.specs.Option.{IsSomeAnd}
+use Rattle.std.specs.declared.sync.Arc.{Arc}
+use Rattle.std.specs.Arc.{arc_value}
+use Rattle.std.proofs.lemmas.List.{drop_more, map-append, take-append-drop, take_more}
+use Rattle.std.proofs.lemmas.List.Sums.{sum_by_push}
+use Rattle.npf_types.specs.declared.limits.TheConstants.{MAX_TABLE_ENTRIES, MAX_TEXT_BYTES}
+use Rattle.npf_types.specs.declared.prefix.Prefix.{Prefix}
+use Rattle.npf_types.specs.declared.span.Span.{Span}
+use Rattle.npf_lexer.specs.declared.fault.ConfFault.{ConfFault}
+use Rattle.npf_lexer.specs.declared.fault.Excess.TheVariants.{Entries}
+use Rattle.npf_lexer.specs.declared.fault.Fault.TheVariants.{TooMany}
+use Rattle.npf_model.specs.declared.table.TableDecl.{TableDecl}
+use Rattle.npf_model.specs.Describes.{Tables}
+use Rattle.npf_table.specs.declared.table.Table.{Table}
+use Rattle.npf_table.specs.Table.{kind_of, prefixes}
+use Rattle.npf_outside.specs.declared.files.FileFault.{FileFault}
+use Rattle.npf_outside.specs.declared.files.FileFault.TheVariants.{Failed, Long, NoMemory}
+use Rattle.npf_outside.specs.Counts.{count_after}
+use Rattle.npf_outside.specs.Files.{FilesMoment, Has, IsLonger, SameFiles, SameReadFaults, Tree as FileTree}
+use Rattle.npf_ruleset.specs.Flat.{IsPairwise}
+use Rattle.npf_ruleset.specs.Tables.{entries}
+use Rattle.npf_ruleset.proofs.PairLemmas.{pairs_of, related_append, related_of}
+use Rattle.npf_config.specs.declared.fault.LoadFault.{LoadFault}
+use Rattle.npf_config.specs.declared.fault.LoadFault.TheVariants as Load
+use Rattle.npf_config.specs.Reading.{ComesTo, IsUnread, OnlyReads}
+use Rattle.npf_config.specs.Refusal.{RefusesTables, bad_line, too_many}
+use Rattle.npf_config.specs.TableSteps.{IsPastLimit, IsReadTable, StopsAtTable, StopsAtTables}
+use Rattle.npf_config.specs.Tables.{AreFirstEntries, AreFirstTables, HaveKinds, IsTableText, entry_count}
+
+pub same_files : (contents : Option FileTree) → SameFiles contents contents
+same_files None = tt
+same_files (Some tree) = λ name. refl
+
+pub same_files_after : (one other last : Option FileTree) → SameFiles one other → SameFiles other last → SameFiles one last
+same_files_after None None None first second = tt
+same_files_after (Some one) (Some other) (Some last) first second = λ name. second name ∙ first name
+same_files_after None None (Some last) first second = absurd second
+same_files_after None (Some other) last first second = absurd first
+same_files_after (Some one) None last first second = absurd first
+same_files_after (Some one) (Some other) None first second = absurd second
+
+pub no_reads : (moment : FilesMoment) → OnlyReads moment moment
+no_reads moment = record {
+  contents = same_files moment.contents;
+  write_faults = refl;
+  read_faults = omega arith;
+  read_faults_of = λ name. omega arith;
+  taken = omega arith;
+}
+
+pub reads_after : (one other last : FilesMoment) → OnlyReads one other → OnlyReads other last → OnlyReads one last
+reads_after one other last first second = record {
+  contents = same_files_after one.contents other.contents last.contents first.contents second.contents;
+  write_faults = second.write_faults ∙ first.write_faults;
+  read_faults = (let a = first.read_faults in let b = second.read_faults in omega arith);
+  read_faults_of = λ name. (let a = first.read_faults_of name in let b = second.read_faults_of name in omega arith);
+  taken = (let a = first.taken in let b = second.taken in omega arith);
+}
+
+pub faultless_after : (one other last : FilesMoment) → SameReadFaults one other → SameReadFaults other last → SameReadFaults one last
+faultless_after one other last first second = record { all = second.all ∙ first.all; each = λ name. second.each name ∙ first.each name }
+
+-- what a file has now it had before
+had_before : (before now : Option FileTree) (name text : List ℕ) → SameFiles before now → Has now name text → Has before name text
+had_before None None name text same has = tt
+had_before (Some before) (Some now) name text same has = sym (same name) ∙ has
+had_before None (Some now) name text same has = absurd same
+had_before (Some before) None name text same has = absurd same
+
+told_before : (before now : Option FileTree) (file : Option (List ℕ)) (text : List ℕ) → SameFiles before now → IsTableText now file text → IsTableText before file text
+told_before before now None text same told = told
+told_before before now (Some name) text same told = had_before before now name text same told
+
+longer_before : (before now : Option FileTree) (name : List ℕ) (most first then last : ℕ) → SameFiles before now → first ≤ then → IsLonger now name most then last
+    → IsLonger before name most first last
+longer_before None None name most first then last same rose longer = omega arith
+longer_before (Some before) (Some now) name most first then last same rose longer = subst (λ (bytes : Option (List ℕ)). IsSomeAnd bytes (λ b. most < length b)) (same name) longer
+longer_before None (Some now) name most first then last same rose longer = absurd same
+longer_before (Some before) None name most first then last same rose longer = absurd same
+
+pub unread_before : (before now last : FilesMoment) (name : List ℕ) (fault : FileFault) → OnlyReads before now → IsUnread name now last fault → IsUnread name before last fault
+unread_before before now last name Failed reads unread =
+    let all = reads.read_faults in
+    let each = reads.read_faults_of name in
+    (omega (arith, unread.0), omega (arith, unread.1))
+unread_before before now last name Long reads unread =
+    longer_before before.contents now.contents name MAX_TEXT_BYTES before.taken now.taken last.taken reads.contents reads.taken unread
+unread_before before now last name NoMemory reads unread = absurd unread
+
+pub pairs_push : {X Y : Type 0} (Rel : X → Y → Type 0) (xs : List X) (ys : List Y) (x : X) (y : Y) → IsPairwise Rel xs ys → Rel x y → IsPairwise Rel (xs ++ x ∷ []) (ys ++ y ∷ [])
+pairs_push Rel xs ys x y pairs one = pairs_of Rel (xs ++ x ∷ []) (ys ++ y ∷ []) (related_append Rel xs (x ∷ []) ys (y ∷ []) (related_of Rel xs ys pairs) (one, tt))
+
+-- these tables were read of these declarations, with so many entries
+pub record ReadSoFar {Z : Type 0} (first now : FilesMoment) (decls : List TableDecl) (tables : List (Arc Table Z)) (count : ℕ) : Type 0 where
+  pub read : AreFirstTables first.contents decls (entries tables)
+  pub kinds : HaveKinds decls tables
+  pub counted : count ≡ entry_count (entries tables)
+  pub reads : OnlyReads first now
+  pub faultless : SameReadFaults first now
+
+pub none_read : {Z : Type 0} (moment : FilesMoment) → ReadSoFar {Z = Z} moment moment [] [] 0
+none_read moment = record {
+  read = record { each = pairs_of _ [] [] tt; few = omega arith };
+  kinds = pairs_of _ [] [] tt;
+  counted = refl;
+  reads = no_reads moment;
+  faultless = record { all = refl; each = λ name. refl };
+}
+
+module _ {Z : Type 0} (first now next : FilesMoment) (decls : List TableDecl) (decl : TableDecl) (tables : List (Arc Table Z)) (count : ℕ)
+    (so_far : ReadSoFar first now decls tables count) where
+  first_entries : (table : Table) → IsReadTable now.contents decl table → AllPairs (λ p q. p ≢ q) (prefixes table) → AreFirstEntries first.contents decl (prefixes table)
+  first_entries table is once = record {
+    text = is.text;
+    told = told_before first.contents now.contents decl.file is.text so_far.reads.contents is.told;
+    written = is.read.entries;
+    once = once;
+  }
+
+  pub one_more : (more : Arc Table Z) (sum : ℕ) → OnlyReads now next → SameReadFaults now next → IsReadTable now.contents decl (arc_value more)
+      → AllPairs (λ p q. p ≢ q) (prefixes (arc_value more)) → sum ≡ count + length (prefixes (arc_value more)) → sum ≤ MAX_TABLE_ENTRIES
+      → ReadSoFar first next (decls ++ decl ∷ []) (tables ++ more ∷ []) sum
+  one_more more sum reads faultless is once counted few =
+      let split : entries (tables ++ more ∷ []) ≡ entries tables ++ prefixes (arc_value more) ∷ [] = map-append (λ (table : Arc Table Z). prefixes (arc_value table)) tables (more ∷ []) in
+      let total : entry_count (entries (tables ++ more ∷ [])) ≡ entry_count (entries tables) + length (prefixes (arc_value more)) =
+      ap entry_count split ∙ sum_by_push length (entries tables) (prefixes (arc_value more)) in
+      let was = so_far.counted in
+      record {
+        read = record {
+          each = subst (IsPairwise (AreFirstEntries first.contents) (decls ++ decl ∷ [])) (sym split)
+              (pairs_push (AreFirstEntries first.contents) decls (entries tables) decl (prefixes (arc_value more)) so_far.read.each (first_entries (arc_value more) is once));
+          few = omega arith;
+        };
+        kinds = pairs_push (λ decl (table : Arc Table Z). kind_of (arc_value table) ≡ decl.kind) decls tables decl more so_far.kinds is.read.of_kind;
+        counted = omega arith;
+        reads = reads_after first now next so_far.reads reads;
+        faultless = faultless_after first now next so_far.faultless faultless;
+      }
+
+  module _ (all behind : List TableDecl) (are : all ≡ decls ++ decl ∷ behind) where
+    comes : ComesTo first all decl (entries tables)
+    comes = record { front = decls; behind = behind; are = are; read = so_far.read }
+
+    pub stops_there : (fault : LoadFault) → StopsAtTable now next decl fault → StopsAtTables first next all fault
+    stops_there (Load.Conf fault) stops =
+        let bad = stops.0 in (
+          subst (RefusesTables first all) (sym bad.tells)
+              (bad_line decl (entries tables) bad.text bad.number comes (told_before first.contents now.contents decl.file bad.text so_far.reads.contents bad.told) bad.bad),
+          faultless_after first now next so_far.faultless stops.1,
+        )
+    stops_there (Load.File span fault) stops = record {
+      decl = decl;
+      tables = entries tables;
+      comes = comes;
+      name = stops.name;
+      named = stops.named;
+      place = stops.place;
+      unread = unread_before first now next stops.name fault so_far.reads stops.unread;
+    }
+    stops_there Load.NoMemory stops = tt
+
+    pub past_limit : (table : Table) (fault : LoadFault) → IsReadTable now.contents decl table → AllPairs (λ p q. p ≢ q) (prefixes table) → SameReadFaults now next
+        → IsPastLimit count (prefixes table) decl fault → StopsAtTables first next all fault
+    past_limit table fault is once faultless past =
+        let over = so_far.counted in
+        subst (StopsAtTables first next all) (sym past.1) (
+          subst (λ n. RefusesTables first all (record { span = decl.span; fault = TooMany Entries (count_after n (length (prefixes table))) })) (sym so_far.counted)
+              (too_many decl (entries tables) (prefixes table) comes (first_entries table is once) (omega (arith, past.0))),
+          faultless_after first now next so_far.faultless faultless,
+        )
+
+-- a declaration that is read at a place, with those in front of it and behind it
+module _ (decls : List TableDecl) (i : ℕ) (decl : TableDecl) (within : i < length decls) (is : decl ≡ get_or decls i decl) where
+  pub front_and_here : take (i + 1) decls ≡ take i decls ++ decl ∷ []
+  front_and_here = take_more decls i decl within ∙ ap (λ (d : TableDecl). take i decls ++ d ∷ []) (sym is)
+
+  pub split_here : decls ≡ take i decls ++ decl ∷ drop (i + 1) decls
+  split_here =
+      let here : drop i decls ≡ decl ∷ drop (i + 1) decls = drop_more decls i decl within ∙ ap (λ (d : TableDecl). d ∷ drop (i + 1) decls) (sym is) in
+      sym (take-append-drop i decls) ∙ ap (λ (rest : List TableDecl). take i decls ++ rest) here

@@ -1,0 +1,9 @@
+pub mod Configurations
+pub mod Laws
+pub mod Reading
+pub mod Refusal
+pub mod RulePlaces
+pub mod Stage
+pub mod TableSteps
+pub mod Tables
+pub mod Text

@@ -1,0 +1,61 @@
+// The rules that are walked. The first matches port 40000 alone and the last port 40001, both from the upper half of 10.0.0.0/8. Each of
+// those between passes TCP or UDP from a block of the lower half to a port or a range of ports, as a draw says.
+use std::alloc::{AllocError, Global};
+use std::fmt::Write;
+
+/// The rule that matches a packet.
+#[derive(Clone, Copy)]
+pub enum Match {
+    First,
+    Last,
+    Nowhere,
+}
+
+const PORTS: [u16; 8] = [22, 53, 80, 123, 161, 443, 5060, 8080];
+
+/// A draw follows from the one before it.
+pub fn next(draw: u32) -> u32 {
+    draw.wrapping_mul(1_664_525).wrapping_add(1_013_904_223)
+}
+
+/// The port that packets are sent to: that of the rule that is to match, or one of many.
+pub fn port_for(matched: Match, draw: u32) -> u16 {
+    match matched {
+        Match::First => 40_000,
+        Match::Last => 40_001,
+        Match::Nowhere => PORTS[((draw >> 8) & 7) as usize],
+    }
+}
+
+/// The text of so many rules.
+pub fn rules(alloc: Global, count: u32) -> Result<String, AllocError> {
+    let mut text = String::from_str(alloc, "group default {\n")?;
+    let mut draw = 1;
+    for place in 0..count {
+        draw = next(draw);
+        if place == 0 {
+            text.push_str("pass proto udp from 10.128.0.0/9 to any port 40000\n")?;
+        } else if place == count - 1 {
+            text.push_str("pass proto udp from 10.128.0.0/9 to any port 40001\n")?;
+        } else {
+            add_rule(&mut text, draw)?;
+        }
+    }
+    text.push_str("}\n")?;
+    Ok(text)
+}
+
+fn add_rule(text: &mut String, draw: u32) -> Result<(), AllocError> {
+    let proto = if draw & 0x8000_0000 == 0 {
+        "tcp"
+    } else {
+        "udp"
+    };
+    let upper = (draw >> 24) & 127;
+    let lower = (draw >> 16) & 255;
+    let first = PORTS[((draw >> 8) & 7) as usize];
+    let last = first + if draw & 0x4000_0000 == 0 { 0 } else { 50 };
+    write!(text, "pass proto {proto} from 10.{upper}.{lower}.0/24 ")?;
+    writeln!(text, "to any port {first}-{last}")?;
+    Ok(())
+}
