@@ -1,46 +1,39 @@
 // Filters: a function for each line of the grammar.
 ghost use Rattle.std.specs.Prelude.{codes};
-ghost use Rattle.npf_parser.specs.Readings.{Answers, Leaves, optional, behind_word, behind_sign};
-ghost use Rattle.npf_parser.specs.Leaves.{flags_of, number_to};
-ghost use Rattle.npf_parser.specs.Values.{values_of};
-ghost use Rattle.npf_parser.specs.Filters.{family_of, flags_detail_of, icmp_detail_of, detail_of, proto_part_of, addresses_of, ends_of, where_of, filter_of};
+ghost use Rattle.npf_lexer.specs.declared.token.Sign.TheVariants as Sign;
+ghost use Rattle.npf_phrase.specs.Grammar.{meaning, optional, preceded};
+ghost use Rattle.npf_parser.specs.Answer.{Answers};
+ghost use Rattle.npf_parser.specs.Token.{quoted, sign, flags, number_to};
+ghost use Rattle.npf_parser.specs.Filter.{family, flags_detail, icmp_detail, detail, proto_part, addresses, ports, ends, the_ends, filter};
 
 use crate::leaf::{read_flags, read_number_to};
 use crate::protocol::read_protocols;
 use crate::role::Role;
-use crate::tokens::{behind_sign, behind_word, expected, span_to};
+use crate::stop::Stop;
+use crate::text::span_to;
+use crate::tokens::{after_word, behind_sign, behind_word};
 use crate::value::{read_value, read_value_list, read_values};
-use npf_lexer::{Refused, Sign, Token};
+use npf_lexer::{Sign, Token};
 use npf_syntax::{Addresses, Detail, Ends, Family, Filter, Number, ProtoPart, Values, Where, Word};
 use std::alloc::Global;
 
-#[tactic(auto, unfolding(crate::specs::Filters::family_of))]
-fn read_family(tokens: &[Token]) -> Result<(Family, &[Token]), Refused>
-    ensures read { Answers (family_of tokens.now) result }
-    ensures left { Leaves tokens.now result }
+#[tactic(auto, unfolding(crate::specs::Filter::family))]
+fn read_family(tokens: &[Token]) -> Result<(Family, &[Token]), Stop>
+    ensures { Answers ((meaning family).read tokens.now) result }
 {
     if let Some(rest) = behind_word("inet4", tokens) {
-        return Ok((
-            Family::Inet4 {
-                span: span_to(tokens, rest),
-            },
-            rest,
-        ));
+        let span = span_to(tokens, rest);
+        return Ok((Family::Inet4 { span }, rest));
     }
     if let Some(rest) = behind_word("inet6", tokens) {
-        return Ok((
-            Family::Inet6 {
-                span: span_to(tokens, rest),
-            },
-            rest,
-        ));
+        let span = span_to(tokens, rest);
+        return Ok((Family::Inet6 { span }, rest));
     }
-    Err(expected(tokens))
+    Err(Stop::Before(tokens))
 }
 
-fn read_optional_family(tokens: &[Token]) -> Result<(Option<Family>, &[Token]), Refused>
-    ensures read { Answers (optional (behind_word (codes "family") tokens.now) family_of tokens.now) result }
-    ensures left { Leaves tokens.now result }
+fn read_optional_family(tokens: &[Token]) -> Result<(Option<Family>, &[Token]), Stop>
+    ensures { Answers ((meaning (optional (preceded (quoted (codes "family")) family))).read tokens.now) result }
 {
     match behind_word("family", tokens) {
         Some(rest) => {
@@ -51,9 +44,11 @@ fn read_optional_family(tokens: &[Token]) -> Result<(Option<Family>, &[Token]), 
     }
 }
 
-fn read_mask<'a>(alloc: Global, tokens: &'a [Token]) -> Result<(Option<Word>, &'a [Token]), Refused>
-    ensures read { Answers (optional (behind_sign Sign.Slash tokens.now) flags_of tokens.now) result }
-    ensures left { Leaves tokens.now result }
+fn read_mask<'a>(
+    alloc: Global,
+    tokens: &'a [Token],
+) -> Result<(Option<Word>, &'a [Token]), Stop<'a>>
+    ensures { Answers ((meaning (optional (preceded (sign Sign.Slash) flags))).read tokens.now) result }
 {
     match behind_sign(Sign::Slash, tokens) {
         Some(rest) => {
@@ -64,9 +59,8 @@ fn read_mask<'a>(alloc: Global, tokens: &'a [Token]) -> Result<(Option<Word>, &'
     }
 }
 
-fn read_code(tokens: &[Token]) -> Result<(Option<Number>, &[Token]), Refused>
-    ensures read { Answers (optional (behind_word (codes "code") tokens.now) (number_to 255) tokens.now) result }
-    ensures left { Leaves tokens.now result }
+fn read_code(tokens: &[Token]) -> Result<(Option<Number>, &[Token]), Stop>
+    ensures { Answers ((meaning (optional (preceded (quoted (codes "code")) (number_to 255)))).read tokens.now) result }
 {
     match behind_word("code", tokens) {
         Some(rest) => {
@@ -77,135 +71,101 @@ fn read_code(tokens: &[Token]) -> Result<(Option<Number>, &[Token]), Refused>
     }
 }
 
-#[tactic(auto, unfolding(crate::specs::Filters::flags_detail_of))]
 fn read_flags_detail<'a>(
     alloc: Global,
     tokens: &'a [Token],
-    behind: &'a [Token],
-) -> Result<(Option<Detail>, &'a [Token]), Refused>
-    ensures read { Answers (flags_detail_of tokens.now behind.now) result }
-    ensures left { Leaves behind.now result }
+) -> Result<(Detail, &'a [Token]), Stop<'a>>
+    ensures { Answers ((meaning flags_detail).read tokens.now) result }
 {
-    let (flags, rest) = read_flags(alloc, behind)?;
+    let rest = after_word("flags", tokens)?;
+    let (flags, rest) = read_flags(alloc, rest)?;
     let (mask, rest) = read_mask(alloc, rest)?;
-    Ok((
-        Some(Detail::Flags {
-            flags,
-            mask,
-            span: span_to(tokens, rest),
-        }),
-        rest,
-    ))
+    let span = span_to(tokens, rest);
+    Ok((Detail::Flags { flags, mask, span }, rest))
 }
 
-#[tactic(auto, unfolding(crate::specs::Filters::icmp_detail_of))]
-fn read_icmp_detail<'a>(
-    tokens: &'a [Token],
-    behind: &'a [Token],
-) -> Result<(Option<Detail>, &'a [Token]), Refused>
-    ensures read { Answers (icmp_detail_of tokens.now behind.now) result }
-    ensures left { Leaves behind.now result }
+fn read_icmp_detail(tokens: &[Token]) -> Result<(Detail, &[Token]), Stop>
+    ensures { Answers ((meaning icmp_detail).read tokens.now) result }
 {
-    let (number, rest) = read_number_to(255, behind)?;
+    let rest = after_word("icmp-type", tokens)?;
+    let (number, rest) = read_number_to(255, rest)?;
     let (code, rest) = read_code(rest)?;
-    Ok((
-        Some(Detail::IcmpType {
-            number,
-            code,
-            span: span_to(tokens, rest),
-        }),
-        rest,
-    ))
+    let span = span_to(tokens, rest);
+    Ok((Detail::IcmpType { number, code, span }, rest))
 }
 
-#[tactic(auto, unfolding(crate::specs::Filters::detail_of))]
+#[tactic(auto, unfolding(crate::specs::Filter::detail))]
 fn read_detail<'a>(
     alloc: Global,
     tokens: &'a [Token],
-) -> Result<(Option<Detail>, &'a [Token]), Refused>
-    ensures read { Answers (detail_of tokens.now) result }
-    ensures left { Leaves tokens.now result }
+) -> Result<(Option<Detail>, &'a [Token]), Stop<'a>>
+    ensures { Answers ((meaning (optional detail)).read tokens.now) result }
 {
-    if let Some(rest) = behind_word("flags", tokens) {
-        return read_flags_detail(alloc, tokens, rest);
+    if behind_word("flags", tokens).is_some() {
+        let (detail, rest) = read_flags_detail(alloc, tokens)?;
+        return Ok((Some(detail), rest));
     }
-    if let Some(rest) = behind_word("icmp-type", tokens) {
-        return read_icmp_detail(tokens, rest);
+    if behind_word("icmp-type", tokens).is_some() {
+        let (detail, rest) = read_icmp_detail(tokens)?;
+        return Ok((Some(detail), rest));
     }
     Ok((None, tokens))
 }
 
-#[tactic(auto, unfolding(crate::specs::Filters::proto_part_of))]
+#[tactic(auto, unfolding(crate::specs::Filter::proto_part))]
 fn read_proto_part<'a>(
     alloc: Global,
     tokens: &'a [Token],
-) -> Result<(Option<ProtoPart>, &'a [Token]), Refused>
-    ensures read { Answers (proto_part_of tokens.now) result }
-    ensures left { Leaves tokens.now result }
+) -> Result<(Option<ProtoPart>, &'a [Token]), Stop<'a>>
+    ensures { Answers ((meaning (optional proto_part)).read tokens.now) result }
 {
     match behind_word("proto", tokens) {
         Some(rest) => {
             let (protocols, rest) = read_protocols(alloc, rest)?;
             let (detail, rest) = read_detail(alloc, rest)?;
-            Ok((
-                Some(ProtoPart {
-                    protocols,
-                    detail,
-                    span: span_to(tokens, rest),
-                }),
-                rest,
-            ))
+            let span = span_to(tokens, rest);
+            let part = ProtoPart {
+                protocols,
+                detail,
+                span,
+            };
+            Ok((Some(part), rest))
         }
         None => Ok((None, tokens)),
     }
 }
 
-#[tactic(auto, unfolding(crate::specs::Filters::addresses_of))]
+#[tactic(auto, unfolding(crate::specs::Filter::addresses, crate::specs::Value::value_list))]
 fn read_addresses<'a>(
     alloc: Global,
     tokens: &'a [Token],
-) -> Result<(Addresses, &'a [Token]), Refused>
-    ensures read { Answers (addresses_of tokens.now) result }
-    ensures left { Leaves tokens.now result }
+) -> Result<(Addresses, &'a [Token]), Stop<'a>>
+    ensures { Answers ((meaning addresses).read tokens.now) result }
 {
     if let Some(rest) = behind_word("any", tokens) {
-        return Ok((
-            Addresses::Any {
-                span: span_to(tokens, rest),
-            },
-            rest,
-        ));
+        let span = span_to(tokens, rest);
+        return Ok((Addresses::Any { span }, rest));
     }
     match behind_sign(Sign::OpenBrace, tokens) {
         Some(_) => {
             let (list, rest) = read_value_list(alloc, Role::Address, tokens)?;
-            Ok((
-                Addresses::List {
-                    list,
-                    span: span_to(tokens, rest),
-                },
-                rest,
-            ))
+            let span = span_to(tokens, rest);
+            Ok((Addresses::List { list, span }, rest))
         }
         None => {
             let (value, rest) = read_value(alloc, Role::Address, false, tokens)?;
-            Ok((
-                Addresses::One {
-                    value,
-                    span: span_to(tokens, rest),
-                },
-                rest,
-            ))
+            let span = span_to(tokens, rest);
+            Ok((Addresses::One { value, span }, rest))
         }
     }
 }
 
+#[tactic(auto, unfolding(crate::specs::Filter::ports))]
 fn read_optional_ports<'a>(
     alloc: Global,
     tokens: &'a [Token],
-) -> Result<(Option<Values>, &'a [Token]), Refused>
-    ensures read { Answers (optional (behind_word (codes "port") tokens.now) (values_of Role.Port) tokens.now) result }
-    ensures left { Leaves tokens.now result }
+) -> Result<(Option<Values>, &'a [Token]), Stop<'a>>
+    ensures { Answers ((meaning (optional ports)).read tokens.now) result }
 {
     match behind_word("port", tokens) {
         Some(rest) => {
@@ -216,30 +176,25 @@ fn read_optional_ports<'a>(
     }
 }
 
-#[tactic(auto, unfolding(crate::specs::Filters::ends_of))]
-fn read_ends<'a>(alloc: Global, tokens: &'a [Token]) -> Result<(Ends, &'a [Token]), Refused>
-    ensures read { Answers (ends_of tokens.now) result }
-    ensures left { Leaves tokens.now result }
+#[tactic(auto, unfolding(crate::specs::Filter::ends, crate::specs::Filter::ports))]
+fn read_ends<'a>(alloc: Global, tokens: &'a [Token]) -> Result<(Ends, &'a [Token]), Stop<'a>>
+    ensures { Answers ((meaning ends).read tokens.now) result }
 {
     match behind_word("port", tokens) {
         Some(rest) => {
             let (ports, rest) = read_values(alloc, Role::Port, rest)?;
-            Ok((
-                Ends::Ports {
-                    ports,
-                    span: span_to(tokens, rest),
-                },
-                rest,
-            ))
+            let span = span_to(tokens, rest);
+            Ok((Ends::Ports { ports, span }, rest))
         }
         None => {
             let (addresses, rest) = read_addresses(alloc, tokens)?;
             let (ports, rest) = read_optional_ports(alloc, rest)?;
+            let span = span_to(tokens, rest);
             Ok((
                 Ends::Addresses {
                     addresses,
                     ports,
-                    span: span_to(tokens, rest),
+                    span,
                 },
                 rest,
             ))
@@ -250,9 +205,8 @@ fn read_ends<'a>(alloc: Global, tokens: &'a [Token]) -> Result<(Ends, &'a [Token
 fn read_optional_to<'a>(
     alloc: Global,
     tokens: &'a [Token],
-) -> Result<(Option<Ends>, &'a [Token]), Refused>
-    ensures read { Answers (optional (behind_word (codes "to") tokens.now) ends_of tokens.now) result }
-    ensures left { Leaves tokens.now result }
+) -> Result<(Option<Ends>, &'a [Token]), Stop<'a>>
+    ensures { Answers ((meaning (optional (preceded (quoted (codes "to")) ends))).read tokens.now) result }
 {
     match behind_word("to", tokens) {
         Some(rest) => {
@@ -263,63 +217,47 @@ fn read_optional_to<'a>(
     }
 }
 
-#[tactic(auto, unfolding(crate::specs::Filters::where_of))]
-fn read_where<'a>(alloc: Global, tokens: &'a [Token]) -> Result<(Where, &'a [Token]), Refused>
-    ensures read { Answers (where_of tokens.now) result }
-    ensures left { Leaves tokens.now result }
+#[tactic(auto, unfolding(crate::specs::Filter::the_ends))]
+fn read_where<'a>(alloc: Global, tokens: &'a [Token]) -> Result<(Where, &'a [Token]), Stop<'a>>
+    ensures { Answers ((meaning the_ends).read tokens.now) result }
 {
     if let Some(rest) = behind_word("all", tokens) {
-        return Ok((
-            Where::All {
-                span: span_to(tokens, rest),
-            },
-            rest,
-        ));
+        let span = span_to(tokens, rest);
+        return Ok((Where::All { span }, rest));
     }
     if let Some(rest) = behind_word("from", tokens) {
         let (from, rest) = read_ends(alloc, rest)?;
         let (to, rest) = read_optional_to(alloc, rest)?;
-        return Ok((
-            Where::From {
-                from,
-                to,
-                span: span_to(tokens, rest),
-            },
-            rest,
-        ));
+        let span = span_to(tokens, rest);
+        return Ok((Where::From { from, to, span }, rest));
     }
     match behind_word("to", tokens) {
         Some(rest) => {
             let (to, rest) = read_ends(alloc, rest)?;
-            Ok((
-                Where::To {
-                    to,
-                    span: span_to(tokens, rest),
-                },
-                rest,
-            ))
+            let span = span_to(tokens, rest);
+            Ok((Where::To { to, span }, rest))
         }
-        None => Err(expected(tokens)),
+        None => Err(Stop::Before(tokens)),
     }
 }
 
-#[tactic(auto, unfolding(crate::specs::Filters::filter_of))]
+#[tactic(auto, unfolding(crate::specs::Filter::filter))]
 pub(crate) fn read_filter<'a>(
     alloc: Global,
     tokens: &'a [Token],
-) -> Result<(Filter, &'a [Token]), Refused>
-    ensures read { Answers (filter_of tokens.now) result }
-    ensures left { Leaves tokens.now result }
+) -> Result<(Filter, &'a [Token]), Stop<'a>>
+    ensures { Answers ((meaning filter).read tokens.now) result }
 {
     let (family, rest) = read_optional_family(tokens)?;
     let (proto, rest) = read_proto_part(alloc, rest)?;
     let (ends, rest) = read_where(alloc, rest)?;
+    let span = span_to(tokens, rest);
     Ok((
         Filter {
             family,
             proto,
             ends,
-            span: span_to(tokens, rest),
+            span,
         },
         rest,
     ))

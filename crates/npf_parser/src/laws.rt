@@ -1,25 +1,9 @@
-// What follows of the grammar, whatever the tokens: each is a theorem about the relation that `parse` answers.
-ghost use Rattle.npf_parser.specs.Laws.{OneTree, Decided, Hopeless, HaltsExactly, OnePlace, TreeOrHalt};
+// What follows of the grammar, whatever the tokens: each is a theorem about the relations that `parse` answers.
+ghost use Rattle.npf_parser.specs.Law.{OneTree, OnePlace, TreeOrHalt, StopsWhereHalted};
 
 /// The grammar is unambiguous: tokens have one tree at most.
 pub fn one_tree()
     ensures { OneTree }
-{}
-
-/// Tokens are a configuration, or they have a place at which they can't go on; and never both.
-pub fn decided()
-    ensures { Decided }
-{}
-
-/// Where tokens are no configuration, their fault stands at a token, or at something unfit that begins there, behind which
-/// no other tokens help: whatever stands behind the next token, no configuration begins so.
-pub fn hopeless()
-    ensures { Hopeless }
-{}
-
-/// The fault stands exactly at the tokens before which the grammar's phrases halt.
-pub fn halts_exactly()
-    ensures { HaltsExactly }
 {}
 
 /// Tokens halt at one place at most.
@@ -27,7 +11,13 @@ pub fn one_place()
     ensures { OnePlace }
 {}
 
-/// Tokens are a configuration, or they halt at some place by the relation of the grammar; and never both.
+/// Tokens are a configuration, or they halt at some place; and never both.
 pub fn tree_or_halt()
     ensures { TreeOrHalt }
+{}
+
+/// Where tokens halt, those before that place begin a configuration, were every value to fit; and whatever stands behind
+/// the next token, no configuration begins so.
+pub fn hopeless()
+    ensures { StopsWhereHalted }
 {}

@@ -3,23 +3,24 @@ ghost use Rattle.std.specs.Prelude.{◌≡◌};
 ghost use Rattle.std.specs.List.{list_all};
 ghost use Rattle.std.specs.Str.{is_utf8};
 ghost use Rattle.npf_types.specs.NameText.{is_name};
-ghost use Rattle.npf_parser.specs.Readings.{Answers, Leaves};
-ghost use Rattle.npf_parser.specs.Leaves.{string_of, word_of, variable_of, number_of, address_of, number_to, name_word_of, name_string_of, text_string_of, flags_of, is_flag};
+ghost use Rattle.npf_phrase.specs.Grammar.{meaning};
+ghost use Rattle.npf_parser.specs.Answer.{Answers};
+ghost use Rattle.npf_parser.specs.Token.{string, word, variable, number, address, number_to, name_word, name_string, text_string, is_flag, flags};
 
-use crate::tokens::{copied, expected};
-use npf_lexer::{Refused, Token, TokenKind};
+use crate::stop::Stop;
+use crate::text::copied;
+use npf_lexer::{Token, TokenKind};
 use npf_syntax::{Address, Number, Str, Var, Word};
 use npf_types::Name;
 use std::alloc::Global;
 use std::str;
 
-#[tactic(auto, unfolding(crate::specs::Leaves::string_of))]
+#[tactic(auto, unfolding(npf_phrase::specs::Phrase::read_token))]
 pub(crate) fn read_string<'a>(
     alloc: Global,
     tokens: &'a [Token],
-) -> Result<(Str, &'a [Token]), Refused>
-    ensures read { Answers (string_of tokens.now) result }
-    ensures left { Leaves tokens.now result }
+) -> Result<(Str, &'a [Token]), Stop<'a>>
+    ensures { Answers ((meaning string).read tokens.now) result }
 {
     match tokens.split_first() {
         Some(
@@ -31,20 +32,19 @@ pub(crate) fn read_string<'a>(
                 rest,
             ),
         ) => {
-            let text = copied(alloc, text)?;
+            let text = copied(alloc, text.as_slice())?;
             Ok((Str { text, span: *span }, rest))
         }
-        _ => Err(expected(tokens)),
+        _ => Err(Stop::Before(tokens)),
     }
 }
 
-#[tactic(auto, unfolding(crate::specs::Leaves::word_of))]
+#[tactic(auto, unfolding(npf_phrase::specs::Phrase::read_token))]
 pub(crate) fn read_word<'a>(
     alloc: Global,
     tokens: &'a [Token],
-) -> Result<(Word, &'a [Token]), Refused>
-    ensures read { Answers (word_of tokens.now) result }
-    ensures left { Leaves tokens.now result }
+) -> Result<(Word, &'a [Token]), Stop<'a>>
+    ensures { Answers ((meaning word).read tokens.now) result }
 {
     match tokens.split_first() {
         Some(
@@ -56,20 +56,19 @@ pub(crate) fn read_word<'a>(
                 rest,
             ),
         ) => {
-            let text = copied(alloc, text)?;
+            let text = copied(alloc, text.as_slice())?;
             Ok((Word { text, span: *span }, rest))
         }
-        _ => Err(expected(tokens)),
+        _ => Err(Stop::Before(tokens)),
     }
 }
 
-#[tactic(auto, unfolding(crate::specs::Leaves::variable_of))]
+#[tactic(auto, unfolding(npf_phrase::specs::Phrase::read_token))]
 pub(crate) fn read_variable<'a>(
     alloc: Global,
     tokens: &'a [Token],
-) -> Result<(Var, &'a [Token]), Refused>
-    ensures read { Answers (variable_of tokens.now) result }
-    ensures left { Leaves tokens.now result }
+) -> Result<(Var, &'a [Token]), Stop<'a>>
+    ensures { Answers ((meaning variable).read tokens.now) result }
 {
     match tokens.split_first() {
         Some(
@@ -81,17 +80,16 @@ pub(crate) fn read_variable<'a>(
                 rest,
             ),
         ) => {
-            let name = copied(alloc, text)?;
+            let name = copied(alloc, text.as_slice())?;
             Ok((Var { name, span: *span }, rest))
         }
-        _ => Err(expected(tokens)),
+        _ => Err(Stop::Before(tokens)),
     }
 }
 
-#[tactic(auto, unfolding(crate::specs::Leaves::number_of))]
-pub(crate) fn read_number(tokens: &[Token]) -> Result<(Number, &[Token]), Refused>
-    ensures read { Answers (number_of tokens.now) result }
-    ensures left { Leaves tokens.now result }
+#[tactic(auto, unfolding(npf_phrase::specs::Phrase::read_token))]
+pub(crate) fn read_number(tokens: &[Token]) -> Result<(Number, &[Token]), Stop>
+    ensures { Answers ((meaning number).read tokens.now) result }
 {
     match tokens.split_first() {
         Some(
@@ -111,14 +109,13 @@ pub(crate) fn read_number(tokens: &[Token]) -> Result<(Number, &[Token]), Refuse
                 rest,
             ))
         }
-        _ => Err(expected(tokens)),
+        _ => Err(Stop::Before(tokens)),
     }
 }
 
-#[tactic(auto, unfolding(crate::specs::Leaves::address_of))]
-pub(crate) fn read_address(tokens: &[Token]) -> Result<(Address, &[Token]), Refused>
-    ensures read { Answers (address_of tokens.now) result }
-    ensures left { Leaves tokens.now result }
+#[tactic(auto, unfolding(npf_phrase::specs::Phrase::read_token))]
+pub(crate) fn read_address(tokens: &[Token]) -> Result<(Address, &[Token]), Stop>
+    ensures { Answers ((meaning address).read tokens.now) result }
 {
     match tokens.split_first() {
         Some(
@@ -138,20 +135,18 @@ pub(crate) fn read_address(tokens: &[Token]) -> Result<(Address, &[Token]), Refu
                 rest,
             ))
         }
-        _ => Err(expected(tokens)),
+        _ => Err(Stop::Before(tokens)),
     }
 }
 
-#[tactic(auto, unfolding(crate::specs::Leaves::number_to))]
-pub(crate) fn read_number_to(most: u32, tokens: &[Token]) -> Result<(Number, &[Token]), Refused>
-    ensures read { Answers (number_to most tokens.now) result }
-    ensures left { Leaves tokens.now result }
+pub(crate) fn read_number_to(most: u32, tokens: &[Token]) -> Result<(Number, &[Token]), Stop>
+    ensures { Answers ((meaning (number_to most)).read tokens.now) result }
 {
     let (number, rest) = read_number(tokens)?;
     if number.value <= most {
         return Ok((number, rest));
     }
-    Err(expected(tokens))
+    Err(Stop::Before(tokens))
 }
 
 pub(crate) fn is_name(text: &[u8]) -> bool
@@ -160,34 +155,30 @@ pub(crate) fn is_name(text: &[u8]) -> bool
     Name::of(text).is_some()
 }
 
-#[tactic(auto, unfolding(crate::specs::Leaves::name_word_of))]
 pub(crate) fn read_name_word<'a>(
     alloc: Global,
     tokens: &'a [Token],
-) -> Result<(Word, &'a [Token]), Refused>
-    ensures read { Answers (name_word_of tokens.now) result }
-    ensures left { Leaves tokens.now result }
+) -> Result<(Word, &'a [Token]), Stop<'a>>
+    ensures { Answers ((meaning name_word).read tokens.now) result }
 {
     let (word, rest) = read_word(alloc, tokens)?;
     if is_name(word.text.as_slice()) {
         return Ok((word, rest));
     }
-    Err(expected(tokens))
+    Err(Stop::Before(tokens))
 }
 
-#[tactic(auto, unfolding(crate::specs::Leaves::name_string_of))]
 pub(crate) fn read_name_string<'a>(
     alloc: Global,
     tokens: &'a [Token],
-) -> Result<(Str, &'a [Token]), Refused>
-    ensures read { Answers (name_string_of tokens.now) result }
-    ensures left { Leaves tokens.now result }
+) -> Result<(Str, &'a [Token]), Stop<'a>>
+    ensures { Answers ((meaning name_string).read tokens.now) result }
 {
     let (string, rest) = read_string(alloc, tokens)?;
     if is_name(string.text.as_slice()) {
         return Ok((string, rest));
     }
-    Err(expected(tokens))
+    Err(Stop::Before(tokens))
 }
 
 fn is_utf8(text: &[u8]) -> bool
@@ -200,19 +191,17 @@ fn is_utf8(text: &[u8]) -> bool
 }
 
 /// A string that is UTF-8.
-#[tactic(auto, unfolding(crate::specs::Leaves::text_string_of))]
 pub(crate) fn read_text_string<'a>(
     alloc: Global,
     tokens: &'a [Token],
-) -> Result<(Str, &'a [Token]), Refused>
-    ensures read { Answers (text_string_of tokens.now) result }
-    ensures left { Leaves tokens.now result }
+) -> Result<(Str, &'a [Token]), Stop<'a>>
+    ensures { Answers ((meaning text_string).read tokens.now) result }
 {
     let (string, rest) = read_string(alloc, tokens)?;
     if is_utf8(string.text.as_slice()) {
         return Ok((string, rest));
     }
-    Err(expected(tokens))
+    Err(Stop::Before(tokens))
 }
 
 fn is_flag(byte: u8) -> bool
@@ -228,17 +217,15 @@ fn are_flags(text: &[u8]) -> bool
 }
 
 /// A word of the letters of TCP's flags.
-#[tactic(auto, unfolding(crate::specs::Leaves::flags_of))]
 pub(crate) fn read_flags<'a>(
     alloc: Global,
     tokens: &'a [Token],
-) -> Result<(Word, &'a [Token]), Refused>
-    ensures read { Answers (flags_of tokens.now) result }
-    ensures left { Leaves tokens.now result }
+) -> Result<(Word, &'a [Token]), Stop<'a>>
+    ensures { Answers ((meaning flags).read tokens.now) result }
 {
     let (word, rest) = read_word(alloc, tokens)?;
     if are_flags(word.text.as_slice()) {
         return Ok((word, rest));
     }
-    Err(expected(tokens))
+    Err(Stop::Before(tokens))
 }

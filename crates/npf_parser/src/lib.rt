@@ -1,14 +1,13 @@
 // The grammar of npf.conf(5): the tree that a configuration's tokens are, or where they are none.
 //
-// specs/ says the grammar twice. The files Grammar* are relations between the tokens from a place on, what they say, and
-// the tokens behind them, a case for each alternative; Halts* say, a case for each place of a line, where it can't go on.
-// The others follow a recursive descent with one token of sight, a definition for each function here; proofs/ shows that
-// they say the same.
+// specs/ has the grammar, a definition for each of its lines, as phrases of npf_phrase. Their meaning says which tree
+// tokens have, where they stop going on, and how they are read with one token of sight; each function here reads a line.
 //
 // The contract: `parse` answers a tree that the grammar gives; tokens have one at most, and where they have one it is
 // answered, unless memory runs out. Where they have none the fault is 20, exactly where the grammar halts: at the token at
-// which they stop going on or at a written value that is unfit for its place. Whatever stands behind the next token, no
-// configuration begins so.
+// which they stop going on or at a written value that is unfit for its place. The tokens before that place begin a
+// configuration, were every value to fit; and whatever stands behind the next token, none begins so. `parse_rule` does the
+// same for a rule alone.
 #![tactic(auto)]
 
 mod filter;
@@ -21,7 +20,9 @@ mod protocol;
 mod role;
 mod rule;
 mod stmt;
+mod stop;
+mod text;
 mod tokens;
 mod value;
 
-pub use stmt::parse;
+pub use stmt::{parse, parse_rule};

@@ -1,24 +1,30 @@
 // Maps: a function for each line of the grammar.
 ghost use Rattle.std.specs.Prelude.{codes, false};
-ghost use Rattle.npf_parser.specs.Readings.{Answers, Leaves, optional, behind_word};
-ghost use Rattle.npf_parser.specs.Leaves.{word_of};
-ghost use Rattle.npf_parser.specs.Values.{one_of, value_of};
-ghost use Rattle.npf_parser.specs.Filters.{filter_of};
-ghost use Rattle.npf_parser.specs.Maps.{map_kind_of, arrow_of, side_of, map_of};
+ghost use Rattle.npf_phrase.specs.Grammar.{meaning, optional, preceded};
+ghost use Rattle.npf_parser.specs.Answer.{Answers};
+ghost use Rattle.npf_parser.specs.Token.{quoted, word};
+ghost use Rattle.npf_parser.specs.Value.{one, value};
+ghost use Rattle.npf_parser.specs.Filter.{filter};
+ghost use Rattle.npf_parser.specs.Map.{map_kind, arrow, side};
+ghost use Rattle.npf_parser.specs.Stmt.{map};
 
 use crate::filter::read_filter;
 use crate::leaf::read_word;
 use crate::protocol::read_one;
 use crate::role::Role;
-use crate::tokens::{behind_sign, behind_word, expected, span_to};
+use crate::stop::Stop;
+use crate::text::span_to;
+use crate::tokens::{after_word, behind_sign, behind_word};
 use crate::value::{read_iface, read_value};
-use npf_lexer::{Refused, Sign, Token};
+use npf_lexer::{Sign, Token};
 use npf_syntax::{Arrow, Filter, MapKind, One, Side, Stmt, Value, Word};
 use std::alloc::Global;
 
-fn read_algo<'a>(alloc: Global, tokens: &'a [Token]) -> Result<(Option<Word>, &'a [Token]), Refused>
-    ensures read { Answers (optional (behind_word (codes "algo") tokens.now) word_of tokens.now) result }
-    ensures left { Leaves tokens.now result }
+fn read_algo<'a>(
+    alloc: Global,
+    tokens: &'a [Token],
+) -> Result<(Option<Word>, &'a [Token]), Stop<'a>>
+    ensures { Answers ((meaning (optional (preceded (quoted (codes "algo")) word))).read tokens.now) result }
 {
     match behind_word("algo", tokens) {
         Some(rest) => {
@@ -29,72 +35,50 @@ fn read_algo<'a>(alloc: Global, tokens: &'a [Token]) -> Result<(Option<Word>, &'
     }
 }
 
-#[tactic(auto, unfolding(crate::specs::Maps::map_kind_of))]
-fn read_map_kind<'a>(alloc: Global, tokens: &'a [Token]) -> Result<(MapKind, &'a [Token]), Refused>
-    ensures read { Answers (map_kind_of tokens.now) result }
-    ensures left { Leaves tokens.now result }
+#[tactic(auto, unfolding(crate::specs::Map::map_kind))]
+fn read_map_kind<'a>(alloc: Global, tokens: &'a [Token]) -> Result<(MapKind, &'a [Token]), Stop<'a>>
+    ensures { Answers ((meaning map_kind).read tokens.now) result }
 {
     if let Some(rest) = behind_word("dynamic", tokens) {
-        return Ok((
-            MapKind::Dynamic {
-                span: span_to(tokens, rest),
-            },
-            rest,
-        ));
+        let span = span_to(tokens, rest);
+        return Ok((MapKind::Dynamic { span }, rest));
     }
     match behind_word("static", tokens) {
         Some(rest) => {
             let (algo, rest) = read_algo(alloc, rest)?;
-            Ok((
-                MapKind::Static {
-                    algo,
-                    span: span_to(tokens, rest),
-                },
-                rest,
-            ))
+            let span = span_to(tokens, rest);
+            Ok((MapKind::Static { algo, span }, rest))
         }
-        None => Err(expected(tokens)),
+        None => Err(Stop::Before(tokens)),
     }
 }
 
-#[tactic(auto, unfolding(crate::specs::Maps::arrow_of))]
-fn read_arrow(tokens: &[Token]) -> Result<(Arrow, &[Token]), Refused>
-    ensures read { Answers (arrow_of tokens.now) result }
-    ensures left { Leaves tokens.now result }
+#[tactic(auto, unfolding(crate::specs::Map::arrow))]
+fn read_arrow(tokens: &[Token]) -> Result<(Arrow, &[Token]), Stop>
+    ensures { Answers ((meaning arrow).read tokens.now) result }
 {
     if let Some(rest) = behind_sign(Sign::Right, tokens) {
-        return Ok((
-            Arrow::Right {
-                span: span_to(tokens, rest),
-            },
-            rest,
-        ));
+        let span = span_to(tokens, rest);
+        return Ok((Arrow::Right { span }, rest));
     }
     if let Some(rest) = behind_sign(Sign::Left, tokens) {
-        return Ok((
-            Arrow::Left {
-                span: span_to(tokens, rest),
-            },
-            rest,
-        ));
+        let span = span_to(tokens, rest);
+        return Ok((Arrow::Left { span }, rest));
     }
     match behind_sign(Sign::Both, tokens) {
-        Some(rest) => Ok((
-            Arrow::Both {
-                span: span_to(tokens, rest),
-            },
-            rest,
-        )),
-        None => Err(expected(tokens)),
+        Some(rest) => {
+            let span = span_to(tokens, rest);
+            Ok((Arrow::Both { span }, rest))
+        }
+        None => Err(Stop::Before(tokens)),
     }
 }
 
 fn read_optional_port<'a>(
     alloc: Global,
     tokens: &'a [Token],
-) -> Result<(Option<Value>, &'a [Token]), Refused>
-    ensures read { Answers (optional (behind_word (codes "port") tokens.now) (value_of Role.Port false) tokens.now) result }
-    ensures left { Leaves tokens.now result }
+) -> Result<(Option<Value>, &'a [Token]), Stop<'a>>
+    ensures { Answers ((meaning (optional (preceded (quoted (codes "port")) (value Role.Port false)))).read tokens.now) result }
 {
     match behind_word("port", tokens) {
         Some(rest) => {
@@ -105,29 +89,21 @@ fn read_optional_port<'a>(
     }
 }
 
-#[tactic(auto, unfolding(crate::specs::Maps::side_of))]
-fn read_side<'a>(alloc: Global, tokens: &'a [Token]) -> Result<(Side, &'a [Token]), Refused>
-    ensures read { Answers (side_of tokens.now) result }
-    ensures left { Leaves tokens.now result }
+#[tactic(auto, unfolding(crate::specs::Map::side))]
+fn read_side<'a>(alloc: Global, tokens: &'a [Token]) -> Result<(Side, &'a [Token]), Stop<'a>>
+    ensures { Answers ((meaning side).read tokens.now) result }
 {
     let (value, rest) = read_value(alloc, Role::Address, false, tokens)?;
     let (port, rest) = read_optional_port(alloc, rest)?;
-    Ok((
-        Side {
-            value,
-            port,
-            span: span_to(tokens, rest),
-        },
-        rest,
-    ))
+    let span = span_to(tokens, rest);
+    Ok((Side { value, port, span }, rest))
 }
 
 fn read_optional_proto<'a>(
     alloc: Global,
     tokens: &'a [Token],
-) -> Result<(Option<One>, &'a [Token]), Refused>
-    ensures read { Answers (optional (behind_word (codes "proto") tokens.now) one_of tokens.now) result }
-    ensures left { Leaves tokens.now result }
+) -> Result<(Option<One>, &'a [Token]), Stop<'a>>
+    ensures { Answers ((meaning (optional (preceded (quoted (codes "proto")) one))).read tokens.now) result }
 {
     match behind_word("proto", tokens) {
         Some(rest) => {
@@ -141,9 +117,8 @@ fn read_optional_proto<'a>(
 fn read_optional_pass<'a>(
     alloc: Global,
     tokens: &'a [Token],
-) -> Result<(Option<Filter>, &'a [Token]), Refused>
-    ensures read { Answers (optional (behind_word (codes "pass") tokens.now) filter_of tokens.now) result }
-    ensures left { Leaves tokens.now result }
+) -> Result<(Option<Filter>, &'a [Token]), Stop<'a>>
+    ensures { Answers ((meaning (optional (preceded (quoted (codes "pass")) filter))).read tokens.now) result }
 {
     match behind_word("pass", tokens) {
         Some(rest) => {
@@ -154,16 +129,15 @@ fn read_optional_pass<'a>(
     }
 }
 
-#[tactic(auto, unfolding(crate::specs::Maps::map_of))]
+#[tactic(auto, unfolding(crate::specs::Stmt::map))]
 pub(crate) fn read_map<'a>(
     alloc: Global,
     tokens: &'a [Token],
-    behind: &'a [Token],
-) -> Result<(Stmt, &'a [Token]), Refused>
-    ensures read { Answers (map_of tokens.now behind.now) result }
-    ensures left { Leaves behind.now result }
+) -> Result<(Stmt, &'a [Token]), Stop<'a>>
+    ensures { Answers ((meaning map).read tokens.now) result }
 {
-    let (iface, rest) = read_iface(alloc, behind)?;
+    let rest = after_word("map", tokens)?;
+    let (iface, rest) = read_iface(alloc, rest)?;
     let (kind, rest) = read_map_kind(alloc, rest)?;
     let (proto, rest) = read_optional_proto(alloc, rest)?;
     let (left, rest) = read_side(alloc, rest)?;

@@ -1,21 +1,23 @@
 // Procedures: a function for each line of the grammar.
-ghost use Rattle.npf_parser.specs.Readings.{Answers, Leaves, Shortens};
-ghost use Rattle.npf_parser.specs.Procedures.{log_name_of, opt_of, options_of, call_of, calls_of, procedure_of};
+ghost use Rattle.npf_phrase.specs.Grammar.{meaning};
+ghost use Rattle.npf_parser.specs.Answer.{Answers};
+ghost use Rattle.npf_parser.specs.Procedure.{log_name, opt, options, call, calls};
+ghost use Rattle.npf_parser.specs.Stmt.{procedure};
 
 use crate::leaf::{read_name_string, read_name_word, read_number_to, read_string};
+use crate::stop::Stop;
+use crate::text::span_to;
 use crate::tokens::{
-    after_sign, behind_sign, behind_string, behind_word, ends_item, expected, is_at_brace, skip,
-    skip_separators, span_to,
+    after_sign, after_word, behind_name, behind_separator, behind_sign, behind_word, ends_item,
 };
-use npf_lexer::{Refused, Sign, Token, TokenKind};
+use npf_lexer::{Sign, Token, TokenKind};
 use npf_syntax::{Call, LogName, Opt, Stmt};
 use npf_types::List;
 use std::alloc::Global;
 
-#[tactic(auto, unfolding(crate::specs::Procedures::log_name_of))]
-fn read_log_name<'a>(alloc: Global, tokens: &'a [Token]) -> Result<(LogName, &'a [Token]), Refused>
-    ensures read { Answers (log_name_of tokens.now) result }
-    ensures left { Leaves tokens.now result }
+#[tactic(auto, unfolding(crate::specs::Procedure::log_name))]
+fn read_log_name<'a>(alloc: Global, tokens: &'a [Token]) -> Result<(LogName, &'a [Token]), Stop<'a>>
+    ensures { Answers ((meaning log_name).read tokens.now) result }
 {
     match tokens.first() {
         Some(
@@ -25,152 +27,115 @@ fn read_log_name<'a>(alloc: Global, tokens: &'a [Token]) -> Result<(LogName, &'a
             },
         ) => {
             let (string, rest) = read_name_string(alloc, tokens)?;
-            Ok((
-                LogName::Str {
-                    string,
-                    span: span_to(tokens, rest),
-                },
-                rest,
-            ))
+            let span = span_to(tokens, rest);
+            Ok((LogName::Str { string, span }, rest))
         }
         _ => {
             let (word, rest) = read_name_word(alloc, tokens)?;
-            Ok((
-                LogName::Word {
-                    word,
-                    span: span_to(tokens, rest),
-                },
-                rest,
-            ))
+            let span = span_to(tokens, rest);
+            Ok((LogName::Word { word, span }, rest))
         }
     }
 }
 
-#[tactic(auto, unfolding(crate::specs::Procedures::opt_of))]
-fn read_opt(tokens: &[Token]) -> Result<(Opt, &[Token]), Refused>
-    ensures read { Answers (opt_of tokens.now) result }
-    ensures left { Leaves tokens.now result }
+#[tactic(auto, unfolding(crate::specs::Procedure::opt))]
+fn read_opt(tokens: &[Token]) -> Result<(Opt, &[Token]), Stop>
+    ensures { Answers ((meaning opt).read tokens.now) result }
 {
-    if let Some(rest) = behind_string("min-ttl", tokens) {
+    if let Some(rest) = behind_name("min-ttl", tokens) {
         let (number, rest) = read_number_to(255, rest)?;
-        return Ok((
-            Opt::MinTtl {
-                number,
-                span: span_to(tokens, rest),
-            },
-            rest,
-        ));
+        let span = span_to(tokens, rest);
+        return Ok((Opt::MinTtl { number, span }, rest));
     }
-    if let Some(rest) = behind_string("max-mss", tokens) {
+    if let Some(rest) = behind_name("max-mss", tokens) {
         let (number, rest) = read_number_to(65535, rest)?;
-        return Ok((
-            Opt::MaxMss {
-                number,
-                span: span_to(tokens, rest),
-            },
-            rest,
-        ));
+        let span = span_to(tokens, rest);
+        return Ok((Opt::MaxMss { number, span }, rest));
     }
-    match behind_string("no-df", tokens) {
-        Some(rest) => Ok((
-            Opt::NoDf {
-                span: span_to(tokens, rest),
-            },
-            rest,
-        )),
-        None => Err(expected(tokens)),
+    match behind_name("no-df", tokens) {
+        Some(rest) => {
+            let span = span_to(tokens, rest);
+            Ok((Opt::NoDf { span }, rest))
+        }
+        None => Err(Stop::Before(tokens)),
     }
 }
 
 /// The options of `normalize`, up to the last that no comma follows.
-fn read_options<'a>(alloc: Global, tokens: &'a [Token]) -> Result<(List<Opt>, &'a [Token]), Refused>
-    ensures read { Answers (options_of tokens.now) result }
-    ensures left { Leaves tokens.now result }
+fn read_options<'a>(
+    alloc: Global,
+    tokens: &'a [Token],
+) -> Result<(List<Opt>, &'a [Token]), Stop<'a>>
+    ensures { Answers ((meaning options).read tokens.now) result }
 {
-    let mut items = Vec::new(alloc);
+    let mut options = Vec::new(alloc);
     let mut rest = tokens;
-    'items: loop {
+    'options: loop {
         let (option, behind) = read_opt(rest)?;
-        items.push(option)?;
-        match behind_sign(Sign::Comma, skip(false, behind)) {
+        options.push(option)?;
+        match behind_sign(Sign::Comma, behind) {
             Some(next) => rest = next,
-            None => return Ok((List::of_vec(items), behind)),
+            None => return Ok((List::of_vec(options), behind)),
         }
     }
 }
 
-#[tactic(auto, unfolding(crate::specs::Procedures::call_of))]
-fn read_call<'a>(alloc: Global, tokens: &'a [Token]) -> Result<(Call, &'a [Token]), Refused>
-    ensures read { Answers (call_of tokens.now) result }
-    ensures left { Shortens tokens.now result }
+#[tactic(auto, unfolding(crate::specs::Procedure::call))]
+fn read_call<'a>(alloc: Global, tokens: &'a [Token]) -> Result<(Call, &'a [Token]), Stop<'a>>
+    ensures { Answers ((meaning call).read tokens.now) result }
 {
     if let Some(rest) = behind_word("log", tokens) {
         let rest = after_sign(Sign::Colon, rest)?;
         let (name, rest) = read_log_name(alloc, rest)?;
-        return Ok((
-            Call::Log {
-                name,
-                span: span_to(tokens, rest),
-            },
-            rest,
-        ));
+        let span = span_to(tokens, rest);
+        return Ok((Call::Log { name, span }, rest));
     }
     match behind_word("normalize", tokens) {
         Some(rest) => {
             let rest = after_sign(Sign::Colon, rest)?;
             let (options, rest) = read_options(alloc, rest)?;
-            Ok((
-                Call::Normalize {
-                    options,
-                    span: span_to(tokens, rest),
-                },
-                rest,
-            ))
+            let span = span_to(tokens, rest);
+            Ok((Call::Normalize { options, span }, rest))
         }
-        None => Err(expected(tokens)),
+        None => Err(Stop::Before(tokens)),
     }
 }
 
-/// The calls up to the procedure's closing brace.
-fn read_calls<'a>(alloc: Global, tokens: &'a [Token]) -> Result<(List<Call>, &'a [Token]), Refused>
-    ensures read { Answers (calls_of tokens.now) result }
-    ensures left { Leaves tokens.now result }
+/// Calls with separators between them.
+fn read_calls<'a>(alloc: Global, tokens: &'a [Token]) -> Result<(List<Call>, &'a [Token]), Stop<'a>>
+    ensures { Answers ((meaning calls).read tokens.now) result }
 {
-    let mut items = Vec::new(alloc);
+    let mut calls = Vec::new(alloc);
     let mut rest = tokens;
-    'items: loop {
-        let next = skip_separators(rest);
-        if is_at_brace(next) {
-            return Ok((List::of_vec(items), next));
+    'calls: loop {
+        if ends_item(rest) {
+            match behind_separator(rest) {
+                Some(next) => rest = next,
+                None => return Ok((List::of_vec(calls), rest)),
+            }
+        } else {
+            let (call, behind) = read_call(alloc, rest)?;
+            calls.push(call)?;
+            match behind_separator(behind) {
+                Some(next) => rest = next,
+                None => return Ok((List::of_vec(calls), behind)),
+            }
         }
-        let (call, behind) = read_call(alloc, next)?;
-        if !ends_item(behind) {
-            return Err(expected(behind));
-        }
-        items.push(call)?;
-        rest = behind;
     }
 }
 
-#[tactic(auto, unfolding(crate::specs::Procedures::procedure_of))]
+#[tactic(auto, unfolding(crate::specs::Stmt::procedure))]
 pub(crate) fn read_procedure<'a>(
     alloc: Global,
     tokens: &'a [Token],
-    behind: &'a [Token],
-) -> Result<(Stmt, &'a [Token]), Refused>
-    ensures read { Answers (procedure_of tokens.now behind.now) result }
-    ensures left { Leaves behind.now result }
+) -> Result<(Stmt, &'a [Token]), Stop<'a>>
+    ensures { Answers ((meaning procedure).read tokens.now) result }
 {
-    let (name, rest) = read_string(alloc, behind)?;
+    let rest = after_word("procedure", tokens)?;
+    let (name, rest) = read_string(alloc, rest)?;
     let rest = after_sign(Sign::OpenBrace, rest)?;
     let (calls, rest) = read_calls(alloc, rest)?;
     let rest = after_sign(Sign::CloseBrace, rest)?;
-    Ok((
-        Stmt::Procedure {
-            name,
-            calls,
-            span: span_to(tokens, rest),
-        },
-        rest,
-    ))
+    let span = span_to(tokens, rest);
+    Ok((Stmt::Procedure { name, calls, span }, rest))
 }

@@ -1,127 +1,90 @@
 // Rules: a function for each line of the grammar.
-ghost use Rattle.std.specs.Prelude.{◌≡◌, ◌≤◌, codes, length};
-ghost use Rattle.npf_parser.specs.Readings.{Answers, Leaves, Shortens, pair_view, optional, behind_word};
-ghost use Rattle.npf_parser.specs.Leaves.{string_of};
-ghost use Rattle.npf_parser.specs.Rules.{answer_of, action_of, stateful_of, direction_of, final_of, on_of, rule_of};
+ghost use Rattle.std.specs.Prelude.{◌≡◌, Ok, codes};
+ghost use Rattle.npf_phrase.specs.Grammar.{meaning, optional, preceded};
+ghost use Rattle.npf_parser.specs.Answer.{Answers};
+ghost use Rattle.npf_parser.specs.Token.{quoted, string};
+ghost use Rattle.npf_parser.specs.Rule.{answer, action, stateful, direction, ends_walk, on, rule};
 
 use crate::filter::read_filter;
 use crate::leaf::read_string;
-use crate::tokens::{behind_word, expected, span_to};
+use crate::stop::Stop;
+use crate::text::span_to;
+use crate::tokens::behind_word;
 use crate::value::read_iface;
-use npf_lexer::{Refused, Token};
+use npf_lexer::Token;
 use npf_syntax::{Answer, Direction, Iface, RuleAction, RuleTree, Stateful, Str};
 use std::alloc::Global;
 
-#[tactic(auto, unfolding(crate::specs::Rules::answer_of))]
+#[tactic(auto, unfolding(crate::specs::Rule::answer))]
 fn answer_of(tokens: &[Token]) -> (Option<Answer>, &[Token])
-    ensures read { pair_view result ≡ answer_of tokens.now }
-    ensures left { length result.1.now ≤ length tokens.now }
+    ensures { (meaning (optional answer)).read tokens.now ≡ Ok (result.0, result.1.now) }
 {
     if let Some(rest) = behind_word("return", tokens) {
-        return (
-            Some(Answer::Return {
-                span: span_to(tokens, rest),
-            }),
-            rest,
-        );
+        let span = span_to(tokens, rest);
+        return (Some(Answer::Return { span }), rest);
     }
     if let Some(rest) = behind_word("return-rst", tokens) {
-        return (
-            Some(Answer::ReturnRst {
-                span: span_to(tokens, rest),
-            }),
-            rest,
-        );
+        let span = span_to(tokens, rest);
+        return (Some(Answer::ReturnRst { span }), rest);
     }
     if let Some(rest) = behind_word("return-icmp", tokens) {
-        return (
-            Some(Answer::ReturnIcmp {
-                span: span_to(tokens, rest),
-            }),
-            rest,
-        );
+        let span = span_to(tokens, rest);
+        return (Some(Answer::ReturnIcmp { span }), rest);
     }
     (None, tokens)
 }
 
-#[tactic(auto, unfolding(crate::specs::Rules::action_of))]
-fn read_action(tokens: &[Token]) -> Result<(RuleAction, &[Token]), Refused>
-    ensures read { Answers (action_of tokens.now) result }
-    ensures left { Shortens tokens.now result }
+#[tactic(auto, unfolding(crate::specs::Rule::action))]
+fn read_action(tokens: &[Token]) -> Result<(RuleAction, &[Token]), Stop>
+    ensures { Answers ((meaning action).read tokens.now) result }
 {
     if let Some(rest) = behind_word("block", tokens) {
         let (answer, rest) = answer_of(rest);
-        return Ok((
-            RuleAction::Block {
-                answer,
-                span: span_to(tokens, rest),
-            },
-            rest,
-        ));
+        let span = span_to(tokens, rest);
+        return Ok((RuleAction::Block { answer, span }, rest));
     }
     match behind_word("pass", tokens) {
-        Some(rest) => Ok((
-            RuleAction::Pass {
-                span: span_to(tokens, rest),
-            },
-            rest,
-        )),
-        None => Err(expected(tokens)),
+        Some(rest) => {
+            let span = span_to(tokens, rest);
+            Ok((RuleAction::Pass { span }, rest))
+        }
+        None => Err(Stop::Before(tokens)),
     }
 }
 
-#[tactic(auto, unfolding(crate::specs::Rules::stateful_of))]
+#[tactic(auto, unfolding(crate::specs::Rule::stateful))]
 fn stateful_of(tokens: &[Token]) -> (Option<Stateful>, &[Token])
-    ensures read { pair_view result ≡ stateful_of tokens.now }
-    ensures left { length result.1.now ≤ length tokens.now }
+    ensures { (meaning (optional stateful)).read tokens.now ≡ Ok (result.0, result.1.now) }
 {
     if let Some(rest) = behind_word("stateful", tokens) {
-        return (
-            Some(Stateful::Stateful {
-                span: span_to(tokens, rest),
-            }),
-            rest,
-        );
+        let span = span_to(tokens, rest);
+        return (Some(Stateful::Stateful { span }), rest);
     }
     if let Some(rest) = behind_word("stateful-all", tokens) {
-        return (
-            Some(Stateful::StatefulAll {
-                span: span_to(tokens, rest),
-            }),
-            rest,
-        );
+        let span = span_to(tokens, rest);
+        return (Some(Stateful::StatefulAll { span }), rest);
     }
     (None, tokens)
 }
 
-#[tactic(auto, unfolding(crate::specs::Rules::direction_of))]
+#[tactic(auto, unfolding(crate::specs::Rule::direction))]
 pub(crate) fn direction_of(tokens: &[Token]) -> (Option<Direction>, &[Token])
-    ensures read { pair_view result ≡ direction_of tokens.now }
-    ensures left { length result.1.now ≤ length tokens.now }
+    ensures { (meaning (optional direction)).read tokens.now ≡ Ok (result.0, result.1.now) }
 {
     if let Some(rest) = behind_word("in", tokens) {
-        return (
-            Some(Direction::In {
-                span: span_to(tokens, rest),
-            }),
-            rest,
-        );
+        let span = span_to(tokens, rest);
+        return (Some(Direction::In { span }), rest);
     }
     if let Some(rest) = behind_word("out", tokens) {
-        return (
-            Some(Direction::Out {
-                span: span_to(tokens, rest),
-            }),
-            rest,
-        );
+        let span = span_to(tokens, rest);
+        return (Some(Direction::Out { span }), rest);
     }
     (None, tokens)
 }
 
-#[tactic(auto, unfolding(crate::specs::Rules::final_of))]
+#[tactic(auto, unfolding(crate::specs::Rule::ends_walk))]
 fn final_of(tokens: &[Token]) -> (bool, &[Token])
-    ensures read { pair_view result ≡ final_of tokens.now }
-    ensures left { length result.1.now ≤ length tokens.now }
+    ensures { (meaning ends_walk).read tokens.now ≡ Ok (result.0, result.1.now) }
 {
     match behind_word("final", tokens) {
         Some(rest) => (true, rest),
@@ -129,13 +92,12 @@ fn final_of(tokens: &[Token]) -> (bool, &[Token])
     }
 }
 
-#[tactic(auto, unfolding(crate::specs::Rules::on_of))]
+#[tactic(auto, unfolding(crate::specs::Rule::on))]
 pub(crate) fn read_on<'a>(
     alloc: Global,
     tokens: &'a [Token],
-) -> Result<(Option<Iface>, &'a [Token]), Refused>
-    ensures read { Answers (on_of tokens.now) result }
-    ensures left { Leaves tokens.now result }
+) -> Result<(Option<Iface>, &'a [Token]), Stop<'a>>
+    ensures { Answers ((meaning (optional on)).read tokens.now) result }
 {
     match behind_word("on", tokens) {
         Some(rest) => {
@@ -146,9 +108,11 @@ pub(crate) fn read_on<'a>(
     }
 }
 
-fn read_apply<'a>(alloc: Global, tokens: &'a [Token]) -> Result<(Option<Str>, &'a [Token]), Refused>
-    ensures read { Answers (optional (behind_word (codes "apply") tokens.now) string_of tokens.now) result }
-    ensures left { Leaves tokens.now result }
+fn read_apply<'a>(
+    alloc: Global,
+    tokens: &'a [Token],
+) -> Result<(Option<Str>, &'a [Token]), Stop<'a>>
+    ensures { Answers ((meaning (optional (preceded (quoted (codes "apply")) string))).read tokens.now) result }
 {
     match behind_word("apply", tokens) {
         Some(rest) => {
@@ -159,13 +123,12 @@ fn read_apply<'a>(alloc: Global, tokens: &'a [Token]) -> Result<(Option<Str>, &'
     }
 }
 
-#[tactic(auto, unfolding(crate::specs::Rules::rule_of))]
+#[tactic(auto, unfolding(crate::specs::Rule::rule))]
 pub(crate) fn read_rule<'a>(
     alloc: Global,
     tokens: &'a [Token],
-) -> Result<(RuleTree, &'a [Token]), Refused>
-    ensures read { Answers (rule_of tokens.now) result }
-    ensures left { Shortens tokens.now result }
+) -> Result<(RuleTree, &'a [Token]), Stop<'a>>
+    ensures { Answers ((meaning rule).read tokens.now) result }
 {
     let (action, rest) = read_action(tokens)?;
     let (stateful, rest) = stateful_of(rest);

@@ -2,14 +2,13 @@
 ghost use Rattle.std.specs.Prelude.{◌≡◌, codes, IfOk};
 ghost use Rattle.npf_types.specs.declared.span.Span.{Span};
 ghost use Rattle.npf_lexer.specs.declared.fault.Fault.TheVariants.{Expected};
+ghost use Rattle.npf_syntax.specs.declared.rule.RuleTree.{RuleTree};
 ghost use Rattle.npf_syntax.specs.declared.stmt.Tree.{Tree};
-ghost use Rattle.npf_parser.specs.Answering.{OnFault, HasTree, AnswersUnlessMemory, FaultsUnlessMemory};
-ghost use Rattle.npf_parser.specs.GrammarStatements.{Parses};
-ghost use Rattle.npf_parser.specs.HaltsStatements.{HaltsAt};
-ghost use Rattle.npf_parser.specs.Places.{StopsAt};
-ghost use Rattle.npf_parser.specs.Readings.{Answers, Leaves, Shortens, optional, behind_word};
-ghost use Rattle.npf_parser.specs.Leaves.{text_string_of};
-ghost use Rattle.npf_parser.specs.Stmts.{define_of, setting_of, set_of, alg_of, table_type_of, table_of, stmt_of, stmts_of, tree_of, AnswersTree};
+ghost use Rattle.npf_phrase.specs.Grammar.{meaning, optional, preceded};
+ghost use Rattle.npf_parser.specs.Answer.{Answers};
+ghost use Rattle.npf_parser.specs.Token.{quoted, text_string};
+ghost use Rattle.npf_parser.specs.Stmt.{define, setting, set, alg, table_type, table, stmt, stmts, file, lone_rule};
+ghost use Rattle.npf_parser.specs.Parse.{Means, Parses, HasMeaning, HaltsAt, StopsAt, OnFault, AnswersUnlessMemory, FaultsUnlessMemory};
 
 use crate::group::read_group;
 use crate::leaf::{
@@ -18,38 +17,30 @@ use crate::leaf::{
 use crate::map::read_map;
 use crate::procedure::read_procedure;
 use crate::role::Role;
-use crate::tokens::{
-    after_sign, after_word, behind_word, ends_stmt, expected, is_at_end, place_of, skip_separators,
-    span_to,
-};
+use crate::rule::read_rule;
+use crate::stop::{Stop, refused_by};
+use crate::text::span_to;
+use crate::tokens::{after_sign, after_word, behind_separator, behind_word, ends_stmt, read_end};
 use crate::value::read_values;
 use npf_lexer::{Refused, Sign, Token, TokenKind};
-use npf_syntax::{Setting, Stmt, Str, TableType, Tree};
+use npf_syntax::{RuleTree, Setting, Stmt, Str, TableType, Tree};
 use npf_types::List;
 use std::alloc::Global;
 
-#[tactic(auto, unfolding(crate::specs::Stmts::define_of))]
-fn read_define<'a>(alloc: Global, tokens: &'a [Token]) -> Result<(Stmt, &'a [Token]), Refused>
-    ensures read { Answers (define_of tokens.now) result }
-    ensures left { Shortens tokens.now result }
+#[tactic(auto, unfolding(crate::specs::Stmt::define))]
+fn read_define<'a>(alloc: Global, tokens: &'a [Token]) -> Result<(Stmt, &'a [Token]), Stop<'a>>
+    ensures { Answers ((meaning define).read tokens.now) result }
 {
     let (var, rest) = read_variable(alloc, tokens)?;
     let rest = after_sign(Sign::Equals, rest)?;
     let (values, rest) = read_values(alloc, Role::Any, rest)?;
-    Ok((
-        Stmt::Define {
-            var,
-            values,
-            span: span_to(tokens, rest),
-        },
-        rest,
-    ))
+    let span = span_to(tokens, rest);
+    Ok((Stmt::Define { var, values, span }, rest))
 }
 
-#[tactic(auto, unfolding(crate::specs::Stmts::setting_of))]
-fn read_setting<'a>(alloc: Global, tokens: &'a [Token]) -> Result<(Setting, &'a [Token]), Refused>
-    ensures read { Answers (setting_of tokens.now) result }
-    ensures left { Leaves tokens.now result }
+#[tactic(auto, unfolding(crate::specs::Stmt::setting))]
+fn read_setting<'a>(alloc: Global, tokens: &'a [Token]) -> Result<(Setting, &'a [Token]), Stop<'a>>
+    ensures { Answers ((meaning setting).read tokens.now) result }
 {
     match tokens.first() {
         Some(
@@ -59,105 +50,64 @@ fn read_setting<'a>(alloc: Global, tokens: &'a [Token]) -> Result<(Setting, &'a 
             },
         ) => {
             let (number, rest) = read_number(tokens)?;
-            Ok((
-                Setting::Number {
-                    number,
-                    span: span_to(tokens, rest),
-                },
-                rest,
-            ))
+            let span = span_to(tokens, rest);
+            Ok((Setting::Number { number, span }, rest))
         }
         _ => {
             let (word, rest) = read_word(alloc, tokens)?;
-            Ok((
-                Setting::Word {
-                    word,
-                    span: span_to(tokens, rest),
-                },
-                rest,
-            ))
+            let span = span_to(tokens, rest);
+            Ok((Setting::Word { word, span }, rest))
         }
     }
 }
 
-#[tactic(auto, unfolding(crate::specs::Stmts::set_of))]
-fn read_set<'a>(
-    alloc: Global,
-    tokens: &'a [Token],
-    behind: &'a [Token],
-) -> Result<(Stmt, &'a [Token]), Refused>
-    ensures read { Answers (set_of tokens.now behind.now) result }
-    ensures left { Leaves behind.now result }
+#[tactic(auto, unfolding(crate::specs::Stmt::set))]
+fn read_set<'a>(alloc: Global, tokens: &'a [Token]) -> Result<(Stmt, &'a [Token]), Stop<'a>>
+    ensures { Answers ((meaning set).read tokens.now) result }
 {
-    let (name, rest) = read_word(alloc, behind)?;
+    let rest = after_word("set", tokens)?;
+    let (name, rest) = read_word(alloc, rest)?;
     let (value, rest) = read_setting(alloc, rest)?;
-    Ok((
-        Stmt::Set {
-            name,
-            value,
-            span: span_to(tokens, rest),
-        },
-        rest,
-    ))
+    let span = span_to(tokens, rest);
+    Ok((Stmt::Set { name, value, span }, rest))
 }
 
-#[tactic(auto, unfolding(crate::specs::Stmts::alg_of))]
-fn read_alg<'a>(
-    alloc: Global,
-    tokens: &'a [Token],
-    behind: &'a [Token],
-) -> Result<(Stmt, &'a [Token]), Refused>
-    ensures read { Answers (alg_of tokens.now behind.now) result }
-    ensures left { Leaves behind.now result }
+#[tactic(auto, unfolding(crate::specs::Stmt::alg))]
+fn read_alg<'a>(alloc: Global, tokens: &'a [Token]) -> Result<(Stmt, &'a [Token]), Stop<'a>>
+    ensures { Answers ((meaning alg).read tokens.now) result }
 {
-    let (name, rest) = read_string(alloc, behind)?;
-    Ok((
-        Stmt::Alg {
-            name,
-            span: span_to(tokens, rest),
-        },
-        rest,
-    ))
+    let rest = after_word("alg", tokens)?;
+    let (name, rest) = read_string(alloc, rest)?;
+    let span = span_to(tokens, rest);
+    Ok((Stmt::Alg { name, span }, rest))
 }
 
-#[tactic(auto, unfolding(crate::specs::Stmts::table_type_of))]
-fn read_table_type(tokens: &[Token]) -> Result<(TableType, &[Token]), Refused>
-    ensures read { Answers (table_type_of tokens.now) result }
-    ensures left { Leaves tokens.now result }
+#[tactic(auto, unfolding(crate::specs::Stmt::table_type))]
+fn read_table_type(tokens: &[Token]) -> Result<(TableType, &[Token]), Stop>
+    ensures { Answers ((meaning table_type).read tokens.now) result }
 {
     if let Some(rest) = behind_word("ipset", tokens) {
-        return Ok((
-            TableType::IpSet {
-                span: span_to(tokens, rest),
-            },
-            rest,
-        ));
+        let span = span_to(tokens, rest);
+        return Ok((TableType::IpSet { span }, rest));
     }
     if let Some(rest) = behind_word("lpm", tokens) {
-        return Ok((
-            TableType::Lpm {
-                span: span_to(tokens, rest),
-            },
-            rest,
-        ));
+        let span = span_to(tokens, rest);
+        return Ok((TableType::Lpm { span }, rest));
     }
     match behind_word("const", tokens) {
-        Some(rest) => Ok((
-            TableType::Const {
-                span: span_to(tokens, rest),
-            },
-            rest,
-        )),
-        None => Err(expected(tokens)),
+        Some(rest) => {
+            let span = span_to(tokens, rest);
+            Ok((TableType::Const { span }, rest))
+        }
+        None => Err(Stop::Before(tokens)),
     }
 }
 
 fn read_optional_file<'a>(
     alloc: Global,
     tokens: &'a [Token],
-) -> Result<(Option<Str>, &'a [Token]), Refused>
-    ensures read { Answers (optional (behind_word (codes "file") tokens.now) text_string_of tokens.now) result }
-    ensures left { Leaves tokens.now result }
+) -> Result<(Option<Str>, &'a [Token]), Stop<'a>>
+    ensures { Answers ((meaning (optional (preceded (quoted (codes "file")) text_string))).read tokens.now) result }
 {
     match behind_word("file", tokens) {
         Some(rest) => {
@@ -168,89 +118,96 @@ fn read_optional_file<'a>(
     }
 }
 
-#[tactic(auto, unfolding(crate::specs::Stmts::table_of))]
-fn read_table<'a>(
-    alloc: Global,
-    tokens: &'a [Token],
-    behind: &'a [Token],
-) -> Result<(Stmt, &'a [Token]), Refused>
-    ensures read { Answers (table_of tokens.now behind.now) result }
-    ensures left { Leaves behind.now result }
+#[tactic(auto, unfolding(crate::specs::Stmt::table))]
+fn read_table<'a>(alloc: Global, tokens: &'a [Token]) -> Result<(Stmt, &'a [Token]), Stop<'a>>
+    ensures { Answers ((meaning table).read tokens.now) result }
 {
-    let rest = after_sign(Sign::Less, behind)?;
+    let rest = after_word("table", tokens)?;
+    let rest = after_sign(Sign::Less, rest)?;
     let (name, rest) = read_name_word(alloc, rest)?;
     let rest = after_sign(Sign::Greater, rest)?;
     let rest = after_word("type", rest)?;
     let (kind, rest) = read_table_type(rest)?;
     let (file, rest) = read_optional_file(alloc, rest)?;
+    let span = span_to(tokens, rest);
     Ok((
         Stmt::Table {
             name,
             kind,
             file,
-            span: span_to(tokens, rest),
+            span,
         },
         rest,
     ))
 }
 
-#[tactic(auto, unfolding(crate::specs::Stmts::stmt_of))]
-fn read_stmt<'a>(alloc: Global, tokens: &'a [Token]) -> Result<(Stmt, &'a [Token]), Refused>
-    ensures read { Answers (stmt_of tokens.now) result }
-    ensures left { Shortens tokens.now result }
+#[tactic(auto, unfolding(crate::specs::Stmt::stmt, crate::specs::Stmt::set, crate::specs::Stmt::alg, crate::specs::Stmt::table, crate::specs::Stmt::map, crate::specs::Stmt::group, crate::specs::Stmt::procedure))]
+fn read_stmt<'a>(alloc: Global, tokens: &'a [Token]) -> Result<(Stmt, &'a [Token]), Stop<'a>>
+    ensures { Answers ((meaning stmt).read tokens.now) result }
 {
-    if let Some(rest) = behind_word("set", tokens) {
-        return read_set(alloc, tokens, rest);
+    if behind_word("set", tokens).is_some() {
+        return read_set(alloc, tokens);
     }
-    if let Some(rest) = behind_word("alg", tokens) {
-        return read_alg(alloc, tokens, rest);
+    if behind_word("alg", tokens).is_some() {
+        return read_alg(alloc, tokens);
     }
-    if let Some(rest) = behind_word("table", tokens) {
-        return read_table(alloc, tokens, rest);
+    if behind_word("table", tokens).is_some() {
+        return read_table(alloc, tokens);
     }
-    if let Some(rest) = behind_word("map", tokens) {
-        return read_map(alloc, tokens, rest);
+    if behind_word("map", tokens).is_some() {
+        return read_map(alloc, tokens);
     }
-    if let Some(rest) = behind_word("group", tokens) {
-        return read_group(alloc, tokens, rest);
+    if behind_word("group", tokens).is_some() {
+        return read_group(alloc, tokens);
     }
-    if let Some(rest) = behind_word("procedure", tokens) {
-        return read_procedure(alloc, tokens, rest);
+    if behind_word("procedure", tokens).is_some() {
+        return read_procedure(alloc, tokens);
     }
     read_define(alloc, tokens)
 }
 
-/// The statements up to the text's end.
-fn read_stmts<'a>(alloc: Global, tokens: &'a [Token]) -> Result<(List<Stmt>, &'a [Token]), Refused>
-    ensures read { Answers (stmts_of tokens.now) result }
-    ensures left { Leaves tokens.now result }
+/// Statements with separators between them.
+fn read_stmts<'a>(alloc: Global, tokens: &'a [Token]) -> Result<(List<Stmt>, &'a [Token]), Stop<'a>>
+    ensures { Answers ((meaning stmts).read tokens.now) result }
 {
-    let mut items = Vec::new(alloc);
+    let mut stmts = Vec::new(alloc);
     let mut rest = tokens;
-    'items: loop {
-        let next = skip_separators(rest);
-        if is_at_end(next) {
-            return Ok((List::of_vec(items), next));
+    'stmts: loop {
+        if ends_stmt(rest) {
+            match behind_separator(rest) {
+                Some(next) => rest = next,
+                None => return Ok((List::of_vec(stmts), rest)),
+            }
+        } else {
+            let (stmt, behind) = read_stmt(alloc, rest)?;
+            stmts.push(stmt)?;
+            match behind_separator(behind) {
+                Some(next) => rest = next,
+                None => return Ok((List::of_vec(stmts), behind)),
+            }
         }
-        let (stmt, behind) = read_stmt(alloc, next)?;
-        if !ends_stmt(behind) {
-            return Err(expected(behind));
-        }
-        items.push(stmt)?;
-        rest = behind;
     }
 }
 
-/// The tree of the tokens as the descent reads them.
-#[tactic(auto, unfolding(crate::specs::Stmts::tree_of))]
-fn read_tree(alloc: Global, tokens: &[Token]) -> Result<Tree, Refused>
-    ensures { AnswersTree (tree_of tokens.now) result }
+#[tactic(auto, unfolding(crate::specs::Stmt::file))]
+fn read_file<'a>(alloc: Global, tokens: &'a [Token]) -> Result<(Tree, &'a [Token]), Stop<'a>>
+    ensures { Answers ((meaning file).read tokens.now) result }
 {
     let (stmts, rest) = read_stmts(alloc, tokens)?;
-    Ok(Tree {
-        stmts,
-        end: place_of(rest),
-    })
+    let (end, rest) = read_end(rest)?;
+    Ok((Tree { stmts, end }, rest))
+}
+
+#[tactic(auto, unfolding(crate::specs::Stmt::lone_rule))]
+fn read_lone_rule<'a>(
+    alloc: Global,
+    tokens: &'a [Token],
+) -> Result<(RuleTree, &'a [Token]), Stop<'a>>
+    ensures { Answers ((meaning lone_rule).read tokens.now) result }
+{
+    let (rule, rest) = read_rule(alloc, tokens)?;
+    let (_, rest) = read_end(rest)?;
+    Ok((rule, rest))
 }
 
 /// The tree of a configuration's tokens, which `lex` gave; or the place of the first token at which no statement goes on,
@@ -258,12 +215,32 @@ fn read_tree(alloc: Global, tokens: &[Token]) -> Result<Tree, Refused>
 /// runs out.
 pub fn parse(alloc: Global, tokens: &[Token]) -> Result<Tree, Refused>
     ensures tree { IfOk result (λ tree. Parses tokens.now tree) }
-    ensures refused { OnFault result (λ fault. ¬ HasTree tokens.now) }
+    ensures refused { OnFault result (λ fault. ¬ HasMeaning file tokens.now) }
     ensures fault { OnFault result (λ fault. fault.fault ≡ Expected) }
-    ensures stops { OnFault result (λ fault. StopsAt tokens.now fault.span) }
-    ensures halts { OnFault result (λ fault. HaltsAt tokens.now fault.span) }
+    ensures stops { OnFault result (λ fault. StopsAt file tokens.now fault.span) }
+    ensures halts { OnFault result (λ fault. HaltsAt file tokens.now fault.span) }
     ensures complete { (tree : Tree) → Parses tokens.now tree → AnswersUnlessMemory tree result }
-    ensures exactly { (span : Span) → HaltsAt tokens.now span → FaultsUnlessMemory span result }
+    ensures exactly { (span : Span) → HaltsAt file tokens.now span → FaultsUnlessMemory span result }
 {
-    read_tree(alloc, tokens)
+    match read_file(alloc, tokens) {
+        Ok((tree, _)) => Ok(tree),
+        Err(stop) => Err(refused_by(stop)),
+    }
+}
+
+/// The rule that the tokens are, with nothing but the text's end behind; or the place of the first token at which no rule
+/// goes on, or of a written value that can't stand in its place (20).
+pub fn parse_rule(alloc: Global, tokens: &[Token]) -> Result<RuleTree, Refused>
+    ensures rule { IfOk result (λ rule. Means lone_rule tokens.now rule) }
+    ensures refused { OnFault result (λ fault. ¬ HasMeaning lone_rule tokens.now) }
+    ensures fault { OnFault result (λ fault. fault.fault ≡ Expected) }
+    ensures stops { OnFault result (λ fault. StopsAt lone_rule tokens.now fault.span) }
+    ensures halts { OnFault result (λ fault. HaltsAt lone_rule tokens.now fault.span) }
+    ensures complete { (rule : RuleTree) → Means lone_rule tokens.now rule → AnswersUnlessMemory rule result }
+    ensures exactly { (span : Span) → HaltsAt lone_rule tokens.now span → FaultsUnlessMemory span result }
+{
+    match read_lone_rule(alloc, tokens) {
+        Ok((rule, _)) => Ok(rule),
+        Err(stop) => Err(refused_by(stop)),
+    }
 }

@@ -1,27 +1,30 @@
 // Values and lists of values: a function for each line of the grammar.
-ghost use Rattle.std.specs.Prelude.{◌≡◌, ◌<◌, suc, length, IfSome, true};
-ghost use Rattle.std.specs.Option.{option_map};
-ghost use Rattle.npf_parser.specs.Readings.{Answers, Leaves, comma_list, pair_view, kind_of};
-ghost use Rattle.npf_parser.specs.Values.{iface_of, function_of, word_value_of, number_value_of, address_value_of, table_value_of, variable_value_of, string_value_of, can_stand, is_range, is_prefix, is_port, is_port_end, value_by, number_behind, value_of, listed_value_of, value_list_of, values_of};
+ghost use Rattle.std.specs.Prelude.{◌≡◌, IfOk, IfErr};
+ghost use Rattle.npf_phrase.specs.Grammar.{meaning, optional};
+ghost use Rattle.npf_parser.specs.declared.stop.Stop.TheVariants.{NoMemory as no_memory};
+ghost use Rattle.npf_parser.specs.Answer.{Answers, Finds};
+ghost use Rattle.npf_parser.specs.Token.{spaced};
+ghost use Rattle.npf_parser.specs.Value.{iface, number_behind, is_range, number_value, is_prefix, address_value, table_value, function, word_of, argument, function_value, word_value, variable_value, string_value, written, is_port, is_port_end, can_stand, value, listed_values, values_inside, value_list, values};
 
 use crate::leaf::{
     is_name, read_address, read_name_string, read_name_word, read_number, read_string,
     read_variable, read_word,
 };
 use crate::role::Role;
-use crate::tokens::{after_sign, behind_sign, behind_word, expected, skip, span_to};
-use npf_lexer::{Refused, Sign, Token, TokenKind};
-use npf_syntax::{Function, Iface, Number, Value, ValueList, Values};
-use npf_types::{Addr, List};
+use crate::stop::Stop;
+use crate::text::{copied, span_to};
+use crate::tokens::{after_sign, after_spaced, behind_sign, behind_spaced, behind_word, skip};
+use npf_lexer::{Sign, Token, TokenKind};
+use npf_syntax::{Address, Function, Iface, Number, Value, ValueList, Values, Word};
+use npf_types::List;
 use std::alloc::Global;
 
-#[tactic(auto, unfolding(crate::specs::Values::iface_of))]
+#[tactic(auto, unfolding(crate::specs::Value::iface))]
 pub(crate) fn read_iface<'a>(
     alloc: Global,
     tokens: &'a [Token],
-) -> Result<(Iface, &'a [Token]), Refused>
-    ensures read { Answers (iface_of tokens.now) result }
-    ensures left { Leaves tokens.now result }
+) -> Result<(Iface, &'a [Token]), Stop<'a>>
+    ensures { Answers ((meaning iface).read tokens.now) result }
 {
     match tokens.first() {
         Some(
@@ -31,13 +34,8 @@ pub(crate) fn read_iface<'a>(
             },
         ) => {
             let (string, rest) = read_name_string(alloc, tokens)?;
-            Ok((
-                Iface::Str {
-                    string,
-                    span: span_to(tokens, rest),
-                },
-                rest,
-            ))
+            let span = span_to(tokens, rest);
+            Ok((Iface::Str { string, span }, rest))
         }
         Some(
             Token {
@@ -46,98 +44,36 @@ pub(crate) fn read_iface<'a>(
             },
         ) => {
             let (var, rest) = read_variable(alloc, tokens)?;
-            Ok((
-                Iface::Var {
-                    var,
-                    span: span_to(tokens, rest),
-                },
-                rest,
-            ))
+            let span = span_to(tokens, rest);
+            Ok((Iface::Var { var, span }, rest))
         }
         _ => {
             let (word, rest) = read_name_word(alloc, tokens)?;
-            Ok((
-                Iface::Word {
-                    word,
-                    span: span_to(tokens, rest),
-                },
-                rest,
-            ))
+            let span = span_to(tokens, rest);
+            Ok((Iface::Word { word, span }, rest))
         }
     }
 }
 
-/// Which of the three functions the first word is, where `(` stands behind it, and the tokens behind that.
-#[tactic(auto, unfolding(crate::specs::Values::function_of))]
-fn function_of(inside: bool, tokens: &[Token]) -> Option<(Function, &[Token])>
-    ensures read { option_map pair_view result ≡ function_of inside tokens.now }
-    ensures left { IfSome result (λ read. length read.1.now < length tokens.now) }
-{
-    if let Some(rest) = behind_word("inet4", tokens) {
-        let behind = behind_sign(Sign::OpenParen, skip(inside, rest))?;
-        return Some((
-            Function::Inet4 {
-                span: span_to(tokens, rest),
-            },
-            behind,
-        ));
-    }
-    if let Some(rest) = behind_word("inet6", tokens) {
-        let behind = behind_sign(Sign::OpenParen, skip(inside, rest))?;
-        return Some((
-            Function::Inet6 {
-                span: span_to(tokens, rest),
-            },
-            behind,
-        ));
-    }
-    let rest = behind_word("ifaddrs", tokens)?;
-    let behind = behind_sign(Sign::OpenParen, skip(inside, rest))?;
-    Some((
-        Function::IfAddrs {
-            span: span_to(tokens, rest),
-        },
-        behind,
-    ))
-}
-
-#[tactic(auto, unfolding(crate::specs::Values::word_value_of))]
-fn read_word_value<'a>(
-    alloc: Global,
+/// A number behind a sign, where the sign stands first.
+fn read_number_behind(
+    joining: Sign,
     inside: bool,
-    tokens: &'a [Token],
-) -> Result<(Value, &'a [Token]), Refused>
-    ensures read { Answers (word_value_of inside tokens.now) result }
-    ensures left { Leaves tokens.now result }
+    tokens: &[Token],
+) -> Result<(Option<Number>, &[Token]), Stop>
+    ensures { Answers ((meaning (number_behind joining inside)).read tokens.now) result }
 {
-    match function_of(inside, tokens) {
-        Some((function, rest)) => {
-            let (iface, rest) = read_iface(alloc, skip(inside, rest))?;
-            let rest = after_sign(Sign::CloseParen, skip(inside, rest))?;
-            Ok((
-                Value::Function {
-                    function,
-                    iface,
-                    span: span_to(tokens, rest),
-                },
-                rest,
-            ))
+    match behind_spaced(joining, inside, tokens) {
+        Some(rest) => {
+            let (number, rest) = read_number(rest)?;
+            Ok((Some(number), skip(inside, rest)))
         }
-        None => {
-            let (word, rest) = read_word(alloc, tokens)?;
-            Ok((
-                Value::Word {
-                    word,
-                    span: span_to(tokens, rest),
-                },
-                rest,
-            ))
-        }
+        None => Ok((None, tokens)),
     }
 }
 
 fn is_range(first: Number, last: Option<Number>) -> bool
-    ensures { result ≡ is_range first last }
+    ensures { result ≡ is_range (first, last) }
 {
     match last {
         Some(last) => first.value <= last.value,
@@ -145,141 +81,201 @@ fn is_range(first: Number, last: Option<Number>) -> bool
     }
 }
 
-/// A number behind a sign, where the sign stands first.
-fn read_number_behind(
-    sign: Sign,
-    inside: bool,
-    tokens: &[Token],
-) -> Result<(Option<Number>, &[Token]), Refused>
-    ensures read { Answers (number_behind sign inside tokens.now) result }
-    ensures left { Leaves tokens.now result }
+#[tactic(auto, unfolding(crate::specs::Value::number_value))]
+fn read_number_value(inside: bool, tokens: &[Token]) -> Result<(Value, &[Token]), Stop>
+    ensures { Answers ((meaning (number_value inside)).read tokens.now) result }
 {
-    match behind_sign(sign, skip(inside, tokens)) {
+    let (first, rest) = read_number(tokens)?;
+    let (last, rest) = read_number_behind(Sign::Dash, inside, skip(inside, rest))?;
+    if is_range(first, last) {
+        let span = span_to(tokens, rest);
+        return Ok((Value::Number { first, last, span }, rest));
+    }
+    Err(Stop::Before(tokens))
+}
+
+fn is_prefix(address: Address, len: Option<Number>) -> bool
+    ensures { result ≡ is_prefix (address, len) }
+{
+    match len {
+        Some(len) => len.value <= u32::from(address.addr.width()),
+        None => true,
+    }
+}
+
+#[tactic(auto, unfolding(crate::specs::Value::address_value))]
+fn read_address_value(inside: bool, tokens: &[Token]) -> Result<(Value, &[Token]), Stop>
+    ensures { Answers ((meaning (address_value inside)).read tokens.now) result }
+{
+    let (address, rest) = read_address(tokens)?;
+    let (len, rest) = read_number_behind(Sign::Slash, inside, skip(inside, rest))?;
+    if is_prefix(address, len) {
+        let span = span_to(tokens, rest);
+        return Ok((Value::Address { address, len, span }, rest));
+    }
+    Err(Stop::Before(tokens))
+}
+
+#[tactic(auto, unfolding(crate::specs::Value::table_value))]
+fn read_table_value<'a>(
+    alloc: Global,
+    inside: bool,
+    tokens: &'a [Token],
+) -> Result<(Value, &'a [Token]), Stop<'a>>
+    ensures { Answers ((meaning (table_value inside)).read tokens.now) result }
+{
+    let rest = after_spaced(Sign::Less, inside, tokens)?;
+    let (name, rest) = read_word(alloc, rest)?;
+    let rest = after_spaced(Sign::Greater, inside, skip(inside, rest))?;
+    if is_name(name.text.as_slice()) {
+        let span = span_to(tokens, rest);
+        return Ok((Value::Table { name, span }, rest));
+    }
+    Err(Stop::Before(tokens))
+}
+
+/// Which of the three functions the first word is, and the tokens behind it.
+#[tactic(auto, unfolding(crate::specs::Value::function))]
+fn function_of(tokens: &[Token]) -> Option<(Function, &[Token])>
+    ensures { Finds function tokens.now result }
+{
+    if let Some(rest) = behind_word("inet4", tokens) {
+        let span = span_to(tokens, rest);
+        return Some((Function::Inet4 { span }, rest));
+    }
+    if let Some(rest) = behind_word("inet6", tokens) {
+        let span = span_to(tokens, rest);
+        return Some((Function::Inet6 { span }, rest));
+    }
+    match behind_word("ifaddrs", tokens) {
         Some(rest) => {
-            let (number, rest) = read_number(skip(inside, rest))?;
-            Ok((Some(number), rest))
+            let span = span_to(tokens, rest);
+            Some((Function::IfAddrs { span }, rest))
+        }
+        None => None,
+    }
+}
+
+fn read_function(inside: bool, tokens: &[Token]) -> Result<(Function, &[Token]), Stop>
+    ensures { Answers ((meaning (spaced inside function)).read tokens.now) result }
+{
+    match function_of(tokens) {
+        Some((function, rest)) => Ok((function, skip(inside, rest))),
+        None => Err(Stop::Before(tokens)),
+    }
+}
+
+/// T/// The interface in parentheses, where a parenthesis stands there.
+fn read_argument<'a>(
+    alloc: Global,
+    inside: bool,
+    tokens: &'a [Token],
+) -> Result<(Option<Iface>, &'a [Token]), Stop<'a>>
+    ensures { Answers ((meaning (optional (argument inside))).read tokens.now) result }
+{
+    match behind_spaced(Sign::OpenParen, inside, tokens) {
+        Some(rest) => {
+            let (iface, rest) = read_iface(alloc, rest)?;
+            let rest = after_spaced(Sign::CloseParen, inside, skip(inside, rest))?;
+            Ok((Some(iface), rest))
         }
         None => Ok((None, tokens)),
     }
 }
 
-#[tactic(auto, unfolding(crate::specs::Values::number_value_of))]
-fn read_number_value(inside: bool, tokens: &[Token]) -> Result<(Value, &[Token]), Refused>
-    ensures read { Answers (number_value_of inside tokens.now) result }
-    ensures left { Leaves tokens.now result }
+/// A function's name as a word.
+fn word_of<'a>(alloc: Global, function: Function) -> Result<Word, Stop<'a>>
+    ensures word { IfOk result (λ word. word ≡ word_of function) }
+    ensures memory { IfErr result (λ stop. stop ≡ no_memory) }
 {
-    let (first, rest) = read_number(tokens)?;
-    let (last, rest) = read_number_behind(Sign::Dash, inside, rest)?;
-    if is_range(first, last) {
-        return Ok((
-            Value::Number {
-                first,
-                last,
-                span: span_to(tokens, rest),
-            },
-            rest,
-        ));
-    }
-    Err(expected(tokens))
+    let (name, span) = match function {
+        Function::Inet4 { span } => ("inet4", span),
+        Function::Inet6 { span } => ("inet6", span),
+        Function::IfAddrs { span } => ("ifaddrs", span),
+    };
+    let text = copied(alloc, name.as_bytes())?;
+    Ok(Word { text, span })
 }
 
-fn is_prefix(addr: Addr, len: Option<Number>) -> bool
-    ensures { result ≡ is_prefix addr len }
-{
-    match len {
-        Some(len) => len.value <= u32::from(addr.width()),
-        None => true,
-    }
-}
-
-#[tactic(auto, unfolding(crate::specs::Values::address_value_of))]
-fn read_address_value(inside: bool, tokens: &[Token]) -> Result<(Value, &[Token]), Refused>
-    ensures read { Answers (address_value_of inside tokens.now) result }
-    ensures left { Leaves tokens.now result }
-{
-    let (address, rest) = read_address(tokens)?;
-    let (len, rest) = read_number_behind(Sign::Slash, inside, rest)?;
-    if is_prefix(address.addr, len) {
-        return Ok((
-            Value::Address {
-                address,
-                len,
-                span: span_to(tokens, rest),
-            },
-            rest,
-        ));
-    }
-    Err(expected(tokens))
-}
-
-#[tactic(auto, unfolding(crate::specs::Values::table_value_of))]
-fn read_table_value<'a>(
+/// A value that begins with the name of a function: its addresses, or where no parenthesis stands behind it, a word.
+#[tactic(auto, unfolding(crate::specs::Value::function_value))]
+fn read_function_value<'a>(
     alloc: Global,
     inside: bool,
     tokens: &'a [Token],
-) -> Result<(Value, &'a [Token]), Refused>
-    ensures read { Answers (table_value_of inside tokens.now) result }
-    ensures left { Leaves tokens.now result }
+) -> Result<(Value, &'a [Token]), Stop<'a>>
+    ensures { Answers ((meaning (function_value inside)).read tokens.now) result }
 {
-    let rest = after_sign(Sign::Less, tokens)?;
-    let (name, rest) = read_word(alloc, skip(inside, rest))?;
-    let rest = after_sign(Sign::Greater, skip(inside, rest))?;
-    if is_name(name.text.as_slice()) {
-        return Ok((
-            Value::Table {
-                name,
-                span: span_to(tokens, rest),
+    let (function, rest) = read_function(inside, tokens)?;
+    let (iface, rest) = read_argument(alloc, inside, rest)?;
+    let span = span_to(tokens, rest);
+    match iface {
+        Some(iface) => Ok((
+            Value::Function {
+                function,
+                iface,
+                span,
             },
             rest,
-        ));
+        )),
+        None => {
+            let word = word_of(alloc, function)?;
+            Ok((Value::Word { word, span }, rest))
+        }
     }
-    Err(expected(tokens))
 }
 
-#[tactic(auto, unfolding(crate::specs::Values::variable_value_of))]
+#[tactic(auto, unfolding(crate::specs::Value::function_value, crate::specs::Value::function))]
+fn read_word_value<'a>(
+    alloc: Global,
+    inside: bool,
+    tokens: &'a [Token],
+) -> Result<(Value, &'a [Token]), Stop<'a>>
+    ensures { Answers ((meaning (word_value inside)).read tokens.now) result }
+{
+    if function_of(tokens).is_some() {
+        return read_function_value(alloc, inside, tokens);
+    }
+    let (word, rest) = read_word(alloc, tokens)?;
+    let rest = skip(inside, rest);
+    let span = span_to(tokens, rest);
+    Ok((Value::Word { word, span }, rest))
+}
+
 fn read_variable_value<'a>(
     alloc: Global,
+    inside: bool,
     tokens: &'a [Token],
-) -> Result<(Value, &'a [Token]), Refused>
-    ensures read { Answers (variable_value_of tokens.now) result }
-    ensures left { Leaves tokens.now result }
+) -> Result<(Value, &'a [Token]), Stop<'a>>
+    ensures { Answers ((meaning (variable_value inside)).read tokens.now) result }
 {
     let (var, rest) = read_variable(alloc, tokens)?;
-    Ok((
-        Value::Var {
-            var,
-            span: span_to(tokens, rest),
-        },
-        rest,
-    ))
+    let rest = skip(inside, rest);
+    let span = span_to(tokens, rest);
+    Ok((Value::Var { var, span }, rest))
 }
 
-#[tactic(auto, unfolding(crate::specs::Values::string_value_of))]
 fn read_string_value<'a>(
     alloc: Global,
+    inside: bool,
     tokens: &'a [Token],
-) -> Result<(Value, &'a [Token]), Refused>
-    ensures read { Answers (string_value_of tokens.now) result }
-    ensures left { Leaves tokens.now result }
+) -> Result<(Value, &'a [Token]), Stop<'a>>
+    ensures { Answers ((meaning (string_value inside)).read tokens.now) result }
 {
     let (string, rest) = read_string(alloc, tokens)?;
-    Ok((
-        Value::Str {
-            string,
-            span: span_to(tokens, rest),
-        },
-        rest,
-    ))
+    let rest = skip(inside, rest);
+    let span = span_to(tokens, rest);
+    Ok((Value::Str { string, span }, rest))
 }
 
 /// A value, by the kind of its first token.
-fn read_any_value<'a>(
+#[tactic(auto, unfolding(crate::specs::Value::written, crate::specs::Value::number_value, crate::specs::Value::address_value, crate::specs::Value::function_value, crate::specs::Value::function))]
+fn read_written<'a>(
     alloc: Global,
     inside: bool,
     tokens: &'a [Token],
-) -> Result<(Value, &'a [Token]), Refused>
-    ensures read { Answers (value_by (kind_of tokens.now) inside tokens.now) result }
-    ensures left { Leaves tokens.now result }
+) -> Result<(Value, &'a [Token]), Stop<'a>>
+    ensures { Answers ((meaning (written inside)).read tokens.now) result }
 {
     match tokens.first() {
         Some(
@@ -305,13 +301,13 @@ fn read_any_value<'a>(
                 kind: TokenKind::Var(_),
                 ..
             },
-        ) => read_variable_value(alloc, tokens),
+        ) => read_variable_value(alloc, inside, tokens),
         Some(
             Token {
                 kind: TokenKind::Str(_),
                 ..
             },
-        ) => read_string_value(alloc, tokens),
+        ) => read_string_value(alloc, inside, tokens),
         _ => read_table_value(alloc, inside, tokens),
     }
 }
@@ -350,117 +346,89 @@ fn can_stand(role: Role, value: &Value) -> bool
     }
 }
 
-#[tactic(auto, unfolding(crate::specs::Values::value_of))]
+#[tactic(auto, unfolding(crate::specs::Value::value))]
 pub(crate) fn read_value<'a>(
     alloc: Global,
     role: Role,
     inside: bool,
     tokens: &'a [Token],
-) -> Result<(Value, &'a [Token]), Refused>
-    ensures read { Answers (value_of role inside tokens.now) result }
-    ensures left { Leaves tokens.now result }
+) -> Result<(Value, &'a [Token]), Stop<'a>>
+    ensures { Answers ((meaning (value role inside)).read tokens.now) result }
 {
-    let (value, rest) = read_any_value(alloc, inside, tokens)?;
+    let (value, rest) = read_written(alloc, inside, tokens)?;
     if can_stand(role, &value) {
         return Ok((value, rest));
     }
-    Err(expected(tokens))
+    Err(Stop::Before(tokens))
 }
 
-/// A value of a list, behind line feeds.
-#[tactic(auto, unfolding(crate::specs::Values::listed_value_of))]
-fn read_listed_value<'a>(
-    alloc: Global,
-    role: Role,
-    tokens: &'a [Token],
-) -> Result<(Value, &'a [Token]), Refused>
-    ensures read { Answers (listed_value_of role tokens.now) result }
-    ensures left { Leaves tokens.now result }
-{
-    read_value(alloc, role, true, skip(true, tokens))
-}
-
-/// The values of a list that isn't empty, up to the last that no comma follows.
+/// The values of a list, one at least.
 fn read_listed_values<'a>(
     alloc: Global,
     role: Role,
     tokens: &'a [Token],
-) -> Result<(List<Value>, &'a [Token]), Refused>
-    ensures read { Answers (comma_list (listed_value_of role) true (suc (length tokens.now)) tokens.now) result }
-    ensures left { Leaves tokens.now result }
+) -> Result<(List<Value>, &'a [Token]), Stop<'a>>
+    ensures { Answers ((meaning (listed_values role)).read tokens.now) result }
 {
     let mut values = Vec::new(alloc);
     let mut rest = tokens;
     'values: loop {
-        let (value, behind) = read_listed_value(alloc, role, rest)?;
+        let (value, behind) = read_value(alloc, role, true, rest)?;
         values.push(value)?;
-        match behind_sign(Sign::Comma, skip(true, behind)) {
+        match behind_spaced(Sign::Comma, true, behind) {
             Some(next) => rest = next,
             None => return Ok((List::of_vec(values), behind)),
         }
     }
 }
 
-#[tactic(auto, unfolding(crate::specs::Values::value_list_of))]
+/// The values up to the closing brace, of which there may be none.
+fn read_values_inside<'a>(
+    alloc: Global,
+    role: Role,
+    tokens: &'a [Token],
+) -> Result<(List<Value>, &'a [Token]), Stop<'a>>
+    ensures { Answers ((meaning (values_inside role)).read tokens.now) result }
+{
+    if behind_sign(Sign::CloseBrace, tokens).is_some() {
+        return Ok((List::of_vec(Vec::new(alloc)), tokens));
+    }
+    read_listed_values(alloc, role, tokens)
+}
+
+#[tactic(auto, unfolding(crate::specs::Value::value_list))]
 pub(crate) fn read_value_list<'a>(
     alloc: Global,
     role: Role,
     tokens: &'a [Token],
-) -> Result<(ValueList, &'a [Token]), Refused>
-    ensures read { Answers (value_list_of role tokens.now) result }
-    ensures left { Leaves tokens.now result }
+) -> Result<(ValueList, &'a [Token]), Stop<'a>>
+    ensures { Answers ((meaning (value_list role)).read tokens.now) result }
 {
-    let inside = after_sign(Sign::OpenBrace, tokens)?;
-    if let Some(rest) = behind_sign(Sign::CloseBrace, skip(true, inside)) {
-        let values = List::of_vec(Vec::new(alloc));
-        return Ok((
-            ValueList {
-                values,
-                span: span_to(tokens, rest),
-            },
-            rest,
-        ));
-    }
-    let (values, rest) = read_listed_values(alloc, role, inside)?;
-    let rest = after_sign(Sign::CloseBrace, skip(true, rest))?;
-    Ok((
-        ValueList {
-            values,
-            span: span_to(tokens, rest),
-        },
-        rest,
-    ))
+    let rest = after_spaced(Sign::OpenBrace, true, tokens)?;
+    let (values, rest) = read_values_inside(alloc, role, rest)?;
+    let rest = after_sign(Sign::CloseBrace, rest)?;
+    let span = span_to(tokens, rest);
+    Ok((ValueList { values, span }, rest))
 }
 
-#[tactic(auto, unfolding(crate::specs::Values::values_of))]
+#[tactic(auto, unfolding(crate::specs::Value::values, crate::specs::Value::value_list))]
 pub(crate) fn read_values<'a>(
     alloc: Global,
     role: Role,
     tokens: &'a [Token],
-) -> Result<(Values, &'a [Token]), Refused>
-    ensures read { Answers (values_of role tokens.now) result }
-    ensures left { Leaves tokens.now result }
+) -> Result<(Values, &'a [Token]), Stop<'a>>
+    ensures { Answers ((meaning (values role)).read tokens.now) result }
 {
     match behind_sign(Sign::OpenBrace, tokens) {
         Some(_) => {
             let (list, rest) = read_value_list(alloc, role, tokens)?;
-            Ok((
-                Values::List {
-                    list,
-                    span: span_to(tokens, rest),
-                },
-                rest,
-            ))
+            let span = span_to(tokens, rest);
+            Ok((Values::List { list, span }, rest))
         }
         None => {
             let (value, rest) = read_value(alloc, role, false, tokens)?;
-            Ok((
-                Values::One {
-                    value,
-                    span: span_to(tokens, rest),
-                },
-                rest,
-            ))
+            let span = span_to(tokens, rest);
+            Ok((Values::One { value, span }, rest))
         }
     }
 }

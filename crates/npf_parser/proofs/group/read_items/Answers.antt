@@ -1,40 +1,37 @@
-use Rattle.std.proofs.Common.{◌≡◌, ◌<◌, ◌+◌, ◌-◌, suc, Err, length, refl, sym, subst, ◌∙◌, ap, rules, arith}
-use Rattle.std.proofs.lemmas.List.{length_push}
-use Rattle.npf_parser.specs.Readings.{Answers, block_list, is_at_brace}
-use Rattle.npf_parser.specs.Groups.{item_of, items_of}
-use Rattle.npf_parser.proofs.Lists.{all_onto, block_closes, block_refused, block_stops, block_goes_on}
+use Rattle.std.proofs.Common.{◌≡◌, Err, sym, subst, rules, arith}
+use Rattle.npf_phrase.specs.Grammar.{meaning}
+use Rattle.npf_phrase.proofs.ListLemmas.{leaves}
+use Rattle.npf_parser.specs.Answer.{Answers}
+use Rattle.npf_parser.specs.Rule.{item, items, ends_item}
+use Rattle.npf_parser.proofs.LineLemmas.{next_item_advances, item_advances}
+use Rattle.npf_parser.proofs.LoopLemmas.{block_skips, block_closes, block_goes, block_ends, block_fails}
 use Rattle.npf_parser.proofs.group.read_items.Goals as goal
 
-pub returns-then-is_at_brace-clause-read : goal.returns-then-is_at_brace-clause-read
-unfolding items_of
-returns-then-is_at_brace-clause-read c =
-    let whole = block_list item_of is_at_brace (suc (length c.args.tokens.now)) c.args.tokens.now in
-    let all = block_closes item_of is_at_brace whole c.items.items.items (length c.args.tokens.now - length c.items.items.items) c.items.rest.now c.skip_separators-next.result.now c.items.invariant.so_far c.skip_separators-next.ensures.rest (sym c.if-is_at_brace.ensures) in
-    rw c.of_vec.ensures all
+pub items-preserved-in-Some : goal.items-preserved-in-Some
+unfolding items
+items-preserved-in-Some c = block_skips ends_item item next_item_advances ((meaning items).read c.args.tokens.now) c.items.items.items c.items.rest.now c.items.invariant c.in-Some.next c.if-ends_item.ensures c.in-Some.ensures.begins
 
-pub returns-in_err-item-clause-read : goal.returns-in_err-item-clause-read
-unfolding items_of
-returns-in_err-item-clause-read c =
-    let whole = block_list item_of is_at_brace (suc (length c.args.tokens.now)) c.args.tokens.now in
-    let refused = block_refused item_of is_at_brace whole c.items.items.items (length c.args.tokens.now - length c.items.items.items) c.items.rest.now c.skip_separators-next.result.now c.in_err-item.field-0.0 c.items.invariant.so_far c.skip_separators-next.ensures.rest (sym c.if-is_at_brace.ensures) c.in_err-item.ensures.read in
+pub returns-in-None : goal.returns-in-None
+unfolding items
+returns-in-None c = rw c.of_vec.ensures (block_closes ends_item item next_item_advances ((meaning items).read c.args.tokens.now) c.items.items.items c.items.rest.now c.items.invariant c.if-ends_item.ensures c.in-None.ensures.begins)
+
+pub returns-in_err-item : goal.returns-in_err-item
+unfolding items
+returns-in_err-item c =
     let same : c.from_residual.result ≡ Err c.in_err-item.field-0.0 = search rules in
-    subst (Answers whole) (sym same) refused
+    subst (Answers ((meaning items).read c.args.tokens.now)) (sym same) (block_fails ends_item item next_item_advances ((meaning items).read c.args.tokens.now) c.items.items.items c.items.rest.now c.items.invariant c.in_err-item.field-0.0 c.if-ends_item.ensures c.in_err-item.ensures)
 
-pub returns-then-not-ends_item-clause-read : goal.returns-then-not-ends_item-clause-read
-unfolding items_of
-returns-then-not-ends_item-clause-read c =
-    let whole = block_list item_of is_at_brace (suc (length c.args.tokens.now)) c.args.tokens.now in
-    let stops = block_stops item_of is_at_brace whole c.items.items.items (length c.args.tokens.now - length c.items.items.items) c.items.rest.now c.skip_separators-next.result.now c.in_ok-item.item c.in_ok-item.behind.now c.items.invariant.so_far c.skip_separators-next.ensures.rest (sym c.if-is_at_brace.ensures) c.in_ok-item.ensures.read (sym c.if-not-ends_item.ensures) in
-    rw c.expected.ensures (stops, refl)
+pub items-smaller : goal.items-smaller
+items-smaller c =
+    let before = leaves item item_advances c.items.rest.now c.in_ok-item.item c.in_ok-item.behind.now c.in_ok-item.ensures in
+    omega (arith, c.in-Some-behind_separator.ensures.left)
 
 pub items-preserved : goal.items-preserved
+unfolding items
 items-preserved c =
-    let whole = block_list item_of is_at_brace (suc (length c.args.tokens.now)) c.args.tokens.now in
-    let longer : length c.push.new.self.items ≡ length c.items.items.items + 1 = ap length c.in_ok-push.ensures.items ∙ length_push c.items.items.items c.in_ok-item.item in
-    let left : length c.in_ok-item.behind.now < length c.skip_separators-next.result.now = c.in_ok-item.ensures.left in
-    let less : length c.args.tokens.now - length c.items.items.items ≡ suc (length c.args.tokens.now - length c.push.new.self.items) = omega (arith, c.skip_separators-next.ensures.left) in
-    let onward = block_goes_on item_of is_at_brace whole c.items.items.items (length c.args.tokens.now - length c.items.items.items) (length c.args.tokens.now - length c.push.new.self.items) c.items.rest.now c.skip_separators-next.result.now c.in_ok-item.item c.in_ok-item.behind.now c.items.invariant.so_far c.skip_separators-next.ensures.rest (sym c.if-is_at_brace.ensures) c.in_ok-item.ensures.read (sym c.if-not-ends_item.ensures) less in
-    record {
-      fits = omega (arith, c.skip_separators-next.ensures.left);
-      so_far = subst (λ items. whole ≡ all_onto items (block_list item_of is_at_brace (suc (length c.args.tokens.now - length c.push.new.self.items)) c.in_ok-item.behind.now)) (sym c.in_ok-push.ensures.items) onward;
-    }
+    rw c.in_ok-push.ensures.items (block_goes ends_item item next_item_advances ((meaning items).read c.args.tokens.now) c.items.items.items c.items.rest.now c.items.invariant c.in_ok-item.item c.in_ok-item.behind c.in-Some-behind_separator.next c.if-ends_item.ensures c.in_ok-item.ensures c.in-Some-behind_separator.ensures.begins)
+
+pub returns-in-None-behind_separator : goal.returns-in-None-behind_separator
+unfolding items
+returns-in-None-behind_separator c =
+    rw (c.of_vec-in-None-behind_separator.ensures, c.in_ok-push.ensures.items) (block_ends ends_item item next_item_advances ((meaning items).read c.args.tokens.now) c.items.items.items c.items.rest.now c.items.invariant c.in_ok-item.item c.in_ok-item.behind c.if-ends_item.ensures c.in_ok-item.ensures c.in-None-behind_separator.ensures.begins)

@@ -1,5 +1,7 @@
-use Rattle.npf_parser.proofs.Trees.{one_tree}
+use Rattle.npf_parser.specs.Stmt.{file}
+use Rattle.npf_parser.proofs.LineLemmas.{file_advances}
+use Rattle.npf_parser.proofs.ParseLemmas.{one_thing}
 use Rattle.npf_parser.proofs.laws.one_tree.Goals as goal
 
 pub returns : goal.returns
-returns c = one_tree
+returns c = one_thing file file_advances

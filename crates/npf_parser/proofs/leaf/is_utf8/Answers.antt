@@ -1,4 +1,4 @@
-use Rattle.npf_parser.proofs.Texts.{is_utf8_true, is_utf8_false}
+use Rattle.npf_parser.proofs.TextLemmas.{is_utf8_true, is_utf8_false}
 use Rattle.npf_parser.proofs.leaf.is_utf8.Goals as goal
 
 pub returns-in-Ok : goal.returns-in-Ok

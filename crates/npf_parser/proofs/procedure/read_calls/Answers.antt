@@ -1,40 +1,38 @@
-use Rattle.std.proofs.Common.{◌≡◌, ◌<◌, ◌+◌, ◌-◌, suc, Err, length, refl, sym, subst, ◌∙◌, ap, rules, arith}
-use Rattle.std.proofs.lemmas.List.{length_push}
-use Rattle.npf_parser.specs.Readings.{Answers, block_list, is_at_brace}
-use Rattle.npf_parser.specs.Procedures.{call_of, calls_of}
-use Rattle.npf_parser.proofs.Lists.{all_onto, block_closes, block_refused, block_stops, block_goes_on}
+use Rattle.std.proofs.Common.{◌≡◌, Err, sym, subst, rules, arith}
+use Rattle.npf_phrase.specs.Grammar.{meaning}
+use Rattle.npf_phrase.proofs.ListLemmas.{leaves}
+use Rattle.npf_parser.specs.Answer.{Answers}
+use Rattle.npf_parser.specs.Procedure.{call, calls}
+use Rattle.npf_parser.specs.Rule.{ends_item}
+use Rattle.npf_parser.proofs.LineLemmas.{next_call_advances, call_advances}
+use Rattle.npf_parser.proofs.LoopLemmas.{block_skips, block_closes, block_goes, block_ends, block_fails}
 use Rattle.npf_parser.proofs.procedure.read_calls.Goals as goal
 
-pub returns-then-is_at_brace-clause-read : goal.returns-then-is_at_brace-clause-read
-unfolding calls_of
-returns-then-is_at_brace-clause-read c =
-    let whole = block_list call_of is_at_brace (suc (length c.args.tokens.now)) c.args.tokens.now in
-    let all = block_closes call_of is_at_brace whole c.items.items.items (length c.args.tokens.now - length c.items.items.items) c.items.rest.now c.skip_separators-next.result.now c.items.invariant.so_far c.skip_separators-next.ensures.rest (sym c.if-is_at_brace.ensures) in
-    rw c.of_vec.ensures all
+pub calls-preserved-in-Some : goal.calls-preserved-in-Some
+unfolding calls
+calls-preserved-in-Some c = block_skips ends_item call next_call_advances ((meaning calls).read c.args.tokens.now) c.calls.calls.items c.calls.rest.now c.calls.invariant c.in-Some.next c.if-ends_item.ensures c.in-Some.ensures.begins
 
-pub returns-in_err-call-clause-read : goal.returns-in_err-call-clause-read
-unfolding calls_of
-returns-in_err-call-clause-read c =
-    let whole = block_list call_of is_at_brace (suc (length c.args.tokens.now)) c.args.tokens.now in
-    let refused = block_refused call_of is_at_brace whole c.items.items.items (length c.args.tokens.now - length c.items.items.items) c.items.rest.now c.skip_separators-next.result.now c.in_err-call.field-0.0 c.items.invariant.so_far c.skip_separators-next.ensures.rest (sym c.if-is_at_brace.ensures) c.in_err-call.ensures.read in
+pub returns-in-None : goal.returns-in-None
+unfolding calls
+returns-in-None c = rw c.of_vec.ensures (block_closes ends_item call next_call_advances ((meaning calls).read c.args.tokens.now) c.calls.calls.items c.calls.rest.now c.calls.invariant c.if-ends_item.ensures c.in-None.ensures.begins)
+
+pub returns-in_err-call : goal.returns-in_err-call
+unfolding calls
+returns-in_err-call c =
     let same : c.from_residual.result ≡ Err c.in_err-call.field-0.0 = search rules in
-    subst (Answers whole) (sym same) refused
+    subst (Answers ((meaning calls).read c.args.tokens.now)) (sym same) (block_fails ends_item call next_call_advances ((meaning calls).read c.args.tokens.now) c.calls.calls.items c.calls.rest.now c.calls.invariant c.in_err-call.field-0.0 c.if-ends_item.ensures c.in_err-call.ensures)
 
-pub returns-then-not-ends_item-clause-read : goal.returns-then-not-ends_item-clause-read
-unfolding calls_of
-returns-then-not-ends_item-clause-read c =
-    let whole = block_list call_of is_at_brace (suc (length c.args.tokens.now)) c.args.tokens.now in
-    let stops = block_stops call_of is_at_brace whole c.items.items.items (length c.args.tokens.now - length c.items.items.items) c.items.rest.now c.skip_separators-next.result.now c.in_ok-call.call c.in_ok-call.behind.now c.items.invariant.so_far c.skip_separators-next.ensures.rest (sym c.if-is_at_brace.ensures) c.in_ok-call.ensures.read (sym c.if-not-ends_item.ensures) in
-    rw c.expected.ensures (stops, refl)
+pub calls-smaller : goal.calls-smaller
+calls-smaller c =
+    let before = leaves call call_advances c.calls.rest.now c.in_ok-call.call c.in_ok-call.behind.now c.in_ok-call.ensures in
+    omega (arith, c.in-Some-behind_separator.ensures.left)
 
-pub items-preserved : goal.items-preserved
-items-preserved c =
-    let whole = block_list call_of is_at_brace (suc (length c.args.tokens.now)) c.args.tokens.now in
-    let longer : length c.push.new.self.items ≡ length c.items.items.items + 1 = ap length c.in_ok-push.ensures.items ∙ length_push c.items.items.items c.in_ok-call.call in
-    let left : length c.in_ok-call.behind.now < length c.skip_separators-next.result.now = c.in_ok-call.ensures.left in
-    let less : length c.args.tokens.now - length c.items.items.items ≡ suc (length c.args.tokens.now - length c.push.new.self.items) = omega (arith, c.skip_separators-next.ensures.left) in
-    let onward = block_goes_on call_of is_at_brace whole c.items.items.items (length c.args.tokens.now - length c.items.items.items) (length c.args.tokens.now - length c.push.new.self.items) c.items.rest.now c.skip_separators-next.result.now c.in_ok-call.call c.in_ok-call.behind.now c.items.invariant.so_far c.skip_separators-next.ensures.rest (sym c.if-is_at_brace.ensures) c.in_ok-call.ensures.read (sym c.if-not-ends_item.ensures) less in
-    record {
-      fits = omega (arith, c.skip_separators-next.ensures.left);
-      so_far = subst (λ items. whole ≡ all_onto items (block_list call_of is_at_brace (suc (length c.args.tokens.now - length c.push.new.self.items)) c.in_ok-call.behind.now)) (sym c.in_ok-push.ensures.items) onward;
-    }
+pub calls-preserved : goal.calls-preserved
+unfolding calls
+calls-preserved c =
+    rw c.in_ok-push.ensures.items (block_goes ends_item call next_call_advances ((meaning calls).read c.args.tokens.now) c.calls.calls.items c.calls.rest.now c.calls.invariant c.in_ok-call.call c.in_ok-call.behind c.in-Some-behind_separator.next c.if-ends_item.ensures c.in_ok-call.ensures c.in-Some-behind_separator.ensures.begins)
+
+pub returns-in-None-behind_separator : goal.returns-in-None-behind_separator
+unfolding calls
+returns-in-None-behind_separator c =
+    rw (c.of_vec-in-None-behind_separator.ensures, c.in_ok-push.ensures.items) (block_ends ends_item call next_call_advances ((meaning calls).read c.args.tokens.now) c.calls.calls.items c.calls.rest.now c.calls.invariant c.in_ok-call.call c.in_ok-call.behind c.if-ends_item.ensures c.in_ok-call.ensures c.in-None-behind_separator.ensures.begins)

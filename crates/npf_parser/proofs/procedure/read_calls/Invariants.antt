@@ -1,14 +1,11 @@
-use Rattle.std.proofs.Common.{◌≡◌, ◌≤◌, ◌+◌, ◌-◌, suc, length}
-use Rattle.npf_parser.specs.Readings.{block_list, is_at_brace}
-use Rattle.npf_parser.specs.Procedures.{call_of}
-use Rattle.npf_parser.proofs.Lists.{all_onto}
+use Rattle.std.proofs.Common.{◌≡◌, length}
+use Rattle.npf_phrase.specs.Grammar.{meaning}
+use Rattle.npf_phrase.proofs.ListLemmas.{extend}
+use Rattle.npf_parser.specs.Procedure.{calls}
 use Rattle.npf_parser.proofs.procedure.read_calls.Given as goal
 
-abbrev pub invariant-items : goal.invariant-items
-invariant-items l = record {
-  fits : length l.rest + length l.items.items ≤ length l.fn.tokens;
-  so_far : block_list call_of is_at_brace (suc (length l.fn.tokens)) l.fn.tokens ≡ all_onto l.items.items (block_list call_of is_at_brace (suc (length l.fn.tokens - length l.items.items)) l.rest);
-}
+abbrev pub invariant-calls : goal.invariant-calls
+invariant-calls l = (meaning calls).read l.fn.tokens ≡ extend l.calls.items ((meaning calls).read l.rest)
 
-abbrev pub decreases-items : goal.decreases-items
-decreases-items l = length l.rest
+abbrev pub decreases-calls : goal.decreases-calls
+decreases-calls l = length l.rest

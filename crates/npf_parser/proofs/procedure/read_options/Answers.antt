@@ -1,37 +1,31 @@
-use Rattle.std.proofs.Common.{◌≡◌, ◌<◌, ◌≤◌, ◌+◌, ◌-◌, suc, false, None, Some, Err, length, sym, subst, ◌∙◌, ap, rules, arith}
+use Rattle.std.proofs.Common.{◌≡◌, Err, refl, sym, subst, rules, arith}
+use Rattle.npf_phrase.specs.Grammar.{meaning}
+use Rattle.npf_phrase.proofs.ListLemmas.{leaves}
 use Rattle.npf_lexer.specs.declared.token.Sign.TheVariants.{Comma}
-use Rattle.npf_parser.specs.Readings.{Answers, behind_sign, skip, comma_list}
-use Rattle.npf_parser.specs.Procedures.{opt_of, options_of}
-use Rattle.npf_parser.proofs.Lists.{all_onto, comma_goes_on, comma_ends, comma_refused}
-use Rattle.std.proofs.lemmas.List.{length_push}
+use Rattle.npf_parser.specs.Answer.{Answers}
+use Rattle.npf_parser.specs.Procedure.{opt, options}
+use Rattle.npf_parser.specs.Token.{sign}
+use Rattle.npf_parser.proofs.LineLemmas.{next_opt_advances, opt_advances}
+use Rattle.npf_parser.proofs.LoopLemmas.{list_goes, list_ends, list_fails}
 use Rattle.npf_parser.proofs.procedure.read_options.Goals as goal
 
-pub returns-in_err-option-clause-read : goal.returns-in_err-option-clause-read
-unfolding options_of
-returns-in_err-option-clause-read c =
-    let whole = comma_list opt_of false (suc (length c.args.tokens.now)) c.args.tokens.now in
-    let refused = comma_refused opt_of false whole c.items.items.items (length c.args.tokens.now - length c.items.items.items) c.items.rest.now c.in_err-option.field-0.0 c.items.invariant.so_far c.in_err-option.ensures.read in
+pub returns-in_err-option : goal.returns-in_err-option
+unfolding options
+returns-in_err-option c =
     let same : c.from_residual.result ≡ Err c.in_err-option.field-0.0 = search rules in
-    subst (Answers whole) (sym same) refused
+    subst (Answers ((meaning options).read c.args.tokens.now)) (sym same) (list_fails (sign Comma) opt next_opt_advances refl ((meaning options).read c.args.tokens.now) c.options.options.items c.options.rest.now c.options.invariant c.in_err-option.field-0.0 c.in_err-option.ensures)
 
-pub items-preserved : goal.items-preserved
-items-preserved c =
-    let whole = comma_list opt_of false (suc (length c.args.tokens.now)) c.args.tokens.now in
-    let comma : behind_sign Comma (skip false c.in_ok-option.behind.now) ≡ Some c.in-Some.next.now = ap (behind_sign Comma) (sym c.skip.ensures.rest) ∙ sym c.in-Some.ensures.behind in
-    let longer : length c.push.new.self.items ≡ length c.items.items.items + 1 = ap length c.in_ok-push.ensures.items ∙ length_push c.items.items.items c.in_ok-option.option in
-    let next_left : length c.in-Some.next.now < length c.skip.result.now = c.in-Some.ensures.left in
-    let left : length c.in_ok-option.behind.now ≤ length c.items.rest.now = c.in_ok-option.ensures.left in
-    let less : length c.args.tokens.now - length c.items.items.items ≡ suc (length c.args.tokens.now - length c.push.new.self.items) = omega (arith, c.skip.ensures.left) in
-    let onward = comma_goes_on opt_of false whole c.items.items.items (length c.args.tokens.now - length c.items.items.items) (length c.args.tokens.now - length c.push.new.self.items) c.items.rest.now c.in_ok-option.option c.in_ok-option.behind.now c.in-Some.next.now c.items.invariant.so_far c.in_ok-option.ensures.read comma less in
-    record {
-      fits = omega (arith, c.skip.ensures.left);
-      so_far = subst (λ items. whole ≡ all_onto items (comma_list opt_of false (suc (length c.args.tokens.now - length c.push.new.self.items)) c.in-Some.next.now)) (sym c.in_ok-push.ensures.items) onward;
-    }
+pub options-smaller : goal.options-smaller
+options-smaller c =
+    let before = leaves opt opt_advances c.options.rest.now c.in_ok-option.option c.in_ok-option.behind.now c.in_ok-option.ensures in
+    omega (arith, c.in-Some.ensures.left)
 
-pub returns-in-None-clause-read : goal.returns-in-None-clause-read
-unfolding options_of
-returns-in-None-clause-read c =
-    let whole = comma_list opt_of false (suc (length c.args.tokens.now)) c.args.tokens.now in
-    let no_comma : behind_sign Comma (skip false c.in_ok-option.behind.now) ≡ None = ap (behind_sign Comma) (sym c.skip.ensures.rest) ∙ sym c.in-None.ensures.behind in
-    let ends = comma_ends opt_of false whole c.items.items.items (length c.args.tokens.now - length c.items.items.items) c.items.rest.now c.in_ok-option.option c.in_ok-option.behind.now c.items.invariant.so_far c.in_ok-option.ensures.read no_comma in
-    rw (c.of_vec.ensures, c.in_ok-push.ensures.items) ends
+pub options-preserved : goal.options-preserved
+unfolding options
+options-preserved c =
+    rw c.in_ok-push.ensures.items (list_goes (sign Comma) opt next_opt_advances refl ((meaning options).read c.args.tokens.now) c.options.options.items c.options.rest.now c.options.invariant c.in_ok-option.option c.in_ok-option.behind c.in-Some.next c.in_ok-option.ensures c.in-Some.ensures.begins)
+
+pub returns-in-None : goal.returns-in-None
+unfolding options
+returns-in-None c =
+    rw (c.of_vec.ensures, c.in_ok-push.ensures.items) (list_ends (sign Comma) opt next_opt_advances refl ((meaning options).read c.args.tokens.now) c.options.options.items c.options.rest.now c.options.invariant c.in_ok-option.option c.in_ok-option.behind c.in_ok-option.ensures c.in-None.ensures.begins)

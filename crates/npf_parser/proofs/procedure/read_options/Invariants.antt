@@ -1,14 +1,11 @@
-use Rattle.std.proofs.Common.{◌≡◌, ◌≤◌, ◌+◌, ◌-◌, suc, false, length}
-use Rattle.npf_parser.specs.Readings.{comma_list}
-use Rattle.npf_parser.specs.Procedures.{opt_of}
-use Rattle.npf_parser.proofs.Lists.{all_onto}
+use Rattle.std.proofs.Common.{◌≡◌, length}
+use Rattle.npf_phrase.specs.Grammar.{meaning}
+use Rattle.npf_phrase.proofs.ListLemmas.{extend}
+use Rattle.npf_parser.specs.Procedure.{options}
 use Rattle.npf_parser.proofs.procedure.read_options.Given as goal
 
-abbrev pub invariant-items : goal.invariant-items
-invariant-items l = record {
-  fits : length l.rest + length l.items.items ≤ length l.fn.tokens;
-  so_far : comma_list opt_of false (suc (length l.fn.tokens)) l.fn.tokens ≡ all_onto l.items.items (comma_list opt_of false (suc (length l.fn.tokens - length l.items.items)) l.rest);
-}
+abbrev pub invariant-options : goal.invariant-options
+invariant-options l = (meaning options).read l.fn.tokens ≡ extend l.options.items ((meaning options).read l.rest)
 
-abbrev pub decreases-items : goal.decreases-items
-decreases-items l = length l.rest
+abbrev pub decreases-options : goal.decreases-options
+decreases-options l = length l.rest

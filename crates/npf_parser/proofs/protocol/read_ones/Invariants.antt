@@ -1,14 +1,11 @@
-use Rattle.std.proofs.Common.{◌≡◌, ◌≤◌, ◌+◌, ◌-◌, suc, false, length}
-use Rattle.npf_parser.specs.Readings.{comma_list}
-use Rattle.npf_parser.specs.Values.{one_of}
-use Rattle.npf_parser.proofs.Lists.{all_onto}
+use Rattle.std.proofs.Common.{◌≡◌, length}
+use Rattle.npf_phrase.specs.Grammar.{meaning}
+use Rattle.npf_phrase.proofs.ListLemmas.{extend}
+use Rattle.npf_parser.specs.Value.{ones}
 use Rattle.npf_parser.proofs.protocol.read_ones.Given as goal
 
-abbrev pub invariant-items : goal.invariant-items
-invariant-items l = record {
-  fits : length l.rest + length l.items.items ≤ length l.fn.tokens;
-  so_far : comma_list one_of false (suc (length l.fn.tokens)) l.fn.tokens ≡ all_onto l.items.items (comma_list one_of false (suc (length l.fn.tokens - length l.items.items)) l.rest);
-}
+abbrev pub invariant-ones : goal.invariant-ones
+invariant-ones l = (meaning ones).read l.fn.tokens ≡ extend l.ones.items ((meaning ones).read l.rest)
 
-abbrev pub decreases-items : goal.decreases-items
-decreases-items l = length l.rest
+abbrev pub decreases-ones : goal.decreases-ones
+decreases-ones l = length l.rest

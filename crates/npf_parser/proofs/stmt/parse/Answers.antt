@@ -1,22 +1,29 @@
-use Rattle.npf_parser.proofs.HaltingTrees.{answers_halt, answers_each_halt}
-use Rattle.npf_parser.proofs.Stopping.{answers_stop}
-use Rattle.npf_parser.proofs.Trees.{answers_tree, answers_fault, answers_each_tree}
+use Rattle.npf_parser.specs.Stmt.{file}
+use Rattle.npf_parser.proofs.FineLemmas.{file_fine, file_ends}
+use Rattle.npf_parser.proofs.LineLemmas.{file_advances}
+use Rattle.npf_parser.proofs.ParseLemmas.{one_thing, not_both, means, halts, refused, complete, exactly, stops}
 use Rattle.npf_parser.proofs.stmt.parse.Goals as goal
 
-pub returns-clause-tree : goal.returns-clause-tree
-returns-clause-tree c = answers_tree c.args.tokens.now c.read_tree.result c.read_tree.ensures
+pub returns-in-Ok-clause-tree : goal.returns-in-Ok-clause-tree
+returns-in-Ok-clause-tree c = means file file_advances c.args.tokens.now c.in-Ok.tree c.in-Ok.field-0-1.now c.in-Ok.ensures
 
-pub returns-clause-refused : goal.returns-clause-refused
-returns-clause-refused c = answers_fault c.args.tokens.now c.read_tree.result c.read_tree.ensures
+pub returns-in-Ok-clause-complete : goal.returns-in-Ok-clause-complete
+returns-in-Ok-clause-complete c = λ other is. one_thing file file_advances c.args.tokens.now c.in-Ok.tree other (means file file_advances c.args.tokens.now c.in-Ok.tree c.in-Ok.field-0-1.now c.in-Ok.ensures) is
 
-pub returns-clause-complete : goal.returns-clause-complete
-returns-clause-complete c = answers_each_tree c.args.tokens.now c.read_tree.result c.read_tree.ensures
+pub returns-in-Ok-clause-exactly : goal.returns-in-Ok-clause-exactly
+returns-in-Ok-clause-exactly c = λ span there. not_both file file_advances c.args.tokens.now span (c.in-Ok.tree, means file file_advances c.args.tokens.now c.in-Ok.tree c.in-Ok.field-0-1.now c.in-Ok.ensures) there
 
-pub returns-clause-stops : goal.returns-clause-stops
-returns-clause-stops c = answers_stop c.args.tokens.now c.read_tree.result c.read_tree.ensures
+pub returns-in-Err-clause-refused : goal.returns-in-Err-clause-refused
+returns-in-Err-clause-refused c = rw c.refused_by.ensures (refused file file_advances c.args.tokens.now c.in-Err.stop c.in-Err.ensures)
 
-pub returns-clause-halts : goal.returns-clause-halts
-returns-clause-halts c = answers_halt c.args.tokens.now c.read_tree.result c.read_tree.ensures
+pub returns-in-Err-clause-stops : goal.returns-in-Err-clause-stops
+returns-in-Err-clause-stops c = rw c.refused_by.ensures (stops file file_advances file_fine file_ends c.args.tokens.now c.in-Err.stop c.in-Err.ensures)
 
-pub returns-clause-exactly : goal.returns-clause-exactly
-returns-clause-exactly c = answers_each_halt c.args.tokens.now c.read_tree.result c.read_tree.ensures
+pub returns-in-Err-clause-halts : goal.returns-in-Err-clause-halts
+returns-in-Err-clause-halts c = rw c.refused_by.ensures (halts file file_advances c.args.tokens.now c.in-Err.stop c.in-Err.ensures)
+
+pub returns-in-Err-clause-complete : goal.returns-in-Err-clause-complete
+returns-in-Err-clause-complete c = λ other is. rw c.refused_by.ensures (complete file file_advances c.args.tokens.now c.in-Err.stop c.in-Err.ensures other is)
+
+pub returns-in-Err-clause-exactly : goal.returns-in-Err-clause-exactly
+returns-in-Err-clause-exactly c = λ span there. rw c.refused_by.ensures (exactly file file_advances c.args.tokens.now c.in-Err.stop c.in-Err.ensures span there)

@@ -1,40 +1,37 @@
-use Rattle.std.proofs.Common.{◌≡◌, ◌<◌, ◌+◌, ◌-◌, suc, Err, length, refl, sym, subst, ◌∙◌, ap, rules, arith}
-use Rattle.std.proofs.lemmas.List.{length_push}
-use Rattle.npf_parser.specs.Readings.{Answers, block_list, is_at_end}
-use Rattle.npf_parser.specs.Stmts.{stmt_of, stmts_of}
-use Rattle.npf_parser.proofs.Lists.{all_onto, block_closes, block_refused, block_stops, block_goes_on}
+use Rattle.std.proofs.Common.{◌≡◌, Err, sym, subst, rules, arith}
+use Rattle.npf_phrase.specs.Grammar.{meaning}
+use Rattle.npf_phrase.proofs.ListLemmas.{leaves}
+use Rattle.npf_parser.specs.Answer.{Answers}
+use Rattle.npf_parser.specs.Stmt.{stmt, stmts, ends_stmt}
+use Rattle.npf_parser.proofs.LineLemmas.{next_stmt_advances, stmt_advances}
+use Rattle.npf_parser.proofs.LoopLemmas.{block_skips, block_closes, block_goes, block_ends, block_fails}
 use Rattle.npf_parser.proofs.stmt.read_stmts.Goals as goal
 
-pub returns-then-is_at_end-clause-read : goal.returns-then-is_at_end-clause-read
-unfolding stmts_of
-returns-then-is_at_end-clause-read c =
-    let whole = block_list stmt_of is_at_end (suc (length c.args.tokens.now)) c.args.tokens.now in
-    let all = block_closes stmt_of is_at_end whole c.items.items.items (length c.args.tokens.now - length c.items.items.items) c.items.rest.now c.skip_separators-next.result.now c.items.invariant.so_far c.skip_separators-next.ensures.rest (sym c.if-is_at_end.ensures) in
-    rw c.of_vec.ensures all
+pub stmts-preserved-in-Some : goal.stmts-preserved-in-Some
+unfolding stmts
+stmts-preserved-in-Some c = block_skips ends_stmt stmt next_stmt_advances ((meaning stmts).read c.args.tokens.now) c.stmts.stmts.items c.stmts.rest.now c.stmts.invariant c.in-Some.next c.if-ends_stmt.ensures c.in-Some.ensures.begins
 
-pub returns-in_err-stmt-clause-read : goal.returns-in_err-stmt-clause-read
-unfolding stmts_of
-returns-in_err-stmt-clause-read c =
-    let whole = block_list stmt_of is_at_end (suc (length c.args.tokens.now)) c.args.tokens.now in
-    let refused = block_refused stmt_of is_at_end whole c.items.items.items (length c.args.tokens.now - length c.items.items.items) c.items.rest.now c.skip_separators-next.result.now c.in_err-stmt.field-0.0 c.items.invariant.so_far c.skip_separators-next.ensures.rest (sym c.if-is_at_end.ensures) c.in_err-stmt.ensures.read in
+pub returns-in-None : goal.returns-in-None
+unfolding stmts
+returns-in-None c = rw c.of_vec.ensures (block_closes ends_stmt stmt next_stmt_advances ((meaning stmts).read c.args.tokens.now) c.stmts.stmts.items c.stmts.rest.now c.stmts.invariant c.if-ends_stmt.ensures c.in-None.ensures.begins)
+
+pub returns-in_err-stmt : goal.returns-in_err-stmt
+unfolding stmts
+returns-in_err-stmt c =
     let same : c.from_residual.result ≡ Err c.in_err-stmt.field-0.0 = search rules in
-    subst (Answers whole) (sym same) refused
+    subst (Answers ((meaning stmts).read c.args.tokens.now)) (sym same) (block_fails ends_stmt stmt next_stmt_advances ((meaning stmts).read c.args.tokens.now) c.stmts.stmts.items c.stmts.rest.now c.stmts.invariant c.in_err-stmt.field-0.0 c.if-ends_stmt.ensures c.in_err-stmt.ensures)
 
-pub returns-then-not-ends_stmt-clause-read : goal.returns-then-not-ends_stmt-clause-read
-unfolding stmts_of
-returns-then-not-ends_stmt-clause-read c =
-    let whole = block_list stmt_of is_at_end (suc (length c.args.tokens.now)) c.args.tokens.now in
-    let stops = block_stops stmt_of is_at_end whole c.items.items.items (length c.args.tokens.now - length c.items.items.items) c.items.rest.now c.skip_separators-next.result.now c.in_ok-stmt.stmt c.in_ok-stmt.behind.now c.items.invariant.so_far c.skip_separators-next.ensures.rest (sym c.if-is_at_end.ensures) c.in_ok-stmt.ensures.read (sym c.if-not-ends_stmt.ensures) in
-    rw c.expected.ensures (stops, refl)
+pub stmts-smaller : goal.stmts-smaller
+stmts-smaller c =
+    let before = leaves stmt stmt_advances c.stmts.rest.now c.in_ok-stmt.stmt c.in_ok-stmt.behind.now c.in_ok-stmt.ensures in
+    omega (arith, c.in-Some-behind_separator.ensures.left)
 
-pub items-preserved : goal.items-preserved
-items-preserved c =
-    let whole = block_list stmt_of is_at_end (suc (length c.args.tokens.now)) c.args.tokens.now in
-    let longer : length c.push.new.self.items ≡ length c.items.items.items + 1 = ap length c.in_ok-push.ensures.items ∙ length_push c.items.items.items c.in_ok-stmt.stmt in
-    let left : length c.in_ok-stmt.behind.now < length c.skip_separators-next.result.now = c.in_ok-stmt.ensures.left in
-    let less : length c.args.tokens.now - length c.items.items.items ≡ suc (length c.args.tokens.now - length c.push.new.self.items) = omega (arith, c.skip_separators-next.ensures.left) in
-    let onward = block_goes_on stmt_of is_at_end whole c.items.items.items (length c.args.tokens.now - length c.items.items.items) (length c.args.tokens.now - length c.push.new.self.items) c.items.rest.now c.skip_separators-next.result.now c.in_ok-stmt.stmt c.in_ok-stmt.behind.now c.items.invariant.so_far c.skip_separators-next.ensures.rest (sym c.if-is_at_end.ensures) c.in_ok-stmt.ensures.read (sym c.if-not-ends_stmt.ensures) less in
-    record {
-      fits = omega (arith, c.skip_separators-next.ensures.left);
-      so_far = subst (λ items. whole ≡ all_onto items (block_list stmt_of is_at_end (suc (length c.args.tokens.now - length c.push.new.self.items)) c.in_ok-stmt.behind.now)) (sym c.in_ok-push.ensures.items) onward;
-    }
+pub stmts-preserved : goal.stmts-preserved
+unfolding stmts
+stmts-preserved c =
+    rw c.in_ok-push.ensures.items (block_goes ends_stmt stmt next_stmt_advances ((meaning stmts).read c.args.tokens.now) c.stmts.stmts.items c.stmts.rest.now c.stmts.invariant c.in_ok-stmt.stmt c.in_ok-stmt.behind c.in-Some-behind_separator.next c.if-ends_stmt.ensures c.in_ok-stmt.ensures c.in-Some-behind_separator.ensures.begins)
+
+pub returns-in-None-behind_separator : goal.returns-in-None-behind_separator
+unfolding stmts
+returns-in-None-behind_separator c =
+    rw (c.of_vec-in-None-behind_separator.ensures, c.in_ok-push.ensures.items) (block_ends ends_stmt stmt next_stmt_advances ((meaning stmts).read c.args.tokens.now) c.stmts.stmts.items c.stmts.rest.now c.stmts.invariant c.in_ok-stmt.stmt c.in_ok-stmt.behind c.if-ends_stmt.ensures c.in_ok-stmt.ensures c.in-None-behind_separator.ensures.begins)

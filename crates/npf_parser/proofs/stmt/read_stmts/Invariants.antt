@@ -1,14 +1,11 @@
-use Rattle.std.proofs.Common.{◌≡◌, ◌≤◌, ◌+◌, ◌-◌, suc, length}
-use Rattle.npf_parser.specs.Readings.{block_list, is_at_end}
-use Rattle.npf_parser.specs.Stmts.{stmt_of}
-use Rattle.npf_parser.proofs.Lists.{all_onto}
+use Rattle.std.proofs.Common.{◌≡◌, length}
+use Rattle.npf_phrase.specs.Grammar.{meaning}
+use Rattle.npf_phrase.proofs.ListLemmas.{extend}
+use Rattle.npf_parser.specs.Stmt.{stmts}
 use Rattle.npf_parser.proofs.stmt.read_stmts.Given as goal
 
-abbrev pub invariant-items : goal.invariant-items
-invariant-items l = record {
-  fits : length l.rest + length l.items.items ≤ length l.fn.tokens;
-  so_far : block_list stmt_of is_at_end (suc (length l.fn.tokens)) l.fn.tokens ≡ all_onto l.items.items (block_list stmt_of is_at_end (suc (length l.fn.tokens - length l.items.items)) l.rest);
-}
+abbrev pub invariant-stmts : goal.invariant-stmts
+invariant-stmts l = (meaning stmts).read l.fn.tokens ≡ extend l.stmts.items ((meaning stmts).read l.rest)
 
-abbrev pub decreases-items : goal.decreases-items
-decreases-items l = length l.rest
+abbrev pub decreases-stmts : goal.decreases-stmts
+decreases-stmts l = length l.rest

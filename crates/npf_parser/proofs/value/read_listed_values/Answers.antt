@@ -1,35 +1,32 @@
-use Rattle.std.proofs.Common.{◌≡◌, ◌<◌, ◌≤◌, ◌+◌, ◌-◌, suc, true, None, Some, Err, length, sym, subst, ◌∙◌, ap, rules, arith}
+use Rattle.std.proofs.Common.{◌≡◌, true, Err, refl, sym, subst, rules, arith}
+use Rattle.npf_phrase.specs.Grammar.{meaning}
+use Rattle.npf_phrase.proofs.ListLemmas.{leaves, shortens}
 use Rattle.npf_lexer.specs.declared.token.Sign.TheVariants.{Comma}
-use Rattle.npf_parser.specs.Readings.{Answers, behind_sign, skip, comma_list}
-use Rattle.npf_parser.specs.Values.{listed_value_of}
-use Rattle.npf_parser.proofs.Lists.{all_onto, comma_goes_on, comma_ends, comma_refused}
-use Rattle.std.proofs.lemmas.List.{length_push}
+use Rattle.npf_parser.specs.Answer.{Answers}
+use Rattle.npf_parser.specs.Value.{value, listed_values}
+use Rattle.npf_parser.specs.Token.{spaced, sign}
+use Rattle.npf_parser.proofs.LineLemmas.{next_value_advances, value_advances}
+use Rattle.npf_parser.proofs.LoopLemmas.{list_goes, list_ends, list_fails}
 use Rattle.npf_parser.proofs.value.read_listed_values.Goals as goal
 
-pub returns-in_err-value-clause-read : goal.returns-in_err-value-clause-read
-returns-in_err-value-clause-read c =
-    let whole = comma_list (listed_value_of c.args.role) true (suc (length c.args.tokens.now)) c.args.tokens.now in
-    let refused = comma_refused (listed_value_of c.args.role) true whole c.values.values.items (length c.args.tokens.now - length c.values.values.items) c.values.rest.now c.in_err-value.field-0.0 c.values.invariant.so_far c.in_err-value.ensures.read in
+pub returns-in_err-value : goal.returns-in_err-value
+unfolding listed_values
+returns-in_err-value c =
     let same : c.from_residual.result ≡ Err c.in_err-value.field-0.0 = search rules in
-    subst (Answers whole) (sym same) refused
+    subst (Answers ((meaning (listed_values c.args.role)).read c.args.tokens.now)) (sym same) (list_fails (spaced true (sign Comma)) (value c.args.role true) (next_value_advances c.args.role) refl ((meaning (listed_values c.args.role)).read c.args.tokens.now) c.values.values.items c.values.rest.now c.values.invariant c.in_err-value.field-0.0 c.in_err-value.ensures)
+
+pub values-smaller : goal.values-smaller
+values-smaller c =
+    let before = leaves (value c.args.role true) (value_advances c.args.role) c.values.rest.now c.in_ok-value.value c.in_ok-value.behind.now c.in_ok-value.ensures in
+    let fewer = shortens (spaced true (sign Comma)) refl refl c.in_ok-value.behind.now tt c.in-Some.next.now c.in-Some.ensures.1 in
+    omega arith
 
 pub values-preserved : goal.values-preserved
+unfolding listed_values
 values-preserved c =
-    let whole = comma_list (listed_value_of c.args.role) true (suc (length c.args.tokens.now)) c.args.tokens.now in
-    let comma : behind_sign Comma (skip true c.in_ok-value.behind.now) ≡ Some c.in-Some.next.now = ap (behind_sign Comma) (sym c.skip.ensures.rest) ∙ sym c.in-Some.ensures.behind in
-    let longer : length c.push.new.self.items ≡ length c.values.values.items + 1 = ap length c.in_ok-push.ensures.items ∙ length_push c.values.values.items c.in_ok-value.value in
-    let next_left : length c.in-Some.next.now < length c.skip.result.now = c.in-Some.ensures.left in
-    let left : length c.in_ok-value.behind.now ≤ length c.values.rest.now = c.in_ok-value.ensures.left in
-    let less : length c.args.tokens.now - length c.values.values.items ≡ suc (length c.args.tokens.now - length c.push.new.self.items) = omega (arith, c.skip.ensures.left) in
-    let onward = comma_goes_on (listed_value_of c.args.role) true whole c.values.values.items (length c.args.tokens.now - length c.values.values.items) (length c.args.tokens.now - length c.push.new.self.items) c.values.rest.now c.in_ok-value.value c.in_ok-value.behind.now c.in-Some.next.now c.values.invariant.so_far c.in_ok-value.ensures.read comma less in
-    record {
-      fits = omega (arith, c.skip.ensures.left);
-      so_far = subst (λ items. whole ≡ all_onto items (comma_list (listed_value_of c.args.role) true (suc (length c.args.tokens.now - length c.push.new.self.items)) c.in-Some.next.now)) (sym c.in_ok-push.ensures.items) onward;
-    }
+    rw c.in_ok-push.ensures.items (list_goes (spaced true (sign Comma)) (value c.args.role true) (next_value_advances c.args.role) refl ((meaning (listed_values c.args.role)).read c.args.tokens.now) c.values.values.items c.values.rest.now c.values.invariant c.in_ok-value.value c.in_ok-value.behind c.in-Some.next c.in_ok-value.ensures c.in-Some.ensures)
 
-pub returns-in-None-clause-read : goal.returns-in-None-clause-read
-returns-in-None-clause-read c =
-    let whole = comma_list (listed_value_of c.args.role) true (suc (length c.args.tokens.now)) c.args.tokens.now in
-    let no_comma : behind_sign Comma (skip true c.in_ok-value.behind.now) ≡ None = ap (behind_sign Comma) (sym c.skip.ensures.rest) ∙ sym c.in-None.ensures.behind in
-    let ends = comma_ends (listed_value_of c.args.role) true whole c.values.values.items (length c.args.tokens.now - length c.values.values.items) c.values.rest.now c.in_ok-value.value c.in_ok-value.behind.now c.values.invariant.so_far c.in_ok-value.ensures.read no_comma in
-    rw (c.of_vec.ensures, c.in_ok-push.ensures.items) ends
+pub returns-in-None : goal.returns-in-None
+unfolding listed_values
+returns-in-None c =
+    rw (c.of_vec.ensures, c.in_ok-push.ensures.items) (list_ends (spaced true (sign Comma)) (value c.args.role true) (next_value_advances c.args.role) refl ((meaning (listed_values c.args.role)).read c.args.tokens.now) c.values.values.items c.values.rest.now c.values.invariant c.in_ok-value.value c.in_ok-value.behind c.in_ok-value.ensures c.in-None.ensures)

@@ -1,0 +1,69 @@
+-- Nothing that may be empty is repeated in the grammar's lines, and in what their loops read.
+use Rattle.std.proofs.Common.{◌≡◌, true, Some, refl}
+use Rattle.npf_lexer.specs.declared.token.Sign.TheVariants.{Comma}
+use Rattle.npf_phrase.specs.Grammar.{making, preceded, unless}
+use Rattle.npf_phrase.proofs.TestLemmas.{advances}
+use Rattle.npf_parser.specs.declared.role.Role.{Role}
+use Rattle.npf_parser.specs.Token.{sign, separator, spaced}
+use Rattle.npf_parser.specs.Value.{iface, one, ones, one_list, protocols, number_value, address_value, table_value, function, function_value, written, value, listed_values, value_list, values}
+use Rattle.npf_parser.specs.Filter.{family, detail, proto_part, addresses, ports, ends, the_ends, filter}
+use Rattle.npf_parser.specs.Rule.{answer, action, stateful, direction, ends_walk, on, rule, item, head, items, ends_item}
+use Rattle.npf_parser.specs.Map.{map_kind, arrow, side}
+use Rattle.npf_parser.specs.Procedure.{log_name, opt, options, call, calls}
+use Rattle.npf_parser.specs.Stmt.{define, setting, set, alg, table_type, table, map, group, procedure, stmt, ends_stmt, stmts, file, lone_rule}
+
+pub value_advances : (role : Role) → advances (value role true) ≡ true
+unfolding value written number_value address_value table_value function function_value iface
+value_advances role = refl
+
+pub next_value_advances : (role : Role) → advances (preceded (spaced true (sign Comma)) (making (λ _ a. Some a) (value role true))) ≡ true
+unfolding value written number_value address_value table_value function function_value iface
+next_value_advances role = refl
+
+pub one_advances : advances one ≡ true
+unfolding one
+one_advances = refl
+
+pub next_one_advances : advances (preceded (sign Comma) (making (λ _ a. Some a) one)) ≡ true
+unfolding one
+next_one_advances = refl
+
+pub opt_advances : advances opt ≡ true
+unfolding opt
+opt_advances = refl
+
+pub next_opt_advances : advances (preceded (sign Comma) (making (λ _ a. Some a) opt)) ≡ true
+unfolding opt
+next_opt_advances = refl
+
+pub call_advances : advances call ≡ true
+unfolding call options opt log_name
+call_advances = refl
+
+pub next_call_advances : advances (preceded separator (unless ends_item call)) ≡ true
+unfolding call options opt log_name
+next_call_advances = refl
+
+pub item_advances : advances item ≡ true
+unfolding item rule action answer stateful direction ends_walk on filter family proto_part detail the_ends ends ports addresses protocols one_list ones one values value_list listed_values value written number_value address_value table_value function function_value iface
+item_advances = refl
+
+pub next_item_advances : advances (preceded separator (unless ends_item item)) ≡ true
+unfolding item rule action answer stateful direction ends_walk on filter family proto_part detail the_ends ends ports addresses protocols one_list ones one values value_list listed_values value written number_value address_value table_value function function_value iface
+next_item_advances = refl
+
+pub stmt_advances : advances stmt ≡ true
+unfolding stmt set setting alg table table_type map map_kind side arrow group head items item procedure calls call options opt log_name define rule action answer stateful direction ends_walk on filter family proto_part detail the_ends ends ports addresses protocols one_list ones one values value_list listed_values value written number_value address_value table_value function function_value iface
+stmt_advances = refl
+
+pub next_stmt_advances : advances (preceded separator (unless ends_stmt stmt)) ≡ true
+unfolding stmt set setting alg table table_type map map_kind side arrow group head items item procedure calls call options opt log_name define rule action answer stateful direction ends_walk on filter family proto_part detail the_ends ends ports addresses protocols one_list ones one values value_list listed_values value written number_value address_value table_value function function_value iface
+next_stmt_advances = refl
+
+pub file_advances : advances file ≡ true
+unfolding file stmts stmt set setting alg table table_type map map_kind side arrow group head items item procedure calls call options opt log_name define rule action answer stateful direction ends_walk on filter family proto_part detail the_ends ends ports addresses protocols one_list ones one values value_list listed_values value written number_value address_value table_value function function_value iface
+file_advances = refl
+
+pub lone_rule_advances : advances lone_rule ≡ true
+unfolding lone_rule rule action answer stateful direction ends_walk on filter family proto_part detail the_ends ends ports addresses protocols one_list ones one values value_list listed_values value written number_value address_value table_value function function_value iface
+lone_rule_advances = refl

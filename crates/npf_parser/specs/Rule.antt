@@ -1,0 +1,64 @@
+-- The grammar of npf.conf(5) for rules, and for groups of them.
+use Rattle.std.specs.Prelude.{Bool, true, false, ◌||◌, Option, List, codes}
+use Rattle.npf_lexer.specs.declared.token.Sign.{Sign}
+use Rattle.npf_lexer.specs.declared.token.Token.{Token}
+use Rattle.npf_syntax.specs.declared.group.GroupHead.{GroupHead}
+use Rattle.npf_syntax.specs.declared.group.Item.{Item}
+use Rattle.npf_syntax.specs.declared.rule.Answer.{Answer}
+use Rattle.npf_syntax.specs.declared.rule.Direction.{Direction}
+use Rattle.npf_syntax.specs.declared.rule.RuleAction.{RuleAction}
+use Rattle.npf_syntax.specs.declared.rule.RuleTree.{RuleTree}
+use Rattle.npf_syntax.specs.declared.rule.Stateful.{Stateful as StatefulTree}
+use Rattle.npf_syntax.specs.declared.value.Iface.{Iface}
+use Rattle.npf_phrase.specs.Grammar.{Grammar, meaning, pure, making, ◌&◌, ◌or◌, optional, preceded, block_of}
+use Rattle.npf_parser.specs.Token.{span_of, quoted, says, sign, separator, string, name_string}
+use Rattle.npf_parser.specs.Value.{iface}
+use Rattle.npf_parser.specs.Filter.{filter}
+
+-- "return" | "return-rst" | "return-icmp"
+unfoldable pub answer : Grammar Token Answer
+answer = says (codes "return") Answer.Return or says (codes "return-rst") Answer.ReturnRst or says (codes "return-icmp") Answer.ReturnIcmp
+
+-- "block" [ answer ] | "pass"
+unfoldable pub action : Grammar Token RuleAction
+action = making (λ ts answer. RuleAction.Block answer (span_of ts)) (preceded (quoted (codes "block")) (optional answer)) or says (codes "pass") RuleAction.Pass
+
+-- "stateful" | "stateful-all"
+unfoldable pub stateful : Grammar Token StatefulTree
+stateful = says (codes "stateful") StatefulTree.Stateful or says (codes "stateful-all") StatefulTree.StatefulAll
+
+-- dir = "in" | "out"
+unfoldable pub direction : Grammar Token Direction
+direction = says (codes "in") Direction.In or says (codes "out") Direction.Out
+
+-- [ "final" ]
+unfoldable pub ends_walk : Grammar Token Bool
+ends_walk = says (codes "final") (λ _. true) or pure false
+
+-- "on" iface
+unfoldable pub on : Grammar Token Iface
+on = preceded (quoted (codes "on")) iface
+
+-- rule = action [ "stateful" | "stateful-all" ] [ dir ] [ "final" ] [ "on" iface ] filter [ "apply" STRING ]
+unfoldable pub rule : Grammar Token RuleTree
+rule =
+    making (λ ts a. record { action = a.0; stateful = a.1.0; dir = a.1.1.0; last = a.1.1.1.0; on = a.1.1.1.1.0; filter = a.1.1.1.1.1.0; apply = a.1.1.1.1.1.1; span = span_of ts })
+    (action & optional stateful & optional direction & ends_walk & optional on & filter & optional (preceded (quoted (codes "apply")) string))
+
+-- item = rule | "ruleset" STRING [ dir ] [ "on" iface ]
+unfoldable pub item : Grammar Token Item
+item =
+    making (λ ts a. Item.Ruleset a.0 a.1.0 a.1.1 (span_of ts)) (preceded (quoted (codes "ruleset")) (name_string & optional direction & optional on))
+    or making (λ ts rule. Item.Rule rule (span_of ts)) rule
+
+-- STRING [ dir ] [ "on" iface ] | "default"
+unfoldable pub head : Grammar Token GroupHead
+head = says (codes "default") GroupHead.Default or making (λ ts a. GroupHead.Named a.0 a.1.0 a.1.1 (span_of ts)) (string & optional direction & optional on)
+
+-- at these an item between braces ends
+abbrev pub ends_item : Option Token → Bool
+ends_item n = (meaning separator).starts n || (meaning (sign Sign.CloseBrace)).starts n
+
+-- { [ item ] sep }*
+unfoldable pub items : Grammar Token (List Item)
+items = block_of separator ends_item item

@@ -1,0 +1,3 @@
+pub mod Phrase
+pub mod Place
+pub mod Grammar
