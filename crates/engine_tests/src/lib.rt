@@ -2,8 +2,7 @@
 // pass, the bytes that are sent. The packets before and after a translation are those of rewrite_tests, or were summed by hand.
 #![tactic(auto)]
 
-#[cfg(test)]
-mod configuration;
+pub mod configuration;
 #[cfg(test)]
 mod full;
 #[cfg(test)]

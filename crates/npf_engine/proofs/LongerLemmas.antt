@@ -6,19 +6,21 @@ use Rattle.std.proofs.lemmas.List.Elements.{Contains-append_right}
 use Rattle.npf_core.specs.declared.act.Act.TheVariants.{Claim, Look, Hold, Start, Step, Kill, Unhold, Free}
 use Rattle.npf_core.specs.declared.act.Why.TheVariants.{Abandoned, Expired}
 use Rattle.npf_core.specs.declared.conn_id.ConnId.{ConnId}
-use Rattle.npf_core.specs.History.{LegalFrom, after, by, state_from}
+use Rattle.npf_core.specs.History.{Legal, LegalFrom, after, by, state_from}
 use Rattle.npf_core.specs.Machine.{Machine, opening}
 use Rattle.npf_core.proofs.HistoryLemmas.{LegalFrom-front, LegalFrom-rest, by-append}
 use Rattle.npf_core.proofs.LifeLemmas.{life_of}
+use Rattle.npf_connections.specs.Pass.{Pass}
 use Rattle.npf_connections.specs.Said.{under}
 use Rattle.npf_flow.specs.declared.flow.Flow.{Flow}
 use Rattle.npf_flow.specs.Flows.{flow_law}
 use Rattle.npf_model.specs.Configuration.{Configuration}
+use Rattle.npf_publish.specs.declared.conf_reader.ConfReader.{ConfReader}
 use Rattle.npf_opening.specs.Saying.{FlowSaid}
 use Rattle.npf_engine.specs.declared.outcome.Outcome.{Outcome}
 use Rattle.npf_engine.specs.Arrival.{Arrival}
 use Rattle.npf_engine.specs.Explains.{Explains, IsDecided, Sight}
-use Rattle.npf_engine.specs.Handles.{ExplainsInLonger, carried}
+use Rattle.npf_engine.specs.Handles.{CarryHereAlone, ExplainsInLonger, Handles, carried}
 use Rattle.npf_engine.specs.Histories.{FlowAct, FlowEntry, History, builds, carries, entries_after, entries_of, is_one_of_ids, told, with_claimed}
 use Rattle.npf_engine.proofs.OwnLemmas.{CarryNone, IsPast, given_up_is_past, past_builds_none, same_by_own, started_is_past, stays_past}
 use Rattle.npf_engine.proofs.TellingLemmas.{HasEnd, IsTold, TellsOpening, claimed_after, claimed_told, either_told, ends_behind, entries_told, nothing, opens_told, told_more}
@@ -34,7 +36,7 @@ ruled_told (IsDecided.passed decided none sends) = none_claimed nothing
 ruled_told (IsDecided.tried decided one opens tried) = opens_told opens
 
 -- what explains an outcome is told
-explained_told : {configs : List Configuration} {sight : Sight} {arrival : Arrival} {asked : Option ℕ} {said : List FlowSaid} {outcome : Outcome} {sent : Option (List ℕ)} →
+pub explained_told : {configs : List Configuration} {sight : Sight} {arrival : Arrival} {asked : Option ℕ} {said : List FlowSaid} {outcome : Outcome} {sent : Option (List ℕ)} →
     Explains configs sight arrival asked said outcome sent → TellsOpening arrival.number said
 explained_told (Explains.skip decodes) = none_claimed nothing
 explained_told (Explains.malformed decodes) = none_claimed nothing
@@ -151,6 +153,19 @@ module _ (slots seat n : ℕ) (front rest later : History) (said : List FlowSaid
       ap (λ (those : List ConnId). entries_after n those later) ids ∙ none_behind n slots (state_from flow_law k rest) tells.last later further past behind in
       none_in_front n front (rest ++ later) before ∙ entries-append n [] rest later ∙ (λ i. told_here i ++ none i) ∙ append-nil (under seat (told said))
 
+-- the entries of a packet in a longer history are what is told of what its pass said
+pub entries_in_longer : (configs : List Configuration) (old new : Pass FlowEntry) (reader next : ConfReader) (arrival : Arrival) (outcome : Outcome) (sent : Option (List ℕ)) (history : History) →
+    Legal flow_law old.slots history → CarryHereAlone arrival.number old new history → (h : Handles configs old new reader next arrival outcome sent) →
+    entries_of arrival.number history ≡ under old.number (told h.said)
+entries_in_longer configs old new reader next arrival outcome sent history legal carry h =
+    ap (λ (es : History). entries_of arrival.number es) whole
+    ∙ entries_whole old.slots old.number arrival.number old.history h.did.adds.rest carry.later h.said h.did.adds.own (explained_told h.explains)
+    (subst (λ (es : History). LegalFrom flow_law old.slots opening es) whole legal) carry.before carry.behind
+    (λ entry there. carry.others entry (subst (λ (es : History). Contains es entry) (sym h.did.adds.goes_on) (Contains-append_right old.history h.did.adds.rest entry there)))
+  where
+    whole : history ≡ old.history ++ (h.did.adds.rest ++ carry.later)
+    whole = carry.goes_on ∙ ap (λ (es : History). es ++ carry.later) h.did.adds.goes_on ∙ append_assoc old.history h.did.adds.rest carry.later
+
 pub explains_in_longer : ExplainsInLonger
 explains_in_longer configs old new reader next arrival outcome sent history end one two legal carry within ends h = record {
   seat = old.number;
@@ -161,12 +176,6 @@ explains_in_longer configs old new reader next arrival outcome sent history end 
   within = within;
   ends = ends;
   own = ap (λ (es : History). by old.number es) h.did.adds.goes_on ∙ by-append old.number old.history h.did.adds.rest ∙ ap (λ (es : History). by old.number old.history ++ es) h.did.adds.own;
-  entries = ap (λ (es : History). entries_of arrival.number es) whole
-      ∙ entries_whole old.slots old.number arrival.number old.history h.did.adds.rest carry.later h.said h.did.adds.own (explained_told h.explains)
-      (subst (λ (es : History). LegalFrom flow_law old.slots opening es) whole legal) carry.before carry.behind
-      (λ entry there. carry.others entry (subst (λ (es : History). Contains es entry) (sym h.did.adds.goes_on) (Contains-append_right old.history h.did.adds.rest entry there)));
+  entries = entries_in_longer configs old new reader next arrival outcome sent history legal carry h;
   explains = h.explains;
 }
-  where
-    whole : history ≡ old.history ++ (h.did.adds.rest ++ carry.later)
-    whole = carry.goes_on ∙ ap (λ (es : History). es ++ carry.later) h.did.adds.goes_on ∙ append_assoc old.history h.did.adds.rest carry.later

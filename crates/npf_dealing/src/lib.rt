@@ -1,0 +1,13 @@
+// Items are dealt to lanes, one lane for each worker, and gathered again in the order in which they stood.
+//
+// Which lane an item goes to is the caller's: a list of lanes, one for each item. A lane has its items in the order of the whole.
+//
+// The contract: `deal` gives each lane the items whose place in that list names it, and `gather` gives back the one list of which
+// the lanes have these items, whatever became of them in between (specs/Dealing). `gather` takes no memory.
+#![tactic(auto)]
+
+mod dealing;
+mod gathering;
+
+pub use dealing::deal;
+pub use gathering::gather;

@@ -1,0 +1,3 @@
+pub mod GatheringLemmas
+pub mod NumberLemmas
+pub mod SpreadingLemmas

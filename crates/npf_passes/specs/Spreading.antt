@@ -1,0 +1,38 @@
+-- How passes are split off a pass, one after the other, and what stands then.
+use Rattle.std.specs.Prelude.{◌≡◌, ℕ, ◌-◌, ◌≤◌, false, List, [], All, length}
+use Rattle.npf_core.specs.declared.entry.Entry.{Entry}
+use Rattle.npf_core.specs.History.{IsPrefix, by}
+use Rattle.npf_connections.specs.Adding.{Adds}
+use Rattle.npf_connections.specs.Pass.{Pass}
+
+-- a pass that has done nothing and owns one reader place
+abbrev pub new_pass : {E : Type 0} → ℕ → ℕ → List E → Pass E
+new_pass slots number history = record {
+  slots = slots;
+  number = number;
+  history = history;
+  entered = false;
+  answered = [];
+  builds = [];
+  places = 1;
+  joined = [];
+  sweeps = 0;
+  epoch = 0;
+}
+
+-- a pass that was split off: it has seen what the pass had, and done nothing
+pub record IsGiven {S A R : Type 0} (old given : Pass (Entry S A R)) : Type 0 where
+  pub begins : IsPrefix old.history given.history
+  pub unused : by given.number given.history ≡ []
+  pub rests : given ≡ new_pass old.slots given.number given.history
+
+-- the pass with another history and so many reader places
+abbrev pub with_places : {E : Type 0} → Pass E → List E → ℕ → Pass E
+with_places pass history places = record pass { history = history; places = places }
+
+-- the pass gave up a reader place to each of these, and did nothing itself
+pub record Spreads {S A R : Type 0} (old now : Pass (Entry S A R)) (given : List (Pass (Entry S A R))) : Type 0 where
+  pub adds : Adds old now.history []
+  pub enough : length given ≤ old.places
+  pub left : now ≡ with_places old now.history (old.places - length given)
+  pub each : All (IsGiven old) given

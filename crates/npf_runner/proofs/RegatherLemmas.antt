@@ -1,0 +1,135 @@
+-- Lanes that have worked can be gathered again.
+use Rattle.std.proofs.Common.{◌≡◌, ◌⊎◌, ℕ, ◌==◌, ◌≤◌, ◌<◌, Bool, true, false, List, [], ◌∷◌, All, cond, map, get_or, length, refl, sym, ap, subst, ◌∙◌, ⊎_elim, inl, inr, arith, zero, suc}
+use Rattle.std.specs.List.{AllZip}
+use Rattle.std.proofs.lemmas.Bool.Decides.{Decides-eqb}
+use Rattle.std.proofs.lemmas.List.{length-map, get_or_default}
+use Rattle.std.proofs.lemmas.List.Elements.{All-nil, All-cons, All-head, All-tail}
+use Rattle.npf_connections.specs.Pass.{Pass}
+use Rattle.npf_model.specs.Configuration.{Configuration}
+use Rattle.npf_publish.specs.declared.conf_reader.ConfReader.{ConfReader}
+use Rattle.npf_dealing.specs.Dealing.{of_lane, IsDealt}
+use Rattle.npf_dealing.proofs.LaneLemmas.{of_lane-no, get_or-map}
+use Rattle.npf_engine.specs.Histories.{FlowEntry}
+use Rattle.npf_runner.specs.declared.job.Handled.{Handled}
+use Rattle.npf_runner.specs.declared.job.Job.{Job}
+use Rattle.npf_runner.specs.declared.phase.Command.{Command}
+use Rattle.npf_runner.specs.declared.worker.Worker.{Worker}
+use Rattle.npf_runner.specs.Crew.{jobs_of, worker_of_lane, jobs_of_lane, done_of_lane}
+use Rattle.npf_runner.specs.Lanes.{HasWorked}
+use Rattle.npf_runner.specs.Running.{RunsCrew}
+use Rattle.npf_runner.specs.Works.{WorksThrough}
+use Rattle.npf_runner.proofs.LaneLemmas.{Zips, merges}
+use Rattle.npf_runner.proofs.PairLemmas.{At, at_zip, at_left, at_right}
+use Rattle.npf_runner.proofs.RunningLemmas.{zip_length}
+
+-- what holds of all holds of those of a lane
+pub All-of_lane : {X : Type 0} (P : X → Type 0) (w : ℕ) (order : List ℕ) (xs : List X) → All P xs → All P (of_lane w order xs)
+All-of_lane P w [] xs all = All-nil P
+All-of_lane P w (v ∷ order) [] all = All-nil P
+All-of_lane P w (v ∷ order) (x ∷ xs) all = by_test (v == w) (All-of_lane P w order xs (All-tail P x xs all))
+  where
+    by_test : (test : Bool) → All P (of_lane w order xs) → All P (cond test (x ∷ of_lane w order xs) (of_lane w order xs))
+    by_test true rest = All-cons P x (of_lane w order xs) (All-head P x xs all) rest
+    by_test false rest = rest
+
+pub All-dealt : {X : Type 0} (P : X → Type 0) (order : List ℕ) (xs : List X) (lanes : List (List X)) → IsDealt order xs lanes → All P xs → All (λ lane. All P lane) lanes
+All-dealt P order xs lanes dealt all k d low = subst (λ us. All P us) (sym (dealt.each k d low)) (All-of_lane P k order xs all)
+
+-- nothing goes to a lane behind the last
+pub of_none : {X : Type 0} (n w : ℕ) (order : List ℕ) (xs : List X) → All (λ lane. lane < n) order → n ≤ w → of_lane w order xs ≡ []
+of_none n w [] xs fits far = refl
+of_none n w (v ∷ order) [] fits far = refl
+of_none n w (v ∷ order) (x ∷ xs) fits far = by_test (v == w) refl (of_none n w order xs (All-tail (λ lane. lane < n) v order fits) far)
+  where
+    by_test : (test : Bool) → (v == w) ≡ test → of_lane w order xs ≡ [] → of_lane w (v ∷ order) (x ∷ xs) ≡ []
+    by_test true is rest = absurd (let low = All-head (λ lane. lane < n) v order fits in let same = (Decides-eqb v w).0 is in omega (arith, low, same, far))
+    by_test false is rest = of_lane-no v w order x xs is ∙ rest
+
+pub get_or-beyond : {X : Type 0} (xs : List X) (w : ℕ) (d : X) → length xs ≤ w → get_or xs w d ≡ d
+get_or-beyond [] w d far = refl
+get_or-beyond (x ∷ xs) zero d far = absurd (omega (arith, far))
+get_or-beyond (x ∷ xs) (suc w) d far = get_or-beyond xs w d (omega (arith, far))
+
+-- a pair at each place, or the place is behind the last
+pub record AtPlace {X Y : Type 0} (xs : List X) (ys : List Y) (i : ℕ) : Type 0 where
+  pub left : X
+  pub right : Y
+  pub at : At xs ys i left right
+
+pub at_place : {X Y : Type 0} (R : X → Y → Type 0) (xs : List X) (ys : List Y) (i : ℕ) → AllZip R xs ys → AtPlace xs ys i ⊎ (length xs ≤ i)
+at_place R [] [] i z = inr (omega arith)
+at_place R [] (y ∷ ys) i z = absurd z
+at_place R (x ∷ xs) [] i z = absurd z
+at_place R (x ∷ xs) (y ∷ ys) zero z = inl (record { left = x; right = y; at = (refl, refl) })
+at_place R (x ∷ xs) (y ∷ ys) (suc i) z = ⊎_elim (λ (p : AtPlace xs ys i). inl (record { left = p.left; right = p.right; at = p.at })) (λ far. inr (omega (arith, far))) (at_place R xs ys i z.1)
+
+works_length : (configs : List Configuration) (old : Pass FlowEntry) (reader : ConfReader) (jobs : List Job) (new : Pass FlowEntry) (next : ConfReader) (dones : List Handled) →
+    WorksThrough configs old reader jobs new next dones → length dones ≡ length jobs
+works_length configs old reader [] new next [] w = refl
+works_length configs old reader [] new next (done ∷ dones) w = absurd w
+works_length configs old reader (job ∷ jobs) new next [] w = absurd w
+works_length configs old reader (job ∷ jobs) new next (done ∷ dones) w = ap suc (works_length configs w.0 w.1 jobs new next dones w.3)
+
+abbrev Any : {X Y Z : Type 0} → X → Y → Z → Type 0
+Any x y z = Unit {0}
+
+zips_any : {X Y Z : Type 0} (xs : List X) (ys : List Y) (zs : List Z) → length ys ≡ length xs → length zs ≡ length xs → Zips (Any {X = X} {Y = Y} {Z = Z}) xs ys zs
+zips_any [] [] [] n m = tt
+zips_any [] [] (z ∷ zs) n m = absurd (omega (arith, m))
+zips_any [] (y ∷ ys) zs n m = absurd (omega (arith, n))
+zips_any (x ∷ xs) [] zs n m = absurd (omega (arith, n))
+zips_any (x ∷ xs) (y ∷ ys) [] n m = absurd (omega (arith, m))
+zips_any (x ∷ xs) (y ∷ ys) (z ∷ zs) n m = (tt, zips_any xs ys zs (omega (arith, n)) (omega (arith, m)))
+
+zips_length : {X Y Z : Type 0} (R : X → Y → Z → Type 0) (xs : List X) (ys : List Y) (zs : List Z) → Zips R xs ys zs → length ys ≡ length xs
+zips_length R [] [] [] z = refl
+zips_length R (x ∷ xs) (y ∷ ys) (u ∷ zs) z = ap suc (zips_length R xs ys zs z.1)
+zips_length R [] [] (u ∷ zs) z = absurd z
+zips_length R [] (y ∷ ys) [] z = absurd z
+zips_length R [] (y ∷ ys) (u ∷ zs) z = absurd z
+zips_length R (x ∷ xs) [] [] z = absurd z
+zips_length R (x ∷ xs) [] (u ∷ zs) z = absurd z
+zips_length R (x ∷ xs) (y ∷ ys) [] z = absurd z
+
+module _ {P : Type 0} (view : P → Pass FlowEntry) (configs : List Configuration) (old new : Pass FlowEntry) (commands : List Command) (order : List ℕ) (jobs : List Job) (crew : List Worker)
+    (lanes : List (List Handled)) (dealt : IsDealt order jobs (map jobs_of crew)) (r : RunsCrew view configs old new commands crew lanes) where
+  same_size : length lanes ≡ length (map jobs_of crew)
+  same_size =
+      ap length (sym r.done) ∙ (length-map r.ended done_of_lane ∙ (zip_length (HasWorked view configs) r.begun r.ended r.worked
+      ∙ (sym (length-map r.begun worker_of_lane) ∙ (ap length r.workers ∙ sym (length-map crew jobs_of)))))
+
+  -- each lane is as long as what was dealt to it
+  lane_length : (w : ℕ) → length (get_or lanes w []) ≡ length (of_lane w order jobs)
+  lane_length w = ⊎_elim near (λ (far : length r.begun ≤ w). beyond far) (at_place (HasWorked view configs) r.begun r.ended w r.worked)
+    where
+      beyond : length r.begun ≤ w → length (get_or lanes w []) ≡ length (of_lane w order jobs)
+      beyond far =
+          let size : length (map jobs_of crew) ≡ length r.begun = length-map crew jobs_of ∙ (ap length (sym r.workers) ∙ length-map r.begun worker_of_lane) in
+          let out : length lanes ≤ w = omega (arith, same_size, size, far) in
+          let none : of_lane w order jobs ≡ [] = of_none (length (map jobs_of crew)) w order jobs dealt.fits (omega (arith, size, far)) in
+          ap length (get_or-beyond lanes w [] out) ∙ sym (ap length none)
+
+      near : AtPlace r.begun r.ended w → length (get_or lanes w []) ≡ length (of_lane w order jobs)
+      near p =
+          let b = p.left in
+          let e = p.right in
+          let l = at_left worker_of_lane r.begun r.ended w b e b.worker p.at in
+          let here : get_or crew w b.worker ≡ b.worker = subst (λ ws. get_or ws w b.worker ≡ b.worker) r.workers l.0 in
+          let low : w < length crew = subst (λ ws. w < length ws) r.workers l.1 in
+          let given : jobs_of_lane b ≡ of_lane w order jobs =
+          ap jobs_of (sym here) ∙ (sym (get_or-map jobs_of crew w b.worker [] low) ∙ dealt.each w [] (rw (length-map crew jobs_of) low)) in
+          let k = at_right done_of_lane r.begun r.ended w b e [] p.at in
+          let got : get_or lanes w [] ≡ done_of_lane e = subst (λ ds. get_or ds w [] ≡ done_of_lane e) r.done k.0 in
+          let h = at_zip (HasWorked view configs) r.begun r.ended w b e r.worked p.at in
+          ap length got ∙ (works_length configs (view b.pass) b.worker.reader (jobs_of_lane b) (view e.pass) e.worker.reader (done_of_lane e) h.works ∙ ap length given)
+
+  pub regathers : (dones : List Handled) × IsDealt order dones lanes
+  regathers =
+      let m = merges (Any {X = Job} {Y = Handled} {Z = Job}) order jobs jobs (λ w. get_or lanes w []) dealt.count dealt.count (λ w. zips_any (of_lane w order jobs) (get_or lanes w []) (of_lane w order jobs) (lane_length w) refl) in (
+        m.ys,
+        record {
+          count = zips_length (Any {X = Job} {Y = Handled} {Z = Job}) jobs m.ys jobs m.zips ∙ dealt.count;
+          fits = subst (λ n. All (λ lane. lane < n) order) (sym same_size) dealt.fits;
+          each = λ w d low. get_or_default lanes w d [] low ∙ sym (m.each w);
+        },
+      )

@@ -1,0 +1,58 @@
+-- Passes that rest as before, and what a control task does with one.
+use Rattle.std.proofs.Common.{◌≡◌, ◌+◌, ℕ, List, [], ◌∷◌, refl, sym, ap, subst, arith}
+use Rattle.npf_core.proofs.HistoryLemmas.{IsPrefix-self, IsPrefix-trans}
+use Rattle.npf_connections.specs.Expiring.{Expires}
+use Rattle.npf_connections.specs.Pass.{Pass, IsPass}
+use Rattle.npf_connections.proofs.SaidLemmas.{same_pass, same_more}
+use Rattle.npf_flow.specs.Flows.{flow_law}
+use Rattle.npf_engine.specs.Histories.{FlowEntry}
+use Rattle.npf_runner.specs.declared.phase.Command.{Command}
+use Rattle.npf_runner.specs.declared.phase.Command.TheVariants.{Publish, Expire}
+use Rattle.npf_runner.specs.Commands.{Collects, ExpiresDue, Runs}
+use Rattle.npf_runner.specs.Plays.{published_by}
+use Rattle.npf_runner.specs.Works.{IsRested}
+
+pub rested_self : (pass : Pass FlowEntry) → IsPass flow_law pass → IsRested pass pass
+rested_self pass legal = record { same = same_pass pass pass refl; legal = legal; begins = IsPrefix-self pass.history; sweeps = omega arith }
+
+pub rested_more : (old mid new : Pass FlowEntry) → IsRested old mid → IsRested mid new → IsRested old new
+rested_more old mid new p q = record {
+  same = same_more old mid new p.same q.same;
+  legal = q.legal;
+  begins = IsPrefix-trans old.history mid.history new.history p.begins q.begins;
+  sweeps = omega (arith, p.sweeps, q.sweeps);
+}
+
+-- what the call of an expiry says
+pub rested_expired : (old new : Pass FlowEntry) (time count : ℕ) → Expires flow_law old new.history time count → IsPass flow_law new →
+    new ≡ record old { history = new.history; epoch = new.epoch } → IsRested old new
+rested_expired old new time count e legal view =
+    let sweeps : new.sweeps ≡ old.sweeps = ap (λ (p : Pass FlowEntry). p.sweeps) view in
+    record {
+      same = same_pass old new view;
+      legal = legal;
+      begins = record { rest = e.adds.rest; goes_on = e.adds.goes_on };
+      sweeps = omega (arith, sweeps);
+    }
+
+-- what the call of a collection says
+pub rested_collected : (old new : Pass FlowEntry) → Collects old new → IsPass flow_law new → IsRested old new
+rested_collected old new c legal =
+    let sweeps : new.sweeps ≡ old.sweeps = ap (λ (p : Pass FlowEntry). p.sweeps) c.view in
+    record {
+      same = same_pass old new c.view;
+      legal = legal;
+      begins = record { rest = c.frees.adds.adds.rest; goes_on = c.frees.adds.adds.goes_on };
+      sweeps = omega (arith, sweeps);
+    }
+
+pub runs_expiry : (old new : Pass FlowEntry) (time : ℕ) → ExpiresDue time old new → Runs (Expire time ∷ []) old new
+runs_expiry old new time x = (new, x, refl)
+
+pub runs_more : (command : Command) (commands : List Command) (old mid new : Pass FlowEntry) → Runs (command ∷ []) old mid → Runs commands mid new → Runs (command ∷ commands) old new
+runs_more (Publish place) commands old mid new p q = subst (λ (x : Pass FlowEntry). Runs commands x new) (sym p) q
+runs_more (Expire time) commands old mid new p q = (p.0, p.1, subst (λ (x : Pass FlowEntry). Runs commands x new) (sym p.2) q)
+
+pub published_more : (command : Command) (commands : List Command) → published_by (command ∷ commands) ≡ published_by (command ∷ []) + published_by commands
+published_more (Publish place) commands = omega arith
+published_more (Expire time) commands = omega arith

@@ -1,0 +1,25 @@
+use Rattle.std.proofs.Common.{◌≡◌, ◌≤◌, ◌<◌, ◌+◌, ◌++◌, false, All, List, drop, length, vec_len, vec_capacity}
+use Rattle.npf_connections.specs.Pass.{IsPass, all_places}
+use Rattle.npf_flow.specs.Flows.{flow_law}
+use Rattle.npf_engine.specs.Handles.{configurations}
+use Rattle.npf_runner.specs.Plays.{IsShortPacket, PhasesPublishFrom, packets_in}
+use Rattle.npf_runner.specs.Running.{IsBack, RunsPhases}
+use Rattle.npf_runner.proofs.playing.play.Given as goal
+
+abbrev pub invariant-loop-phase : goal.invariant-loop-phase
+invariant-loop-phase g l =
+    g.C.Connections.fits l.conns l.pass
+    × IsPass flow_law (g.C.Connections.view l.pass)
+    × ((g.C.Connections.view l.pass).entered ≡ false)
+    × ((g.C.Connections.view l.pass).places ≡ all_places)
+    × IsBack (g.C.Connections.view l.initial.pass) (g.C.Connections.view l.pass)
+    × (packets_in (drop l.phase-index l.phases) ≡ length l.rest.items)
+    × (l.first + length l.rest.items ≡ 1 + length l.fn.packets.items)
+    × (1 ≤ l.first)
+    × (l.last < length l.configs)
+    × PhasesPublishFrom (length l.configs) l.last (drop l.phase-index l.phases)
+    × All IsShortPacket l.rest.items
+    × (vec_len l.all + length l.rest.items ≤ vec_capacity l.all)
+    × ((new : _) (dones : List _) →
+    RunsPhases g.C.Connections.view (configurations l.configs) l.workers l.spread (g.C.Connections.view l.pass) new l.first l.last (drop l.phase-index l.phases) l.rest.items dones →
+    RunsPhases g.C.Connections.view (configurations l.configs) l.workers l.spread (g.C.Connections.view l.initial.pass) new 1 0 l.phases l.fn.packets.items (l.all.items ++ dones))

@@ -1,0 +1,20 @@
+-- The packets of a phase with their numbers.
+use Rattle.std.specs.Prelude.{ℕ, ◌≤◌, ◌+◌, List, [], ◌∷◌}
+use Rattle.npf_engine.specs.Arrival.{Arrival}
+use Rattle.npf_runner.specs.declared.job.Job.{Job}
+use Rattle.npf_runner.specs.declared.packet.Packet.{Packet}
+use Rattle.npf_runner.specs.Plays.{arriving, IsShortPacket}
+
+-- packets numbered from n on
+abbrev pub numbered_from : ℕ → List Packet → List Job
+numbered_from n [] = []
+numbered_from n (packet ∷ packets) = record { number = n; packet = packet } ∷ numbered_from (n + 1) packets
+
+-- the packet as it arrives
+abbrev pub job_arrival : Job → Arrival
+job_arrival job = arriving job.number job.packet
+
+-- numbers begin at 1, and packets aren't too long
+pub record IsJob (job : Job) : Type 0 where
+  pub counts : 1 ≤ job.number
+  pub short : IsShortPacket job.packet

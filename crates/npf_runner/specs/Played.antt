@@ -1,0 +1,11 @@
+-- What became of packets, taken apart.
+use Rattle.std.specs.Prelude.{List, map}
+use Rattle.npf_engine.specs.declared.outcome.Outcome.{Outcome}
+use Rattle.npf_runner.specs.declared.job.Handled.{Handled}
+use Rattle.npf_runner.specs.declared.packet.Packet.{Packet}
+
+abbrev pub outcomes_of : List Handled → List Outcome
+outcomes_of = map (λ (done : Handled). done.outcome)
+
+abbrev pub outputs_of : List Handled → List Packet
+outputs_of = map (λ (done : Handled). done.packet)

@@ -1,0 +1,80 @@
+ghost use Rattle.std.specs.Prelude.{◌≡◌, ◌≤◌, ◌+◌, false, [], ◌∷◌, OnOk};
+ghost use Rattle.npf_connections.specs.Pass.{IsPass};
+ghost use Rattle.npf_flow.specs.Flows.{flow_law};
+ghost use Rattle.npf_publish.specs.Publisher.{published_number, publisher_range};
+ghost use Rattle.npf_runner.specs.Commands.{ExpiresDue, Runs};
+ghost use Rattle.npf_runner.specs.Plays.{published_by};
+ghost use Rattle.npf_runner.specs.Works.{IsRested};
+
+use crate::phase::Command;
+use npf_connections::Connections;
+use npf_flow::FlowLaw;
+use npf_publish::Publisher;
+use npf_types::NoMemory;
+use std::sync::Wait;
+
+/// Does the commands in order. A publication that wants memory ends them.
+pub fn control<R: Wait, C: Connections<FlowLaw>>(
+    rt: &R,
+    conns: &C,
+    mut pass: C::Pass,
+    commands: &[Command],
+    publisher: &mut Publisher,
+) -> (C::Pass, Result<(), NoMemory>)
+    requires own { C.fits conns.now pass }
+    requires legal { IsPass flow_law (C.view pass) }
+    requires out { (C.view pass).entered ≡ false }
+    requires numbers { published_number publisher.old + published_by commands.now ≤ (publisher_range publisher.old).last }
+    ensures own { C.fits conns.now result.0 }
+    ensures rested { IsRested (C.view pass) (C.view result.0) }
+    ensures runs { OnOk result.1 (Runs commands.now (C.view pass) (C.view result.0)) }
+{
+    for command in commands {
+        if obey(rt, conns, &mut pass, *command, publisher).is_err() {
+            return (pass, Err(NoMemory));
+        }
+    }
+    (pass, Ok(()))
+}
+
+fn obey<R: Wait, C: Connections<FlowLaw>>(
+    rt: &R,
+    conns: &C,
+    pass: &mut C::Pass,
+    command: Command,
+    publisher: &mut Publisher,
+) -> Result<(), NoMemory>
+    requires own { C.fits conns.now pass.old }
+    requires legal { IsPass flow_law (C.view pass.old) }
+    requires out { (C.view pass.old).entered ≡ false }
+    requires numbers { published_number publisher.old + published_by (command ∷ []) ≤ (publisher_range publisher.old).last }
+    ensures own { C.fits conns.now pass.new }
+    ensures rested { IsRested (C.view pass.old) (C.view pass.new) }
+    ensures runs { OnOk result (Runs (command ∷ []) (C.view pass.old) (C.view pass.new)) }
+    ensures range { publisher_range publisher.new ≡ publisher_range publisher.old }
+    ensures number { OnOk result (published_number publisher.new ≡ published_number publisher.old + published_by (command ∷ [])) }
+{
+    match command {
+        Command::Publish(_) => {
+            publisher.publish(rt)?;
+        }
+        Command::Expire(now) => expire(rt, conns, pass, now),
+    }
+    Ok(())
+}
+
+/// Kills what is due, and then frees what may be freed. A table whose readers are still at work may take three calls to free what was
+/// killed.
+fn expire<R: Wait, C: Connections<FlowLaw>>(rt: &R, conns: &C, pass: &mut C::Pass, now: u64)
+    requires own { C.fits conns.now pass.old }
+    requires legal { IsPass flow_law (C.view pass.old) }
+    requires out { (C.view pass.old).entered ≡ false }
+    ensures own { C.fits conns.now pass.new }
+    ensures rested { IsRested (C.view pass.old) (C.view pass.new) }
+    ensures expires { ExpiresDue now (C.view pass.old) (C.view pass.new) }
+{
+    conns.expire(rt, pass, now);
+    conns.collect(rt, pass);
+    conns.collect(rt, pass);
+    conns.collect(rt, pass);
+}

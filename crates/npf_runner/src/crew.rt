@@ -1,0 +1,109 @@
+// What a phase needs, made before it begins.
+ghost use Rattle.std.specs.Prelude.{◌≡◌, ◌≤◌, ◌+◌, ◌++◌, [], All, IfOk, map, vec_len, vec_capacity, Contains};
+ghost use Rattle.npf_dealing.specs.Dealing.{vec_items, queue_items};
+ghost use Rattle.npf_runner.specs.Crew.{HasRoomFor, IsEquipped, jobs_of, worker_of_lane, pass_of_lane, done_of_lane};
+
+use crate::job::{Handled, Job};
+use crate::worker::{Lane, Worker};
+use npf_publish::ConfReader;
+use npf_types::NoMemory;
+use std::alloc::Global;
+use std::collections::VecDeque;
+
+/// Room for the lanes of a phase, for the passes that come back, and for what each worker has done.
+#[derive(Drop)]
+pub struct Room<P: Drop> {
+    pub lanes: Vec<Lane<P>>,
+    pub others: Vec<P>,
+    pub queues: Vec<VecDeque<Handled>>,
+}
+
+impl<P: Drop> Room<P> {
+    /// Room for so many workers and the control task.
+    pub fn for_workers(alloc: Global, workers: u32) -> Result<Room<P>, NoMemory>
+        requires { workers ≤ 64 }
+        ensures { IfOk result (HasRoomFor workers) }
+    {
+        Ok(Room {
+            lanes: Vec::with_capacity(alloc, workers as usize)?,
+            others: Vec::with_capacity(alloc, workers as usize + 1)?,
+            queues: Vec::with_capacity(alloc, workers as usize)?,
+        })
+    }
+}
+
+/// A worker for each list of packets, with one of the readers, and with room for what becomes of its packets.
+pub fn workers_with(
+    alloc: Global,
+    dealt: Vec<Vec<Job>>,
+    mut readers: Vec<ConfReader>,
+) -> Result<Vec<Worker>, NoMemory>
+    requires enough { vec_len dealt ≤ vec_len readers }
+    requires few { vec_len dealt ≤ 64 }
+    ensures count { IfOk result (λ workers. vec_len workers ≡ vec_len dealt) }
+    ensures jobs { IfOk result (λ workers. map jobs_of workers.items ≡ map vec_items dealt.items) }
+    ensures ready { IfOk result (λ workers. All IsEquipped workers.items) }
+    ensures readers { IfOk result (λ workers. All (λ worker. Contains readers.items worker.reader) workers.items) }
+{
+    let mut workers = Vec::with_capacity(alloc, dealt.len())?;
+    for jobs in dealt {
+        let number = workers.len() as u32;
+        let reader = readers.pop().unwrap();
+        let done = Vec::with_capacity(alloc, jobs.len())?;
+        let jobs = VecDeque::from(jobs);
+        workers.push_reserved(Worker {
+            number,
+            reader,
+            jobs,
+            done,
+        });
+    }
+    Ok(workers)
+}
+
+/// Each worker with one of the passes. It takes no memory.
+pub fn lanes_with<P: Drop>(
+    workers: Vec<Worker>,
+    passes: &mut Vec<P>,
+    mut lanes: Vec<Lane<P>>,
+) -> Vec<Lane<P>>
+    requires enough { vec_len workers ≤ vec_len passes.old }
+    requires empty { lanes.items ≡ [] }
+    requires room { vec_len workers ≤ vec_capacity lanes }
+    ensures count { vec_len result ≡ vec_len workers }
+    ensures workers { map worker_of_lane result.items ≡ workers.items }
+    ensures passes { All (λ lane. Contains passes.old.items lane.pass) result.items }
+{
+    for worker in workers {
+        let pass = passes.pop().unwrap();
+        lanes.push_reserved(Lane { pass, worker });
+    }
+    lanes
+}
+
+/// The passes, and what became of each worker's packets. It takes no memory.
+pub fn apart<P: Drop>(
+    lanes: Vec<Lane<P>>,
+    passes: &mut Vec<P>,
+    mut queues: Vec<VecDeque<Handled>>,
+) -> Vec<VecDeque<Handled>>
+    requires empty { queues.items ≡ [] }
+    requires room { vec_len lanes ≤ vec_capacity queues }
+    requires places { vec_len passes.old + vec_len lanes ≤ vec_capacity passes.old }
+    ensures passes { passes.new.items ≡ passes.old.items ++ map pass_of_lane lanes.items }
+    ensures capacity { vec_capacity passes.new ≡ vec_capacity passes.old }
+    ensures queues { map queue_items result.items ≡ map done_of_lane lanes.items }
+{
+    for lane in lanes {
+        let Lane { pass, worker } = lane;
+        let Worker {
+            number: _,
+            reader: _,
+            jobs: _,
+            done,
+        } = worker;
+        passes.push_reserved(pass);
+        queues.push_reserved(VecDeque::from(done));
+    }
+    queues
+}

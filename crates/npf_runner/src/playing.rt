@@ -1,0 +1,83 @@
+ghost use Rattle.std.specs.Prelude.{◌≡◌, ◌≤◌, false, All, length, IfOk};
+ghost use Rattle.npf_connections.specs.Pass.{IsPass, all_places};
+ghost use Rattle.npf_core.specs.History.{IsPrefix};
+ghost use Rattle.npf_flow.specs.Flows.{flow_law};
+ghost use Rattle.npf_engine.specs.Handles.{configurations};
+ghost use Rattle.npf_runner.specs.Plays.{PlaysPhases, IsShortPacket, IsUnnumbered, AreInOrder, packets_in};
+
+use crate::gate::Gate;
+use crate::job::next_jobs;
+use crate::packet::Packet;
+use crate::phase::{Phase, Spread};
+use crate::played::Played;
+use crate::running::{Task, count_published, run_phase};
+use npf_connections::Connections;
+use npf_flow::FlowLaw;
+use npf_ruleset::Config;
+use npf_types::NoMemory;
+use std::alloc::Global;
+use std::collections::VecDeque;
+use std::sync::Wait;
+use std::thread::Threads;
+
+/// Runs packets through 1 to 64 workers, phase by phase, while a control task does the phase's commands, and answers what became of
+/// each packet.
+///
+/// The pass rests before and after, and owns all reader places; no entry of its history carries the number of one of these packets.
+/// Each packet has 262,144 bytes at most. The phases' packets sum up to the packets, and their publications name the places 1, 2 and so on
+/// of `configs`, which isn't empty.
+///
+/// Want of memory may come before, between and after the phases, or at a publication: then the pass is whole, its history has grown by
+/// what was done, and there are no outcomes.
+pub fn play<R: Threads + Wait + Sync, C: Connections<FlowLaw>, G: Gate>(
+    rt: &R,
+    alloc: Global,
+    packets: Vec<Packet>,
+    phases: &[Phase],
+    configs: &[Config],
+    workers: u32,
+    spread: Spread,
+    conns: &C,
+    pass: &mut C::Pass,
+    gate: &G,
+) -> Result<Played, NoMemory>
+    requires own { C.fits conns.now pass.old }
+    requires legal { IsPass flow_law (C.view pass.old) }
+    requires out { (C.view pass.old).entered ≡ false }
+    requires places { (C.view pass.old).places ≡ all_places }
+    requires workers { (1 ≤ workers) × (workers ≤ 64) }
+    requires short { All IsShortPacket packets.items }
+    requires unnumbered { IsUnnumbered (length packets.items) (C.view pass.old).history }
+    requires sum { packets_in phases.now ≡ length packets.items }
+    requires publications { AreInOrder (length configs.now) phases.now }
+    ensures own { C.fits conns.now pass.new }
+    ensures legal { IsPass flow_law (C.view pass.new) }
+    ensures out { (C.view pass.new).entered ≡ false }
+    ensures places { (C.view pass.new).places ≡ all_places }
+    ensures slots { (C.view pass.new).slots ≡ (C.view pass.old).slots }
+    ensures number { (C.view pass.new).number ≡ (C.view pass.old).number }
+    ensures begins { IsPrefix (C.view pass.old).history (C.view pass.new).history }
+    ensures sweeps { (C.view pass.old).sweeps ≤ (C.view pass.new).sweeps }
+    ensures epoch { (C.view pass.old).epoch ≤ (C.view pass.new).epoch }
+    ensures plays { IfOk result (λ played. PlaysPhases (configurations configs.now) workers spread (C.view pass.old) (C.view pass.new) phases.now packets.items played.packets played.outcomes) }
+{
+    let mut all = Vec::with_capacity(alloc, packets.len())?;
+    let mut rest = VecDeque::from(packets);
+    let mut first = 1;
+    let mut last = 0;
+    for phase in phases {
+        let jobs = next_jobs(alloc, &mut rest, first, phase.packets as usize)?;
+        let commands = phase.commands.as_slice();
+        let task = Task {
+            jobs,
+            workers,
+            spread,
+            last,
+        };
+        all = run_phase(rt, alloc, conns, gate, configs, pass, task, commands, all)?;
+        first += phase.packets;
+        last += count_published(commands);
+    }
+    let played = Played::of(alloc, all)?;
+    Ok(played)
+}

@@ -1,0 +1,193 @@
+// One phase: its packets and its commands, side by side.
+ghost use Rattle.std.specs.Prelude.{◌≡◌, ◌≤◌, ◌<◌, ◌+◌, ◌^◌, ◌++◌, false, List, All, IfOk, length, map, vec_len, vec_capacity};
+ghost use Rattle.std.specs.List.{AllZip};
+ghost use Rattle.npf_connections.specs.Pass.{IsPass, all_places};
+ghost use Rattle.npf_dealing.specs.Dealing.{IsDealt, queue_items};
+ghost use Rattle.npf_flow.specs.Flows.{flow_law};
+ghost use Rattle.npf_publish.specs.ConfReader.{IsNewReader, reader_range};
+ghost use Rattle.npf_publish.specs.Publisher.{published_number, publisher_range};
+ghost use Rattle.npf_engine.specs.Handles.{configurations};
+ghost use Rattle.npf_runner.specs.Crew.{HasRoomFor, IsEquipped, jobs_of};
+ghost use Rattle.npf_runner.specs.Dealing.{IsWorkerOf};
+ghost use Rattle.npf_runner.specs.Job.{IsJob, job_arrival};
+ghost use Rattle.npf_runner.specs.Plays.{published_by};
+ghost use Rattle.npf_runner.specs.Running.{IsBack, RunsCrew, RunsPhase};
+
+use crate::crew::{Room, apart, lanes_with, workers_with};
+use crate::gate::Gate;
+use crate::job::{Handled, Job};
+use crate::phase::{Command, Spread};
+use crate::side_by_side::side_by_side;
+use crate::spread::workers_of;
+use crate::worker::Worker;
+use npf_connections::Connections;
+use npf_dealing::{deal, gather};
+use npf_flow::FlowLaw;
+use npf_passes::{split_off, take_in};
+use npf_publish::Publisher;
+use npf_ruleset::Config;
+use npf_types::NoMemory;
+use std::alloc::Global;
+use std::collections::VecDeque;
+use std::sync::Wait;
+use std::thread::Threads;
+
+/// A phase's packets, how they are dealt to so many workers, and the last configuration that was published.
+#[derive(Drop)]
+pub struct Task {
+    pub jobs: Vec<Job>,
+    pub workers: u32,
+    pub spread: Spread,
+    pub last: u64,
+}
+
+/// Which worker each packet goes to, the workers, and the publisher that they read from.
+struct Prepared {
+    order: Vec<u32>,
+    crew: Vec<Worker>,
+    publisher: Publisher,
+}
+
+/// Runs a phase, and adds what became of its packets to all that was there.
+pub fn run_phase<R: Threads + Wait + Sync, C: Connections<FlowLaw>, G: Gate>(
+    rt: &R,
+    alloc: Global,
+    conns: &C,
+    gate: &G,
+    configs: &[Config],
+    pass: &mut C::Pass,
+    task: Task,
+    commands: &[Command],
+    all: Vec<Handled>,
+) -> Result<Vec<Handled>, NoMemory>
+    requires own { C.fits conns.now pass.old }
+    requires legal { IsPass flow_law (C.view pass.old) }
+    requires out { (C.view pass.old).entered ≡ false }
+    requires places { (C.view pass.old).places ≡ all_places }
+    requires workers { (1 ≤ task.workers) × (task.workers ≤ 64) }
+    requires jobs { All IsJob task.jobs.items }
+    requires numbers { task.last + published_by commands.now < length configs.now }
+    requires room { vec_len all + vec_len task.jobs ≤ vec_capacity all }
+    ensures own { C.fits conns.now pass.new }
+    ensures legal { IsPass flow_law (C.view pass.new) }
+    ensures back { IsBack (C.view pass.old) (C.view pass.new) }
+    ensures runs { IfOk result (λ done. (dones : List _) × (done.items ≡ all.items ++ dones) × RunsPhase C.view (configurations configs.now) task.workers task.spread (C.view pass.old) (C.view pass.new) task.last commands.now task.jobs.items dones) }
+    ensures capacity { IfOk result (λ done. vec_capacity done ≡ vec_capacity all) }
+{
+    let room = Room::for_workers(alloc, task.workers)?;
+    let Prepared {
+        order,
+        crew,
+        mut publisher,
+    } = prepare(rt, alloc, task, count_published(commands))?;
+    let ran = run_crew(
+        rt,
+        alloc,
+        conns,
+        gate,
+        configs,
+        pass,
+        crew,
+        room,
+        commands,
+        &mut publisher,
+    );
+    publisher.close(rt);
+    Ok(gather(order.as_slice(), ran?, all))
+}
+
+/// What a phase needs that publishes so many configurations.
+fn prepare<R: Wait>(rt: &R, alloc: Global, task: Task, published: u64) -> Result<Prepared, NoMemory>
+    requires workers { (1 ≤ task.workers) × (task.workers ≤ 64) }
+    requires jobs { All IsJob task.jobs.items }
+    requires numbers { task.last + published < 2 ^ 64 }
+    ensures spreads { IfOk result (λ made. AllZip (λ job worker. IsWorkerOf task.spread task.workers (job_arrival job) worker) task.jobs.items made.order.items) }
+    ensures dealt { IfOk result (λ made. IsDealt made.order.items task.jobs.items (map jobs_of made.crew.items)) }
+    ensures count { IfOk result (λ made. vec_len made.crew ≡ task.workers) }
+    ensures ready { IfOk result (λ made. All IsEquipped made.crew.items) }
+    ensures readers { IfOk result (λ made. All (λ worker. IsNewReader (record { first = task.last; last = task.last + published }) worker.reader) made.crew.items) }
+    ensures number { IfOk result (λ made. published_number made.publisher ≡ task.last) }
+    ensures range { IfOk result (λ made. publisher_range made.publisher ≡ record { first = task.last; last = task.last + published }) }
+{
+    let Task {
+        jobs,
+        workers,
+        spread,
+        last,
+    } = task;
+    let order = workers_of(alloc, jobs.as_slice(), spread, workers)?;
+    let dealt = deal(alloc, jobs, order.as_slice(), workers)?;
+    let (publisher, readers) = Publisher::new(rt, alloc, workers, last, last + published)?;
+    match workers_with(alloc, dealt, readers) {
+        Ok(crew) => Ok(Prepared {
+            order,
+            crew,
+            publisher,
+        }),
+        Err(NoMemory) => {
+            publisher.close(rt);
+            Err(NoMemory)
+        }
+    }
+}
+
+/// Runs the workers beside the control task, with passes that are split off the pass and taken in again. Where memory runs out
+/// before they begin, the pass stays whole.
+fn run_crew<R: Threads + Wait + Sync, C: Connections<FlowLaw>, G: Gate>(
+    rt: &R,
+    alloc: Global,
+    conns: &C,
+    gate: &G,
+    configs: &[Config],
+    pass: &mut C::Pass,
+    crew: Vec<Worker>,
+    room: Room<C::Pass>,
+    commands: &[Command],
+    publisher: &mut Publisher,
+) -> Result<Vec<VecDeque<Handled>>, NoMemory>
+    requires own { C.fits conns.now pass.old }
+    requires legal { IsPass flow_law (C.view pass.old) }
+    requires out { (C.view pass.old).entered ≡ false }
+    requires places { (C.view pass.old).places ≡ all_places }
+    requires crew { (1 ≤ vec_len crew) × (vec_len crew ≤ 64) }
+    requires ready { All IsEquipped crew.items }
+    requires jobs { All (λ worker. All IsJob worker.jobs.items) crew.items }
+    requires readers { All (λ worker. (reader_range worker.reader).last < length configs.now) crew.items }
+    requires numbers { published_number publisher.old + published_by commands.now ≤ (publisher_range publisher.old).last }
+    requires room { HasRoomFor (vec_len crew) room }
+    ensures own { C.fits conns.now pass.new }
+    ensures legal { IsPass flow_law (C.view pass.new) }
+    ensures back { IsBack (C.view pass.old) (C.view pass.new) }
+    ensures runs { IfOk result (λ queues. RunsCrew C.view (configurations configs.now) (C.view pass.old) (C.view pass.new) commands.now crew.items (map queue_items queues.items)) }
+{
+    let mut passes = split_off(rt, alloc, conns, pass, crew.len() as u32 + 1)?;
+    let own = passes.pop().unwrap();
+    let Room {
+        lanes,
+        mut others,
+        queues,
+    } = room;
+    let lanes = lanes_with(crew, &mut passes, lanes);
+    let ((own, published), lanes) = side_by_side(
+        rt, conns, gate, configs, own, commands, publisher, lanes,
+    );
+    let queues = apart(lanes, &mut others, queues);
+    others.push_reserved(own);
+    take_in(rt, conns, pass, others);
+    conns.collect(rt, pass);
+    published?;
+    Ok(queues)
+}
+
+/// How many configurations the commands publish.
+pub fn count_published(commands: &[Command]) -> u64
+    ensures { result ≡ published_by commands.now }
+{
+    let mut count = 0;
+    for command in commands {
+        if matches!(command, Command::Publish(_)) {
+            count += 1;
+        }
+    }
+    count
+}

@@ -1,0 +1,85 @@
+ghost use Rattle.std.specs.Prelude.{◌≡◌, ◌≤◌, ◌<◌, ◌+◌, false, ℕ, All, OnOk, length, vec_len, slice_index_or};
+ghost use Rattle.npf_connections.specs.Pass.{IsPass};
+ghost use Rattle.npf_flow.specs.Flows.{flow_law};
+ghost use Rattle.npf_publish.specs.Publisher.{published_number, publisher_range};
+ghost use Rattle.npf_engine.specs.Handles.{configurations};
+ghost use Rattle.npf_runner.specs.Commands.{Runs};
+ghost use Rattle.npf_runner.specs.Lanes.{CanWork, HasWorked};
+ghost use Rattle.npf_runner.specs.Plays.{published_by};
+ghost use Rattle.npf_runner.specs.Works.{IsRested};
+
+use crate::control::control;
+use crate::gate::Gate;
+use crate::phase::Command;
+use crate::worker::{Lane, work};
+use npf_connections::Connections;
+use npf_flow::FlowLaw;
+use npf_publish::Publisher;
+use npf_ruleset::Config;
+use npf_types::NoMemory;
+use std::sync::Wait;
+use std::thread::{Threads, for_each_mut, join};
+
+/// The control task beside all workers, each on a thread of its own.
+pub fn side_by_side<R: Threads + Wait + Sync, C: Connections<FlowLaw>, G: Gate>(
+    rt: &R,
+    conns: &C,
+    gate: &G,
+    configs: &[Config],
+    pass: C::Pass,
+    commands: &[Command],
+    publisher: &mut Publisher,
+    mut lanes: Vec<Lane<C::Pass>>,
+) -> ((C::Pass, Result<(), NoMemory>), Vec<Lane<C::Pass>>)
+    requires own { C.fits conns.now pass }
+    requires legal { IsPass flow_law (C.view pass) }
+    requires out { (C.view pass).entered ≡ false }
+    requires numbers { published_number publisher.old + published_by commands.now ≤ (publisher_range publisher.old).last }
+    requires lanes { All (λ lane. C.fits conns.now lane.pass) lanes.items }
+    requires can { All (CanWork C.view (length configs.now)) lanes.items }
+    requires some { 0 < vec_len lanes }
+    ensures own { C.fits conns.now result.0.0 }
+    ensures rested { IsRested (C.view pass) (C.view result.0.0) }
+    ensures runs { OnOk result.0.1 (Runs commands.now (C.view pass) (C.view result.0.0)) }
+    ensures lanes { All (λ lane. C.fits conns.now lane.pass) result.1.items }
+    ensures count { vec_len result.1 ≡ vec_len lanes }
+    ensures worked { (i : ℕ) (d : _) → i < vec_len lanes → HasWorked C.view (configurations configs.now) (slice_index_or lanes.items i d) (slice_index_or result.1.items i d) }
+{
+    join(
+        rt,
+        ||
+            requires { C.fits conns.now pass × IsPass flow_law (C.view pass) × ((C.view pass).entered ≡ false) × (published_number publisher.now + published_by commands.now ≤ (publisher_range publisher.now).last) }
+        { control(rt, conns, pass, commands, publisher) },
+        move ||
+            requires { All (λ lane. C.fits conns.now lane.pass) lanes.items × All (CanWork C.view (length configs.now)) lanes.items × (0 < vec_len lanes) }
+        {
+            work_all(rt, conns, gate, configs, lanes.as_mut_slice());
+            lanes
+        },
+    )
+}
+
+/// All workers at once.
+fn work_all<R: Threads + Wait + Sync, C: Connections<FlowLaw>, G: Gate>(
+    rt: &R,
+    conns: &C,
+    gate: &G,
+    configs: &[Config],
+    lanes: &mut [Lane<C::Pass>],
+)
+    requires lanes { All (λ lane. C.fits conns.now lane.pass) lanes.old }
+    requires can { All (CanWork C.view (length configs.now)) lanes.old }
+    requires some { 0 < length lanes.old }
+    ensures lanes { All (λ lane. C.fits conns.now lane.pass) lanes.new }
+    ensures worked { (i : ℕ) (d : _) → i < length lanes.old → HasWorked C.view (configurations configs.now) (slice_index_or lanes.old i d) (slice_index_or lanes.new i d) }
+{
+    let workers = lanes.len();
+    for_each_mut(
+        rt,
+        lanes,
+        workers,
+        &|_, lane: &mut Lane<C::Pass>|
+            requires { C.fits conns.now lane.old.pass × CanWork C.view (length configs.now) lane.old }
+        { work(rt, conns, gate, configs, lane) },
+    );
+}

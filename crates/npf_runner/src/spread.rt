@@ -1,0 +1,80 @@
+ghost use Rattle.std.specs.Prelude.{◌≡◌, ◌≤◌, ◌<◌, All, IfOk, length, vec_len};
+ghost use Rattle.std.specs.List.{AllZip};
+ghost use Rattle.npf_key.specs.Port.{source_port, destination_port};
+ghost use Rattle.npf_packet.specs.Decoding.{Decodes};
+ghost use Rattle.npf_runner.specs.Dealing.{flow_number, IsWorkerOf, worker_by_flow};
+ghost use Rattle.npf_runner.specs.Job.{IsJob, job_arrival};
+
+use crate::job::Job;
+use crate::phase::Spread;
+use npf_key::key_of;
+use npf_packet::{Decoded, decode, one_decoding};
+use npf_types::{Facts, IfId, Key, L4, NoMemory};
+use std::alloc::Global;
+
+/// The worker of each packet, counted from 0.
+pub fn workers_of(
+    alloc: Global,
+    jobs: &[Job],
+    spread: Spread,
+    workers: u32,
+) -> Result<Vec<u32>, NoMemory>
+    requires workers { 1 ≤ workers }
+    requires short { All IsJob jobs.now }
+    ensures count { IfOk result (λ order. vec_len order ≡ length jobs.now) }
+    ensures fits { IfOk result (λ order. All (λ worker. worker < workers) order.items) }
+    ensures each { IfOk result (λ order. AllZip (λ job worker. IsWorkerOf spread workers (job_arrival job) worker) jobs.now order.items) }
+{
+    let mut order = Vec::with_capacity(alloc, jobs.len())?;
+    for job in jobs {
+        order.push_reserved(worker_of(job, spread, workers));
+    }
+    Ok(order)
+}
+
+fn worker_of(job: &Job, spread: Spread, workers: u32) -> u32
+    requires workers { 1 ≤ workers }
+    requires short { IsJob job.now }
+    ensures fits { result < workers }
+    ensures is { IsWorkerOf spread workers (job_arrival job.now) result }
+{
+    match spread {
+        Spread::Rr => ((job.number - 1) % u64::from(workers)) as u32,
+        Spread::Flow => worker_by_flow(job, workers),
+    }
+}
+
+fn worker_by_flow(job: &Job, workers: u32) -> u32
+    requires workers { 1 ≤ workers }
+    requires short { IsJob job.now }
+    ensures fits { result < workers }
+    ensures is { (decoded : _) → Decodes job.now.packet.link job.now.packet.bytes decoded → result ≡ worker_by_flow workers decoded }
+{
+    one_decoding();
+    match decode(job.packet.link, job.packet.bytes.as_slice()) {
+        Decoded::Ip(facts) => (flow_number(&facts) % u64::from(workers)) as u32,
+        Decoded::Skip | Decoded::Malformed { .. } => 0,
+    }
+}
+
+/// A number that is the same with source and destination changed about.
+fn flow_number(facts: &Facts) -> u64
+    ensures { result ≡ flow_number facts.now }
+{
+    let Key([_, source_upper, source_lower, upper, lower]) = key_of(facts, IfId(0));
+    let (source, destination) = ports_of(&facts.l4);
+    ((source_upper ^ source_lower) ^ (upper ^ lower))
+        ^ ((u64::from(source) ^ u64::from(destination)) ^ u64::from(facts.proto))
+}
+
+/// The ports that a packet comes from and goes to, an echo's identifier twice, or 0.
+fn ports_of(l4: &L4) -> (u16, u16)
+    ensures source { result.0 ≡ source_port l4.now }
+    ensures destination { result.1 ≡ destination_port l4.now }
+{
+    match *l4 {
+        L4::Tcp { sport, dport, .. } | L4::Udp { sport, dport } => (sport, dport),
+        L4::Icmp { echo, .. } | L4::Icmp6 { echo, .. } => (echo.unwrap_or(0), echo.unwrap_or(0)),
+        L4::Other => (0, 0),
+    }
+}
