@@ -72,7 +72,8 @@ fn before_comment(line: &[u8]) -> &[u8]
     }
 }
 
-fn trim_start(text: &[u8]) -> &[u8]
+/// The text without the spaces and tabs at its front.
+pub fn trim_start(text: &[u8]) -> &[u8]
     ensures { result.now ≡ after_blanks text.now }
 {
     let mut start = 0;
@@ -82,7 +83,8 @@ fn trim_start(text: &[u8]) -> &[u8]
     &text[start..]
 }
 
-fn trim_end(text: &[u8]) -> &[u8]
+/// The text without the spaces and tabs at its end.
+pub fn trim_end(text: &[u8]) -> &[u8]
     ensures { result.now ≡ before_blanks text.now }
 {
     let mut end = text.len();

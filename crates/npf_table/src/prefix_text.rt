@@ -6,8 +6,8 @@ ghost use Rattle.npf_types.specs.Reading.{IsReading};
 use npf_types::{Addr, Prefix};
 use std::str;
 
-/// The prefix that the text writes, or None where it writes none.
-pub(crate) fn written_prefix(text: &[u8]) -> Option<Prefix>
+/// The prefix that the text writes, as an address, or an address, a slash and a length; None where it writes none.
+pub fn written_prefix(text: &[u8]) -> Option<Prefix>
     ensures { IsReading IsPrefixText text.now result }
 {
     match first_place(text, b'/') {
@@ -64,7 +64,7 @@ fn number_of(digits: &[u8]) -> Option<u8>
 }
 
 /// The first place at which the byte stands.
-pub(crate) fn first_place(text: &[u8], byte: u8) -> Option<usize>
+pub fn first_place(text: &[u8], byte: u8) -> Option<usize>
     ensures { result ≡ position (λ b. b == byte) text.now }
 {
     text.iter().position(|b| *b == byte)

@@ -1,0 +1,6 @@
+pub mod ArgumentLemmas
+pub mod FormLemmas
+pub mod LineLemmas
+pub mod NumberLemmas
+pub mod OneScriptLemmas
+pub mod SectionLemmas
