@@ -1,0 +1,11 @@
+pub mod Digits
+pub mod Fronts
+pub mod NoAddress
+pub mod RunTexts
+pub mod Told
+pub mod Addresses
+pub mod AddressRuns
+pub mod Chunks
+pub mod Lines
+pub mod Shown
+pub mod Values

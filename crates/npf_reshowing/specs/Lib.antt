@@ -1,0 +1,3 @@
+pub mod Showable
+pub mod Tokens
+pub mod Values

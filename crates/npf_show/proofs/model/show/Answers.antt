@@ -1,0 +1,23 @@
+use Rattle.std.proofs.Common.{◌∙◌, ◌++◌, ap, List, ℕ}
+use Rattle.std.specs.List.{flat_map}
+use Rattle.npf_show.specs.Group.{group_lines}
+use Rattle.npf_show.specs.Map.{map_line}
+use Rattle.npf_show.specs.Model.{model_pieces}
+use Rattle.npf_show.specs.Piece.{spelled}
+use Rattle.npf_show.specs.Procedure.{procedure_lines}
+use Rattle.npf_show.specs.Table.{table_line}
+use Rattle.npf_show.proofs.PageLemmas.{also}
+use Rattle.npf_show.proofs.model.show.Goals as goal
+
+pub returns : goal.returns
+returns c =
+    let model = c.args.model.now in
+    let tables = flat_map table_line model.tables in
+    let maps = flat_map (map_line model) model.maps in
+    let procedures = flat_map procedure_lines model.procedures in
+    let groups = flat_map (group_lines model) model.groups in
+    c.into_text.ensures
+    ∙ also _ (tables ++ maps ++ procedures) groups
+    (also _ (tables ++ maps) procedures
+    (also _ tables maps c.in_ok-show_each.ensures c.in_ok-show_each-2.ensures) c.in_ok-show_each-3.ensures) c.in_ok-show_each-4.ensures
+    ∙ ap (λ (text : List ℕ). text ++ spelled (model_pieces model)) c.new-page.ensures

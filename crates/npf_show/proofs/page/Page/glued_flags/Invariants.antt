@@ -1,0 +1,7 @@
+use Rattle.std.proofs.Common.{◌≡◌, ◌++◌, take}
+use Rattle.std.specs.List.{flat_map}
+use Rattle.npf_show.specs.Filter.{letter_if_set, letters_of_bits}
+use Rattle.npf_show.proofs.page.Page.glued_flags.Given as goal
+
+abbrev pub invariant-loop-letter : goal.invariant-loop-letter
+invariant-loop-letter l = l.self ≡ l.fn.self ++ flat_map (letter_if_set l.bits) (take l.letter-index letters_of_bits)

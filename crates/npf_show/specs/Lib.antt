@@ -1,0 +1,11 @@
+pub mod Address
+pub mod Bound
+pub mod Ends
+pub mod Filter
+pub mod Group
+pub mod Map
+pub mod Model
+pub mod Piece
+pub mod Procedure
+pub mod Rule
+pub mod Table
