@@ -8,8 +8,8 @@ use Rattle.npf_lexer.specs.declared.fault.Refused.{Refused}
 use Rattle.npf_lexer.specs.declared.token.Token.{Token}
 use Rattle.npf_lexer.specs.Lexer.{IfFault, IsLexed}
 use Rattle.npf_syntax.specs.declared.stmt.Tree.{Tree}
-use Rattle.npf_parser.specs.Answering.{OnFault}
-use Rattle.npf_parser.specs.HaltsStatements.{HaltsAt}
+use Rattle.npf_parser.specs.Parse.{OnFault, HaltsAt}
+use Rattle.npf_parser.specs.Stmt.{file}
 use Rattle.npf_model.specs.declared.iface.Iface.{Iface}
 use Rattle.npf_model.specs.declared.model.Model.{Model}
 use Rattle.npf_expand.specs.Elaborates.{Elaborates, RefusesTree}
@@ -22,8 +22,8 @@ module _ (ifaces : List Iface) (text : List ℕ) where
   tokens_refused (Refused.Fault fault) is = in_tokens fault is
   tokens_refused Refused.NoMemory is = tt
 
-  pub grammar_refused : (tokens : List Token) → IsOnly IsLexed text (Ok tokens) → (refused : Refused) → OnFault (Err refused) (λ fault. HaltsAt tokens fault.span)
-      → OnFault (Err refused) (λ fault. fault.fault ≡ Expected) → IfConf (RefusesText ifaces text) (told_by refused)
+  pub grammar_refused : (tokens : List Token) → IsOnly IsLexed text (Ok tokens) → (refused : Refused) → OnFault {A = Tree} (Err refused) (λ fault. HaltsAt file tokens fault.span)
+      → OnFault {A = Tree} (Err refused) (λ fault. fault.fault ≡ Expected) → IfConf (RefusesText ifaces text) (told_by refused)
   grammar_refused tokens spelled (Refused.Fault fault) halts expected =
       subst (λ (f : Fault). RefusesText ifaces text (record { span = fault.span; fault = f })) (sym expected) (in_grammar tokens fault.span spelled halts)
   grammar_refused tokens spelled Refused.NoMemory halts expected = tt

@@ -5,8 +5,8 @@ use Rattle.npf_lexer.specs.declared.fault.ConfFault.{ConfFault}
 use Rattle.npf_lexer.specs.declared.token.Token.{Token}
 use Rattle.npf_lexer.specs.Lexer.{IsLexed, Lexed}
 use Rattle.npf_syntax.specs.declared.stmt.Tree.{Tree}
-use Rattle.npf_parser.specs.GrammarStatements.{Parses}
-use Rattle.npf_parser.specs.Laws.{OneTree, TreeOrHalt}
+use Rattle.npf_parser.specs.Parse.{Parses}
+use Rattle.npf_parser.specs.Law.{OneTree, TreeOrHalt}
 use Rattle.npf_model.specs.declared.iface.Iface.{Iface}
 use Rattle.npf_model.specs.declared.model.Model.{Model}
 use Rattle.npf_expand.specs.Elaborates.{Elaborates, model_of, tree_faults}

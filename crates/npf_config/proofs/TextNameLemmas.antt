@@ -1,37 +1,131 @@
 -- The name of a table's file is text.
-use Rattle.std.proofs.Common.{ℕ, Option, Some, None, List, [], ◌∷◌, ◌++◌, All}
+use Rattle.std.proofs.Common.{◌≡◌, Bool, true, false, Option, Some, None, List, [], ◌∷◌, ◌++◌, All, codes, refl, sym, ap, subst, ◌∙◌}
+use Rattle.std.specs.Bool.{⊤}
 use Rattle.std.specs.Option.{IfSome, option_map}
 use Rattle.std.specs.List.{flat_map}
 use Rattle.std.specs.Str.{IsUtf8}
 use Rattle.std.proofs.lemmas.List.Elements.{All-append, All-cons, All-nil}
+use Rattle.std.proofs.lemmas.Str.{IsUtf8-from_is_utf8}
 use Rattle.npf_lexer.specs.declared.token.Token.{Token}
 use Rattle.npf_syntax.specs.declared.stmt.Stmt.{Stmt}
 use Rattle.npf_syntax.specs.declared.stmt.Tree.{Tree}
 use Rattle.npf_syntax.specs.declared.word.Str.{Str}
-use Rattle.npf_parser.specs.GrammarLists.{AtEnd, IsBlock, close, empty, item, IsOptional, present, absent}
-use Rattle.npf_parser.specs.GrammarStatements.{IsStmt, define, set, alg, table, map, group, procedure, Parses, file}
-use Rattle.npf_parser.specs.GrammarWords.{IsTextString}
+use Rattle.npf_phrase.specs.Phrase.{chosen, are_items}
+use Rattle.npf_phrase.specs.Grammar.{Grammar, meaning, making, ◌or◌, optional, preceded, unless, those_there}
+use Rattle.npf_parser.specs.Parse.{Parses}
+use Rattle.npf_parser.specs.Stmt.{define, set, alg, table, map, group, procedure, stmt, stmts, ends_stmt, file}
+use Rattle.npf_parser.specs.Token.{quoted, separator, text_string}
 use Rattle.npf_expand.specs.Table.{tables_of}
 use Rattle.npf_config.specs.Tables.{HasTextName}
 
-file_text : {word : List ℕ} {ts rest : List Token} (string : Option Str) → IsOptional word IsTextString ts string rest
-    → IfSome (option_map (λ (s : Str). s.text) string) IsUtf8
-file_text _ (present begins phrase) = phrase.encoded
-file_text _ (absent lacks) = tt
+-- the names of the statement's tables are text
+abbrev HasTextNames : Stmt → Type 0
+HasTextNames s = All HasTextName (tables_of s)
 
-stmt_text : {ts rest : List Token} (stmt : Stmt) → IsStmt ts stmt rest → All HasTextName (tables_of stmt)
-stmt_text _ (table word less name greater type kind string) = All-cons HasTextName _ [] (file_text _ string) (All-nil HasTextName)
-stmt_text _ (define name equals values) = All-nil HasTextName
-stmt_text _ (set word name value) = All-nil HasTextName
-stmt_text _ (alg word name) = All-nil HasTextName
-stmt_text _ (map word iface kind proto left arrow right pass) = All-nil HasTextName
-stmt_text _ (group word head brace items closes) = All-nil HasTextName
-stmt_text _ (procedure word name brace calls closes) = All-nil HasTextName
+-- so they are of each statement that the grammar means
+abbrev MeansText : Grammar Token Stmt → Type 0
+MeansText g = (ts : List Token) (s : Stmt) (n : Option Token) → (meaning g).Is ts s n → HasTextNames s
 
-block_text : {ts rest : List Token} (stmts : List Stmt) → IsBlock AtEnd IsStmt ts stmts rest → All HasTextName (flat_map tables_of stmts)
-block_text _ (close ends) = All-nil HasTextName
-block_text _ (empty separator rest) = block_text _ rest
-block_text _ (item {a = stmt} {items = stmts} is ends rest) = All-append HasTextName (tables_of stmt) (flat_map tables_of stmts) (stmt_text stmt is) (block_text stmts rest)
+by_choice : (b : Bool) (P Q G : Type 0) → (P → G) → (Q → G) → chosen b P Q → G
+by_choice true P Q G one other is = one is
+by_choice false P Q G one other is = other is
+
+either_text : (g h : Grammar Token Stmt) → MeansText g → MeansText h → MeansText (g or h)
+either_text g h one other ts s n = by_choice _ ((meaning g).Is ts s n) ((meaning h).Is ts s n) (HasTextNames s) (one ts s n) (other ts s n)
+
+-- a statement of another form has no tables
+no_tables : (s other : Stmt) → s ≡ other → tables_of other ≡ [] → HasTextNames s
+no_tables s other same none = subst (λ (decls : List _). All HasTextName decls) (sym (ap tables_of same)) (subst (All HasTextName) (sym none) (All-nil HasTextName))
+
+abbrev IsText : Option Str → Type 0
+IsText string = IfSome (option_map (λ (s : Str). s.text) string) IsUtf8
+
+file_text : (word : List _) (ts : List Token) (string : Option Str) (n : Option Token) → (meaning (optional (preceded (quoted word) text_string))).Is ts string n → IsText string
+file_text word ts string n =
+    by_choice _ ((s : Str) × (meaning (preceded (quoted word) text_string)).Is ts s n × (string ≡ Some s)) ((ts ≡ []) × (string ≡ None)) (IsText string)
+    (λ is. subst IsText (sym is.2) (subst (λ (s : Str). IsUtf8 s.text) (sym is.1.2) (IsUtf8-from_is_utf8 is.1.0.1.text is.1.1.second.1)))
+    (λ none. subst IsText (sym none.1) tt)
+
+set_text : MeansText set
+unfolding set
+set_text ts s n is = no_tables s _ is.2 refl
+
+alg_text : MeansText alg
+unfolding alg
+alg_text ts s n is = no_tables s _ is.2 refl
+
+map_text : MeansText map
+unfolding map
+map_text ts s n is = no_tables s _ is.2 refl
+
+group_text : MeansText group
+unfolding group
+group_text ts s n is = no_tables s _ is.2 refl
+
+procedure_text : MeansText procedure
+unfolding procedure
+procedure_text ts s n is = no_tables s _ is.2 refl
+
+define_text : MeansText define
+unfolding define
+define_text ts s n is = no_tables s _ is.2 refl
+
+-- a table's file is the last part of its statement
+table_text : MeansText table
+unfolding table
+table_text ts s n is =
+    let typed = is.1.1.second in
+    let parts = typed.1.second in
+    let named : IsText typed.0.1.1.1 = file_text (codes "file") parts.second.other typed.0.1.1.1 n parts.second.second in
+    let text : IsText is.0.1.1 = subst IsText (sym (ap (λ x. x.1.1) (is.1.2 ∙ typed.2))) named in
+    subst HasTextNames (sym is.2) (All-cons HasTextName _ [] text (All-nil HasTextName))
+
+stmt_text : MeansText stmt
+unfolding stmt
+stmt_text =
+    either_text set (alg or table or map or group or procedure or define) set_text
+    (either_text alg (table or map or group or procedure or define) alg_text
+    (either_text table (map or group or procedure or define) table_text
+    (either_text map (group or procedure or define) map_text
+    (either_text group (procedure or define) group_text
+    (either_text procedure define procedure_text define_text)))))
+
+-- what stands between two separators: a statement, or nothing
+abbrev entry : Grammar Token (Option Stmt)
+entry = unless ends_stmt stmt
+
+abbrev HasTextEntry : Option Stmt → Type 0
+HasTextEntry None = ⊤
+HasTextEntry (Some s) = HasTextNames s
+
+entry_text : (ts : List Token) (o : Option Stmt) (n : Option Token) → (meaning entry).Is ts o n → HasTextEntry o
+entry_text ts o n =
+    by_choice _ ((ts ≡ []) × (o ≡ None)) ((s : Stmt) × (meaning stmt).Is ts s n × (o ≡ Some s)) (HasTextEntry o)
+    (λ none. subst HasTextEntry (sym none.1) tt) (λ is. subst HasTextEntry (sym is.2) (stmt_text ts is.0 n is.1))
+
+abbrev HaveText : List (Option Stmt) → Type 0
+HaveText [] = ⊤
+HaveText (o ∷ entries) = HasTextEntry o × HaveText entries
+
+entries_text : (entries : List (Option Stmt)) (ts : List Token) (n : Option Token) → are_items (meaning (preceded separator entry)) ts entries n → HaveText entries
+entries_text [] ts n is = tt
+entries_text (o ∷ entries) ts n (one, other, parts, begins, is, onward) =
+    (subst HasTextEntry (sym is.2) (entry_text is.1.other is.0.1 _ is.1.second), entries_text entries other n onward)
+
+there_text : (entries : List (Option Stmt)) → HaveText entries → All HasTextName (flat_map tables_of (those_there entries))
+there_text [] have = All-nil HasTextName
+there_text (Some s ∷ entries) (first, have) = All-append HasTextName (tables_of s) (flat_map tables_of (those_there entries)) first (there_text entries have)
+there_text (None ∷ entries) (first, have) = there_text entries have
+
+stmts_text : (ts : List Token) (list : List Stmt) (n : Option Token) → (meaning stmts).Is ts list n → All HasTextName (flat_map tables_of list)
+unfolding stmts
+stmts_text ts list n is =
+    let behind = is.1.1 in
+    let have : HaveText is.0 = subst HaveText (sym is.1.2) (entry_text behind.one is.1.0.0 _ behind.first, entries_text is.1.0.1 behind.other n behind.second) in
+    subst (λ (list : List Stmt). All HasTextName (flat_map tables_of list)) (sym is.2) (there_text is.0 have)
 
 pub tree_text : {tokens : List Token} (tree : Tree) → Parses tokens tree → All HasTextName (flat_map tables_of tree.stmts)
-tree_text _ (file {stmts = stmts} is) = block_text stmts is
+unfolding file
+tree_text tree parses =
+    let is = parses.1.is in
+    subst (λ (t : Tree). All HasTextName (flat_map tables_of t.stmts)) (sym is.2) (stmts_text is.1.one is.0.0 _ is.1.first)

@@ -8,8 +8,8 @@ use Rattle.npf_lexer.specs.declared.fault.Fault.TheVariants.{Expected}
 use Rattle.npf_lexer.specs.declared.token.Token.{Token}
 use Rattle.npf_lexer.specs.Lexer.{IsLexed}
 use Rattle.npf_syntax.specs.declared.stmt.Tree.{Tree}
-use Rattle.npf_parser.specs.GrammarStatements.{Parses}
-use Rattle.npf_parser.specs.HaltsStatements.{HaltsAt}
+use Rattle.npf_parser.specs.Parse.{Parses, HaltsAt}
+use Rattle.npf_parser.specs.Stmt.{file}
 use Rattle.npf_model.specs.declared.iface.Iface.{Iface}
 use Rattle.npf_model.specs.declared.model.Model.{Model}
 use Rattle.npf_faults.specs.First.{IsFirstFaultOf}
@@ -32,6 +32,6 @@ module _ (ifaces : List Iface) (text : List ℕ) where
   -- the fault that the first stage with one tells
   pub data RefusesText : ConfFault → Type 0 where
     in_tokens : (fault : ConfFault) → IsOnly IsLexed text (Err fault) → RefusesText fault
-    in_grammar : (tokens : List Token) (span : Span) → IsOnly IsLexed text (Ok tokens) → HaltsAt tokens span → RefusesText (record { span = span; fault = Expected })
+    in_grammar : (tokens : List Token) (span : Span) → IsOnly IsLexed text (Ok tokens) → HaltsAt file tokens span → RefusesText (record { span = span; fault = Expected })
     in_meaning : (tree : Tree) (fault : ConfFault) → IsTreeOf text tree → IsFirstFaultOf (tree_faults tree ifaces) fault → RefusesText fault
     in_checks : (tree : Tree) (model : Model) (fault : ConfFault) → IsTreeOf text tree → Elaborates tree ifaces model → IsFirstFaultOf (check_faults tree model) fault → RefusesText fault

@@ -1,9 +1,10 @@
 use Rattle.std.proofs.lemmas.Result.{err_from_is_err_and}
-use Rattle.npf_parser.specs.HaltsStatements.{HaltsAt}
+use Rattle.npf_parser.specs.Parse.{HaltsAt, OnFault}
+use Rattle.npf_parser.specs.Stmt.{file}
+use Rattle.npf_syntax.specs.declared.stmt.Tree.{Tree}
 use Rattle.npf_lexer.specs.declared.fault.ConfFault.{ConfFault}
 use Rattle.npf_lexer.specs.declared.token.Token.{Token}
 use Rattle.std.proofs.Common.{List, subst, Err}
-use Rattle.npf_parser.specs.Answering.{OnFault}
 use Rattle.npf_config.proofs.FaultLemmas.{grammar_refused, tokens_refused}
 use Rattle.npf_config.proofs.text.read_tree.Goals as goal
 
@@ -16,5 +17,5 @@ pub returns-in_err-parse-clause-refuses : goal.returns-in_err-parse-clause-refus
 returns-in_err-parse-clause-refuses c =
     let p = err_from_is_err_and c.from_residual-in_err-parse.result c.from_residual-in_err-parse.ensures.1 in
     let refused = c.in_err-parse.field-0.0 in
-    let halts = subst (λ (tokens : List Token). OnFault (Err refused) (λ (fault : ConfFault). HaltsAt tokens fault.span)) c.deref.ensures.value c.in_err-parse.ensures.halts in
+    let halts = subst (λ (tokens : List Token). OnFault {A = Tree} (Err refused) (λ (fault : ConfFault). HaltsAt file tokens fault.span)) c.deref.ensures.value c.in_err-parse.ensures.halts in
     λ ifaces. rw (p.1, p.2) (grammar_refused ifaces c.args.text.now c.in_ok-tokens.tokens.items c.in_ok-tokens.ensures.tokens refused halts c.in_err-parse.ensures.fault)
