@@ -151,7 +151,7 @@ module _ {S A R : Type 0} where
         (is.alone whole entry (rw (went_on old mid now given others s g) (Contains-append_right old.history (added old mid now given others s g) entry c)));
     each = g.each;
     left = g.takes ∙ (ap (λ (p : Pass (Entry S A R)). with_others p now.history (mid.places + sum (reader_places others)) (joined_after mid.joined others)
-            (mid.sweeps + sum (sweep_counts others)) (greatest_epoch mid.epoch others)) s.left
+        (mid.sweeps + sum (sweep_counts others)) (greatest_epoch mid.epoch others)) s.left
         ∙ (ap (λ n. with_others old now.history n (joined_after mid.joined others) (mid.sweeps + sum (sweep_counts others)) (greatest_epoch mid.epoch others)) (sym places ∙ same)
         ∙ (ap (λ (js : List ℕ). with_others old now.history old.places js (mid.sweeps + sum (sweep_counts others)) (greatest_epoch mid.epoch others)) (sym (ap (λ (p : Pass (Entry S A R)). p.joined) g.takes))
         ∙ (ap (λ n. with_others old now.history old.places now.joined n (greatest_epoch mid.epoch others)) (sym (ap (λ (p : Pass (Entry S A R)). p.sweeps) g.takes))
