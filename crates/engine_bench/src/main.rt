@@ -25,23 +25,27 @@ use work::{Counts, work};
 const CONF: &[u8] = b"group default {\n  pass stateful all\n}\n";
 
 fn main(rt: HostRuntime) -> Result<(), Error> {
-    let task = asked(&rt)?;
+    let Task {
+        config,
+        traffic,
+        timed,
+    } = asked(&rt)?;
     let mut configs = Vec::new(rt.alloc());
-    configs.push(task.config)?;
+    configs.push(config)?;
     let (conns, mut pass) = OneTurn::<FlowLaw>::new(rt.alloc(), MAX_CONNECTIONS as u32)?;
     let start = Instant::now(&rt)?;
     let Ok((publisher, mut readers)) = Publisher::new(&rt, rt.alloc(), 1, 0, 0) else {
         return Err(anyhow!("no memory"));
     };
     let counts = match readers.pop() {
-        Some(mut reader) => work(&rt, &conns, &mut pass, &mut reader, &configs, task.traffic),
+        Some(mut reader) => work(&rt, &conns, &mut pass, &mut reader, &configs, traffic),
         None => Counts { pass: 0, other: 0 },
     };
     let took = start.elapsed(&rt);
     publisher.close(&rt);
     let took = took?.as_nanos();
     println!(rt; "{} packets pass, {} don't", counts.pass, counts.other)?;
-    if task.timed {
+    if timed {
         let packets = u128::from(counts.pass.saturating_add(counts.other)).max(1);
         println!(rt; "engine: {} ns a packet", took / packets)?;
     }
