@@ -1,0 +1,57 @@
+-- The part of the rule on epochs: what a protected pass keeps the epoch from, and what a scan of the readers shows.
+use Rattle.std.specs.Prelude.{◌≡◌, ◌⊎◌, ℕ, ◌+◌, ◌^◌, ◌≤◌, ◌==◌, Bool, true, false, List, [], ◌∷◌, length, Contains, slice_index, if◌then◌else◌, max}
+use mathlib.Core.Option.{some}
+use lib.ListN.{get_elem?}
+use Rattle.npf_cells.specs.declared.views.EpochSide.{EpochSide}
+use Rattle.npf_cells.specs.declared.views.Pin.{Pin}
+use Rattle.npf_cells.specs.declared.views.Pin.TheVariants.{Idle, Pinned, Protected}
+use Rattle.npf_cells.specs.Sums.{occurs}
+
+-- a seat as this part sees it: the reader places that it owns, and what it knows of the epoch
+pub record Reading : Type 0 where
+  pub places : List ℕ
+  pub side : EpochSide
+
+-- a pass pins by the first of its reader places
+abbrev pub pin_place : List ℕ → ℕ
+pin_place places = slice_index places 0
+
+-- what the reader word of a pass says: 0 where it is idle, otherwise the pinned epoch and one
+abbrev pub pin_word : Pin → ℕ
+pin_word Idle = 0
+pin_word (Pinned epoch) = epoch + 1
+pin_word (Protected pinned epoch) = pinned + 1
+
+-- what stands in a reader place of the pass
+abbrev pub reader_holds : Reading → ℕ → ℕ
+reader_holds r place = if place == pin_place r.places then pin_word r.side.pin else 0
+
+-- a pass that pinned e may meet the epochs from e on; one that is protected with g, only g and g + 1
+abbrev pub Guards : Pin → ℕ → Type 0
+Guards Idle now = Unit {0}
+Guards (Pinned epoch) now = epoch ≤ now
+Guards (Protected pinned epoch) now = (pinned ≤ epoch) × (epoch ≤ now) × (now ≤ epoch + 1)
+
+-- a pass that isn't protected, or one whose protecting epoch is this or later
+abbrev pub NotBefore : ℕ → Pin → Type 0
+NotBefore epoch Idle = Unit {0}
+NotBefore epoch (Pinned _) = Unit {0}
+NotBefore epoch (Protected pinned protecting) = epoch ≤ protecting
+
+-- what the part says of one seat
+pub record FitsEpochs (now : ℕ) (reader : ℕ → ℕ) (r : Reading) : Type 0 where
+  pub loaded : r.side.loaded ≤ now
+  pub known : r.side.known ≤ now
+  pub guards : Guards r.side.pin now
+  -- each of its reader words is as it left it
+  pub kept : (place : ℕ) → 1 ≤ occurs place r.places → reader place ≡ reader_holds r place
+  -- only who owns a reader place is pinned
+  pub pinned : length r.places ≡ 0 → r.side.pin ≡ Idle
+
+-- the last epoch is 2^62; no seat that a scan passed by is protected from before the epoch that was loaded for it
+pub record Epochs (now : ℕ) (reader : ℕ → ℕ) (readings : List Reading) : Type 0 where
+  pub from : 2 ≤ now
+  pub most : now ≤ 2 ^ 62
+  pub each : (j : ℕ) (r : Reading) → get_elem? readings j ≡ some r → FitsEpochs now reader r
+  pub scans : (i j : ℕ) (r q : Reading) → get_elem? readings i ≡ some r → get_elem? readings j ≡ some q →
+      Contains r.side.scanned (pin_place q.places) → NotBefore r.side.loaded q.side.pin
