@@ -1,0 +1,4 @@
+mod EpochLemmas
+mod PrefixLemmas
+mod SeatLemmas
+mod SumLemmas

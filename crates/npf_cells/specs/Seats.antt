@@ -1,12 +1,12 @@
 -- The part of the rule on seats: which numbers exist, whose the entries of each are, and which reader places each seat owns.
-use Rattle.std.specs.Prelude.{◌≡◌, ◌≢◌, ◌⊎◌, ℕ, ◌≤◌, Bool, true, false, List, ◌∷◌, ◌++◌, [], length, Contains, if◌then◌else◌, nat_lt}
+use Rattle.std.specs.Prelude.{◌≡◌, ◌≢◌, ◌⊎◌, ℕ, ◌≤◌, ◌<◌, true, false, List, ◌++◌, [], length, Contains, sum_by}
 use mathlib.Core.Option.{some}
 use lib.ListN.{get_elem?}
 use Rattle.npf_core.specs.declared.entry.Entry.{Entry}
 use Rattle.npf_core.specs.History.{IsPrefix, by}
 use Rattle.npf_connections.specs.Pass.{all_places}
 use Rattle.npf_cells.specs.declared.views.SeatSide.{SeatSide}
-use Rattle.npf_cells.specs.Sums.{sum_by, occurs, one_where}
+use Rattle.npf_cells.specs.Sums.{occurs}
 
 -- the seat of this number owns no reader place: it was joined into another
 pub record IsSpentSeat {S A R : Type 0} (sides : List (SeatSide S A R)) (n : ℕ) : Type 0 where
@@ -47,9 +47,17 @@ pub record HasSeat {S A R : Type 0} (sides : List (SeatSide S A R)) (n : ℕ) : 
   pub place : 1 ≤ length side.readers
   pub answers : AnswersFor seat side n
 
+-- how many seats own a reader place, and how many places they own in all
+abbrev pub owners : {S A R : Type 0} → ℕ → List (SeatSide S A R) → ℕ
+owners reader sides = sum_by (λ v. occurs reader v.readers) sides
+
+abbrev pub places_owned : {S A R : Type 0} → List (SeatSide S A R) → ℕ
+places_owned sides = sum_by (λ v. length v.readers) sides
+
 -- each seat fits, each reader place has one owner, and each number with entries has a seat that answers for it
 pub record Seats {S A R : Type 0} (slots : ℕ) (log : List (Entry S A R)) (sides : List (SeatSide S A R)) : Type 0 where
   pub each : (j : ℕ) (v : SeatSide S A R) → get_elem? sides j ≡ some v → FitsSeats slots sides log j v
-  pub owned : (reader : ℕ) → sum_by (λ (v : SeatSide S A R). occurs reader v.readers) sides ≡ one_where (nat_lt reader all_places)
-  pub total : sum_by (λ (v : SeatSide S A R). length v.readers) sides ≡ all_places
+  pub owned : (reader : ℕ) → reader < all_places → owners reader sides ≡ 1
+  pub beyond : (reader : ℕ) → all_places ≤ reader → owners reader sides ≡ 0
+  pub total : places_owned sides ≡ all_places
   pub known : (n : ℕ) → (by n log ≡ []) ⊎ HasSeat sides n
