@@ -12,7 +12,7 @@ use Rattle.npf_cells.specs.declared.views.Pin.TheVariants.{Idle, Pinned, Protect
 use Rattle.npf_cells.specs.Cells.{idle_side}
 use Rattle.npf_cells.specs.Epochs.{Reading, pin_place, pin_word, reader_holds, Guards, NotBefore, FitsEpochs, Epochs}
 use Rattle.npf_cells.specs.Sums.{occurs}
-use Rattle.npf_cells.proofs.SeatLemmas.{none_listed}
+use Rattle.npf_cells.proofs.PrefixLemmas.{none_listed}
 
 nothing_either : (b : Bool) (n : ℕ) → n ≡ 0 → cond b n 0 ≡ 0
 nothing_either true n e = e

@@ -1,4 +1,7 @@
 mod EpochLemmas
+mod Frames
+mod KindLemmas
+mod MoveLemmas
 mod PrefixLemmas
 mod SeatLemmas
 mod SumLemmas

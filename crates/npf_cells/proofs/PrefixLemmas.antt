@@ -1,10 +1,21 @@
 -- Histories that begin with one another.
-use Rattle.std.proofs.Common.{◌≡◌, ◌⊎◌, ℕ, List, [], ◌∷◌, ◌++◌, refl, sym, ap, ◌∙◌, ⊎_elim, inl, inr, append_assoc, append-nil}
+use Rattle.std.proofs.Common.{◌≡◌, ◌⊎◌, ℕ, Bool, true, false, cond, arith, ◌==◌, List, [], ◌∷◌, ◌++◌, refl, sym, ap, ◌∙◌, ⊎_elim, inl, inr, append_assoc, append-nil}
 use Rattle.std.specs.List.{Contains}
+use Rattle.std.proofs.lemmas.Bool.Decides.{Decides-eqb}
 use Rattle.std.proofs.lemmas.List.{append_cancel_left}
+use Rattle.std.proofs.lemmas.List.Elements.{Contains-append_cases, Contains-push_cases}
 use Rattle.npf_core.specs.declared.entry.Entry.{Entry}
 use Rattle.npf_core.specs.History.{IsPrefix, by}
 use Rattle.npf_core.proofs.HistoryLemmas.{IsPrefix-self, by-append}
+
+pub none_listed : {X : Type 0} (x : X) → Contains [] x → ⊥
+none_listed x c = let below = c.1 in omega (arith, below)
+
+pub cons_cases : {X : Type 0} (x y : X) (xs : List X) → Contains (x ∷ xs) y → (x ≡ y) ⊎ Contains xs y
+cons_cases x y xs c = ⊎_elim
+    (λ (d : Contains (x ∷ []) y). ⊎_elim (λ (n : Contains [] y). absurd (none_listed y n)) (λ (e : x ≡ y). inl e) (Contains-push_cases [] x y d))
+    (λ (d : Contains xs y). inr d)
+    (Contains-append_cases (x ∷ []) xs y c)
 
 pub prefix_of_none : {E : Type 0} (xs : List E) → IsPrefix [] xs
 prefix_of_none xs = record { rest = xs; goes_on = refl }
@@ -61,3 +72,15 @@ longer_of seen told log p q = ⊎_elim
     (λ (h : IsPrefix seen told). record { history = told; longer = inr refl; mine = h; theirs = IsPrefix-self told; within = q })
     (λ (h : IsPrefix told seen). record { history = seen; longer = inl refl; mine = IsPrefix-self seen; theirs = h; within = p })
     (comparable seen told log p q)
+
+-- where a number has no entry, no entry has the number
+pub seen_entry : {S A R : Type 0} (xs : List (Entry S A R)) (e : Entry S A R) → by e.seat xs ≡ [] → Contains xs e → ⊥
+seen_entry [] e none c = none_listed e c
+seen_entry {S} {A} {R} (x ∷ xs) e none c = by_test (λ n d. seen_entry xs e n d) (x.seat == e.seat) refl none
+  where
+    by_test : (by e.seat xs ≡ [] → Contains xs e → ⊥) → (test : Bool) → (x.seat == e.seat) ≡ test → cond test (x ∷ by e.seat xs) (by e.seat xs) ≡ [] → ⊥
+    by_test rest true is none = cc
+    by_test rest false is none = ⊎_elim
+        (λ (same : x ≡ e). let one : (x.seat == e.seat) ≡ true = (Decides-eqb x.seat e.seat).1 (ap (λ (y : Entry S A R). y.seat) same) in cc)
+        (λ (d : Contains xs e). rest none d)
+        (cons_cases x e xs c)

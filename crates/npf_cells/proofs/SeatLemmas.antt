@@ -15,11 +15,8 @@ use Rattle.npf_cells.specs.declared.views.SeatSide.{SeatSide}
 use Rattle.npf_cells.specs.Moves.{givers_seat, given_seat, taking_seat, spent_seat}
 use Rattle.npf_cells.specs.Seats.{IsSpentSeat, IsTakenIn, FitsSeats, AnswersFor, HasSeat, Seats, owners, places_owned}
 use Rattle.npf_cells.specs.Sums.{occurs}
-use Rattle.npf_cells.proofs.PrefixLemmas.{prefix_of_none, none_in_prefix, between_same, Longer, longer_of}
+use Rattle.npf_cells.proofs.PrefixLemmas.{none_listed, cons_cases, prefix_of_none, none_in_prefix, between_same, Longer, longer_of}
 use Rattle.npf_cells.proofs.SumLemmas.{sum-set, one_of_sum, two_of_sum, set_there, one_there, there_within, there_pushed}
-
-pub none_listed : {X : Type 0} (x : X) → Contains [] x → ⊥
-none_listed x c = let below = c.1 in omega (arith, below)
 
 pub cases_lt : (a b : ℕ) → (a < b) ⊎ (b ≤ a)
 cases_lt a zero = inr (omega arith)
@@ -174,12 +171,9 @@ module _ {S A R : Type 0} (slots : ℕ) (log : List (Entry S A R)) where
 
     not_mine : (n : ℕ) → Contains (v.number ∷ v.joined) n → n ≢ length first
     not_mine n c = ⊎_elim
-        (λ (d : Contains (v.number ∷ []) n). ⊎_elim
-        (λ none. absurd (none_listed n none))
         (λ (e : v.number ≡ n). λ h. let below = there_within sides id v at in absurd (omega (arith, below, h, e, (fits.lives lives).number, count)))
-        (Contains-push_cases [] v.number n d))
         (λ (d : Contains v.joined n). spent_within n (fits.joined n d).spent)
-        (Contains-append_cases (v.number ∷ []) v.joined n c)
+        (cons_cases v.number n v.joined c)
 
     right_fits : FitsSeats slots after log (length first) right
     right_fits = record {
@@ -292,15 +286,12 @@ module _ {S A R : Type 0} (slots : ℕ) (log : List (Entry S A R)) where
 
     theirs_listed : (n : ℕ) → Contains (w.number ∷ w.joined) n → IsTakenIn merged log w.history n
     theirs_listed n c = ⊎_elim
-        (λ (d : Contains (w.number ∷ []) n). ⊎_elim
-        (λ none. absurd (none_listed n none))
         (λ (e : w.number ≡ n).
         let seated = theirs.lives w-lives in
         let same : other ≡ n = sym seated.number ∙ e in
         subst (λ i. IsTakenIn merged log w.history i) same (record { same = seated.own; spent = now_spent }))
-        (Contains-push_cases [] w.number n d))
         (λ (d : Contains w.joined n). record { same = (theirs.joined n d).same; spent = spent_on n (theirs.joined n d).spent })
-        (Contains-append_cases (w.number ∷ []) w.joined n c)
+        (cons_cases w.number n w.joined c)
 
     both_fits : FitsSeats slots merged log id both
     both_fits = record {

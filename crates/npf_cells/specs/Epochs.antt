@@ -1,7 +1,8 @@
 -- The part of the rule on epochs: what a protected pass keeps the epoch from, and what a scan of the readers shows.
-use Rattle.std.specs.Prelude.{◌≡◌, ◌⊎◌, ℕ, ◌+◌, ◌^◌, ◌≤◌, ◌==◌, Bool, true, false, List, [], ◌∷◌, length, Contains, slice_index, if◌then◌else◌, max}
+use Rattle.std.specs.Prelude.{◌≡◌, ℕ, ◌+◌, ◌^◌, ◌≤◌, ◌<◌, ◌==◌, List, length, Contains, slice_index, if◌then◌else◌}
 use mathlib.Core.Option.{some}
 use lib.ListN.{get_elem?}
+use Rattle.npf_connections.specs.Pass.{all_places}
 use Rattle.npf_cells.specs.declared.views.EpochSide.{EpochSide}
 use Rattle.npf_cells.specs.declared.views.Pin.{Pin}
 use Rattle.npf_cells.specs.declared.views.Pin.TheVariants.{Idle, Pinned, Protected}
@@ -37,6 +38,10 @@ abbrev pub NotBefore : ℕ → Pin → Type 0
 NotBefore epoch Idle = Unit {0}
 NotBefore epoch (Pinned _) = Unit {0}
 NotBefore epoch (Protected pinned protecting) = epoch ≤ protecting
+
+-- each reader place was passed by since the epoch was loaded
+abbrev pub HasScannedAll : EpochSide → Type 0
+HasScannedAll side = (reader : ℕ) → reader < all_places → Contains side.scanned reader
 
 -- what the part says of one seat
 pub record FitsEpochs (now : ℕ) (reader : ℕ → ℕ) (r : Reading) : Type 0 where
