@@ -1,7 +1,9 @@
 mod EpochLemmas
 mod Frames
+mod KeepLemmas
 mod KindLemmas
 mod MoveLemmas
+mod OpenLemmas
 mod PrefixLemmas
 mod SeatLemmas
 mod SumLemmas

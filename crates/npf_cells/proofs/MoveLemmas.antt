@@ -62,7 +62,7 @@ module _ {S A R F : Type 0} (m : Meaning S A R) (layout : Layout) where
         keeps,
         tt,
         seats_step m layout s i id me.1 v (record v { seats = record v.seats { number = id; lives = true; others = [] } }) kept at refl
-        (seats-born layout.slots kept.log (map seat_side s.views) id v.seats kept.seats there lives place),
+            (seats-born layout.slots kept.log (map seat_side s.views) id v.seats kept.seats there lives place),
         record {
           number = id;
           is = refl;

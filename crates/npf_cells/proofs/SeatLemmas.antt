@@ -106,12 +106,12 @@ module _ {S A R : Type 0} (slots : ℕ) (log : List (Entry S A R)) where
   own-set : (sides : List (SeatSide S A R)) (j : ℕ) (v w : SeatSide S A R) → get_elem? sides j ≡ some v → w.readers ≡ v.readers → OwnSame sides (set sides j w)
   own-set sides j v w e same = (
     (λ reader.
-    let more = sum-set (λ (u : SeatSide S A R). occurs reader u.readers) sides j v w e in
-    let one = ap (occurs reader) same in
-    omega (arith, more, one)),
+        let more = sum-set (λ (u : SeatSide S A R). occurs reader u.readers) sides j v w e in
+        let one = ap (occurs reader) same in
+        omega (arith, more, one)),
     (let more = sum-set (λ (u : SeatSide S A R). length u.readers) sides j v w e in
-    let one = ap (length {A = ℕ}) same in
-    omega (arith, more, one)),
+        let one = ap (length {A = ℕ}) same in
+        omega (arith, more, one)),
   )
 
   module _ (sides : List (SeatSide S A R)) (id : ℕ) (v : SeatSide S A R) (kept : Seats slots log sides) (at : get_elem? sides id ≡ some v)

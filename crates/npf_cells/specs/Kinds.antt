@@ -42,6 +42,11 @@ scanning side reader found = record side { scanned = if passes_by side found the
 abbrev pub advancing : EpochSide → ℕ → EpochSide
 advancing side found = record side { met = found; known = max side.known (if found == side.loaded then found + 1 else found) }
 
+-- the pass loaded this epoch last
+pub record HasLoaded (side : EpochSide) (epoch : ℕ) : Type 0 where
+  pub last : side.loaded ≡ epoch
+  pub some : 1 ≤ epoch
+
 -- what a step on the epoch tells of the number that it found: an epoch of the table, not before what the pass knows, and within
 -- what it protects
 pub record IsMet (side : EpochSide) (found : ℕ) : Type 0 where

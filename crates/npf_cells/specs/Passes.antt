@@ -4,6 +4,7 @@ use Rattle.atomic_table.specs.Seated.{TableId}
 use Rattle.atomic_table.specs.Table.{Me}
 use Rattle.npf_core.specs.declared.entry.Entry.{Entry}
 use Rattle.npf_connections.specs.Pass.{Pass, all_places}
+use Rattle.npf_connections.specs.Worn.{last_epoch}
 use Rattle.npf_cells.specs.declared.layout.Layout.{Layout}
 use Rattle.npf_cells.specs.declared.views.CellView.{CellView}
 use Rattle.npf_cells.specs.declared.views.Pin.{Pin}
@@ -42,3 +43,4 @@ pub record IsPassOf {S A R F : Type 0} (layout : Layout) (table seat : TableId) 
   pub owns : readers ≡ me.0.seats.readers
   pub place : 1 ≤ length me.0.seats.readers
   pub most : length me.0.seats.readers ≤ all_places
+  pub epoch : me.0.epochs.loaded ≤ last_epoch

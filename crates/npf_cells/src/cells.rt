@@ -1,5 +1,13 @@
+ghost use Rattle.std.specs.Prelude.{◌≡◌, ◌≤◌, ℕ, IfOk, length, slice_index};
+ghost use Rattle.npf_connections.specs.Pass.{all_places};
+ghost use Rattle.npf_cells.specs.Layout.{word_count};
+ghost use Rattle.npf_cells.specs.Sums.{numbers_below};
+
 use crate::hash::KeyHash;
-use crate::layout::{EPOCH, FIRST_EPOCH, Layout, READERS};
+use crate::kinds::{
+    AdvancesEpoch, LoadsEpoch, PinsReader, ProtectsReader, ScansReader, UnpinsReader,
+};
+use crate::layout::{EPOCH, FIRST_EPOCH, IDLE, Layout, READERS, reader_place};
 use crate::passing::{GetsBorn, Gives, Reads, TakesIn};
 use crate::rule::CellsRule;
 use crate::views::CellView;
@@ -32,11 +40,40 @@ pub struct CellPass<L: Law> {
 }
 
 impl<L: Law, H: KeyHash> Cells<L, H> {
-    ghost use Rattle.std.specs.Prelude.{◌≡◌, ◌≤◌, IfOk};
+    ghost use Rattle.std.specs.Prelude.{◌≡◌, ◌≤◌, ◌<◌, ◌^◌, ◌↔◌, ℕ, true, IfOk};
     ghost use Rattle.npf_connections.specs.Joining.{IsSplit, IsJoined};
-    ghost use Rattle.npf_connections.specs.Pass.{IsPass, IsFirstPass};
-    ghost use Rattle.npf_cells.specs.declared.views.Pin.TheVariants.{Idle};
+    ghost use Rattle.npf_connections.specs.Pass.{IsPass, IsFirstPass, all_places};
+    ghost use Rattle.npf_connections.specs.Worn.{last_epoch};
+    ghost use Rattle.npf_cells.specs.declared.views.Pin.TheVariants.{Idle, Pinned};
+    ghost use Rattle.npf_cells.specs.Epochs.{HasScannedAll};
+    ghost use Rattle.npf_cells.specs.Kinds.{HasLoaded, IsMet, with_epochs, loading, pinning, protecting, unpinning, scanning, advancing};
     ghost use Rattle.npf_cells.specs.Passes.{IsPassOf, cell_pass};
+
+    /// A table of so many slots and nodes, and its first pass. All the memory that it ever has is taken here.
+    pub fn new(
+        alloc: Global,
+        slots: u32,
+        nodes: u32,
+    ) -> Result<(Cells<L, H>, CellPass<L>), NoMemory>
+        ensures own { IfOk result (λ made. IsPassOf made.0.table.shared.key made.0.table.shared.table_id made.1.seat.table_id made.1.readers.items made.1.seat.me) }
+        ensures first { IfOk result (λ made. IsFirstPass slots (cell_pass made.1.seat.me.0)) }
+        ensures idle { IfOk result (λ made. made.1.seat.me.0.epochs.pin ≡ Idle) }
+    {
+        let layout = Layout { slots, nodes };
+        let words = first_words(alloc, layout)?;
+        let homes = vacant_homes::<L::State>(alloc, slots)?;
+        match Table::new(alloc, words.as_slice(), homes, &layout) {
+            Ok((table, seat)) => {
+                let cells = Cells {
+                    table,
+                    hash: PhantomData,
+                };
+                let readers = all_readers();
+                Ok((cells, CellPass { seat, readers }))
+            }
+            Err(Refused { .. }) => Err(NoMemory),
+        }
+    }
 
     /// A pass gives up one of its reader places to a new one, which has seen what it has.
     pub fn split(&self, pass: &mut CellPass<L>) -> CellPass<L>
@@ -46,6 +83,8 @@ impl<L: Law, H: KeyHash> Cells<L, H> {
         ensures own { IsPassOf self.now.table.shared.key self.now.table.shared.table_id pass.new.seat.table_id pass.new.readers.items pass.new.seat.me }
         ensures given { IsPassOf self.now.table.shared.key self.now.table.shared.table_id result.seat.table_id result.readers.items result.seat.me }
         ensures splits { IsSplit (cell_pass pass.old.seat.me.0) (cell_pass pass.new.seat.me.0) (cell_pass result.seat.me.0) }
+        ensures given_idle { result.seat.me.0.epochs.pin ≡ Idle }
+        ensures idle { pass.new.seat.me.0.epochs.pin ≡ Idle }
         ensures given_legal { IsPass L.meaning (cell_pass result.seat.me.0) }
     {
         let mut readers = ArrayVec::new();
@@ -56,4 +95,133 @@ impl<L: Law, H: KeyHash> Cells<L, H> {
         self.table.shared.load::<GetsBorn<L>>(&mut seat, EPOCH);
         CellPass { seat, readers }
     }
+
+    /// A pass takes another in, with its reader places, and sees what either has seen.
+    pub fn join(&self, pass: &mut CellPass<L>, other: CellPass<L>)
+        requires own { IsPassOf self.now.table.shared.key self.now.table.shared.table_id pass.old.seat.table_id pass.old.readers.items pass.old.seat.me }
+        requires other_own { IsPassOf self.now.table.shared.key self.now.table.shared.table_id other.seat.table_id other.readers.items other.seat.me }
+        requires out { pass.old.seat.me.0.epochs.pin ≡ Idle }
+        requires other_out { other.seat.me.0.epochs.pin ≡ Idle }
+        ensures own { IsPassOf self.now.table.shared.key self.now.table.shared.table_id pass.new.seat.table_id pass.new.readers.items pass.new.seat.me }
+        ensures idle { pass.new.seat.me.0.epochs.pin ≡ Idle }
+        ensures joins { IsJoined (cell_pass pass.old.seat.me.0) (cell_pass other.seat.me.0) (cell_pass pass.new.seat.me.0) }
+        ensures legal { IsPass L.meaning (cell_pass pass.new.seat.me.0) }
+    {
+        let CellPass { seat, readers } = other;
+        self.table.shared.join_seat::<TakesIn>(&mut pass.seat, seat);
+        self.table.shared.load::<Reads<L>>(&mut pass.seat, EPOCH);
+        let taken = pass.readers.try_extend_from_slice(readers.as_slice());
+        prove!(taken.is_ok());
+    }
+
+    /// Loads the epoch, and begins a new scan of the readers.
+    pub fn load_epoch(&self, pass: &mut CellPass<L>) -> u64
+        requires own { IsPassOf self.now.table.shared.key self.now.table.shared.table_id pass.old.seat.table_id pass.old.readers.items pass.old.seat.me }
+        ensures own { IsPassOf self.now.table.shared.key self.now.table.shared.table_id pass.new.seat.table_id pass.new.readers.items pass.new.seat.me }
+        ensures met { IsMet pass.old.seat.me.0.epochs result }
+        ensures next { pass.new.seat.me ≡ with_epochs pass.old.seat.me (loading pass.old.seat.me.0.epochs result) }
+    {
+        self.table.shared.load::<LoadsEpoch>(&mut pass.seat, EPOCH)
+    }
+
+    /// Pins the epoch that was loaded last. What is protected is fixed only by `protect`.
+    pub fn pin(&self, pass: &mut CellPass<L>, epoch: u64)
+        requires own { IsPassOf self.now.table.shared.key self.now.table.shared.table_id pass.old.seat.table_id pass.old.readers.items pass.old.seat.me }
+        requires idle { pass.old.seat.me.0.epochs.pin ≡ Idle }
+        requires loaded { HasLoaded pass.old.seat.me.0.epochs epoch }
+        ensures own { IsPassOf self.now.table.shared.key self.now.table.shared.table_id pass.new.seat.table_id pass.new.readers.items pass.new.seat.me }
+        ensures next { pass.new.seat.me ≡ with_epochs pass.old.seat.me (pinning pass.old.seat.me.0.epochs epoch) }
+    {
+        let reader = pass.readers[0];
+        self.table
+            .shared
+            .store::<PinsReader>(&mut pass.seat, reader_place(reader), epoch + 1);
+    }
+
+    /// Loads the epoch again: until `unpin` it is at most one more than the answer.
+    pub fn protect(&self, pass: &mut CellPass<L>) -> u64
+        requires own { IsPassOf self.now.table.shared.key self.now.table.shared.table_id pass.old.seat.table_id pass.old.readers.items pass.old.seat.me }
+        requires pinned { (epoch : ℕ) × (pass.old.seat.me.0.epochs.pin ≡ Pinned epoch) }
+        ensures own { IsPassOf self.now.table.shared.key self.now.table.shared.table_id pass.new.seat.table_id pass.new.readers.items pass.new.seat.me }
+        ensures met { IsMet pass.old.seat.me.0.epochs result }
+        ensures next { pass.new.seat.me ≡ with_epochs pass.old.seat.me (protecting pass.old.seat.me.0.epochs result) }
+    {
+        self.table
+            .shared
+            .load::<ProtectsReader>(&mut pass.seat, EPOCH)
+    }
+
+    /// Ends what was pinned.
+    pub fn unpin(&self, pass: &mut CellPass<L>)
+        requires own { IsPassOf self.now.table.shared.key self.now.table.shared.table_id pass.old.seat.table_id pass.old.readers.items pass.old.seat.me }
+        requires pinned { ¬ (pass.old.seat.me.0.epochs.pin ≡ Idle) }
+        ensures own { IsPassOf self.now.table.shared.key self.now.table.shared.table_id pass.new.seat.table_id pass.new.readers.items pass.new.seat.me }
+        ensures next { pass.new.seat.me ≡ with_epochs pass.old.seat.me (unpinning pass.old.seat.me.0.epochs) }
+    {
+        let reader = pass.readers[0];
+        self.table
+            .shared
+            .store::<UnpinsReader>(&mut pass.seat, reader_place(reader), IDLE);
+    }
+
+    /// Loads a reader word: 0 where it is idle, otherwise the pinned epoch and one.
+    pub fn scan_reader(&self, pass: &mut CellPass<L>, reader: u32) -> u64
+        requires own { IsPassOf self.now.table.shared.key self.now.table.shared.table_id pass.old.seat.table_id pass.old.readers.items pass.old.seat.me }
+        requires reader { reader < all_places }
+        ensures own { IsPassOf self.now.table.shared.key self.now.table.shared.table_id pass.new.seat.table_id pass.new.readers.items pass.new.seat.me }
+        ensures next { pass.new.seat.me ≡ with_epochs pass.old.seat.me (scanning pass.old.seat.me.0.epochs reader result) }
+    {
+        self.table
+            .shared
+            .load::<ScansReader>(&mut pass.seat, reader_place(reader))
+    }
+
+    /// Raises the epoch by one, unless it is another by now. Answers whether it did.
+    pub fn advance(&self, pass: &mut CellPass<L>, epoch: u64) -> bool
+        requires own { IsPassOf self.now.table.shared.key self.now.table.shared.table_id pass.old.seat.table_id pass.old.readers.items pass.old.seat.me }
+        requires loaded { HasLoaded pass.old.seat.me.0.epochs epoch }
+        requires below { epoch < last_epoch }
+        requires scanned { HasScannedAll pass.old.seat.me.0.epochs }
+        ensures own { IsPassOf self.now.table.shared.key self.now.table.shared.table_id pass.new.seat.table_id pass.new.readers.items pass.new.seat.me }
+        ensures met { IsMet pass.old.seat.me.0.epochs pass.new.seat.me.0.epochs.met }
+        ensures next { pass.new.seat.me ≡ with_epochs pass.old.seat.me (advancing pass.old.seat.me.0.epochs pass.new.seat.me.0.epochs.met) }
+        ensures moved { (result ≡ true) ↔ (pass.new.seat.me.0.epochs.met ≡ epoch) }
+    {
+        let found = self
+            .table
+            .shared
+            .compare_exchange::<AdvancesEpoch>(&mut pass.seat, EPOCH, epoch, epoch + 1);
+        found == epoch
+    }
+}
+
+// The words of a new table: only the epoch isn't 0.
+fn first_words(alloc: Global, layout: Layout) -> Result<Vec<u64>, NoMemory>
+    ensures count { IfOk result (λ words. length words.items ≡ word_count layout) }
+    ensures epoch { IfOk result (λ words. slice_index words.items 0 ≡ 2) }
+    ensures idle { IfOk result (λ words. (i : ℕ) → 1 ≤ i → slice_index words.items i ≡ 0) }
+{
+    let mut words = vec![in alloc; 0; layout.words()]?;
+    words[EPOCH] = FIRST_EPOCH;
+    Ok(words)
+}
+
+// The slots of a new table.
+fn vacant_homes<S: Copy>(alloc: Global, slots: u32) -> Result<Vec<Option<(S, u64)>>, NoMemory> {
+    let mut homes = Vec::with_capacity(alloc, slots as usize)?;
+    for _ in 0..slots {
+        homes.push(None)?;
+    }
+    Ok(homes)
+}
+
+// Each reader place, in order.
+fn all_readers() -> ArrayVec<u32, 66>
+    ensures { result.items ≡ numbers_below all_places }
+{
+    let mut readers = ArrayVec::new();
+    for reader in 0..READERS {
+        readers.push(reader);
+    }
+    readers
 }

@@ -14,6 +14,9 @@ pub(crate) const EPOCH: usize = 0;
 /// The epoch of a new table.
 pub(crate) const FIRST_EPOCH: u64 = 2;
 
+/// A reader word that is idle.
+pub(crate) const IDLE: u64 = 0;
+
 /// How many reader places a table has.
 pub(crate) const READERS: u32 = 66;
 

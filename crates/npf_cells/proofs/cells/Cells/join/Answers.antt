@@ -1,0 +1,31 @@
+use Rattle.std.proofs.Common.{ap, sym, ◌∙◌, ◌+◌, refl, arith}
+use Rattle.npf_cells.proofs.MoveLemmas.{joins, reads, joined_so, joined_pass}
+use Rattle.npf_cells.proofs.cells.Cells.join.Goals as goal
+
+pub join_seat-requires : goal.join_seat-requires
+join_seat-requires g c =
+    let own = c.requires.own in
+    let other = c.requires.other_own in
+    (own.same, other.same, other.free, omega (arith, own.words),
+    joins g.L.Law.meaning c.args.self.now.table.shared.key _ c.args.pass.now.seat.me.0 _ c.args.other.seat.me.0 own.lives own.theirs c.requires.out own.place other.lives other.theirs c.requires.other_out)
+
+pub load-requires : goal.load-requires
+load-requires g c =
+    let own = c.requires.own in
+    let e = c.join_seat.ensures in
+    (e.0 ∙ own.same, omega (arith, own.words),
+    reads g.L.Law.meaning c.args.self.now.table.shared.key _ _ _ _ _ (ap (λ y. y.0.seats.lives) e.2 ∙ own.lives) ?)
+
+pub returns-clause-own : goal.returns-clause-own
+returns-clause-own g c = ?
+
+pub returns-clause-joins : goal.returns-clause-joins
+returns-clause-joins g c =
+    joined_so g.L.Law.meaning _ c.args.pass.now.seat.me.0 c.args.other.seat.me.0 _ _ _ (rw c.join_seat.ensures.2 at c.load.ensures.2) (c.requires.other_own.sized ∙ sym c.requires.own.sized)
+
+pub returns-clause-legal : goal.returns-clause-legal
+returns-clause-legal g c =
+    joined_pass g.L.Law.meaning _ c.args.pass.now.seat.me.0 c.args.other.seat.me.0 _ _ _ (rw c.join_seat.ensures.2 at c.load.ensures.2)
+
+pub returns-clause-idle : goal.returns-clause-idle
+returns-clause-idle g c = ?

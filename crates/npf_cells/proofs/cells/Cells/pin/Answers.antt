@@ -1,0 +1,12 @@
+use Rattle.std.proofs.Common.{ap, sym, ◌∙◌, ◌+◌, refl, arith}
+use Rattle.npf_cells.proofs.KeepLemmas.{may_pin, pass_on}
+use Rattle.npf_cells.proofs.cells.Cells.pin.Goals as goal
+
+pub store-requires : goal.store-requires
+store-requires g c = ?
+
+pub returns-clause-own : goal.returns-clause-own
+returns-clause-own g c = ?
+
+pub returns-clause-next : goal.returns-clause-next
+returns-clause-next g c = ?
