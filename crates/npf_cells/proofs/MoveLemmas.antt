@@ -1,10 +1,11 @@
 -- The base's moves keep the rule, and what they leave in the passes.
 use Rattle.std.proofs.Common.{◌≡◌, ◌≢◌, ◌⊎◌, ℕ, ◌+◌, ◌-◌, ◌≤◌, true, false, List, [], ◌∷◌, ◌++◌, map, set, length, take, drop, slice_index, refl, sym, ap, ◌∙◌, subst, ⊎_elim, inl, inr, arith, append-nil, length-append}
 use Rattle.std.specs.List.{Contains}
-use Rattle.std.proofs.lemmas.List.{length-drop, length-take-le, take-append-drop, append_cancel_left}
+use Rattle.std.proofs.lemmas.List.{length-drop, length-take-le, take-append-drop, append_cancel_left, get_or-take, get_or_append_left}
 use Rattle.std.proofs.lemmas.List.Elements.{Contains-append_left, Contains-append_right, Contains-push}
 use mathlib.Core.Option.{some}
 use lib.ListN.{get_elem?}
+use Rattle.atomic_table.specs.Seated.{TableId}
 use Rattle.atomic_table.specs.Table.{State, Me, Step, Allows, Splits, Joins, keeps}
 use Rattle.atomic_table.proofs.Lists.{at_map, set_else}
 use Rattle.npf_core.specs.declared.entry.Entry.{Entry}
@@ -17,15 +18,16 @@ use Rattle.npf_cells.specs.declared.layout.Layout.{Layout}
 use Rattle.npf_cells.specs.declared.views.CellView.{CellView}
 use Rattle.npf_cells.specs.declared.views.Pin.TheVariants.{Idle}
 use Rattle.npf_cells.specs.Cells.{seat_side, reading, IsCells}
-use Rattle.npf_cells.specs.Epochs.{Epochs}
+use Rattle.npf_cells.specs.Epochs.{Epochs, pin_place}
 use Rattle.npf_cells.specs.Layout.{epoch_word, reader_word}
 use Rattle.npf_cells.specs.Moves.{givers_seat, given_seat, gives_reader, given_view, taking_seat, spent_seat, takes_in, nothing_left, IsBorn, HasRead}
-use Rattle.npf_cells.specs.Passes.{is_pinned, cell_pass}
+use Rattle.npf_cells.specs.Passes.{is_pinned, cell_pass, IsPassOf}
 use Rattle.npf_cells.specs.Seats.{Seats}
 use Rattle.npf_cells.proofs.EpochLemmas.{epochs-split, epochs-join}
 use Rattle.npf_cells.proofs.Frames.{pushed_side, merged_side, framed, seats_step}
 use Rattle.npf_cells.proofs.PrefixLemmas.{none_listed, none_in_prefix, seen_entry}
-use Rattle.npf_cells.proofs.SeatLemmas.{unspent, seats-split, none_seen, seats-born, seats-join, long, mine_seen, told_seen, seats-read, only_seat, most_places}
+use Rattle.npf_cells.proofs.SeatLemmas.{unspent, seats-split, none_seen, seats-born, seats-join, long, mine_seen, told_seen, seats-read, only_seat, most_places, owned_within}
+use Rattle.npf_cells.proofs.SumLemmas.{first_occurs}
 
 module _ {S A R F : Type 0} (m : Meaning S A R) (layout : Layout) where
   -- a seat is split so
@@ -67,6 +69,7 @@ module _ {S A R F : Type 0} (m : Meaning S A R) (layout : Layout) where
           number = id;
           is = refl;
           apart = fits.others;
+          reader = owned_within layout.slots kept.log (map seat_side s.views) id (pin_place v.seats.readers) v.seats kept.seats there (first_occurs v.seats.readers place);
           unused = none_seen layout.slots kept.log (map seat_side s.views) id v.seats kept.seats there lives place;
           legal = Legal-prefix m v.seats.slots v.seats.history kept.log fits.seen (rw (fits.sized place) kept.connections.legal);
         },
@@ -173,6 +176,65 @@ given_pass m st v found given places born =
       idle = λ _. refl;
       alone = λ all. absurd (omega (arith, dropped, all));
     })
+
+-- the pass that gave a place up, the new one, and the one that took another in are passes of the table
+module _ {S A R F : Type 0} (m : Meaning S A R) (layout : Layout) (table seat : TableId) (readers : List ℕ) (me : Me F (CellView S A R)) (own : IsPassOf layout table seat readers me) where
+  pub giver_on : (seat' : TableId) (readers' : List ℕ) (next : Me F (CellView S A R)) → 2 ≤ length me.0.seats.readers → seat' ≡ seat → next ≡ (gives_reader me.0, me.1) →
+      readers' ≡ take (length readers - 1) readers → IsPassOf layout table seat' readers' next
+  giver_on seat' readers' next places same is left =
+      let kept : length (take (length me.0.seats.readers - 1) me.0.seats.readers) ≡ length me.0.seats.readers - 1 = length-take-le (length me.0.seats.readers - 1) me.0.seats.readers (omega arith) in
+      let first = get_or-take (length me.0.seats.readers - 1) me.0.seats.readers 0 0 (omega (arith, places)) in
+      rw is (record {
+        same = same ∙ own.same;
+        words = own.words;
+        free = own.free;
+        sized = own.sized;
+        lives = own.lives;
+        theirs = own.theirs;
+        owns = left ∙ ap (λ (xs : List ℕ). take (length xs - 1) xs) own.owns;
+        place = omega (arith, kept, places);
+        most = (let a = own.most in omega (arith, kept, a));
+        reader = (let a = own.reader in omega (arith, first, a));
+        epoch = own.epoch;
+      })
+
+  pub given_on : (st : Step F) (seat' : TableId) (readers' : List ℕ) (found : ℕ) (next : Me F (CellView S A R)) → 2 ≤ length me.0.seats.readers → seat' ≡ seat →
+      IsBorn m st (given_view me.0, []) found next → readers' ≡ drop (length readers - 1) readers → IsPassOf layout table seat' readers' next
+  given_on st seat' readers' found next places same born left =
+      let dropped : length (drop (length me.0.seats.readers - 1) me.0.seats.readers) ≡ 1 = (let d = length-drop (length me.0.seats.readers - 1) me.0.seats.readers in omega (arith, d, places)) in
+      rw born.is (record {
+        same = same ∙ own.same;
+        words = own.words;
+        free = refl;
+        sized = own.sized;
+        lives = refl;
+        theirs = refl;
+        owns = left ∙ ap (λ (xs : List ℕ). drop (length xs - 1) xs) own.owns;
+        place = omega (arith, dropped);
+        most = omega (arith, dropped);
+        reader = born.reader;
+        epoch = omega arith;
+      })
+
+  pub joined_on : (w : CellView S A R) (st : Step F) (seat' : TableId) (readers' : List ℕ) (found : ℕ) (next : Me F (CellView S A R)) → seat' ≡ seat →
+      HasRead m st (takes_in me.0 w, me.1) found next → readers' ≡ readers ++ w.seats.readers → IsPassOf layout table seat' readers' next
+  joined_on w st seat' readers' found next same read joined =
+      let has = length-append me.0.seats.readers w.seats.readers in
+      let some' = own.place in
+      let first = get_or_append_left me.0.seats.readers w.seats.readers 0 0 (omega (arith, some')) in
+      rw read.is (record {
+        same = same ∙ own.same;
+        words = own.words;
+        free = own.free;
+        sized = own.sized;
+        lives = own.lives;
+        theirs = refl;
+        owns = joined ∙ ap (λ (xs : List ℕ). xs ++ w.seats.readers) own.owns;
+        place = omega (arith, has, some');
+        most = read.most;
+        reader = (let a = own.reader in omega (arith, first, a));
+        epoch = own.epoch;
+      })
 
 -- the last of the reader places is what is dropped
 pub last_dropped : (xs ys : List ℕ) → xs ≡ take (length xs - 1) xs ++ ys → ys ≡ drop (length xs - 1) xs

@@ -126,3 +126,6 @@ length-numbers_below (suc n) =
     let more = length-numbers_below n in
     let a = length-append (numbers_below n) (n ∷ []) in
     omega (arith, more, a)
+
+pub below_next : (n : ℕ) → numbers_below (n + 1) ≡ numbers_below n ++ n ∷ []
+below_next n = let on : n + 1 ≡ suc n = omega arith in ap numbers_below on

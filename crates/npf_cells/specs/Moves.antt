@@ -1,5 +1,5 @@
 -- How passes are split and joined, and what the step after it tells.
-use Rattle.std.specs.Prelude.{◌≡◌, ◌≢◌, ◌⊎◌, ℕ, ◌+◌, ◌-◌, ◌≤◌, true, false, List, [], ◌∷◌, ◌++◌, Contains, length, take, drop, max}
+use Rattle.std.specs.Prelude.{◌≡◌, ◌≢◌, ◌⊎◌, ℕ, ◌+◌, ◌-◌, ◌≤◌, ◌<◌, true, false, List, [], ◌∷◌, ◌++◌, Contains, length, take, drop, max}
 use Rattle.atomic_table.specs.Table.{Me, Step}
 use Rattle.npf_core.specs.declared.entry.Entry.{Entry}
 use Rattle.npf_core.specs.History.{Legal, IsPrefix, by}
@@ -8,6 +8,7 @@ use Rattle.npf_connections.specs.Pass.{IsOwn, all_places}
 use Rattle.npf_cells.specs.declared.views.CellView.{CellView}
 use Rattle.npf_cells.specs.declared.views.SeatSide.{SeatSide}
 use Rattle.npf_cells.specs.Cells.{idle_side}
+use Rattle.npf_cells.specs.Epochs.{pin_place}
 use Rattle.npf_cells.specs.Passes.{cell_pass}
 
 -- the last reader place is given up
@@ -66,6 +67,7 @@ pub record IsBorn {S A R F : Type 0} (m : Meaning S A R) (step : Step F) (me : M
   pub number : ℕ
   pub is : next ≡ (record me.0 { seats = record me.0.seats { number = number; lives = true; others = [] } }, me.1)
   pub apart : (n : ℕ) → Contains me.0.seats.others n → n ≢ number
+  pub reader : pin_place me.0.seats.readers < all_places
   pub unused : by number me.0.seats.history ≡ []
   pub legal : Legal m me.0.seats.slots me.0.seats.history
 

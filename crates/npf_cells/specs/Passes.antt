@@ -1,5 +1,5 @@
 -- What a pass of the table shows, and which passes belong to a table.
-use Rattle.std.specs.Prelude.{◌≡◌, ℕ, ◌≤◌, Bool, true, false, List, [], length}
+use Rattle.std.specs.Prelude.{◌≡◌, ℕ, ◌≤◌, ◌<◌, Bool, true, false, List, [], length}
 use Rattle.atomic_table.specs.Seated.{TableId}
 use Rattle.atomic_table.specs.Table.{Me}
 use Rattle.npf_core.specs.declared.entry.Entry.{Entry}
@@ -9,6 +9,7 @@ use Rattle.npf_cells.specs.declared.layout.Layout.{Layout}
 use Rattle.npf_cells.specs.declared.views.CellView.{CellView}
 use Rattle.npf_cells.specs.declared.views.Pin.{Pin}
 use Rattle.npf_cells.specs.declared.views.Pin.TheVariants.{Idle, Pinned, Protected}
+use Rattle.npf_cells.specs.Epochs.{pin_place}
 use Rattle.npf_cells.specs.Layout.{word_count}
 
 -- a pass is in a stay from its pin on
@@ -43,4 +44,5 @@ pub record IsPassOf {S A R F : Type 0} (layout : Layout) (table seat : TableId) 
   pub owns : readers ≡ me.0.seats.readers
   pub place : 1 ≤ length me.0.seats.readers
   pub most : length me.0.seats.readers ≤ all_places
+  pub reader : pin_place me.0.seats.readers < all_places
   pub epoch : me.0.epochs.loaded ≤ last_epoch

@@ -1,4 +1,4 @@
-ghost use Rattle.std.specs.Prelude.{◌≡◌, ◌≤◌, ℕ, IfOk, length, slice_index};
+ghost use Rattle.std.specs.Prelude.{◌≡◌, ◌≤◌, ◌-◌, ℕ, IfOk, length, slice_index, take, drop};
 ghost use Rattle.npf_connections.specs.Pass.{all_places};
 ghost use Rattle.npf_cells.specs.Layout.{word_count};
 ghost use Rattle.npf_cells.specs.Sums.{numbers_below};
@@ -87,10 +87,7 @@ impl<L: Law, H: KeyHash> Cells<L, H> {
         ensures idle { pass.new.seat.me.0.epochs.pin ≡ Idle }
         ensures given_legal { IsPass L.meaning (cell_pass result.seat.me.0) }
     {
-        let mut readers = ArrayVec::new();
-        if let Some(reader) = pass.readers.pop() {
-            readers.push(reader);
-        }
+        let readers = give_last(&mut pass.readers);
         let mut seat = self.table.shared.split_seat::<Gives>(&mut pass.seat);
         self.table.shared.load::<GetsBorn<L>>(&mut seat, EPOCH);
         CellPass { seat, readers }
@@ -132,10 +129,10 @@ impl<L: Law, H: KeyHash> Cells<L, H> {
         ensures own { IsPassOf self.now.table.shared.key self.now.table.shared.table_id pass.new.seat.table_id pass.new.readers.items pass.new.seat.me }
         ensures next { pass.new.seat.me ≡ with_epochs pass.old.seat.me (pinning pass.old.seat.me.0.epochs epoch) }
     {
-        let reader = pass.readers[0];
+        let place = reader_place(pass.readers[0]);
         self.table
             .shared
-            .store::<PinsReader>(&mut pass.seat, reader_place(reader), epoch + 1);
+            .store::<PinsReader>(&mut pass.seat, place, epoch + 1);
     }
 
     /// Loads the epoch again: until `unpin` it is at most one more than the answer.
@@ -224,4 +221,17 @@ fn all_readers() -> ArrayVec<u32, 66>
         readers.push(reader);
     }
     readers
+}
+
+// The last of the reader places is given up.
+fn give_last(readers: &mut ArrayVec<u32, 66>) -> ArrayVec<u32, 66>
+    requires { 1 ≤ length readers.old.items }
+    ensures left { readers.new.items ≡ take (length readers.old.items - 1) readers.old.items }
+    ensures given { result.items ≡ drop (length readers.old.items - 1) readers.old.items }
+{
+    let mut given = ArrayVec::new();
+    if let Some(reader) = readers.pop() {
+        given.push(reader);
+    }
+    given
 }

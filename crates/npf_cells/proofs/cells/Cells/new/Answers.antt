@@ -1,6 +1,15 @@
-use Rattle.std.proofs.Common.{ap, sym, ◌∙◌, ◌+◌, refl, arith}
+use Rattle.std.proofs.Common.{◌≡◌, ◌++◌, ◌≤◌, ap, sym, subst, ◌∙◌, ◌+◌, length, refl, length-append, arith}
 use Rattle.npf_cells.proofs.OpenLemmas.{opens}
 use Rattle.npf_cells.proofs.cells.Cells.new.Goals as goal
 
 pub new-requires : goal.new-requires
 new-requires g c = ?
+
+pub returns-clause-own : goal.returns-clause-own
+returns-clause-own g c = ?
+
+pub returns-clause-first : goal.returns-clause-first
+returns-clause-first g c = ?
+
+pub returns-clause-idle : goal.returns-clause-idle
+returns-clause-idle g c = ?
