@@ -218,5 +218,6 @@ pass_on layout table seat seat' readers me next side own same is epoch = rw is (
   owns = own.owns;
   place = own.place;
   most = own.most;
+  reader = own.reader;
   epoch = epoch;
 })

@@ -1,4 +1,4 @@
-ghost use Rattle.std.specs.Prelude.{◌≡◌, ◌≤◌, ◌-◌, ℕ, IfOk, length, slice_index, take, drop};
+ghost use Rattle.std.specs.Prelude.{◌≡◌, ◌≤◌, ◌+◌, ◌-◌, ◌++◌, ℕ, IfOk, length, slice_index, take, drop};
 ghost use Rattle.npf_connections.specs.Pass.{all_places};
 ghost use Rattle.npf_cells.specs.Layout.{word_count};
 ghost use Rattle.npf_cells.specs.Sums.{numbers_below};
@@ -107,8 +107,7 @@ impl<L: Law, H: KeyHash> Cells<L, H> {
         let CellPass { seat, readers } = other;
         self.table.shared.join_seat::<TakesIn>(&mut pass.seat, seat);
         self.table.shared.load::<Reads<L>>(&mut pass.seat, EPOCH);
-        let taken = pass.readers.try_extend_from_slice(readers.as_slice());
-        prove!(taken.is_ok());
+        add_all(&mut pass.readers, &readers);
     }
 
     /// Loads the epoch, and begins a new scan of the readers.
@@ -213,6 +212,7 @@ fn vacant_homes<S: Copy>(alloc: Global, slots: u32) -> Result<Vec<Option<(S, u64
 }
 
 // Each reader place, in order.
+#[tactic(auto, using(crate::proofs::SumLemmas::below_next))]
 fn all_readers() -> ArrayVec<u32, 66>
     ensures { result.items ≡ numbers_below all_places }
 {
@@ -234,4 +234,15 @@ fn give_last(readers: &mut ArrayVec<u32, 66>) -> ArrayVec<u32, 66>
         given.push(reader);
     }
     given
+}
+
+// Reader places are added behind the others.
+fn add_all(readers: &mut ArrayVec<u32, 66>, more: &ArrayVec<u32, 66>)
+    requires { length readers.old.items + length more.now.items ≤ 66 }
+    ensures { readers.new.items ≡ readers.old.items ++ more.now.items }
+{
+    match readers.try_extend_from_slice(more.as_slice()) {
+        Ok(()) => {}
+        Err(_) => {}
+    }
 }

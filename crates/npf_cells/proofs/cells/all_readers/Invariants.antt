@@ -3,4 +3,4 @@ use Rattle.npf_cells.specs.Sums.{numbers_below}
 use Rattle.npf_cells.proofs.cells.all_readers.Given as goal
 
 abbrev pub invariant-loop-reader : goal.invariant-loop-reader
-invariant-loop-reader g l = l.readers.items ≡ numbers_below l.reader
+invariant-loop-reader l = l.readers.items ≡ numbers_below l.reader

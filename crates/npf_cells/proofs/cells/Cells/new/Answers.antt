@@ -1,9 +1,9 @@
-use Rattle.std.proofs.Common.{◌≡◌, ◌++◌, ◌≤◌, ap, sym, subst, ◌∙◌, ◌+◌, length, refl, length-append, arith}
+use Rattle.std.proofs.Common.{refl}
 use Rattle.npf_cells.proofs.OpenLemmas.{opens}
 use Rattle.npf_cells.proofs.cells.Cells.new.Goals as goal
 
 pub new-requires : goal.new-requires
-new-requires g c = ?
+new-requires g c = opens g.L.Law.meaning _ _ _ c.in_ok-first_words.ensures.count c.in_ok-first_words.ensures.epoch c.in_ok-first_words.ensures.idle
 
 pub returns-clause-own : goal.returns-clause-own
 returns-clause-own g c = ?

@@ -6,8 +6,7 @@ use Rattle.npf_cells.proofs.cells.Cells.pin.Goals as goal
 pub store-requires : goal.store-requires
 store-requires g c =
     let own = c.requires.own in
-    let me = c.args.pass.now.seat.me in
-    rw (c.reader_place.ensures, c.deref.ensures.0, own.owns)
+    rw (c.reader_place-place.ensures, c.deref.ensures.0, own.owns)
     (own.same, omega (arith, own.words, own.reader), may_pin g.L.Law.meaning c.args.self.now.table.shared.key _ _ _ _ c.args.epoch c.args.pass.now.seat.me refl own.place c.requires.loaded.last)
 
 pub returns-clause-own : goal.returns-clause-own
