@@ -24,23 +24,32 @@ fn main(rt: HostRuntime) -> Result<(), Error> {
     let rounds = rounds(&rt)?;
     for count in [1u32, 10, 100, 1000, 4096] {
         let config = loaded(rt.alloc(), count)?;
-        for (name, matched) in [
-            ("first", Match::First),
-            ("last", Match::Last),
-            ("none", Match::Nowhere),
-        ] {
-            let records = records(rt.alloc(), matched)?;
-            let start = Instant::now(&rt)?;
-            let sum = walked(&config, &records, rounds.max(1));
-            let took = start.elapsed(&rt)?.as_nanos();
-            if rounds == 0 {
-                println!(rt; "{count} rules, {name}: {sum}")?;
-            } else {
-                let each = took / u128::from(rounds.max(1)) / 64;
-                println!(rt; "npf_ruleset: {count} rules, {name}: {each} ns a packet")?;
-            }
+        for matched in [Match::First, Match::Last, Match::Nowhere] {
+            measure(&rt, &config, count, matched, rounds)?;
         }
     }
+    Ok(())
+}
+
+// Says how long the walks took, or, where there are no rounds, which rules decide.
+fn measure(
+    rt: &HostRuntime,
+    config: &Config,
+    count: u32,
+    matched: Match,
+    rounds: u64,
+) -> Result<(), Error> {
+    let records = records(rt.alloc(), matched)?;
+    let name = matched.name();
+    let start = Instant::now(rt)?;
+    let sum = walked(config, &records, rounds.max(1));
+    let took = start.elapsed(rt)?.as_nanos();
+    if rounds == 0 {
+        println!(rt; "{count} rules, {name}: {sum}")?;
+        return Ok(());
+    }
+    let each = took / u128::from(rounds) / 64;
+    println!(rt; "npf_ruleset: {count} rules, {name}: {each} ns a packet")?;
     Ok(())
 }
 

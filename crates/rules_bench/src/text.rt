@@ -11,6 +11,17 @@ pub enum Match {
     Nowhere,
 }
 
+impl Match {
+    /// As the lines of the bench call it.
+    pub fn name(self) -> &'static str {
+        match self {
+            Match::First => "first",
+            Match::Last => "last",
+            Match::Nowhere => "none",
+        }
+    }
+}
+
 const PORTS: [u16; 8] = [22, 53, 80, 123, 161, 443, 5060, 8080];
 
 /// A draw follows from the one before it.
