@@ -1,5 +1,6 @@
 -- The flat rules of a configuration whose interfaces' numbers are set anew.
-use Rattle.std.proofs.Common.{◌≡◌, ℕ, List, [], ◌∷◌, ◌++◌, Option, Some, None, length, map, flat_map, option_and_then, slice_get, refl, sym, subst, ap, ◌∙◌}
+use Rattle.std.proofs.Common.{◌≡◌, ℕ, List, [], ◌∷◌, ◌++◌, ◌||◌, Option, Some, None, length, map, flat_map, option_and_then, slice_get, refl, sym, subst, ap, ◌∙◌}
+use Rattle.std.specs.List.{list_any}
 use Rattle.std.specs.Option.{option_map}
 use Rattle.std.proofs.lemmas.List.{length-map, map-append}
 use Rattle.std.proofs.lemmas.List.Concat.{flat_map-cons}
@@ -92,6 +93,11 @@ module _ (ifaces : List Iface) where
     rules_numbered [] (f ∷ fs) all = absurd all
     rules_numbered (p ∷ ps) [] all = absurd all
 
+  finals_stay : (rules : List PlacedRule) → list_any (λ p. p.rule.last) (map (numbered_placed ifaces) rules) ≡ list_any (λ p. p.rule.last) rules
+  unfolding numbered_placed
+  finals_stay [] = refl
+  finals_stay (p ∷ ps) = ap (λ b. p.rule.last || b) (finals_stay ps)
+
   groups_numbered : (groups : List Group) (flats : List FlatGroup) → AreRelated IsFlatGroup groups flats → AreRelated IsFlatGroup (map (numbered_group ifaces) groups) (map (numbered_flat_group ifaces) flats)
   groups_numbered [] [] all = tt
   groups_numbered (g ∷ gs) (f ∷ fs) all = (
@@ -103,6 +109,7 @@ module _ (ifaces : List Iface) where
         own = ap (option_map (numbered_on ifaces)) all.0.binding.own;
       };
       count = all.0.count ∙ sym (ap length (in_group g) ∙ length-map (rules_of g) (numbered_placed ifaces));
+      finals = all.0.finals ∙ sym (ap (list_any (λ p. p.rule.last)) (in_group g) ∙ finals_stay (rules_of g));
     },
     groups_numbered gs fs all.1,
   )

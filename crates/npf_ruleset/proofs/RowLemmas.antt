@@ -94,7 +94,7 @@ all_bits proto = let small : proto % 64 < 64 = omega arith in eq-eqb _ 1 (bit_at
 pub end_row : (ends : Ends) (row : EndRow) → IsHullOfPorts ends.ports row.ports → IsHullOfAddrs ends.addrs row.addrs → IsEndRowOf ends row
 end_row ends row ports addrs = λ tables addr port fits.
     let parts = and_parts (fits_addrs ends.addrs tables addr) (fits_ports ends.ports port) fits in
-    both_true (ports port parts.1) (addrs tables addr parts.0)
+    both_true (addrs tables addr parts.0) (ports port parts.1)
 
 pub row_of : (rule : Rule) (row : Row) → HasProtocols rule.protos row.protocols → row.v6 ≡ rule.v6 → IsEndRowOf rule.from row.from → IsEndRowOf rule.to row.to → IsRowOf rule row
 row_of rule row protocols v6 from to = λ tables facts describes.
@@ -106,5 +106,5 @@ row_of rule row protocols v6 from to = λ tables facts describes.
     let icmp_parts = and_parts (f && p && g) i from_parts.0 in
     let flag_parts = and_parts (f && p) g icmp_parts.0 in
     let parts = and_parts f p flag_parts.0 in
-    both_true (both_true (both_true (protocols facts.proto parts.1) (ap (λ v. fits_family v facts.src) v6 ∙ parts.0))
-    (from tables facts.src (source_of facts.l4) from_parts.1)) (to tables facts.dst (destination_of facts.l4) to_parts.1)
+    both_true (both_true (both_true (from tables facts.src (source_of facts.l4) from_parts.1) (to tables facts.dst (destination_of facts.l4) to_parts.1))
+    (protocols facts.proto parts.1)) (ap (λ v. fits_family v facts.src) v6 ∙ parts.0)

@@ -15,10 +15,11 @@ use Rattle.npf_ruleset.specs.declared.flat.FlatRule.{FlatRule}
 use Rattle.npf_ruleset.specs.declared.packet.Packet.{Packet}
 use Rattle.npf_ruleset.specs.Binding.{is_bound}
 use Rattle.npf_ruleset.specs.Configuration.{configuration}
-use Rattle.npf_ruleset.specs.Flat.{IsFlatGroup, IsFlatRule}
+use Rattle.npf_ruleset.specs.Flat.{IsFlatGroup, IsFlatRule, has_final}
 use Rattle.npf_ruleset.specs.Packet.{answer_in, flat_answer}
 use Rattle.npf_ruleset.specs.Tables.{entries}
 use Rattle.npf_ruleset.proofs.BindingLemmas.{bound_group}
+use Rattle.npf_ruleset.proofs.FinalLemmas.{finals_alike}
 use Rattle.npf_ruleset.proofs.PairLemmas.{AreRelated, drop_here, related_behind, related_front, related_len, related_of}
 use Rattle.npf_ruleset.proofs.MatchLemmas.{answer_alike}
 
@@ -68,6 +69,9 @@ module _ (config : Config) (packet : Packet) where
     behind : AreRelated (IsFlatRule config.model.groups) (all_rules (drop (suc index) config.model.groups)) (drop flat.count rules)
     behind = subst (λ k. AreRelated (IsFlatRule config.model.groups) (all_rules (drop (suc index) config.model.groups)) (drop k rules)) (sym stands.count)
         (related_behind (IsFlatRule config.model.groups) (rules_of here.0) (all_rules (drop (suc index) config.model.groups)) rules parts)
+
+    pub finals_fit : has_final (take flat.count rules) ≡ flat.has_final
+    finals_fit = finals_alike config.model.groups (rules_of here.0) (take flat.count rules) inside ∙ sym stands.finals
 
     module _ (bytes : AreBytes packet.ip.now) (seen : IsPacketOf packet.ip.now packet.facts.now) where
       -- the group's answer, or else that of those behind it

@@ -1,6 +1,6 @@
 -- Groups and rules laid out flat: what a flat rule and a flat group have of those that they stand for.
-use Rattle.std.specs.Prelude.{◌≡◌, ℕ, ◌≤◌, List, length, map, slice_get, Some}
-use Rattle.std.specs.List.{sum_by}
+use Rattle.std.specs.Prelude.{◌≡◌, ℕ, ◌≤◌, Bool, List, length, map, slice_get, Some}
+use Rattle.std.specs.List.{list_any, sum_by}
 use Rattle.npf_model.specs.declared.group.Group.{Group}
 use Rattle.npf_model.specs.declared.rule.Rule.{Rule}
 use Rattle.npf_model.specs.Verdict.{PlacedRule, all_rules, rules_of}
@@ -27,9 +27,14 @@ pub record IsFlatRule (groups : List Group) (placed : PlacedRule) (flat : FlatRu
   pub program : IsCompiled placed.rule flat.program
   pub weight : weight_of placed.rule ≤ 4096
 
+-- one of the rules is `final`
+abbrev pub has_final : List FlatRule → Bool
+has_final rules = list_any (λ rule. rule.last) rules
+
 pub record IsFlatGroup (group : Group) (flat : FlatGroup) : Type 0 where
   pub binding : IsBoundTo group.dir group.on flat.binding
   pub count : flat.count ≡ length (rules_of group)
+  pub finals : flat.has_final ≡ list_any (λ placed. placed.rule.last) (rules_of group)
 
 -- as many of the one as of the other, and each is related to what has its place
 pub record IsPairwise {X Y : Type 0} (Rel : X → Y → Type 0) (xs : List X) (ys : List Y) : Type 0 where

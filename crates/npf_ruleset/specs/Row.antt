@@ -32,14 +32,14 @@ has_protocol set proto = bit_at set.bits (proto % 64) == 1
 
 -- an end meets the hulls of its addresses and of its ports
 abbrev pub meets_end : EndRow → Addr → Option ℕ → Bool
-meets_end row addr port = fits_side_port row.ports port && in_hull row.addrs addr
+meets_end row addr port = in_hull row.addrs addr && fits_side_port row.ports port
 
 abbrev pub meets_row : Row → Facts → Bool
 meets_row row facts =
-    has_protocol row.protocols facts.proto
-    && fits_family row.v6 facts.src
-    && meets_end row.from facts.src (source_of facts.l4)
+    meets_end row.from facts.src (source_of facts.l4)
     && meets_end row.to facts.dst (destination_of facts.l4)
+    && has_protocol row.protocols facts.proto
+    && fits_family row.v6 facts.src
 
 -- a packet that the rule's packet part describes meets the row
 abbrev pub IsRowOf : Rule → Row → Type 0

@@ -15,9 +15,11 @@ pub(crate) struct FlatRule {
     pub(crate) place: Place,
 }
 
-/// A group: what it is bound to, and how many rules it has, with those of its rulesets.
+/// A group: what it is bound to, how many rules it has, with those of its rulesets, and whether one of
+/// them is `final`.
 #[derive(Clone, Copy, Drop)]
 pub(crate) struct FlatGroup {
     pub(crate) binding: Binding,
     pub(crate) count: usize,
+    pub(crate) has_final: bool,
 }

@@ -1,7 +1,7 @@
 // The rules of a model, laid out one after another.
 ghost use Rattle.std.specs.Prelude.{◌≡◌, ◌≤◌, ◌<◌, ◌+◌, All, IfOk, IfErr, OnOk, length, slice_get};
 ghost use Rattle.npf_model.specs.Verdict.{all_rules};
-ghost use Rattle.npf_ruleset.specs.Flat.{IsFlat};
+ghost use Rattle.npf_ruleset.specs.Flat.{IsFlat, has_final};
 ghost use Rattle.npf_ruleset.specs.Layout.{AddsRules, IsFlatAt, RefusesAt, Stops, StopsFor, fault_there, rules_in_group};
 ghost use Rattle.npf_ruleset.specs.Place.{IsPlaceOfRule, standing_rules};
 ghost use Rattle.npf_ruleset.specs.Refusal.{IsCompilable};
@@ -39,10 +39,17 @@ impl Layout {
             layout.groups.push(FlatGroup {
                 binding: Binding::of_group(group),
                 count: layout.rules.len() - before,
+                has_final: has_final(layout.rules.split_at(before).1),
             })?;
         }
         Ok(layout)
     }
+}
+
+fn has_final(rules: &[FlatRule]) -> bool
+    ensures { result ≡ has_final rules.now }
+{
+    rules.iter().any(|rule| rule.last)
 }
 
 fn add_group(

@@ -24,13 +24,13 @@ pub(crate) struct Packet<'a> {
 const DESCRIBED: u32 = u32::MAX;
 
 impl Packet<'_> {
-    /// Whether the rule matches: it isn't bound to elsewhere, its row admits the packet, and its
-    /// program describes it.
+    /// Whether the rule matches: its row admits the packet, it isn't bound to elsewhere, and its
+    /// program describes the packet.
     pub(crate) fn meets(&self, rule: &FlatRule) -> bool
         ensures { result ≡ flat_matches self.now rule.now }
     {
-        rule.binding.leaves(self.ifid, self.dir)
-            && rule.row.admits(self.facts)
+        rule.row.admits(self.facts)
+            && rule.binding.leaves(self.ifid, self.dir)
             && run(&rule.program, self.ip, self) == DESCRIBED
     }
 }

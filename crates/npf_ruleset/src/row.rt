@@ -37,14 +37,14 @@ impl Row {
         }
     }
 
-    /// Whether a packet meets the conditions.
+    /// Whether a packet meets the conditions. Addresses tell most rules apart, so they come first.
     pub(crate) fn admits(&self, facts: &Facts) -> bool
         ensures { result ≡ meets_row self.now facts.now }
     {
-        self.protocols.has(facts.proto)
-            && fits_family(self.v6, facts.src)
-            && self.from.admits(facts.src, source_of(&facts.l4))
+        self.from.admits(facts.src, source_of(&facts.l4))
             && self.to.admits(facts.dst, destination_of(&facts.l4))
+            && self.protocols.has(facts.proto)
+            && fits_family(self.v6, facts.src)
     }
 }
 
@@ -61,6 +61,6 @@ impl EndRow {
     fn admits(&self, addr: Addr, port: Option<u16>) -> bool
         ensures { result ≡ meets_end self.now addr port }
     {
-        fits_port(self.ports, port) && in_hull(self.addrs, addr)
+        in_hull(self.addrs, addr) && fits_port(self.ports, port)
     }
 }

@@ -4,6 +4,7 @@ ghost use Rattle.npf_model.specs.Configuration.{verdict_of};
 ghost use Rattle.npf_model.specs.Verdict.{first_where, last_where};
 ghost use Rattle.npf_packet.specs.PacketField.{IsPacketOf};
 ghost use Rattle.npf_ruleset.specs.Configuration.{configuration};
+ghost use Rattle.npf_ruleset.specs.Flat.{has_final};
 ghost use Rattle.npf_ruleset.specs.Packet.{answer_in, flat_answer, flat_decides, is_other};
 
 use crate::config::Config;
@@ -39,15 +40,20 @@ pub fn walk(config: &Config, facts: &Facts, ip: &[u8], ifid: IfId, dir: Dir) -> 
 }
 
 impl Packet<'_> {
-    // The answer of a group with these rules: none where it doesn't apply.
+    // The answer of a group with these rules: none where it doesn't apply. Without a rule that is
+    // `final` they are gone over once.
     fn answer_in(&self, group: &FlatGroup, rules: &[FlatRule]) -> Option<usize>
+        requires finals { has_final rules.now ≡ group.now.has_final }
         ensures value { result ≡ answer_in self.now group.now rules.now }
         ensures bound { IfSome result (λ at. at < length rules.now) }
     {
-        if group.binding.leaves(self.ifid, self.dir) {
+        if !group.binding.leaves(self.ifid, self.dir) {
+            return None;
+        }
+        if group.has_final {
             return self.answer_of(rules);
         }
-        None
+        self.last_other(rules)
     }
 
     // A group's answer: its first match with `final`, or else its last match, which is then one

@@ -3,7 +3,8 @@ use Rattle.std.proofs.lemmas.Option.{slice_get_read}
 use Rattle.npf_ruleset.specs.declared.flat.FlatGroup.{FlatGroup}
 use Rattle.npf_ruleset.specs.declared.packet.Packet.{Packet}
 use Rattle.npf_ruleset.specs.Packet.{answer_in}
-use Rattle.npf_ruleset.proofs.WalkLemmas.{Remains, begins, ends, count_fits, decided, goes_on}
+use Rattle.npf_ruleset.specs.Flat.{has_final}
+use Rattle.npf_ruleset.proofs.WalkLemmas.{Remains, begins, ends, count_fits, decided, finals_fit, goes_on}
 use Rattle.npf_ruleset.proofs.walking.walk.Goals as goal
 
 -- the group at a place of the list that the loop goes over
@@ -19,6 +20,14 @@ pub split_at-requires : goal.split_at-requires
 split_at-requires c =
     let packet : Packet = record { facts = c.args.facts; ip = c.args.ip; ifid = c.args.ifid; dir = c.args.dir; tables = c.tables.result } in
     count_fits c.args.config.now packet c.loop-group.first c.loop-group.group-index c.loop-group.rules.now c.loop-group.invariant
+    c.group-item.result
+    (at_place c.groups-group-items.result.now c.args.config.now.groups c.loop-group.group-index c.group-item.result c.groups-group-items.ensures c.loop-group-test.true c.group-item.is)
+
+pub answer_in-requires : goal.answer_in-requires
+answer_in-requires c =
+    let packet : Packet = record { facts = c.args.facts; ip = c.args.ip; ifid = c.args.ifid; dir = c.args.dir; tables = c.tables.result } in
+    ap has_final c.split_at.ensures.front
+    ∙ finals_fit c.args.config.now packet c.loop-group.first c.loop-group.group-index c.loop-group.rules.now c.loop-group.invariant
     c.group-item.result
     (at_place c.groups-group-items.result.now c.args.config.now.groups c.loop-group.group-index c.group-item.result c.groups-group-items.ensures c.loop-group-test.true c.group-item.is)
 
