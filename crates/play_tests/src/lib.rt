@@ -8,6 +8,8 @@ mod fits;
 #[cfg(test)]
 mod gates;
 #[cfg(test)]
+mod meeting;
+#[cfg(test)]
 mod packets;
 #[cfg(test)]
 mod phases;

@@ -1,6 +1,10 @@
 // Runs over a new table.
+ghost use Rattle.npf_connections.specs.Pass.{IsFirstPass, IsPass};
+ghost use Rattle.npf_flow.specs.Flows.{flow_law};
+
 use crate::fits::fits;
 use engine_tests::configuration::config_of;
+use npf_connections::Connections;
 use npf_engine::Outcome;
 use npf_flow::FlowLaw;
 use npf_oneturn::OneTurn;
@@ -51,8 +55,29 @@ pub fn run<R: Threads + Wait + Sync, G: Gate>(
     setting: Setting,
     gate: &G,
 ) -> Result<Vec<Outcome>, Fail> {
-    let configs = configs_of(alloc, texts)?;
     let (conns, mut pass) = OneTurn::<FlowLaw>::new(alloc, setting.slots)?;
+    run_over(
+        rt, alloc, texts, packets, phases, setting, &conns, &mut pass, gate,
+    )
+}
+
+/// The same over this new table of so many slots, by its first pass.
+pub fn run_over<R: Threads + Wait + Sync, C: Connections<FlowLaw>, G: Gate>(
+    rt: &R,
+    alloc: Global,
+    texts: &[&str],
+    packets: Vec<Packet>,
+    phases: &[Phase],
+    setting: Setting,
+    conns: &C,
+    pass: &mut C::Pass,
+    gate: &G,
+) -> Result<Vec<Outcome>, Fail>
+    requires own { C.fits conns.now pass.old }
+    requires legal { IsPass flow_law (C.view pass.old) }
+    requires first { IsFirstPass setting.slots (C.view pass.old) }
+{
+    let configs = configs_of(alloc, texts)?;
     let Setting {
         workers,
         spread,
@@ -62,7 +87,7 @@ pub fn run<R: Threads + Wait + Sync, G: Gate>(
         return Err("a run that can be played".into());
     }
     let played = play(
-        rt, alloc, packets, phases, &configs, workers, spread, &conns, &mut pass, gate,
+        rt, alloc, packets, phases, &configs, workers, spread, conns, pass, gate,
     )?;
     let Played {
         outcomes,

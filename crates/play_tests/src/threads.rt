@@ -1,9 +1,12 @@
 // Workers are on threads of their own, and meet in one table.
 use crate::gates::HoldUntil;
+use crate::meeting::Meeting;
 use crate::packets::{datagram, syn};
-use crate::run::{Setting, phase, run};
+use crate::run::{Setting, phase, run, run_over};
 use npf_engine::Outcome;
-use npf_runner::Spread;
+use npf_flow::FlowLaw;
+use npf_oneturn::OneTurn;
+use npf_runner::{NoGate, Spread};
 use std::test::Fail;
 
 const TWO_WORKERS: Setting = Setting {
@@ -29,6 +32,31 @@ fn two_workers_do_not_wait_for_each_other(rt: HostRuntime) -> Result<(), Fail> {
         &gate,
     )?;
     assert!(rt; !gate.gave_up());
+    assert_eq!(rt; outcomes.len(), 2);
+    assert!(rt; outcomes.iter().all(|outcome| outcome.passes()));
+    Ok(())
+}
+
+// Each packet's first look waits until the other's has begun: with a lock round each packet the wait would give up.
+#[test]
+fn two_packets_are_looked_up_at_a_time(rt: HostRuntime) -> Result<(), Fail> {
+    let alloc = rt.alloc();
+    let packets = vec![in alloc; datagram(alloc, 1, 0, 1)?, datagram(alloc, 2, 0, 2)?]?;
+    let phases = vec![in alloc; phase(alloc, 2, &[])?]?;
+    let (table, mut pass) = OneTurn::<FlowLaw>::new(alloc, TWO_WORKERS.slots)?;
+    let conns = Meeting::new(table);
+    let outcomes = run_over(
+        &rt,
+        alloc,
+        &["group default { pass stateful proto udp all }\n"],
+        packets,
+        &phases,
+        TWO_WORKERS,
+        &conns,
+        &mut pass,
+        &NoGate,
+    )?;
+    assert!(rt; conns.met());
     assert_eq!(rt; outcomes.len(), 2);
     assert!(rt; outcomes.iter().all(|outcome| outcome.passes()));
     Ok(())
