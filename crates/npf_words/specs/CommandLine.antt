@@ -1,0 +1,99 @@
+-- The words of a command line, and the command that they say.
+use Rattle.std.specs.Prelude.{◌≡◌, ◌≤◌, ℕ, Bool, true, false, codes, if◌then◌else◌, List, [], ◌∷◌, Option, Some, None, String, map, option_map, string_bytes}
+use Rattle.std.specs.Option.{option_map_or}
+use Rattle.std.specs.Borrow.{Bor}
+use Rattle.std.specs.Global.{Global}
+use Rattle.std.specs.Str.{bytes_eq}
+use Rattle.std.specs.Str.Parse.{digits_value, without_leading_plus}
+use Rattle.clap.specs.Words.{Row, Text, fault_of, first_of, matches_of}
+use Rattle.clap.specs.Walk.{is_empty}
+use Rattle.npf_words.specs.Definitions.{AreSpreads, SpreadNames, definition_of}
+use Rattle.npf_words.specs.declared.command.CommandName.{CommandName}
+use Rattle.npf_words.specs.declared.command.CommandName.TheVariants as name
+use Rattle.npf_words.specs.declared.command.Command.{Command}
+use Rattle.npf_words.specs.declared.command.Command.TheVariants as command
+use Rattle.npf_words.specs.declared.command.Run.{Run}
+use Rattle.npf_words.specs.declared.command.Load.{Load}
+use Rattle.npf_words.specs.declared.command.Spread.{Spread}
+use Rattle.npf_words.specs.declared.command.Spread.TheVariants as spread
+
+-- the bytes of each word
+abbrev pub word_texts : List (String Global) → List Text
+word_texts = map string_bytes
+
+-- the command that a word names, byte for byte
+abbrev pub named : Text → Option CommandName
+named word =
+    if bytes_eq word (codes "run") then Some name.Run
+    else (if bytes_eq word (codes "validate") then Some name.Validate
+    else (if bytes_eq word (codes "show") then Some name.Show
+    else (if bytes_eq word (codes "debug") then Some name.Debug
+    else (if bytes_eq word (codes "gen") then Some name.Gen else None))))
+
+-- the command that the first word names
+abbrev pub name_in : List Text → Option CommandName
+name_in [] = None
+name_in (word ∷ _) = named word
+
+-- `clap`'s definition of the command takes the words behind its name; words that ask for help or a version are refused there
+abbrev pub takes_words : SpreadNames → CommandName → List Text → Bool
+takes_words spreads n words = is_empty (fault_of (definition_of spreads n) words)
+
+-- the first word names a command, and its definition takes the words behind it
+abbrev pub is_command_line : SpreadNames → List Text → Bool
+is_command_line spreads words = option_map_or (λ n. takes_words spreads n words) (name_in words) false
+
+abbrev pub IsRefused : List Text → Type 0
+IsRefused words = (spreads : SpreadNames) × AreSpreads spreads × (is_command_line spreads words ≡ false)
+
+abbrev pub name_of : Command → CommandName
+name_of (command.Run _) = name.Run
+name_of (command.Validate _) = name.Validate
+name_of (command.Show _) = name.Show
+name_of (command.Debug _) = name.Debug
+name_of (command.Gen _) = name.Gen
+
+-- the number of digits that may have a plus sign before them
+abbrev pub number_of : Text → ℕ
+number_of text = digits_value 10 (without_leading_plus text)
+
+abbrev pub spread_word : Spread → Text
+spread_word spread.Rr = codes "rr"
+spread_word spread.Flow = codes "flow"
+
+abbrev pub given_text : Option (Bor Text) → Option Text
+given_text = option_map (λ text. text.now)
+
+-- what `clap` found for each word and option of `run`; the options `workers` and `spread` have their defaults
+pub record TellsRun (rows : List Row) (run : Run) : Type 0 where
+  pub conf : first_of (codes "conf") rows ≡ Some run.conf.now
+  pub script : first_of (codes "script") rows ≡ Some run.script.now
+  pub ifaces : first_of (codes "ifaces") rows ≡ given_text run.ifaces
+  pub workers : option_map number_of (first_of (codes "workers") rows) ≡ Some run.workers
+  pub some : 1 ≤ run.workers
+  pub few : run.workers ≤ 64
+  pub spread : first_of (codes "spread") rows ≡ Some (spread_word run.spread)
+  pub output : first_of (codes "write") rows ≡ given_text run.output
+
+-- and of a command that loads a configuration
+pub record TellsLoad (rows : List Row) (load : Load) : Type 0 where
+  pub conf : first_of (codes "conf") rows ≡ Some load.conf.now
+  pub ifaces : first_of (codes "ifaces") rows ≡ given_text load.ifaces
+
+abbrev pub TellsNumber : List Row → ℕ → Type 0
+TellsNumber rows number = option_map number_of (first_of (codes "number") rows) ≡ Some number
+
+abbrev pub Tells : List Row → Command → Type 0
+Tells rows (command.Run run) = TellsRun rows run
+Tells rows (command.Validate load) = TellsLoad rows load
+Tells rows (command.Show load) = TellsLoad rows load
+Tells rows (command.Debug load) = TellsLoad rows load
+Tells rows (command.Gen number) = TellsNumber rows number
+
+-- the command that the words say: it is the first word's, and what `clap` found by its definition is in it
+pub record SaysCommand (words : List Text) (c : Command) : Type 0 where
+  pub spreads : SpreadNames
+  pub listed : AreSpreads spreads
+  pub taken : is_command_line spreads words ≡ true
+  pub name : name_in words ≡ Some (name_of c)
+  pub told : Tells (matches_of (definition_of spreads (name_of c)) words) c

@@ -1,0 +1,165 @@
+// The command that a list of words says.
+ghost use Rattle.std.specs.Prelude.{◌≡◌, ◌≤◌, ◌<◌, ◌^◌, ◌⊎◌, IfOk, IsErrOf, Some, codes, false, is_some, option_map, pos, true};
+ghost use Rattle.clap.specs.Words.{IsSignedIn, IsUnsignedIn, first_of, found_of, rows_of};
+ghost use Rattle.npf_words.specs.CommandLine.{IsRefused, SaysCommand, Tells, TellsLoad, TellsNumber, TellsRun};
+ghost use Rattle.npf_words.specs.CommandLine.{name_in, name_of, named, number_of, spread_word, takes_words, word_texts};
+ghost use Rattle.npf_words.specs.Definitions.{AreSpreads, definition_of, gen_command, loading_command, run_command};
+ghost use Rattle.npf_words.specs.Values.{HasEachValue, IsMatched};
+
+use crate::command::{Command, CommandName, Load, Run, Spread};
+use crate::definitions::definition;
+use crate::fault::WordsFault;
+use clap::ArgMatches;
+use clap::error::ErrorKind;
+use std::alloc::Global;
+
+/// The command that the words say, without the program's name before them.
+///
+/// # Errors
+///
+/// `Usage` exactly where the first word is missing or names no command, or `clap`'s definition of the
+/// command refuses the words behind it; words that ask for help or a version are refused. `NoMemory`
+/// where memory runs out.
+pub fn read_words<'a>(alloc: Global, words: &'a [String]) -> Result<Command<'a>, WordsFault>
+    ensures refused { IsErrOf result WordsFault.Usage → IsRefused (word_texts words.entry.now) }
+    ensures read { IfOk result (SaysCommand (word_texts words.entry.now)) }
+{
+    let spreads = spread_names();
+    let Some(name) = name_in(words) else {
+        return Err(WordsFault::Usage);
+    };
+    let matches = match matched(alloc, name, spreads, words) {
+        Ok(matches) => matches,
+        Err(fault) => return Err(fault),
+    };
+    Ok(command_of(name, &matches, spreads))
+}
+
+fn spread_names<'a>() -> &'a [&'a str]
+    ensures { AreSpreads result }
+{
+    &["rr", "flow"]
+}
+
+fn name_in(words: &[String]) -> Option<CommandName>
+    ensures { result ≡ name_in (word_texts words.now) }
+{
+    match words {
+        [] => None,
+        [first, ..] => named(first.as_str()),
+    }
+}
+
+fn named(word: &str) -> Option<CommandName>
+    ensures { result ≡ named word.now }
+{
+    match word {
+        "run" => Some(CommandName::Run),
+        "validate" => Some(CommandName::Validate),
+        "show" => Some(CommandName::Show),
+        "debug" => Some(CommandName::Debug),
+        "gen" => Some(CommandName::Gen),
+        _ => None,
+    }
+}
+
+/// What `clap` finds for the words of a command by its definition. It leaves out the first word.
+fn matched<'a>(
+    alloc: Global,
+    name: CommandName,
+    spreads: &'a [&'a str],
+    words: &'a [String],
+) -> Result<ArgMatches<'a>, WordsFault>
+    ensures refused { IsErrOf result WordsFault.Usage → takes_words spreads.entry name (word_texts words.entry.now) ≡ false }
+    ensures taken { IfOk result (λ _. takes_words spreads.entry name (word_texts words.entry.now) ≡ true) }
+    ensures found { IfOk result (IsMatched (definition_of spreads.entry name) (word_texts words.entry.now)) }
+{
+    let command = definition(alloc, name, spreads)?;
+    match command.try_get_matches_from(words) {
+        Ok(matches) => Ok(matches),
+        Err(error) => Err(match error.kind() {
+            ErrorKind::OutOfMemory => WordsFault::NoMemory,
+            _ => WordsFault::Usage,
+        }),
+    }
+}
+
+fn command_of<'a>(name: CommandName, matches: &ArgMatches<'a>, spreads: &'a [&'a str]) -> Command<'a>
+    requires listed { AreSpreads spreads.entry }
+    requires found { HasEachValue (definition_of spreads.entry name) (rows_of (found_of matches.now)) }
+    ensures name { name_of result ≡ name }
+    ensures told { Tells (rows_of (found_of matches.now)) result }
+{
+    match name {
+        CommandName::Run => Command::Run(run_of(matches, spreads)),
+        CommandName::Validate => Command::Validate(load_of(matches, "validate")),
+        CommandName::Show => Command::Show(load_of(matches, "show")),
+        CommandName::Debug => Command::Debug(load_of(matches, "debug")),
+        CommandName::Gen => Command::Gen {
+            number: any_number(value(matches, "number")),
+        },
+    }
+}
+
+fn run_of<'a>(matches: &ArgMatches<'a>, spreads: &'a [&'a str]) -> Run<'a>
+    requires listed { AreSpreads spreads.entry }
+    requires found { HasEachValue (run_command spreads.entry) (rows_of (found_of matches.now)) }
+    ensures { TellsRun (rows_of (found_of matches.now)) result }
+{
+    Run {
+        conf: value(matches, "conf"),
+        script: value(matches, "script"),
+        ifaces: given(matches, "ifaces"),
+        workers: few_workers(value(matches, "workers")),
+        spread: spread_of(value(matches, "spread")),
+        output: given(matches, "write"),
+    }
+}
+
+fn load_of<'a>(matches: &ArgMatches<'a>, name: &str) -> Load<'a>
+    requires { HasEachValue (loading_command name.now) (rows_of (found_of matches.now)) }
+    ensures { TellsLoad (rows_of (found_of matches.now)) result }
+{
+    Load {
+        conf: value(matches, "conf"),
+        ifaces: given(matches, "ifaces"),
+    }
+}
+
+/// The value of an argument, if the words give one.
+fn given<'a>(matches: &ArgMatches<'a>, id: &str) -> Option<&'a str>
+    ensures { first_of id.now (rows_of (found_of matches.now)) ≡ option_map (λ text. text.now) result }
+{
+    matches.get_str(id)
+}
+
+/// The value of an argument that has one.
+fn value<'a>(matches: &ArgMatches<'a>, id: &str) -> &'a str
+    requires { is_some (first_of id.now (rows_of (found_of matches.now))) ≡ true }
+    ensures { first_of id.now (rows_of (found_of matches.now)) ≡ Some result.now }
+{
+    given(matches, id).unwrap()
+}
+
+fn few_workers(text: &str) -> u8
+    requires { IsSignedIn (pos 1) (pos 64) text.now }
+    ensures number { result ≡ number_of text.now }
+    ensures some { 1 ≤ result }
+    ensures few { result ≤ 64 }
+{
+    text.parse().unwrap()
+}
+
+fn any_number(text: &str) -> u64
+    requires { IsUnsignedIn 0 18446744073709551615 text.now }
+    ensures { result ≡ number_of text.now }
+{
+    text.parse().unwrap()
+}
+
+fn spread_of(text: &str) -> Spread
+    requires { (text.now ≡ codes "rr") ⊎ (text.now ≡ codes "flow") }
+    ensures { spread_word result ≡ text.now }
+{
+    if text == "flow" { Spread::Flow } else { Spread::Rr }
+}
