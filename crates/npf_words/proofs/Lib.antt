@@ -1,2 +1,3 @@
+pub mod SayLemmas
 pub mod SoundLemmas
 pub mod ValueLemmas

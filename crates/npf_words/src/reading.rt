@@ -20,6 +20,7 @@ use std::alloc::Global;
 /// `Usage` exactly where the first word is missing or names no command, or `clap`'s definition of the
 /// command refuses the words behind it; words that ask for help or a version are refused. `NoMemory`
 /// where memory runs out.
+#[tactic(auto, using(crate::proofs::SayLemmas::refused_unnamed, crate::proofs::SayLemmas::refused_words, crate::proofs::SayLemmas::says))]
 pub fn read_words<'a>(alloc: Global, words: &'a [String]) -> Result<Command<'a>, WordsFault>
     ensures refused { IsErrOf result WordsFault.Usage → IsRefused (word_texts words.entry.now) }
     ensures read { IfOk result (SaysCommand (word_texts words.entry.now)) }
@@ -84,6 +85,7 @@ fn matched<'a>(
     }
 }
 
+#[tactic(auto, using(crate::proofs::SayLemmas::number_of_gen, crate::proofs::SayLemmas::in_range_of_gen))]
 fn command_of<'a>(name: CommandName, matches: &ArgMatches<'a>, spreads: &'a [&'a str]) -> Command<'a>
     requires listed { AreSpreads spreads.entry }
     requires found { HasEachValue (definition_of spreads.entry name) (rows_of (found_of matches.now)) }
@@ -101,6 +103,7 @@ fn command_of<'a>(name: CommandName, matches: &ArgMatches<'a>, spreads: &'a [&'a
     }
 }
 
+#[tactic(auto, using(crate::proofs::SayLemmas::conf_of_run, crate::proofs::SayLemmas::script_of_run, crate::proofs::SayLemmas::workers_of_run, crate::proofs::SayLemmas::few_of_run, crate::proofs::SayLemmas::spread_of_run, crate::proofs::SayLemmas::word_of_spread))]
 fn run_of<'a>(matches: &ArgMatches<'a>, spreads: &'a [&'a str]) -> Run<'a>
     requires listed { AreSpreads spreads.entry }
     requires found { HasEachValue (run_command spreads.entry) (rows_of (found_of matches.now)) }
@@ -116,6 +119,7 @@ fn run_of<'a>(matches: &ArgMatches<'a>, spreads: &'a [&'a str]) -> Run<'a>
     }
 }
 
+#[tactic(auto, using(crate::proofs::SayLemmas::conf_of_load))]
 fn load_of<'a>(matches: &ArgMatches<'a>, name: &str) -> Load<'a>
     requires { HasEachValue (loading_command name.now) (rows_of (found_of matches.now)) }
     ensures { TellsLoad (rows_of (found_of matches.now)) result }
@@ -141,6 +145,7 @@ fn value<'a>(matches: &ArgMatches<'a>, id: &str) -> &'a str
     given(matches, id).unwrap()
 }
 
+#[tactic(auto, using(crate::proofs::SayLemmas::few_digits))]
 fn few_workers(text: &str) -> u8
     requires { IsSignedIn (pos 1) (pos 64) text.now }
     ensures number { result ≡ number_of text.now }
