@@ -1,11 +1,12 @@
 -- What the values of a definition's arguments are to the command that is read of them.
-use Rattle.std.proofs.Common.{◌≡◌, ◌∙◌, ◌<◌, ◌≤◌, ◌⊎◌, ◌||◌, ◌^◌, ℕ, ℤ, Bool, true, false, List, [], ◌∷◌, length, map, Option, Some, None, is_some, refl, sym, ap, subst, inl, inr, arith, codes}
+use Rattle.std.proofs.Common.{◌≡◌, ◌∙◌, ◌<◌, ◌≤◌, ◌⊎◌, ◌||◌, ◌^◌, ℕ, ℤ, Bool, true, false, List, [], ◌∷◌, length, map, Option, Some, None, Result, Ok, Err, is_some, refl, sym, ap, subst, inl, inr, arith, codes}
 use Rattle.std.specs.Prelude.{pos, unwrap_or}
 use Rattle.std.specs.Option.{option_map_or}
 use Rattle.std.specs.Borrow.{Bor}
 use Rattle.std.specs.List.{list_any}
 use Rattle.std.specs.Str.{bytes_eq}
 use Rattle.std.specs.Str.Parse.{IsNumeral, digits_value, starts_with_minus, without_leading_plus}
+use Rattle.std.proofs.lemmas.Bool.{ne_eqb}
 use Rattle.std.proofs.lemmas.Int.{ints}
 use Rattle.std.proofs.lemmas.Slice.Eq.{bytes_eq-Decides}
 use Rattle.clap.specs.Kinds.{IsAmong, Kinds}
@@ -18,10 +19,16 @@ use Rattle.npf_words.specs.Definitions.{AreSpreads, SpreadNames, choice_rule, de
 use Rattle.npf_words.specs.Values.{HasEachValue, HasValue, IsMatched}
 use Rattle.npf_words.specs.declared.command.Command.{Command}
 use Rattle.npf_words.specs.declared.command.CommandName.{CommandName}
+use Rattle.npf_words.specs.declared.command.CommandName.TheVariants as name
+use Rattle.npf_words.specs.declared.fault.WordsFault.{WordsFault}
 
 pub among_some : (k : ErrorKind) (ks : Kinds) → IsAmong k ks → is_empty ks ≡ false
 among_some k [] h = absurd h
-among_some k (x ∷ xs) h = refl
+among_some k (x ∷ xs) h = ne_eqb _ _ (λ e. omega arith)
+
+abbrev pub err_fault : {T : Type 0} → Result T WordsFault → WordsFault → WordsFault
+err_fault (Err e) other = e
+err_fault (Ok v) other = other
 
 -- ---- words that are refused, and the command of the others
 
@@ -50,17 +57,17 @@ some_value : (r : Rule) (rows : List Row) → HasValue r rows → is_some (first
 some_value r rows h = ap is_some h.1
 
 pub conf_of_run : (spreads : SpreadNames) (rows : List Row) → HasEachValue (run_command spreads) rows → is_some (first_of (codes "conf") rows) ≡ true
-conf_of_run spreads rows h = some_value _ rows (h 0 (word_rule (codes "conf")) refl refl)
+conf_of_run spreads rows h = some_value (word_rule (codes "conf")) rows (h 0 _ refl refl)
 
 pub script_of_run : (spreads : SpreadNames) (rows : List Row) → HasEachValue (run_command spreads) rows → is_some (first_of (codes "script") rows) ≡ true
-script_of_run spreads rows h = some_value _ rows (h 1 (word_rule (codes "script")) refl refl)
+script_of_run spreads rows h = some_value (word_rule (codes "script")) rows (h 1 _ refl refl)
 
 workers_value : (spreads : SpreadNames) (rows : List Row) → HasEachValue (run_command spreads) rows
     → HasValue (choice_rule (codes "workers") workers_parser (codes "1")) rows
 workers_value spreads rows h = h 3 _ refl refl
 
 pub workers_of_run : (spreads : SpreadNames) (rows : List Row) → HasEachValue (run_command spreads) rows → is_some (first_of (codes "workers") rows) ≡ true
-workers_of_run spreads rows h = some_value _ rows (workers_value spreads rows h)
+workers_of_run spreads rows h = some_value (choice_rule (codes "workers") workers_parser (codes "1")) rows (workers_value spreads rows h)
 
 pub few_of_run : (spreads : SpreadNames) (rows : List Row) (t : Text) → HasEachValue (run_command spreads) rows
     → first_of (codes "workers") rows ≡ Some t → IsSignedIn (pos 1) (pos 64) t
@@ -74,7 +81,7 @@ spread_value : (spreads : SpreadNames) (rows : List Row) → HasEachValue (run_c
 spread_value spreads rows h = h 4 _ refl refl
 
 pub spread_of_run : (spreads : SpreadNames) (rows : List Row) → HasEachValue (run_command spreads) rows → is_some (first_of (codes "spread") rows) ≡ true
-spread_of_run spreads rows h = some_value _ rows (spread_value spreads rows h)
+spread_of_run spreads rows h = some_value (choice_rule (codes "spread") (spread_parser spreads) (codes "rr")) rows (spread_value spreads rows h)
 
 is_of_two : (xs : List (Bor Text)) (a b t : Text) → map (λ x. x.now) xs ≡ a ∷ b ∷ [] → list_any (λ x. bytes_eq x.now t) xs ≡ true → (t ≡ a) ⊎ (t ≡ b)
 is_of_two [] a b t e h = cc
@@ -102,13 +109,13 @@ word_of_spread spreads rows t listed h found =
     (subst (λ (w : Text). list_any (λ x. bytes_eq x.now w) spreads.now ≡ true) same (v.2 (spread_parser spreads) refl))
 
 pub conf_of_load : (id : Text) (rows : List Row) → HasEachValue (loading_command id) rows → is_some (first_of (codes "conf") rows) ≡ true
-conf_of_load id rows h = some_value _ rows (h 0 (word_rule (codes "conf")) refl refl)
+conf_of_load id rows h = some_value (word_rule (codes "conf")) rows (h 0 _ refl refl)
 
 number_value : (rows : List Row) → HasEachValue gen_command rows → HasValue (record (word_rule (codes "number")) { parser = Some number_parser }) rows
 number_value rows h = h 0 _ refl refl
 
 pub number_of_gen : (rows : List Row) → HasEachValue gen_command rows → is_some (first_of (codes "number") rows) ≡ true
-number_of_gen rows h = some_value _ rows (number_value rows h)
+number_of_gen rows h = some_value (record (word_rule (codes "number")) { parser = Some number_parser }) rows (number_value rows h)
 
 pub in_range_of_gen : (rows : List Row) (t : Text) → HasEachValue gen_command rows → first_of (codes "number") rows ≡ Some t → IsUnsignedIn 0 18446744073709551615 t
 in_range_of_gen rows t h found =
@@ -129,3 +136,24 @@ few_digits t h = go (starts_with_minus t) refl
         let low = rw minus at h.2 in
         let high = rw minus at h.3 in
         (numeral, omega (arith, ints), omega (arith, ints))
+
+-- ---- the definition of a name that is known
+
+known : (spreads : SpreadNames) (n k : CommandName) (rows : List Row) → n ≡ k → HasEachValue (definition_of spreads n) rows
+    → HasEachValue (definition_of spreads k) rows
+known spreads n k rows is h = subst (λ (z : CommandName). HasEachValue (definition_of spreads z) rows) is h
+
+pub known_run : (spreads : SpreadNames) (n : CommandName) (rows : List Row) → n ≡ name.Run → HasEachValue (definition_of spreads n) rows → HasEachValue (run_command spreads) rows
+known_run spreads n rows is h = known spreads n name.Run rows is h
+
+pub known_validate : (spreads : SpreadNames) (n : CommandName) (rows : List Row) → n ≡ name.Validate → HasEachValue (definition_of spreads n) rows → HasEachValue (loading_command (codes "validate")) rows
+known_validate spreads n rows is h = known spreads n name.Validate rows is h
+
+pub known_show : (spreads : SpreadNames) (n : CommandName) (rows : List Row) → n ≡ name.Show → HasEachValue (definition_of spreads n) rows → HasEachValue (loading_command (codes "show")) rows
+known_show spreads n rows is h = known spreads n name.Show rows is h
+
+pub known_debug : (spreads : SpreadNames) (n : CommandName) (rows : List Row) → n ≡ name.Debug → HasEachValue (definition_of spreads n) rows → HasEachValue (loading_command (codes "debug")) rows
+known_debug spreads n rows is h = known spreads n name.Debug rows is h
+
+pub known_gen : (spreads : SpreadNames) (n : CommandName) (rows : List Row) → n ≡ name.Gen → HasEachValue (definition_of spreads n) rows → HasEachValue (gen_command) rows
+known_gen spreads n rows is h = known spreads n name.Gen rows is h

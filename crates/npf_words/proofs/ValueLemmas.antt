@@ -7,7 +7,7 @@ use Rattle.std.specs.Borrow.{Bor}
 use Rattle.std.proofs.lemmas.List.Elements.{All-get_or}
 use Rattle.std.proofs.lemmas.Slice.Eq.{bytes_eq-Decides}
 use Rattle.clap.specs.Texts.{items_of}
-use Rattle.clap.specs.Words.{Accepts, App, IsParsed, IsParsedFrom, IsPlain, IsPlainArg, Rule, SameRules, Text, app_of, args_of, fields_of, first_of, first_value, found_of, groups_of, has_subcommand, matched_of, parser_of, rows_of, rule_of}
+use Rattle.clap.specs.Words.{Accepts, App, IsParsed, IsParsedFrom, IsPlain, IsPlainArg, Rule, SameRules, Text, app_of, args_of, first_of, first_value, found_of, groups_of, has_subcommand, matched_of, parser_of, rows_of, rule_of}
 use Rattle.clap.specs.Built.{IsAuto}
 use Rattle.clap.specs.Facts.{Entry, EntryPasses, HasId, PassesArg, WantsDefault, is_present, least_values, parser_of_value}
 use Rattle.clap.specs.declared.builder.action.ArgAction.{ArgAction}
@@ -30,7 +30,7 @@ use Rattle.npf_words.specs.Values.{HasEachValue, HasValue, has_always}
 abbrev pub is_sound_rule : Rule → Bool
 is_sound_rule r = r.is_simple && (r.is_free && (not (bytes_eq r.id (codes "help")) && (not (bytes_eq r.id (codes "version")) && not (bytes_eq r.id []))))
 
-abbrev sets_value : Option ArgAction → Bool
+abbrev pub sets_value : Option ArgAction → Bool
 sets_value (Some Set) = true
 sets_value _ = false
 
@@ -42,7 +42,7 @@ set_of (Some Set) e = refl
 set_of _ e = cc
 
 -- no two arguments have one id
-pub ids_differ : List Rule → Bool
+abbrev pub ids_differ : List Rule → Bool
 ids_differ [] = true
 ids_differ (r ∷ rs) = list_all (λ x. not (bytes_eq x.id r.id) && not (bytes_eq r.id x.id)) rs && ids_differ rs
 
@@ -55,33 +55,48 @@ pub record IsSound (app : App) : Type 0 where
 
 -- ---- the arguments behind the rules
 
--- the argument at a rule's place
-arg_at : (xs : List Arg) (k : ℕ) (r : Rule) → slice_get (map rule_of xs) k ≡ Some r
-    → (a : Arg) × (k < length xs) × (slice_index_or xs k a ≡ a) × (rule_of a ≡ r)
-arg_at [] zero r e = cc
-arg_at [] (suc k) r e = cc
-arg_at (x ∷ xs) zero r e = (x, omega arith, refl, ap (λ o. unwrap_or o r) e)
-arg_at (x ∷ xs) (suc k) r e =
-    let h = arg_at xs k r e in
+-- what stands at a place of a list, and its image
+at_place : {X Y : Type 0} (f : X → Y) (xs : List X) (k : ℕ) (r : Y) → slice_get (map f xs) k ≡ Some r
+    → (a : X) × (k < length xs) × (slice_index_or xs k a ≡ a) × (f a ≡ r)
+at_place f [] zero r e = cc
+at_place f [] (suc k) r e = cc
+at_place f (x ∷ xs) zero r e = (x, omega arith, refl, ap (λ o. unwrap_or o r) e)
+at_place f (x ∷ xs) (suc k) r e =
+    let h = at_place f xs k r e in
     (h.0, omega arith, h.2, h.3)
+
+each_of : {X Y : Type 0} (p : Y → Bool) (f : X → Y) (xs : List X) (k : ℕ) (d : X) → list_all p (map f xs) ≡ true → k < length xs
+    → p (f (slice_index_or xs k d)) ≡ true
+each_of p f [] k d e low = absurd (omega arith)
+each_of p f (x ∷ xs) zero d e low = (both _ _ e).0
+each_of p f (x ∷ xs) (suc k) d e low = each_of p f xs k d (both _ _ e).1 (omega arith)
 
 false_of : (a b : Bool) → a ≡ true → not b ≡ true → a ≡ b → ⊥
 false_of true true x y e = cc
 false_of true false x y e = cc
 false_of false b x y e = cc
 
-only_place : (xs : List Arg) (j k : ℕ) (d e : Arg) → ids_differ (map rule_of xs) ≡ true → j < length xs → k < length xs
-    → bytes_eq (slice_index_or xs j e).id.now (slice_index_or xs k d).id.now ≡ true → j ≡ k
-only_place [] j k d e differ low high same = absurd (omega arith)
-only_place (x ∷ xs) zero zero d e differ low high same = refl
-only_place (x ∷ xs) zero (suc k) d e differ low high same =
-    let other = each_rule (λ y. not (bytes_eq y.id x.id.now) && not (bytes_eq x.id.now y.id)) xs (both _ _ differ).0 k d (omega arith) in
+only_place : {X : Type 0} (f : X → Rule) (xs : List X) (j k : ℕ) (d e : X) → ids_differ (map f xs) ≡ true → j < length xs → k < length xs
+    → bytes_eq (f (slice_index_or xs j e)).id (f (slice_index_or xs k d)).id ≡ true → j ≡ k
+only_place f [] j k d e differ low high same = absurd (omega arith)
+only_place f (x ∷ xs) zero zero d e differ low high same = refl
+only_place f (x ∷ xs) zero (suc k) d e differ low high same =
+    let other = each_of (λ y. not (bytes_eq y.id (f x).id) && not (bytes_eq (f x).id y.id)) f xs k d (both _ _ differ).0 (omega arith) in
     absurd (false_of _ _ same (both _ _ other).1 refl)
-only_place (x ∷ xs) (suc j) zero d e differ low high same =
-    let other = each_rule (λ y. not (bytes_eq y.id x.id.now) && not (bytes_eq x.id.now y.id)) xs (both _ _ differ).0 j e (omega arith) in
+only_place f (x ∷ xs) (suc j) zero d e differ low high same =
+    let other = each_of (λ y. not (bytes_eq y.id (f x).id) && not (bytes_eq (f x).id y.id)) f xs j e (both _ _ differ).0 (omega arith) in
     absurd (false_of _ _ same (both _ _ other).0 refl)
-only_place (x ∷ xs) (suc j) (suc k) d e differ low high same =
-    ap suc (only_place xs j k d e (both _ _ differ).1 (omega arith) (omega arith) same)
+only_place f (x ∷ xs) (suc j) (suc k) d e differ low high same =
+    ap suc (only_place f xs j k d e (both _ _ differ).1 (omega arith) (omega arith) same)
+
+no_less : 0 < 0 → ⊥
+no_less h = omega arith
+
+no_least : (n : ℕ) → n ≡ 0 → 1 ≤ n → ⊥
+no_least n none one = omega arith
+
+some_more : {X : Type 0} (x : X) (xs : List X) → 0 < length (x ∷ xs)
+some_more x xs = omega arith
 
 no_some : {X : Type 0} (o : Option X) → not (is_some o) ≡ true → o ≡ None
 no_some None e = refl
@@ -169,7 +184,7 @@ value_in old m p k a at no_groups x found e is_x key pass =
       | inl empty ↦ at.one.named (sym key ∙ empty)
       | inr lots ↦
           let bad : 0 < 0 = rw no_groups at lots in
-          absurd (omega arith)
+          absurd (no_less bad)
     ] in
     let all : All (λ v. PassesArg p.built a.id.now v.now) x.vals.items = elim pass.0 [
       | inl g ↦ absurd (no_group g)
@@ -188,8 +203,7 @@ value_in old m p k a at no_groups x found e is_x key pass =
           let s = same_rules old m p k a at h.0 h.1 h.2 h.3 (rw key at h.4.0) in
           elim h.4.1 [
             | inl none ↦
-                let one = s.least at.sets at.least in
-                absurd (omega arith)
+                absurd (no_least _ none (s.least at.sets at.least))
             | inr has ↦
                 let bad : false ≡ true = rw (s.val_delim, at.one.delimiter) at has in
                 cc
@@ -198,9 +212,9 @@ value_in old m p k a at no_groups x found e is_x key pass =
     first x.vals.items refl all some
   where
     first : (vs : List (Bor Text)) → x.vals.items ≡ vs → All (λ v. PassesArg p.built a.id.now v.now) vs → 0 < length vs → HasAccepted (found_of m) a
-    first [] is all some = absurd (omega arith)
+    first [] is all some = absurd (no_less some)
     first (v ∷ vs) is all some =
-        let any : PassesArg p.built a.id.now v.now = All-get_or (λ v. PassesArg p.built a.id.now v.now) (v ∷ vs) 0 v (omega arith) all in
+        let any : PassesArg p.built a.id.now v.now = All-get_or (λ v. PassesArg p.built a.id.now v.now) (v ∷ vs) 0 v (some_more v vs) all in
         let s = same_rules old m p k a at any.0 any.1 any.2 any.3 any.4.0 in
         (v.now, rw (found, is) refl, accepted a any.1 v.now s any.4.1)
 
@@ -227,9 +241,12 @@ always r e = go r.required refl (length r.defaults) refl
 
 -- the entry of an argument that is required or has a default
 entry_of : (old : Command) (m : ArgMatches) (p : IsParsedFrom old m) (k : ℕ) (a : Arg) → IsAt old k a → IsPlain old
-    → (fields_of old).has_globals ≡ false → (fields_of old).subcommand_negates_reqs ≡ false → has_always (rule_of a) ≡ true
+    → (app : App) → app_of old ≡ app → IsSound app → has_always (rule_of a) ≡ true
     → is_some (matched_of (found_of m) a.id.now) ≡ true
-entry_of old m p k a at plain globals negates given = elim (always (rule_of a) given) [
+entry_of old m p k a at plain app is sound given =
+    let globals = (plain_fields old (ap (λ (z : App). z.top.is_plain) is ∙ sound.plain)).globals in
+    let negates = ap (λ (z : App). z.top.subcommand_negates_reqs) is ∙ sound.negates in
+    elim (always (rule_of a) given) [
   | inl required ↦ present_has_entry (found_of m) a.id.now
       (subst (λ (w : Arg). is_present (found_of m) w.id.now ≡ true) at.here
       (required_present old m p plain globals negates k a at.low (ap (λ (w : Arg). w.required) at.here ∙ required)))
@@ -247,21 +264,20 @@ entry_of old m p k a at plain globals negates given = elim (always (rule_of a) g
 pub each_value : (old : Command) (m : ArgMatches) (app : App) → app_of old ≡ app → IsSound app → IsParsedFrom old m
     → HasEachValue app (rows_of (found_of m))
 each_value old m app is sound p k r at given =
-    let found = arg_at (args_of old) k r (ap (λ (z : App). slice_get z.top.rules k) is ∙ at) in
+    let found = at_place rule_of (args_of old) k r (ap (λ (z : App). slice_get z.top.rules k) is ∙ at) in
     let a = found.0 in
     let rules : list_all is_sound_rule (map rule_of (args_of old)) ≡ true = ap (λ (z : App). list_all is_sound_rule z.top.rules) is ∙ sound.rules in
     let each = each_rule is_sound_rule (args_of old) rules in
     let here : IsPlainOne a = subst IsPlainOne found.2 (plain_one _ (each k a found.1)) in
     let fields = plain_fields old (ap (λ (z : App). z.top.is_plain) is ∙ sound.plain) in
     let plain : IsPlain old = ((λ j d low. (plain_one _ (each j d low)).plain), fields.groups) in
-    let negates = ap (λ (z : App). z.top.subcommand_negates_reqs) is ∙ sound.negates in
     let differ : ids_differ (map rule_of (args_of old)) ≡ true = ap (λ (z : App). ids_differ z.top.rules) is ∙ sound.differ in
     let sets : list_all sets_one (map rule_of (args_of old)) ≡ true = ap (λ (z : App). list_all sets_one z.top.rules) is ∙ sound.sets in
     let set = both _ _ (subst (λ (w : Arg). sets_one (rule_of w) ≡ true) found.2 (each_rule sets_one (args_of old) sets k a found.1)) in
     let place : IsAt old k a = record {
       low = found.1;
       here = found.2;
-      only = λ j e low same. only_place (args_of old) j k a e differ low found.1
+      only = λ j e low same. only_place rule_of (args_of old) j k a e differ low found.1
       (subst (λ (w : Arg). bytes_eq (slice_index_or (args_of old) j e).id.now w.id.now ≡ true) (sym found.2) same);
       one = here;
       sets = set_of a.action set.0;
@@ -269,7 +285,7 @@ each_value old m app is sound p k r at given =
     } in
     let always_given : has_always (rule_of a) ≡ true = ap has_always found.3 ∙ given in
     let value = value_of_entry old m p k a place (p.from.plain plain).1 (p.parsed (p.from.globals ∙ fields.globals))
-    (entry_of old m p k a place plain fields.globals negates always_given) in
+    (entry_of old m p k a place plain app is sound always_given) in
     subst (λ (w : Rule). HasValue w (rows_of (found_of m))) found.3
     (value.0, sym (first_value-rows (found_of m) a.id.now) ∙ value.1, value.2)
   where

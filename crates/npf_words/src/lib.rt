@@ -15,3 +15,6 @@ mod reading;
 pub use command::{Command, CommandName, Load, Run, Spread};
 pub use fault::WordsFault;
 pub use reading::read_words;
+
+#[cfg(test)]
+mod tests;

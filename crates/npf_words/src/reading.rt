@@ -85,10 +85,10 @@ fn matched<'a>(
     }
 }
 
-#[tactic(auto, using(crate::proofs::SayLemmas::number_of_gen, crate::proofs::SayLemmas::in_range_of_gen))]
+#[tactic(auto, using(crate::proofs::SayLemmas::known_run, crate::proofs::SayLemmas::known_validate, crate::proofs::SayLemmas::known_show, crate::proofs::SayLemmas::known_debug, crate::proofs::SayLemmas::known_gen))]
 fn command_of<'a>(name: CommandName, matches: &ArgMatches<'a>, spreads: &'a [&'a str]) -> Command<'a>
-    requires listed { AreSpreads spreads.entry }
-    requires found { HasEachValue (definition_of spreads.entry name) (rows_of (found_of matches.now)) }
+    requires listed { AreSpreads spreads }
+    requires found { HasEachValue (definition_of spreads name) (rows_of (found_of matches.now)) }
     ensures name { name_of result ≡ name }
     ensures told { Tells (rows_of (found_of matches.now)) result }
 {
@@ -98,15 +98,15 @@ fn command_of<'a>(name: CommandName, matches: &ArgMatches<'a>, spreads: &'a [&'a
         CommandName::Show => Command::Show(load_of(matches, "show")),
         CommandName::Debug => Command::Debug(load_of(matches, "debug")),
         CommandName::Gen => Command::Gen {
-            number: any_number(value(matches, "number")),
+            number: number_in(matches),
         },
     }
 }
 
 #[tactic(auto, using(crate::proofs::SayLemmas::conf_of_run, crate::proofs::SayLemmas::script_of_run, crate::proofs::SayLemmas::workers_of_run, crate::proofs::SayLemmas::few_of_run, crate::proofs::SayLemmas::spread_of_run, crate::proofs::SayLemmas::word_of_spread))]
 fn run_of<'a>(matches: &ArgMatches<'a>, spreads: &'a [&'a str]) -> Run<'a>
-    requires listed { AreSpreads spreads.entry }
-    requires found { HasEachValue (run_command spreads.entry) (rows_of (found_of matches.now)) }
+    requires listed { AreSpreads spreads }
+    requires found { HasEachValue (run_command spreads) (rows_of (found_of matches.now)) }
     ensures { TellsRun (rows_of (found_of matches.now)) result }
 {
     Run {
@@ -128,6 +128,14 @@ fn load_of<'a>(matches: &ArgMatches<'a>, name: &str) -> Load<'a>
         conf: value(matches, "conf"),
         ifaces: given(matches, "ifaces"),
     }
+}
+
+#[tactic(auto, using(crate::proofs::SayLemmas::number_of_gen, crate::proofs::SayLemmas::in_range_of_gen))]
+fn number_in(matches: &ArgMatches) -> u64
+    requires { HasEachValue gen_command (rows_of (found_of matches.now)) }
+    ensures { TellsNumber (rows_of (found_of matches.now)) result }
+{
+    any_number(value(matches, "number"))
 }
 
 /// The value of an argument, if the words give one.

@@ -5,7 +5,7 @@ use Rattle.clap.proofs.WalkLemmas.{both}
 use Rattle.npf_words.specs.CommandLine.{word_texts}
 use Rattle.npf_words.specs.Definitions.{definition_of}
 use Rattle.npf_words.specs.declared.fault.WordsFault.TheVariants as fault
-use Rattle.npf_words.proofs.SayLemmas.{among_some}
+use Rattle.npf_words.proofs.SayLemmas.{among_some, err_fault}
 use Rattle.npf_words.proofs.SoundLemmas.{all_free, all_sound}
 use Rattle.npf_words.proofs.ValueLemmas.{each_value}
 use Rattle.npf_words.proofs.reading.matched.Goals as goal
@@ -36,7 +36,7 @@ returns-after-kind-clause-refused c = λ usage.
     let kinds = c.in-Err.ensures.kinds free in
     elim c.match-kind.branch [
       | in-OutOfMemory w ↦
-          let bad : fault.NoMemory ≡ fault.Usage = sym w.result-is ∙ usage in
+          let bad : fault.NoMemory ≡ fault.Usage = sym w.result-is ∙ ap (λ r. err_fault r fault.Usage) usage in
           cc
       | in_default w ↦ elim kinds [
         | inl lost ↦ absurd (w.in_default.not-OutOfMemory (c.kind.ensures ∙ lost))
