@@ -9,7 +9,7 @@ use Rattle.std.proofs.lemmas.Slice.Eq.{bytes_eq-Decides}
 use Rattle.clap.specs.Texts.{items_of}
 use Rattle.clap.specs.Words.{Accepts, App, IsParsed, IsParsedFrom, IsPlain, IsPlainArg, Rule, SameRules, Text, app_of, args_of, first_of, first_value, found_of, groups_of, has_subcommand, matched_of, parser_of, rows_of, rule_of}
 use Rattle.clap.specs.Built.{IsAuto}
-use Rattle.clap.specs.Facts.{Entry, EntryPasses, HasId, PassesArg, WantsDefault, is_present, least_values, parser_of_value}
+use Rattle.clap.specs.Facts.{AllowsNone, Entry, EntryPasses, EntryValuesPass, HasId, IsCountArg, IsFilledEntry, IsKnownGroup, PassesArg, WantsDefault, is_present, least_values, parser_of_value}
 use Rattle.clap.specs.declared.builder.action.ArgAction.{ArgAction}
 use Rattle.clap.specs.declared.builder.action.ArgAction.TheVariants.{Count, Set}
 use Rattle.clap.specs.declared.builder.arg.Arg.{Arg}
@@ -175,48 +175,53 @@ same_rules old m p k a at j x low is same =
 abbrev HasAccepted : Found → Arg → Type 0
 HasAccepted f a = (t : Text) × (first_value f a.id.now ≡ Some t) × ((q : ValueParser) → a.value_parser ≡ Some q → Accepts a.ignore_case q t)
 
+no_count : (old : Command) (m : ArgMatches) (p : IsParsedFrom old m) (k : ℕ) (a : Arg) → IsAt old k a → IsCountArg p.built a.id.now → ⊥
+no_count old m p k a at any =
+    let s = same_rules old m p k a at any.0 any.1 any.2 any.3 any.4.0 in
+    let is_set : any.1.action ≡ Some Set = s.action Set at.sets in
+    let bad : Set ≡ Count = rw is_set at any.4.1 in
+    cc
+
+no_empty : (old : Command) (m : ArgMatches) (p : IsParsedFrom old m) (k : ℕ) (a : Arg) → IsAt old k a → AllowsNone p.built a.id.now → ⊥
+no_empty old m p k a at any =
+    let s = same_rules old m p k a at any.0 any.1 any.2 any.3 any.4.0 in
+    elim any.4.1 [
+      | inl none ↦ no_least _ none (s.least at.sets at.least)
+      | inr has ↦
+          let bad : false ≡ true = rw (s.val_delim, at.one.delimiter) at has in
+          cc
+    ]
+
+no_group : (built : Command) (id : Text) → groups_of built ≡ [] → (id ≡ [] → ⊥) → IsKnownGroup built id → ⊥
+no_group built id none named (inl empty) = named empty
+no_group built id none named (inr lots) = no_less (subst (λ gs. 0 < length gs) none lots)
+
+-- the first of an argument's values
+first_of_values : (old : Command) (m : ArgMatches) (p : IsParsedFrom old m) (k : ℕ) (a : Arg) → IsAt old k a
+    → (x : MatchedArg) → matched_of (found_of m) a.id.now ≡ Some x → (vs : List (Bor Text)) → x.vals.items ≡ vs
+    → All (λ v. PassesArg p.built a.id.now v.now) vs → 0 < length vs → HasAccepted (found_of m) a
+first_of_values old m p k a at x found [] is all some = absurd (no_less some)
+first_of_values old m p k a at x found (v ∷ vs) is all some =
+    let any : PassesArg p.built a.id.now v.now = All-get_or (λ v. PassesArg p.built a.id.now v.now) (v ∷ vs) 0 v (some_more v vs) all in
+    let s = same_rules old m p k a at any.0 any.1 any.2 any.3 any.4.0 in
+    (v.now, rw (found, is) refl, accepted a any.1 v.now s any.4.1)
+
 -- the entry of the argument is no group's, and has a value
 value_in : (old : Command) (m : ArgMatches) (p : IsParsedFrom old m) (k : ℕ) (a : Arg) → IsAt old k a → groups_of p.built ≡ []
-    → (x : MatchedArg) → matched_of (found_of m) a.id.now ≡ Some x
-    → (e : Entry) → e.1 ≡ x → e.0.now ≡ a.id.now → EntryPasses p.built e → HasAccepted (found_of m) a
-value_in old m p k a at no_groups x found e is_x key pass =
-    let no_group : e.1.is_group ≡ true → ⊥ = λ g. elim (pass.3 g) [
-      | inl empty ↦ at.one.named (sym key ∙ empty)
-      | inr lots ↦
-          let bad : 0 < 0 = rw no_groups at lots in
-          absurd (no_less bad)
-    ] in
-    let all : All (λ v. PassesArg p.built a.id.now v.now) x.vals.items = elim pass.0 [
-      | inl g ↦ absurd (no_group g)
-      | inr vals ↦ subst (λ (w : Text). All (λ v. PassesArg p.built w v.now) x.vals.items) key (rw is_x at vals)
-    ] in
-    let some : 0 < length x.vals.items = elim pass.1 [
-      | inl g ↦ absurd (no_group g.0)
-      | inr (inl v) ↦ rw is_x at v
-      | inr (inr (inl h)) ↦
-          let any = h.1 in
-          let s = same_rules old m p k a at any.0 any.1 any.2 any.3 (rw key at any.4.0) in
-          let is_set : any.1.action ≡ Some Set = s.action Set at.sets in
-          let bad : Set ≡ Count = rw is_set at any.4.1 in
-          cc
-      | inr (inr (inr h)) ↦
-          let s = same_rules old m p k a at h.0 h.1 h.2 h.3 (rw key at h.4.0) in
-          elim h.4.1 [
-            | inl none ↦
-                absurd (no_least _ none (s.least at.sets at.least))
-            | inr has ↦
-                let bad : false ≡ true = rw (s.val_delim, at.one.delimiter) at has in
-                cc
-          ]
-    ] in
-    first x.vals.items refl all some
+    → (e : Entry) → matched_of (found_of m) a.id.now ≡ Some e.1 → e.0.now ≡ a.id.now → EntryPasses p.built e → HasAccepted (found_of m) a
+value_in old m p k a at none e found key pass =
+    let group : e.1.is_group ≡ true → ⊥ = λ g. no_group p.built a.id.now none at.one.named (subst (IsKnownGroup p.built) key (pass.3 g)) in
+    first_of_values old m p k a at e.1 found e.1.vals.items refl (all group pass.0) (some group pass.1)
   where
-    first : (vs : List (Bor Text)) → x.vals.items ≡ vs → All (λ v. PassesArg p.built a.id.now v.now) vs → 0 < length vs → HasAccepted (found_of m) a
-    first [] is all some = absurd (no_less some)
-    first (v ∷ vs) is all some =
-        let any : PassesArg p.built a.id.now v.now = All-get_or (λ v. PassesArg p.built a.id.now v.now) (v ∷ vs) 0 v (some_more v vs) all in
-        let s = same_rules old m p k a at any.0 any.1 any.2 any.3 any.4.0 in
-        (v.now, rw (found, is) refl, accepted a any.1 v.now s any.4.1)
+    all : (e.1.is_group ≡ true → ⊥) → EntryValuesPass p.built e → All (λ v. PassesArg p.built a.id.now v.now) e.1.vals.items
+    all group (inl g) = absurd (group g)
+    all group (inr vals) = subst (λ (w : Text). All (λ v. PassesArg p.built w v.now) e.1.vals.items) key vals
+
+    some : (e.1.is_group ≡ true → ⊥) → IsFilledEntry p.built e → 0 < length e.1.vals.items
+    some group (inl g) = absurd (group g.0)
+    some group (inr (inl v)) = v
+    some group (inr (inr (inl h))) = absurd (no_count old m p k a at (subst (IsCountArg p.built) key h.1))
+    some group (inr (inr (inr h))) = absurd (no_empty old m p k a at (subst (AllowsNone p.built) key h))
 
 -- an argument that has an entry has a value that its parser takes
 value_of_entry : (old : Command) (m : ArgMatches) (p : IsParsedFrom old m) (k : ℕ) (a : Arg) → IsAt old k a → groups_of p.built ≡ []
@@ -227,7 +232,7 @@ value_of_entry old m p k a at no_groups parsed has = go (matched_of (found_of m)
     go None e some = cc
     go (Some x) e some =
         let got = entry_by_id (EntryPasses p.built) (found_of m).entries.items a.id.now x parsed.values e in
-        value_in old m p k a at no_groups x e got.0 got.1 ((bytes_eq-Decides got.0.0.now a.id.now).0 got.2) got.3
+        value_in old m p k a at no_groups got.0 (e ∙ ap Some (sym got.1)) ((bytes_eq-Decides got.0.0.now a.id.now).0 got.2) got.3
 
 always : (r : Rule) → has_always r ≡ true → (r.required ≡ true) ⊎ (0 < length r.defaults)
 always r e = go r.required refl (length r.defaults) refl
