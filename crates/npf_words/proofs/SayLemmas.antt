@@ -14,7 +14,7 @@ use Rattle.clap.specs.Walk.{is_empty}
 use Rattle.clap.specs.Words.{App, IsSignedIn, IsUnsignedIn, Row, Rule, Text, first_of, found_of, matches_of, rows_of}
 use Rattle.clap.specs.declared.error.kind.ErrorKind.{ErrorKind}
 use Rattle.clap.specs.declared.parser.matches.ArgMatches.{ArgMatches}
-use Rattle.npf_words.specs.CommandLine.{IsRefused, SaysCommand, Tells, is_command_line, name_in, name_of, number_of, takes_words}
+use Rattle.npf_words.specs.CommandLine.{AreRefused, SaysCommand, TellsCommand, is_command_line, name_in, command_name, signed_number, takes_words}
 use Rattle.npf_words.specs.Definitions.{AreSpreads, SpreadNames, choice_rule, definition_of, gen_command, loading_command, number_parser, run_command, spread_parser, word_rule, workers_parser}
 use Rattle.npf_words.specs.Values.{HasEachValue, HasValue, IsMatched}
 use Rattle.npf_words.specs.declared.command.Command.{Command}
@@ -32,23 +32,23 @@ err_fault (Ok v) other = other
 
 -- ---- words that are refused, and the command of the others
 
-pub refused_unnamed : (spreads : SpreadNames) (words : List Text) → AreSpreads spreads → name_in words ≡ None → IsRefused words
+pub refused_unnamed : (spreads : SpreadNames) (words : List Text) → AreSpreads spreads → name_in words ≡ None → AreRefused words
 refused_unnamed spreads words listed none = (spreads, listed, ap (λ o. option_map_or (λ n. takes_words spreads n words) o false) none)
 
 pub refused_words : (spreads : SpreadNames) (words : List Text) (n : CommandName) → AreSpreads spreads → name_in words ≡ Some n
-    → takes_words spreads n words ≡ false → IsRefused words
+    → takes_words spreads n words ≡ false → AreRefused words
 refused_words spreads words n listed named refused =
     (spreads, listed, ap (λ o. option_map_or (λ k. takes_words spreads k words) o false) named ∙ refused)
 
 pub says : (spreads : SpreadNames) (words : List Text) (n : CommandName) (m : ArgMatches) (c : Command) → AreSpreads spreads
     → name_in words ≡ Some n → takes_words spreads n words ≡ true → IsMatched (definition_of spreads n) words m
-    → name_of c ≡ n → Tells (rows_of (found_of m)) c → SaysCommand words c
+    → command_name c ≡ n → TellsCommand (rows_of (found_of m)) c → SaysCommand words c
 says spreads words n m c listed named taken found name told = record {
   spreads = spreads;
   listed = listed;
   taken = ap (λ o. option_map_or (λ k. takes_words spreads k words) o false) named ∙ taken;
   name = named ∙ ap Some (sym name);
-  told = subst (λ (rows : List Row). Tells rows c) (found.rows ∙ ap (λ k. matches_of (definition_of spreads k) words) (sym name)) told;
+  told = subst (λ (rows : List Row). TellsCommand rows c) (found.rows ∙ ap (λ k. matches_of (definition_of spreads k) words) (sym name)) told;
 }
 
 -- ---- the values
@@ -124,10 +124,10 @@ in_range_of_gen rows t h found =
     subst (IsUnsignedIn 0 18446744073709551615) same (v.2 number_parser refl)
 
 -- a number from 1 to 64 has no minus sign
-pub few_digits : (t : Text) → IsSignedIn (pos 1) (pos 64) t → IsNumeral 10 (without_leading_plus t) × (1 ≤ number_of t) × (number_of t ≤ 64)
+pub few_digits : (t : Text) → IsSignedIn (pos 1) (pos 64) t → IsNumeral 10 (without_leading_plus t) × (1 ≤ signed_number t) × (signed_number t ≤ 64)
 few_digits t h = go (starts_with_minus t) refl
   where
-    go : (b : Bool) → starts_with_minus t ≡ b → IsNumeral 10 (without_leading_plus t) × (1 ≤ number_of t) × (number_of t ≤ 64)
+    go : (b : Bool) → starts_with_minus t ≡ b → IsNumeral 10 (without_leading_plus t) × (1 ≤ signed_number t) × (signed_number t ≤ 64)
     go true minus =
         let low = rw minus at h.2 in
         absurd (omega (arith, ints))

@@ -22,8 +22,8 @@ abbrev pub word_texts : List (String Global) → List Text
 word_texts = map string_bytes
 
 -- the command that a word names, byte for byte
-abbrev pub named : Text → Option CommandName
-named word =
+abbrev pub command_named : Text → Option CommandName
+command_named word =
     if bytes_eq word (codes "run") then Some name.Run
     else (if bytes_eq word (codes "validate") then Some name.Validate
     else (if bytes_eq word (codes "show") then Some name.Show
@@ -33,7 +33,7 @@ named word =
 -- the command that the first word names
 abbrev pub name_in : List Text → Option CommandName
 name_in [] = None
-name_in (word ∷ _) = named word
+name_in (word ∷ _) = command_named word
 
 -- `clap`'s definition of the command takes the words behind its name; words that ask for help or a version are refused there
 abbrev pub takes_words : SpreadNames → CommandName → List Text → Bool
@@ -43,19 +43,19 @@ takes_words spreads n words = is_empty (fault_of (definition_of spreads n) words
 abbrev pub is_command_line : SpreadNames → List Text → Bool
 is_command_line spreads words = option_map_or (λ n. takes_words spreads n words) (name_in words) false
 
-abbrev pub IsRefused : List Text → Type 0
-IsRefused words = (spreads : SpreadNames) × AreSpreads spreads × (is_command_line spreads words ≡ false)
+abbrev pub AreRefused : List Text → Type 0
+AreRefused words = (spreads : SpreadNames) × AreSpreads spreads × (is_command_line spreads words ≡ false)
 
-abbrev pub name_of : Command → CommandName
-name_of (command.Run _) = name.Run
-name_of (command.Validate _) = name.Validate
-name_of (command.Show _) = name.Show
-name_of (command.Debug _) = name.Debug
-name_of (command.Gen _) = name.Gen
+abbrev pub command_name : Command → CommandName
+command_name (command.Run _) = name.Run
+command_name (command.Validate _) = name.Validate
+command_name (command.Show _) = name.Show
+command_name (command.Debug _) = name.Debug
+command_name (command.Gen _) = name.Gen
 
 -- the number of digits that may have a plus sign before them
-abbrev pub number_of : Text → ℕ
-number_of text = digits_value 10 (without_leading_plus text)
+abbrev pub signed_number : Text → ℕ
+signed_number text = digits_value 10 (without_leading_plus text)
 
 abbrev pub spread_word : Spread → Text
 spread_word spread.Rr = codes "rr"
@@ -69,7 +69,7 @@ pub record TellsRun (rows : List Row) (run : Run) : Type 0 where
   pub conf : first_of (codes "conf") rows ≡ Some run.conf.now
   pub script : first_of (codes "script") rows ≡ Some run.script.now
   pub ifaces : first_of (codes "ifaces") rows ≡ given_text run.ifaces
-  pub workers : option_map number_of (first_of (codes "workers") rows) ≡ Some run.workers
+  pub workers : option_map signed_number (first_of (codes "workers") rows) ≡ Some run.workers
   pub some : 1 ≤ run.workers
   pub few : run.workers ≤ 64
   pub spread : first_of (codes "spread") rows ≡ Some (spread_word run.spread)
@@ -81,19 +81,19 @@ pub record TellsLoad (rows : List Row) (load : Load) : Type 0 where
   pub ifaces : first_of (codes "ifaces") rows ≡ given_text load.ifaces
 
 abbrev pub TellsNumber : List Row → ℕ → Type 0
-TellsNumber rows number = option_map number_of (first_of (codes "number") rows) ≡ Some number
+TellsNumber rows number = option_map signed_number (first_of (codes "number") rows) ≡ Some number
 
-abbrev pub Tells : List Row → Command → Type 0
-Tells rows (command.Run run) = TellsRun rows run
-Tells rows (command.Validate load) = TellsLoad rows load
-Tells rows (command.Show load) = TellsLoad rows load
-Tells rows (command.Debug load) = TellsLoad rows load
-Tells rows (command.Gen number) = TellsNumber rows number
+abbrev pub TellsCommand : List Row → Command → Type 0
+TellsCommand rows (command.Run run) = TellsRun rows run
+TellsCommand rows (command.Validate load) = TellsLoad rows load
+TellsCommand rows (command.Show load) = TellsLoad rows load
+TellsCommand rows (command.Debug load) = TellsLoad rows load
+TellsCommand rows (command.Gen number) = TellsNumber rows number
 
 -- the command that the words say: it is the first word's, and what `clap` found by its definition is in it
 pub record SaysCommand (words : List Text) (c : Command) : Type 0 where
   pub spreads : SpreadNames
   pub listed : AreSpreads spreads
   pub taken : is_command_line spreads words ≡ true
-  pub name : name_in words ≡ Some (name_of c)
-  pub told : Tells (matches_of (definition_of spreads (name_of c)) words) c
+  pub name : name_in words ≡ Some (command_name c)
+  pub told : TellsCommand (matches_of (definition_of spreads (command_name c)) words) c

@@ -1,8 +1,8 @@
 // The command that a list of words says.
 ghost use Rattle.std.specs.Prelude.{◌≡◌, ◌≤◌, ◌<◌, ◌^◌, ◌⊎◌, IfOk, IsErrOf, Some, codes, false, is_some, option_map, pos, true};
 ghost use Rattle.clap.specs.Words.{IsSignedIn, IsUnsignedIn, first_of, found_of, rows_of};
-ghost use Rattle.npf_words.specs.CommandLine.{IsRefused, SaysCommand, Tells, TellsLoad, TellsNumber, TellsRun};
-ghost use Rattle.npf_words.specs.CommandLine.{name_in, name_of, named, number_of, spread_word, takes_words, word_texts};
+ghost use Rattle.npf_words.specs.CommandLine.{AreRefused, SaysCommand, TellsCommand, TellsLoad, TellsNumber, TellsRun};
+ghost use Rattle.npf_words.specs.CommandLine.{name_in, command_name, command_named, signed_number, spread_word, takes_words, word_texts};
 ghost use Rattle.npf_words.specs.Definitions.{AreSpreads, definition_of, gen_command, loading_command, run_command};
 ghost use Rattle.npf_words.specs.Values.{HasEachValue, IsMatched};
 
@@ -22,7 +22,7 @@ use std::alloc::Global;
 /// where memory runs out.
 #[tactic(auto, using(crate::proofs::SayLemmas::refused_unnamed, crate::proofs::SayLemmas::refused_words, crate::proofs::SayLemmas::says))]
 pub fn read_words<'a>(alloc: Global, words: &'a [String]) -> Result<Command<'a>, WordsFault>
-    ensures refused { IsErrOf result WordsFault.Usage → IsRefused (word_texts words.entry.now) }
+    ensures refused { IsErrOf result WordsFault.Usage → AreRefused (word_texts words.entry.now) }
     ensures read { IfOk result (SaysCommand (word_texts words.entry.now)) }
 {
     let spreads = spread_names();
@@ -52,7 +52,7 @@ fn name_in(words: &[String]) -> Option<CommandName>
 }
 
 fn named(word: &str) -> Option<CommandName>
-    ensures { result ≡ named word.now }
+    ensures { result ≡ command_named word.now }
 {
     match word {
         "run" => Some(CommandName::Run),
@@ -89,8 +89,8 @@ fn matched<'a>(
 fn command_of<'a>(name: CommandName, matches: &ArgMatches<'a>, spreads: &'a [&'a str]) -> Command<'a>
     requires listed { AreSpreads spreads }
     requires found { HasEachValue (definition_of spreads name) (rows_of (found_of matches.now)) }
-    ensures name { name_of result ≡ name }
-    ensures told { Tells (rows_of (found_of matches.now)) result }
+    ensures name { command_name result ≡ name }
+    ensures told { TellsCommand (rows_of (found_of matches.now)) result }
 {
     match name {
         CommandName::Run => Command::Run(run_of(matches, spreads)),
@@ -156,7 +156,7 @@ fn value<'a>(matches: &ArgMatches<'a>, id: &str) -> &'a str
 #[tactic(auto, using(crate::proofs::SayLemmas::few_digits))]
 fn few_workers(text: &str) -> u8
     requires { IsSignedIn (pos 1) (pos 64) text.now }
-    ensures number { result ≡ number_of text.now }
+    ensures number { result ≡ signed_number text.now }
     ensures some { 1 ≤ result }
     ensures few { result ≤ 64 }
 {
@@ -165,7 +165,7 @@ fn few_workers(text: &str) -> u8
 
 fn any_number(text: &str) -> u64
     requires { IsUnsignedIn 0 18446744073709551615 text.now }
-    ensures { result ≡ number_of text.now }
+    ensures { result ≡ signed_number text.now }
 {
     text.parse().unwrap()
 }
