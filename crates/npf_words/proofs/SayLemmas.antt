@@ -1,20 +1,20 @@
 -- What the values of a definition's arguments are to the command that is read of them.
-use Rattle.std.proofs.Common.{◌≡◌, ◌∙◌, ◌<◌, ◌≤◌, ◌⊎◌, ◌||◌, ◌^◌, ℕ, ℤ, Bool, true, false, List, [], ◌∷◌, length, map, Option, Some, None, Result, Ok, Err, is_some, refl, sym, ap, subst, inl, inr, arith, codes}
+use Rattle.std.proofs.Common.{◌≡◌, ◌∙◌, ◌≤◌, ◌⊎◌, Bool, true, false, List, [], ◌∷◌, map, Some, None, Result, Ok, Err, is_some, refl, sym, ap, subst, inl, inr, arith, codes}
 use Rattle.std.specs.Prelude.{pos, unwrap_or}
 use Rattle.std.specs.Option.{option_map_or}
 use Rattle.std.specs.Borrow.{Bor}
 use Rattle.std.specs.List.{list_any}
 use Rattle.std.specs.Str.{bytes_eq}
-use Rattle.std.specs.Str.Parse.{IsNumeral, digits_value, starts_with_minus, without_leading_plus}
+use Rattle.std.specs.Str.Parse.{IsNumeral, starts_with_minus, without_leading_plus}
 use Rattle.std.proofs.lemmas.Bool.{ne_eqb}
 use Rattle.std.proofs.lemmas.Int.{ints}
 use Rattle.std.proofs.lemmas.Slice.Eq.{bytes_eq-Decides}
 use Rattle.clap.specs.Kinds.{IsAmong, Kinds}
 use Rattle.clap.specs.Walk.{is_empty}
-use Rattle.clap.specs.Words.{App, IsSignedIn, IsUnsignedIn, Row, Rule, Text, first_of, found_of, matches_of, rows_of}
+use Rattle.clap.specs.Words.{IsSignedIn, IsUnsignedIn, Row, Rule, Text, first_of, found_of, matches_of, rows_of}
 use Rattle.clap.specs.declared.error.kind.ErrorKind.{ErrorKind}
 use Rattle.clap.specs.declared.parser.matches.ArgMatches.{ArgMatches}
-use Rattle.npf_words.specs.CommandLine.{AreRefused, SaysCommand, TellsCommand, is_command_line, name_in, command_name, signed_number, takes_words}
+use Rattle.npf_words.specs.CommandLine.{AreRefused, SaysCommand, TellsCommand, name_in, command_name, signed_number, takes_words}
 use Rattle.npf_words.specs.Definitions.{AreSpreads, SpreadNames, choice_rule, definition_of, gen_command, loading_command, number_parser, run_command, spread_parser, word_rule, workers_parser}
 use Rattle.npf_words.specs.Values.{HasEachValue, HasValue, IsMatched}
 use Rattle.npf_words.specs.declared.command.Command.{Command}

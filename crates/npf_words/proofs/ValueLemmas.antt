@@ -1,5 +1,5 @@
 -- In each parse of a sound definition an argument that is required, or has a default, has a value that its parser takes.
-use Rattle.std.proofs.Common.{◌≡◌, ◌∙◌, ◌<◌, ◌≤◌, ◌&&◌, ◌||◌, ◌⊎◌, ℕ, zero, suc, Bool, true, false, not, List, [], ◌∷◌, length, map, Option, Some, None, is_some, refl, sym, ap, subst, inl, inr, arith, codes}
+use Rattle.std.proofs.Common.{◌≡◌, ◌∙◌, ◌<◌, ◌≤◌, ◌&&◌, ◌⊎◌, ℕ, zero, suc, Bool, true, false, not, List, [], ◌∷◌, length, map, Option, Some, None, is_some, refl, sym, ap, subst, inl, inr, arith, codes}
 use Rattle.std.specs.Prelude.{find, option_map, slice_get, unwrap_or}
 use Rattle.std.specs.List.{All, list_all, slice_index_or}
 use Rattle.std.specs.Str.{bytes_eq}
@@ -7,7 +7,7 @@ use Rattle.std.specs.Borrow.{Bor}
 use Rattle.std.proofs.lemmas.List.Elements.{All-get_or}
 use Rattle.std.proofs.lemmas.Slice.Eq.{bytes_eq-Decides}
 use Rattle.clap.specs.Texts.{items_of}
-use Rattle.clap.specs.Words.{Accepts, App, IsParsed, IsParsedFrom, IsPlain, IsPlainArg, Rule, SameRules, Text, app_of, args_of, first_of, first_value, found_of, groups_of, has_subcommand, matched_of, parser_of, rows_of, rule_of}
+use Rattle.clap.specs.Words.{Accepts, App, IsParsed, IsParsedFrom, IsPlain, IsPlainArg, Rule, SameRules, Text, app_of, args_of, first_value, found_of, groups_of, has_subcommand, matched_of, parser_of, rows_of, rule_of}
 use Rattle.clap.specs.Built.{IsAuto}
 use Rattle.clap.specs.Facts.{AllowsNone, Entry, EntryPasses, EntryValuesPass, HasId, IsCountArg, IsFilledEntry, IsKnownGroup, PassesArg, WantsDefault, is_present, least_values, parser_of_value}
 use Rattle.clap.specs.declared.builder.action.ArgAction.{ArgAction}
@@ -252,15 +252,15 @@ entry_of old m p k a at plain app is sound given =
     let globals = (plain_fields old (ap (λ (z : App). z.top.is_plain) is ∙ sound.plain)).globals in
     let negates = ap (λ (z : App). z.top.subcommand_negates_reqs) is ∙ sound.negates in
     elim (always (rule_of a) given) [
-  | inl required ↦ present_has_entry (found_of m) a.id.now
-      (subst (λ (w : Arg). is_present (found_of m) w.id.now ≡ true) at.here
-      (required_present old m p plain globals negates k a at.low (ap (λ (w : Arg). w.required) at.here ∙ required)))
-  | inr many ↦
-      let wants : WantsDefault a = (at.one.ifs, some_defaults (items_of a.default_vals) many) in
-      let has : HasId (found_of m) a.id.now = subst (λ (w : Arg). HasId (found_of m) w.id.now) at.here
-      (default_present old m p globals k a at.low (subst WantsDefault (sym at.here) wants)) in
-      found_in (found_of m).entries.items a.id.now has.0 has.1 has.2
-]
+      | inl required ↦ present_has_entry (found_of m) a.id.now
+          (subst (λ (w : Arg). is_present (found_of m) w.id.now ≡ true) at.here
+          (required_present old m p plain globals negates k a at.low (ap (λ (w : Arg). w.required) at.here ∙ required)))
+      | inr many ↦
+          let wants : WantsDefault a = (at.one.ifs, some_defaults (items_of a.default_vals) many) in
+          let has : HasId (found_of m) a.id.now = subst (λ (w : Arg). HasId (found_of m) w.id.now) at.here
+          (default_present old m p globals k a at.low (subst WantsDefault (sym at.here) wants)) in
+          found_in (found_of m).entries.items a.id.now has.0 has.1 has.2
+    ]
   where
     some_defaults : (xs : List (Bor Text)) → 0 < length (map (λ s. s.now) xs) → 0 < length xs
     some_defaults [] h = h
@@ -283,7 +283,7 @@ each_value old m app is sound p k r at given =
       low = found.1;
       here = found.2;
       only = λ j e low same. only_place rule_of (args_of old) j k a e differ low found.1
-      (subst (λ (w : Arg). bytes_eq (slice_index_or (args_of old) j e).id.now w.id.now ≡ true) (sym found.2) same);
+          (subst (λ (w : Arg). bytes_eq (slice_index_or (args_of old) j e).id.now w.id.now ≡ true) (sym found.2) same);
       one = here;
       sets = set_of a.action set.0;
       least = one_value a (no_some _ set.1);

@@ -1,5 +1,5 @@
 -- The five commands as `clap` defines them: one simple command each, without subcommands.
-use Rattle.std.specs.Prelude.{◌≡◌, codes, false, true, List, Some, [], ◌∷◌, map, pos}
+use Rattle.std.specs.Prelude.{◌≡◌, codes, true, List, Some, [], ◌∷◌, map, pos}
 use Rattle.std.specs.Borrow.{Bor}
 use Rattle.clap.specs.Words.{App, Rule, Text, new_app, new_rule, with_rule}
 use Rattle.clap.specs.declared.builder.ValueParser.{ValueParser}

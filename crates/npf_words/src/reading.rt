@@ -86,7 +86,11 @@ fn matched<'a>(
 }
 
 #[tactic(auto, using(crate::proofs::SayLemmas::known_run, crate::proofs::SayLemmas::known_validate, crate::proofs::SayLemmas::known_show, crate::proofs::SayLemmas::known_debug, crate::proofs::SayLemmas::known_gen))]
-fn command_of<'a>(name: CommandName, matches: &ArgMatches<'a>, spreads: &'a [&'a str]) -> Command<'a>
+fn command_of<'a>(
+    name: CommandName,
+    matches: &ArgMatches<'a>,
+    spreads: &'a [&'a str],
+) -> Command<'a>
     requires listed { AreSpreads spreads }
     requires found { HasEachValue (definition_of spreads name) (rows_of (found_of matches.now)) }
     ensures name { command_name result ≡ name }
@@ -174,5 +178,9 @@ fn spread_of(text: &str) -> Spread
     requires { (text.now ≡ codes "rr") ⊎ (text.now ≡ codes "flow") }
     ensures { spread_word result ≡ text.now }
 {
-    if text == "flow" { Spread::Flow } else { Spread::Rr }
+    if text == "flow" {
+        Spread::Flow
+    } else {
+        Spread::Rr
+    }
 }

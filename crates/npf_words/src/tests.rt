@@ -32,19 +32,92 @@ const PLAIN: Run<'static> = Run {
 fn run_has_its_options_or_their_defaults(rt: HostRuntime) -> Result<(), Fail> {
     let cases: [(&str, Run); 15] = [
         ("run a.conf s", PLAIN),
-        ("run a.conf s --ifaces i", Run { ifaces: Some("i"), ..PLAIN }),
-        ("run --ifaces=i a.conf s", Run { ifaces: Some("i"), ..PLAIN }),
-        ("run a.conf --workers 64 s", Run { workers: 64, ..PLAIN }),
-        ("run a.conf s --workers +7", Run { workers: 7, ..PLAIN }),
-        ("run a.conf s --workers=007", Run { workers: 7, ..PLAIN }),
+        (
+            "run a.conf s --ifaces i",
+            Run {
+                ifaces: Some("i"),
+                ..PLAIN
+            },
+        ),
+        (
+            "run --ifaces=i a.conf s",
+            Run {
+                ifaces: Some("i"),
+                ..PLAIN
+            },
+        ),
+        (
+            "run a.conf --workers 64 s",
+            Run {
+                workers: 64,
+                ..PLAIN
+            },
+        ),
+        (
+            "run a.conf s --workers +7",
+            Run {
+                workers: 7,
+                ..PLAIN
+            },
+        ),
+        (
+            "run a.conf s --workers=007",
+            Run {
+                workers: 7,
+                ..PLAIN
+            },
+        ),
         ("run a.conf s --spread rr", PLAIN),
-        ("run a.conf s --spread flow", Run { spread: Spread::Flow, ..PLAIN }),
-        ("run a.conf s --write o", Run { output: Some("o"), ..PLAIN }),
-        ("run a.conf s --write=-x", Run { output: Some("-x"), ..PLAIN }),
-        ("run a.conf s --write -", Run { output: Some("-"), ..PLAIN }),
-        ("run a.conf s --write=", Run { output: Some(""), ..PLAIN }),
-        ("run --write o -- a.conf -a", Run { script: "-a", output: Some("o"), ..PLAIN }),
-        ("run -- a.conf --workers", Run { script: "--workers", ..PLAIN }),
+        (
+            "run a.conf s --spread flow",
+            Run {
+                spread: Spread::Flow,
+                ..PLAIN
+            },
+        ),
+        (
+            "run a.conf s --write o",
+            Run {
+                output: Some("o"),
+                ..PLAIN
+            },
+        ),
+        (
+            "run a.conf s --write=-x",
+            Run {
+                output: Some("-x"),
+                ..PLAIN
+            },
+        ),
+        (
+            "run a.conf s --write -",
+            Run {
+                output: Some("-"),
+                ..PLAIN
+            },
+        ),
+        (
+            "run a.conf s --write=",
+            Run {
+                output: Some(""),
+                ..PLAIN
+            },
+        ),
+        (
+            "run --write o -- a.conf -a",
+            Run {
+                script: "-a",
+                output: Some("o"),
+                ..PLAIN
+            },
+        ),
+        (
+            "run -- a.conf --workers",
+            Run {
+                script: "--workers",
+                ..PLAIN
+            },
+        ),
         ("run - s", Run { conf: "-", ..PLAIN }),
     ];
     for (line, expected) in cases {
@@ -57,8 +130,14 @@ fn run_has_its_options_or_their_defaults(rt: HostRuntime) -> Result<(), Fail> {
 
 #[test]
 fn other_commands_have_what_they_load_or_their_number(rt: HostRuntime) -> Result<(), Fail> {
-    let plain = Load { conf: "a.conf", ifaces: None };
-    let with_ifaces = Load { conf: "a.conf", ifaces: Some("i") };
+    let plain = Load {
+        conf: "a.conf",
+        ifaces: None,
+    };
+    let with_ifaces = Load {
+        conf: "a.conf",
+        ifaces: Some("i"),
+    };
     let cases: [(&str, Command); 9] = [
         ("validate a.conf", Command::Validate(plain)),
         ("validate a.conf --ifaces i", Command::Validate(with_ifaces)),
@@ -68,7 +147,10 @@ fn other_commands_have_what_they_load_or_their_number(rt: HostRuntime) -> Result
         ("debug --ifaces=i a.conf", Command::Debug(with_ifaces)),
         ("gen 0", Command::Gen { number: 0 }),
         ("gen +012", Command::Gen { number: 12 }),
-        ("gen 18446744073709551615", Command::Gen { number: u64::MAX }),
+        (
+            "gen 18446744073709551615",
+            Command::Gen { number: u64::MAX },
+        ),
     ];
     for (line, expected) in cases {
         let words = words_in(rt.alloc(), line)?;
@@ -121,7 +203,10 @@ fn other_words_are_refused(rt: HostRuntime) -> Result<(), Fail> {
         "gen 1 --ifaces i",
     ];
     for line in cases {
-        assert!(&rt; refusal_of(rt.alloc(), line) == Some(WordsFault::Usage), "{line}");
+        assert!(&rt;
+            refusal_of(rt.alloc(), line) == Some(WordsFault::Usage),
+            "{line}"
+        );
     }
     Ok(())
 }

@@ -1,4 +1,4 @@
-use Rattle.std.proofs.Common.{◌≡◌, ◌∙◌, ap, false, List, [], inl, inr, sym, true}
+use Rattle.std.proofs.Common.{◌≡◌, ◌∙◌, ap, [], inl, inr, sym, true}
 use Rattle.clap.specs.Walk.{is_empty}
 use Rattle.clap.specs.Words.{App, app_of, fault_of, is_simple, is_simple_and_free, matches_of}
 use Rattle.clap.proofs.WalkLemmas.{both}
@@ -26,7 +26,7 @@ returns-in-Ok-clause-found c =
     record {
       rows = (c.in-Ok.ensures.matches simple).0 ∙ ap (λ (a : App). matches_of a (word_texts c.args.words.now)) is;
       values = each_value c.in_ok-command.command c.in-Ok.matches (definition_of c.args.spreads c.args.name) is
-      (all_sound c.args.spreads c.args.name) c.in-Ok.ensures.parsed;
+          (all_sound c.args.spreads c.args.name) c.in-Ok.ensures.parsed;
     }
 
 pub returns-after-kind-clause-refused : goal.returns-after-kind-clause-refused
