@@ -148,6 +148,9 @@ fn freed_beside_a_resting_pass<C: Connections<Sum>>(
 #[test]
 fn slot_of_one_turn_is_freed_beside_a_resting_pass(rt: HostRuntime) -> Result<(), Fail> {
     let (conns, mut pass) = OneTurn::<Sum>::new(rt.alloc(), 1)?;
-    assert_eq!(rt; freed_beside_a_resting_pass(&rt, &conns, &mut pass), Some(NEXT));
+    assert_eq!(rt;
+        freed_beside_a_resting_pass(&rt, &conns, &mut pass),
+        Some(NEXT)
+    );
     Ok(())
 }

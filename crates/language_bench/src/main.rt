@@ -42,7 +42,10 @@ fn main(rt: HostRuntime) -> Result<(), Error> {
         println!(rt; "{}: {answer}", text.name)?;
         if most.is_some() {
             let bytes = text.conf.as_bytes().len();
-            println!(rt; "  {bytes} bytes, {} lines, walked in {} us", ends.lines, ends.walked)?;
+            println!(rt;
+                "  {bytes} bytes, {} lines, walked in {} us",
+                ends.lines, ends.walked
+            )?;
             print_stages(&rt, &ends)?;
         }
     }
