@@ -56,7 +56,7 @@ fn said(alloc: Global, fault: &LoadFault) -> Result<String, AllocError> {
                 _ => format!(in alloc; "{place} {number} {name}"),
             }
         }
-        LoadFault::File { span, fault } => {
+        LoadFault::File { span, fault, .. } => {
             let place = place_of(alloc, span)?;
             let why = match fault {
                 FileFault::Failed => "failed",

@@ -1,9 +1,9 @@
 // What is answered to a text, from its tokens to its checks.
-use npf_check::check;
-use npf_expand::{expand, read_ifaces};
+use npf_check::{check, check_rule};
+use npf_expand::{expand, expand_rule, read_ifaces};
 use npf_lexer::{Refused, lex};
-use npf_model::Model;
-use npf_parser::parse;
+use npf_model::{Model, Rule};
+use npf_parser::{parse, parse_rule};
 use npf_types::limits::MAX_TEXT_BYTES;
 use std::alloc::{AllocError, Global};
 
@@ -20,12 +20,49 @@ pub fn model_of(alloc: Global, ifaces: &[u8], text: &[u8]) -> Result<Model, Refu
     Ok(model)
 }
 
+/// The rule of a text beside a model, or the first fault of the stage that refuses it.
+pub fn lone_rule_of(
+    alloc: Global,
+    ifaces: &[u8],
+    model: &Model,
+    text: &[u8],
+) -> Result<Rule, Refused> {
+    if text.len() > MAX_TEXT_BYTES || ifaces.len() > MAX_TEXT_BYTES {
+        return Err(Refused::NoMemory);
+    }
+    let ifaces = read_ifaces(alloc, ifaces)?;
+    let tokens = lex(alloc, text)?;
+    let tree = parse_rule(alloc, tokens.as_slice())?;
+    let rule = expand_rule(alloc, &tree, model, &ifaces)?;
+    check_rule(alloc, &tree, model, &rule)?;
+    Ok(rule)
+}
+
 /// `LINE:COLUMN NUMBER NAME` of the fault that a text is refused for, or `accepted`.
 pub fn answer(alloc: Global, ifaces: &[u8], text: &[u8]) -> Result<String, AllocError> {
     match model_of(alloc, ifaces, text) {
         Ok(_) => String::from_str(alloc, "accepted"),
-        Err(Refused::NoMemory) => String::from_str(alloc, "no memory"),
-        Err(Refused::Fault(fault)) => format!(in alloc;
+        Err(refused) => told(alloc, &refused),
+    }
+}
+
+/// The same of a rule beside a model.
+pub fn lone_answer(
+    alloc: Global,
+    ifaces: &[u8],
+    model: &Model,
+    text: &[u8],
+) -> Result<String, AllocError> {
+    match lone_rule_of(alloc, ifaces, model, text) {
+        Ok(_) => String::from_str(alloc, "accepted"),
+        Err(refused) => told(alloc, &refused),
+    }
+}
+
+fn told(alloc: Global, refused: &Refused) -> Result<String, AllocError> {
+    match refused {
+        Refused::NoMemory => String::from_str(alloc, "no memory"),
+        Refused::Fault(fault) => format!(in alloc;
             "{}:{} {} {}",
             fault.span.line,
             fault.span.col,

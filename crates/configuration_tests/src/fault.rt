@@ -6,7 +6,7 @@ use std::test::Fail;
 const IFACES: &[u8] = b"wm0 203.0.113.1 2001:db8::1 203.0.113.2\nwm1\n";
 
 // Each fault by itself.
-const EACH: [(&str, &str); 24] = [
+const EACH: [(&str, &str); 25] = [
     (
         "$a = 10.0.0.1\ngroup default {\n  block all\n  pass from $b\n}\n",
         "4:13 30 UnknownVariable",
@@ -77,7 +77,11 @@ const EACH: [(&str, &str); 24] = [
         "alg \"ftp\"\ngroup default { block all }\n",
         "1:1 48 Unbuilt",
     ),
-    ("group default { ruleset \"r\" }\n", "1:17 48 Unbuilt"),
+    ("group default { ruleset \"r\" }\n", "accepted"),
+    (
+        "group \"a\" { ruleset \"r\" in }\ngroup default { ruleset \"r\" }\n",
+        "2:17 46 DuplicateName",
+    ),
     (
         "set bpf.jit on\nalg \"icmp\"\ngroup default { block all }\n",
         "accepted",

@@ -1,6 +1,7 @@
 // What no clause says of the meaning of configurations: that the definitions mean what npf.conf(5) says. The places are counted by hand.
 //
-// One file a subject: the faults of a text, what a text means, and texts near the limits. All of it goes through public calls.
+// One file a subject: the faults of a text, what a text means, texts near the limits, and rules that stand in no text. All of it goes
+// through public calls.
 #![tactic(auto)]
 
 #[cfg(test)]
@@ -9,5 +10,7 @@ mod answer;
 mod fault;
 #[cfg(test)]
 mod limit;
+#[cfg(test)]
+mod lone_rule;
 #[cfg(test)]
 mod meaning;

@@ -69,6 +69,29 @@ fn heads(group: &Group) -> (&[u8], u16, usize) {
     (group.name.as_slice(), number, group.items.as_slice().len())
 }
 
+// Whether an item is a ruleset to which no rule was added yet, by its name, direction and interface's number.
+fn is_new_ruleset(item: &Item, text: &[u8], way: Option<Dir>, number: u16) -> bool {
+    let Item::Dynamic {
+        name,
+        dir,
+        on,
+        next_id,
+        rules,
+    } = item
+    else {
+        return false;
+    };
+    let on = match on {
+        Some(on) => on.id.0,
+        None => 0,
+    };
+    name.as_bytes() == text
+        && *dir == way
+        && on == number
+        && *next_id == 1
+        && rules.as_slice().is_empty()
+}
+
 #[test]
 fn groups_of_a_gateway(rt: HostRuntime) -> Result<(), Fail> {
     let model = gateway(&rt)?;
@@ -153,5 +176,22 @@ fn maps_and_functions_of_a_gateway(rt: HostRuntime) -> Result<(), Fail> {
         return Err("an interface".into());
     };
     assert_eq!(rt; on.id.0, 0);
+    Ok(())
+}
+
+#[test]
+fn a_ruleset_has_no_rules_yet(rt: HostRuntime) -> Result<(), Fail> {
+    let text = b"group default { ruleset \"blocklist\" in on wm1; ruleset \"r\" }\n";
+    let Ok(model) = model_of(rt.alloc(), IFACES, text) else {
+        return Err("rulesets are refused".into());
+    };
+    let [group] = model.groups.as_slice() else {
+        return Err("one group".into());
+    };
+    let [bound, free] = group.items.as_slice() else {
+        return Err("two items".into());
+    };
+    assert!(rt; is_new_ruleset(bound, b"blocklist", Some(Dir::In), 2));
+    assert!(rt; is_new_ruleset(free, b"r", None, 0));
     Ok(())
 }

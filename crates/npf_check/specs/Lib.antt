@@ -3,6 +3,7 @@ pub mod Duplicate
 pub mod Family
 pub mod Fault
 pub mod Limit
+pub mod LoneRule
 pub mod Map
 pub mod Name
 pub mod Pair

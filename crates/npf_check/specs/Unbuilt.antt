@@ -1,18 +1,16 @@
 -- 48: what npf.conf(5) has and this project doesn't build, told at the statement: `set` of anything but `bpf.jit` with `on` or
--- `off`, `alg` of anything but "icmp", a map's `algo` of anything but `netmap` and `npt66`, and `ruleset`, told at the item.
+-- `off`, `alg` of anything but "icmp", and a map's `algo` of anything but `netmap` and `npt66`.
 use Rattle.std.specs.Prelude.{Bool, true, false, not, ◌&&◌, ◌||◌, Option, Some, None, List, [], codes}
 use Rattle.std.specs.List.{flat_map}
 use Rattle.std.specs.Str.{bytes_eq}
 use Rattle.npf_lexer.specs.declared.fault.ConfFault.{ConfFault}
 use Rattle.npf_lexer.specs.declared.fault.Fault.TheVariants.{Unbuilt}
-use Rattle.npf_syntax.specs.declared.group.Item.{Item}
-use Rattle.npf_syntax.specs.declared.group.Item.TheVariants as ItemIs
 use Rattle.npf_syntax.specs.declared.map.MapKind.{MapKind}
 use Rattle.npf_syntax.specs.declared.stmt.Setting.{Setting}
 use Rattle.npf_syntax.specs.declared.stmt.Stmt.{Stmt}
 use Rattle.npf_syntax.specs.declared.stmt.Tree.{Tree}
 use Rattle.npf_syntax.specs.declared.word.Word.{Word}
-use Rattle.npf_faults.specs.First.{fault_at, fault_if}
+use Rattle.npf_faults.specs.First.{fault_if}
 
 abbrev pub is_switch : Setting → Bool
 is_switch (Setting.Word word span) = bytes_eq word.text (codes "on") || bytes_eq word.text (codes "off")
@@ -26,15 +24,10 @@ abbrev pub is_built_kind : MapKind → Bool
 is_built_kind (MapKind.Dynamic span) = true
 is_built_kind (MapKind.Static algo span) = is_built_algo algo
 
-abbrev pub unbuilt_item : Item → List ConfFault
-unbuilt_item (ItemIs.Rule rule span) = []
-unbuilt_item (ItemIs.Ruleset name dir on span) = fault_at span Unbuilt
-
 abbrev pub unbuilt : Stmt → List ConfFault
 unbuilt (Stmt.Set name value span) = fault_if (not (bytes_eq name.text (codes "bpf.jit") && is_switch value)) span Unbuilt
 unbuilt (Stmt.Alg name span) = fault_if (not (bytes_eq name.text (codes "icmp"))) span Unbuilt
 unbuilt (Stmt.Map iface kind proto left arrow right pass span) = fault_if (not (is_built_kind kind)) span Unbuilt
-unbuilt (Stmt.Group head items span) = flat_map unbuilt_item items
 unbuilt _ = []
 
 abbrev pub unbuilt_faults : Tree → List ConfFault

@@ -3,7 +3,8 @@
 //
 // One rule of the language a file, in src/ and in specs/, each a list of faults told of the tree and of its model. The contract:
 // `check` accepts exactly where there is no fault at all, and otherwise answers the fault that stands first in the text, of two at
-// one place that with the smaller number. It keeps the names of the text, and no other memory.
+// one place that with the smaller number. It keeps the names of the text, and no other memory. `check_rule` does the same for one
+// rule beside a model that is there, whose names it keeps.
 #![tactic(auto)]
 
 mod default;
@@ -11,6 +12,7 @@ mod duplicate;
 mod family;
 mod fault;
 mod limit;
+mod lone_rule;
 mod map;
 mod name;
 mod port;
@@ -20,3 +22,4 @@ mod written_map;
 mod written_rule;
 
 pub use fault::check;
+pub use lone_rule::check_rule;

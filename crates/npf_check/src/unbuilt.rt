@@ -1,12 +1,11 @@
 // What isn't built of the language.
 ghost use Rattle.std.specs.Prelude.{◌≡◌};
-ghost use Rattle.std.specs.List.{flat_map};
 ghost use Rattle.npf_faults.specs.First.{first_fault};
-ghost use Rattle.npf_check.specs.Unbuilt.{is_built_algo, is_built_kind, is_switch, unbuilt, unbuilt_faults, unbuilt_item};
+ghost use Rattle.npf_check.specs.Unbuilt.{is_built_algo, is_built_kind, is_switch, unbuilt, unbuilt_faults};
 
 use npf_faults::{earlier, fault_if};
 use npf_lexer::{ConfFault, Fault};
-use npf_syntax::{Item, MapKind, Setting, Stmt, Tree, Word};
+use npf_syntax::{MapKind, Setting, Stmt, Tree, Word};
 
 /// The first `Unbuilt`.
 pub(crate) fn unbuilt_fault(tree: &Tree) -> Option<ConfFault>
@@ -32,7 +31,6 @@ fn unbuilt_stmt(stmt: &Stmt) -> Option<ConfFault>
             fault_if(!built, *span, Fault::Unbuilt)
         }
         Stmt::Map { kind, span, .. } => fault_if(!is_built_kind(kind), *span, Fault::Unbuilt),
-        Stmt::Group { items, .. } => unbuilt_items(items.as_slice()),
         _ => None,
     }
 }
@@ -68,24 +66,5 @@ fn is_built_algo(algo: &Option<Word>) -> bool
             let text = word.text.as_slice();
             text == "netmap".as_bytes() || text == "npt66".as_bytes()
         }
-    }
-}
-
-fn unbuilt_items(items: &[Item]) -> Option<ConfFault>
-    ensures { result ≡ first_fault (flat_map unbuilt_item items.now) }
-{
-    let mut first = None;
-    for item in items {
-        first = earlier(first, unbuilt_item(item));
-    }
-    first
-}
-
-fn unbuilt_item(item: &Item) -> Option<ConfFault>
-    ensures { result ≡ first_fault (unbuilt_item item.now) }
-{
-    match item {
-        Item::Rule { .. } => None,
-        Item::Ruleset { span, .. } => fault_if(true, *span, Fault::Unbuilt),
     }
 }

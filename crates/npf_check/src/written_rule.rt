@@ -102,7 +102,8 @@ fn item_fault(item: &Item, meant: &Meant) -> Option<ConfFault>
     }
 }
 
-fn rule_fault(span: Span, rule: &Rule) -> Option<ConfFault>
+/// The first fault of a rule that is written at this place.
+pub(crate) fn rule_fault(span: Span, rule: &Rule) -> Option<ConfFault>
     ensures { result ≡ first_fault (faults_of_rule span rule.now) }
 {
     earlier(family_fault(span, rule), port_fault(span, rule))

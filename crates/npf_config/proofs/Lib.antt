@@ -4,8 +4,9 @@ mod ElementLemmas
 mod FaultLemmas
 mod LawLemmas
 mod LoadLemmas
+pub mod LoadedLemmas
 mod ModelLemmas
 mod NoneLemmas
 mod TableLemmas
-mod TableNameLemmas
+pub mod TableNameLemmas
 mod TextNameLemmas

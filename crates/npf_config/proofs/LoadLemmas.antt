@@ -18,13 +18,13 @@ use Rattle.npf_config.specs.Text.{Means, RefusesText}
 module _ (ifaces : List Iface) (text : List ℕ) (before now : FilesMoment) where
   pub text_stops : SameReadFaults before now → (fault : LoadFault) → IfConf (RefusesText ifaces text) fault → RefusesLoad ifaces text before now fault
   text_stops faultless (Load.Conf fault) is = (by_text fault is, faultless)
-  text_stops faultless (Load.File span fault) is = absurd is
+  text_stops faultless (Load.File span name fault) is = absurd is
   text_stops faultless Load.NoMemory is = tt
 
   module _ (tree : Tree) (model : Model) (means : Means ifaces text tree model) where
     tables_stop_at : (fault : LoadFault) → StopsAtTables before now model.tables fault → RefusesLoad ifaces text before now fault
     tables_stop_at (Load.Conf fault) stops = (by_tables tree model fault means stops.0, stops.1)
-    tables_stop_at (Load.File span fault) stops = record { tree = tree; model = model; means = means; refused = stops }
+    tables_stop_at (Load.File span name fault) stops = record { tree = tree; model = model; means = means; refused = stops }
     tables_stop_at Load.NoMemory stops = tt
 
     pub tables_stop : (decls : List TableDecl) → decls ≡ model.tables → (fault : LoadFault) → StopsAtTables before now decls fault → RefusesLoad ifaces text before now fault
@@ -33,7 +33,7 @@ module _ (ifaces : List Iface) (text : List ℕ) (before now : FilesMoment) wher
     rules_stop_for : (tables : Tables) → AreFirstTables before.contents model.tables tables → SameReadFaults before now → (fault : LoadFault) → IfConf (RefusesRules tree model) fault
         → RefusesLoad ifaces text before now fault
     rules_stop_for tables read faultless (Load.Conf fault) is = (by_rules tree model tables fault means read is, faultless)
-    rules_stop_for tables read faultless (Load.File span fault) is = absurd is
+    rules_stop_for tables read faultless (Load.File span name fault) is = absurd is
     rules_stop_for tables read faultless Load.NoMemory is = tt
 
     pub rules_stop : {C : Type 0} (decls : List TableDecl) → decls ≡ model.tables → (tables : Tables) → AreFirstTables before.contents decls tables → SameReadFaults before now

@@ -25,14 +25,14 @@ use Rattle.npf_check.specs.Undefined.{is_table_in, tables_of_item, tables_of_stm
 use Rattle.npf_ruleset.specs.Refusal.{IsCompilable}
 use Rattle.npf_config.proofs.ElementLemmas.{rule_short}
 use Rattle.npf_config.proofs.NoneLemmas.{back, front, within_limit}
-use Rattle.npf_config.proofs.TableNameLemmas.{AreDefined, NamesDefined, env_defined, rule_numbers}
+use Rattle.npf_config.proofs.TableNameLemmas.{AreDefined, NamesDefined, env_defined, given_is_named, rule_numbers}
 
 -- `all` are the statements of the whole text, `stmts` those that are left
 module _ (all : List Stmt) (few : length (table_names all) ≤ 64) (ifaces : List Iface) where
   abbrev is_defined : List ℕ → Bool
   is_defined = is_table_in all
 
-  module _ (env : Env) (names : NamesDefined all few env) where
+  module _ (env : Env) (names : NamesDefined (table_names all) (is_table_in all) (given_is_named all) few env) where
     item_compilable : (counted : ℕ) (item : WrittenItem) → counted ≤ MAX_LIST_ELEMENTS → item_faults ifaces env (declared_in all) counted item ≡ [] → tables_of_item is_defined item ≡ []
         → All IsCompilable (rules_at (item_of_tree ifaces env (declared_in all) item))
     item_compilable counted (ItemIs.Rule rule span) within none tables =
@@ -40,7 +40,7 @@ module _ (all : List Stmt) (few : length (table_names all) ≤ 64) (ifaces : Lis
         let passes : counted + count ≤ MAX_LIST_ELEMENTS = within_limit counted count rule.span (back (rule_faults ifaces env rule) (passing_faults counted count rule.span) none) within in
         let placed : PlacedRule = record { within_dir = None; within_on = None; rule = rule_of_tree ifaces env (declared_in all) rule } in
         All-cons IsCompilable placed []
-        (record { lists = rule_short ifaces env (declared_in all) rule (omega arith); tables = rule_numbers all few ifaces env names (declared_in all) refl rule tables })
+        (record { lists = rule_short ifaces env (declared_in all) rule (omega arith); tables = rule_numbers (table_names all) (is_table_in all) (given_is_named all) few ifaces env names (declared_in all) refl rule tables })
         (All-nil IsCompilable)
     item_compilable counted (ItemIs.Ruleset name dir on span) within none tables = All-nil IsCompilable
 
@@ -123,7 +123,7 @@ module _ (all : List Stmt) (few : length (table_names all) ≤ 64) (ifaces : Lis
     default_compilable counted (Stmt.Map iface kind proto left arrow right pass span) within none tables = All-nil IsCompilable
     default_compilable counted (Stmt.Procedure name calls span) within none tables = All-nil IsCompilable
 
-  behind_defined : (older : List Definition) (stmt : Stmt) → AreDefined all few ifaces older → tables_of_stmt is_defined stmt ≡ [] → AreDefined all few ifaces (behind older stmt)
+  behind_defined : (older : List Definition) (stmt : Stmt) → AreDefined (table_names all) (is_table_in all) (given_is_named all) few ifaces older → tables_of_stmt is_defined stmt ≡ [] → AreDefined (table_names all) (is_table_in all) (given_is_named all) few ifaces (behind older stmt)
   behind_defined older (Stmt.Define var values span) are none = (none, are)
   behind_defined older (Stmt.Group head items span) are none = are
   behind_defined older (Stmt.Set name value span) are none = are
@@ -132,14 +132,14 @@ module _ (all : List Stmt) (few : length (table_names all) ≤ 64) (ifaces : Lis
   behind_defined older (Stmt.Map iface kind proto left arrow right pass span) are none = are
   behind_defined older (Stmt.Procedure name calls span) are none = are
 
-  gathered_compilable : (give : Env → Stmt → List Group) → ((env : Env) (names : NamesDefined all few env) → GivesCompilable env names give)
-      → (older : List Definition) (counted : ℕ) (stmts : List Stmt) → AreDefined all few ifaces older → counted ≤ MAX_LIST_ELEMENTS
+  gathered_compilable : (give : Env → Stmt → List Group) → ((env : Env) (names : NamesDefined (table_names all) (is_table_in all) (given_is_named all) few env) → GivesCompilable env names give)
+      → (older : List Definition) (counted : ℕ) (stmts : List Stmt) → AreDefined (table_names all) (is_table_in all) (given_is_named all) few ifaces older → counted ≤ MAX_LIST_ELEMENTS
       → stmts_faults ifaces (declared_in all) older counted stmts ≡ [] → flat_map (tables_of_stmt is_defined) stmts ≡ []
       → All IsCompilable (all_rules (gathered ifaces (declared_in all) give older stmts))
   gathered_compilable give gives older counted [] are within none tables = All-nil IsCompilable
   gathered_compilable give gives older counted (stmt ∷ stmts) are within none tables =
       let env = env_of ifaces older in
-      let names = env_defined all few ifaces older are in
+      let names = env_defined (table_names all) (is_table_in all) (given_is_named all) few ifaces older are in
       let here = stmt_faults ifaces (declared_in all) env counted stmt in
       let elements = stmt_elements ifaces (declared_in all) env stmt in
       let rest = stmts_faults ifaces (declared_in all) (behind older stmt) (counted + elements) stmts in

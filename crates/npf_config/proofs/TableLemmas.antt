@@ -30,21 +30,9 @@ use Rattle.npf_config.specs.Refusal.{RefusesTables, bad_line, too_many}
 use Rattle.npf_config.specs.TableSteps.{IsPastLimit, IsReadTable, StopsAtTable, StopsAtTables}
 use Rattle.npf_config.specs.Tables.{AreFirstEntries, AreFirstTables, HaveKinds, IsTableText, entry_count}
 
-pub same_files : (contents : Option FileTree) → SameFiles contents contents
-same_files None = tt
-same_files (Some tree) = λ name. refl
-
-pub same_files_after : (one other last : Option FileTree) → SameFiles one other → SameFiles other last → SameFiles one last
-same_files_after None None None first second = tt
-same_files_after (Some one) (Some other) (Some last) first second = λ name. second name ∙ first name
-same_files_after None None (Some last) first second = absurd second
-same_files_after None (Some other) last first second = absurd first
-same_files_after (Some one) None last first second = absurd first
-same_files_after (Some one) (Some other) None first second = absurd second
-
 pub no_reads : (moment : FilesMoment) → OnlyReads moment moment
 no_reads moment = record {
-  contents = same_files moment.contents;
+  contents = refl;
   write_faults = refl;
   read_faults = omega arith;
   read_faults_of = λ name. omega arith;
@@ -53,7 +41,7 @@ no_reads moment = record {
 
 pub reads_after : (one other last : FilesMoment) → OnlyReads one other → OnlyReads other last → OnlyReads one last
 reads_after one other last first second = record {
-  contents = same_files_after one.contents other.contents last.contents first.contents second.contents;
+  contents = second.contents ∙ first.contents;
   write_faults = second.write_faults ∙ first.write_faults;
   read_faults = (let a = first.read_faults in let b = second.read_faults in omega arith);
   read_faults_of = λ name. (let a = first.read_faults_of name in let b = second.read_faults_of name in omega arith);
@@ -63,23 +51,13 @@ reads_after one other last first second = record {
 pub faultless_after : (one other last : FilesMoment) → SameReadFaults one other → SameReadFaults other last → SameReadFaults one last
 faultless_after one other last first second = record { all = second.all ∙ first.all; each = λ name. second.each name ∙ first.each name }
 
--- what a file has now it had before
-had_before : (before now : Option FileTree) (name text : List ℕ) → SameFiles before now → Has now name text → Has before name text
-had_before None None name text same has = tt
-had_before (Some before) (Some now) name text same has = sym (same name) ∙ has
-had_before None (Some now) name text same has = absurd same
-had_before (Some before) None name text same has = absurd same
+-- what is told of a table's file now was told before
+told_before : (before now : FilesMoment) (file : Option (List ℕ)) (text : List ℕ) → OnlyReads before now → IsTableText now.contents file text → IsTableText before.contents file text
+told_before before now file text reads told = subst (λ (contents : Option FileTree). IsTableText contents file text) reads.contents told
 
-told_before : (before now : Option FileTree) (file : Option (List ℕ)) (text : List ℕ) → SameFiles before now → IsTableText now file text → IsTableText before file text
-told_before before now None text same told = told
-told_before before now (Some name) text same told = had_before before now name text same told
-
-longer_before : (before now : Option FileTree) (name : List ℕ) (most first then last : ℕ) → SameFiles before now → first ≤ then → IsLonger now name most then last
-    → IsLonger before name most first last
-longer_before None None name most first then last same rose longer = omega arith
-longer_before (Some before) (Some now) name most first then last same rose longer = subst (λ (bytes : Option (List ℕ)). IsSomeAnd bytes (λ b. most < length b)) (same name) longer
-longer_before None (Some now) name most first then last same rose longer = absurd same
-longer_before (Some before) None name most first then last same rose longer = absurd same
+longer_before : (contents : Option FileTree) (name : List ℕ) (most first then last : ℕ) → first ≤ then → IsLonger contents name most then last → IsLonger contents name most first last
+longer_before None name most first then last rose longer = omega arith
+longer_before (Some tree) name most first then last rose longer = longer
 
 pub unread_before : (before now last : FilesMoment) (name : List ℕ) (fault : FileFault) → OnlyReads before now → IsUnread name now last fault → IsUnread name before last fault
 unread_before before now last name Failed reads unread =
@@ -87,7 +65,8 @@ unread_before before now last name Failed reads unread =
     let each = reads.read_faults_of name in
     (omega (arith, unread.0), omega (arith, unread.1))
 unread_before before now last name Long reads unread =
-    longer_before before.contents now.contents name MAX_TEXT_BYTES before.taken now.taken last.taken reads.contents reads.taken unread
+    longer_before before.contents name MAX_TEXT_BYTES before.taken now.taken last.taken reads.taken
+    (subst (λ (contents : Option FileTree). IsLonger contents name MAX_TEXT_BYTES now.taken last.taken) reads.contents unread)
 unread_before before now last name NoMemory reads unread = absurd unread
 
 pub pairs_push : {X Y : Type 0} (Rel : X → Y → Type 0) (xs : List X) (ys : List Y) (x : X) (y : Y) → IsPairwise Rel xs ys → Rel x y → IsPairwise Rel (xs ++ x ∷ []) (ys ++ y ∷ [])
@@ -115,7 +94,7 @@ module _ {Z : Type 0} (first now next : FilesMoment) (decls : List TableDecl) (d
   first_entries : (table : Table) → IsReadTable now.contents decl table → AllPairs (λ p q. p ≢ q) (prefixes table) → AreFirstEntries first.contents decl (prefixes table)
   first_entries table is once = record {
     text = is.text;
-    told = told_before first.contents now.contents decl.file is.text so_far.reads.contents is.told;
+    told = told_before first now decl.file is.text so_far.reads is.told;
     written = is.read.entries;
     once = once;
   }
@@ -148,17 +127,16 @@ module _ {Z : Type 0} (first now next : FilesMoment) (decls : List TableDecl) (d
     stops_there (Load.Conf fault) stops =
         let bad = stops.0 in (
           subst (RefusesTables first all) (sym bad.tells)
-              (bad_line decl (entries tables) bad.text bad.number comes (told_before first.contents now.contents decl.file bad.text so_far.reads.contents bad.told) bad.bad),
+              (bad_line decl (entries tables) bad.text bad.number comes (told_before first now decl.file bad.text so_far.reads bad.told) bad.bad),
           faultless_after first now next so_far.faultless stops.1,
         )
-    stops_there (Load.File span fault) stops = record {
+    stops_there (Load.File span name fault) stops = record {
       decl = decl;
       tables = entries tables;
       comes = comes;
-      name = stops.name;
       named = stops.named;
       place = stops.place;
-      unread = unread_before first now next stops.name fault so_far.reads stops.unread;
+      unread = unread_before first now next name fault so_far.reads stops.unread;
     }
     stops_there Load.NoMemory stops = tt
 

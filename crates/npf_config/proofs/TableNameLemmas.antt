@@ -58,7 +58,7 @@ found_among (name ∷ names) text n any =
     (bytes_eq-symm text name) any (found_among names text (n + 1))
 
 -- the names of tables that the checks look through are those by which tables are numbered
-given_is_named : (stmts : List Stmt) (text : List ℕ) → is_table_in stmts text ≡ list_any (λ name. bytes_eq name text) (table_names stmts)
+pub given_is_named : (stmts : List Stmt) (text : List ℕ) → is_table_in stmts text ≡ list_any (λ name. bytes_eq name text) (table_names stmts)
 given_is_named [] text = refl
 given_is_named (Stmt.Table name kind file span ∷ stmts) text = ap (λ rest. bytes_eq name.text text || rest) (given_is_named stmts text)
 given_is_named (Stmt.Define var values span ∷ stmts) text = given_is_named stmts text
@@ -73,15 +73,13 @@ small_number found is =
     let below = is.below in
     rw (is.is) (omega arith)
 
-module _ (stmts : List Stmt) (few : length (table_names stmts) ≤ 64) where
-  abbrev pub is_defined : List ℕ → Bool
-  is_defined = is_table_in stmts
-
-  defined_small : (text : List ℕ) → is_defined text ≡ true → table_number (table_names stmts) text < 2 ^ 31
+-- the tables that are defined have these names
+module _ (names : List (List ℕ)) (is_defined : List ℕ → Bool) (is_among : (text : List ℕ) → is_defined text ≡ list_any (λ name. bytes_eq name text) names) (few : length names ≤ 64) where
+  defined_small : (text : List ℕ) → is_defined text ≡ true → table_number names text < 2 ^ 31
   defined_small text is =
-      let found = found_among (table_names stmts) text 0 (sym (given_is_named stmts text) ∙ is) in
+      let found = found_among names text 0 (sym (is_among text) ∙ is) in
       let below = found.below in
-      small_number (first_where (bytes_eq text) 0 (table_names stmts)) (record { place = found.place; is = found.is; below = omega arith })
+      small_number (first_where (bytes_eq text) 0 names) (record { place = found.place; is = found.is; below = omega arith })
 
   abbrev pub IsDefinedAtom : Atom → Type 0
   IsDefinedAtom (TableAtom name) = is_defined name ≡ true
@@ -147,8 +145,8 @@ module _ (stmts : List Stmt) (few : length (table_names stmts) ≤ 64) where
         (kept_defined (definition_faults ifaces env newest.values) (spliced ifaces env (listed_values newest.values)) (listed_defined env before newest.values all.0))
         (before name)
 
-  item_numbers : (atom : Atom) → IsDefinedAtom atom → All HasItemNumber (items_of (table_names stmts) atom)
-  item_numbers (TableAtom name) is = All-cons HasItemNumber (InTable (table_number (table_names stmts) name)) [] (defined_small name is) (All-nil HasItemNumber)
+  item_numbers : (atom : Atom) → IsDefinedAtom atom → All HasItemNumber (items_of names atom)
+  item_numbers (TableAtom name) is = All-cons HasItemNumber (InTable (table_number names name)) [] (defined_small name is) (All-nil HasItemNumber)
   item_numbers (BlockAtom addr len) is = All-cons HasItemNumber (Net (block addr (unwrap_or len (width addr)))) [] tt (All-nil HasItemNumber)
   item_numbers (AddressesAtom addrs) is = All-map HasItemNumber host_item addrs (λ k d below. tt)
   item_numbers (NumberAtom _) is = All-nil HasItemNumber
@@ -156,18 +154,18 @@ module _ (stmts : List Stmt) (few : length (table_names stmts) ≤ 64) where
   item_numbers (WordAtom _ _) is = All-nil HasItemNumber
   item_numbers (StringAtom _) is = All-nil HasItemNumber
 
-  all_numbers : (atoms : List Atom) → All IsDefinedAtom atoms → All HasItemNumber (flat_map (items_of (table_names stmts)) atoms)
+  all_numbers : (atoms : List Atom) → All IsDefinedAtom atoms → All HasItemNumber (flat_map (items_of names) atoms)
   all_numbers [] all = All-nil HasItemNumber
-  all_numbers (atom ∷ atoms) all = All-append HasItemNumber (items_of (table_names stmts) atom) (flat_map (items_of (table_names stmts)) atoms)
+  all_numbers (atom ∷ atoms) all = All-append HasItemNumber (items_of names atom) (flat_map (items_of names) atoms)
       (item_numbers atom (All-head IsDefinedAtom atom atoms all)) (all_numbers atoms (All-tail IsDefinedAtom atom atoms all))
 
   module _ (ifaces : List Iface) (env : Env) (all : NamesDefined env) where
-    addresses_numbers : (addresses : Addresses) → tables_of_addresses is_defined addresses ≡ [] → HasItemNumbers (address_items ifaces env (table_names stmts) addresses)
+    addresses_numbers : (addresses : Addresses) → tables_of_addresses is_defined addresses ≡ [] → HasItemNumbers (address_items ifaces env names addresses)
     addresses_numbers (Written.Any span) none = tt
     addresses_numbers (Written.One value span) none = all_numbers (spliced ifaces env (value ∷ [])) (values_defined ifaces env all (value ∷ []) (append-nil (table_faults is_defined value) ∙ none))
     addresses_numbers (Written.List list span) none = all_numbers (spliced ifaces env list.values) (values_defined ifaces env all list.values none)
 
-    ends_numbers : (ends : Option WrittenEnds) → tables_of_target is_defined ends ≡ [] → HasItemNumbers ((ends_of_written ifaces env (table_names stmts) ends).addrs)
+    ends_numbers : (ends : Option WrittenEnds) → tables_of_target is_defined ends ≡ [] → HasItemNumbers ((ends_of_written ifaces env names ends).addrs)
     ends_numbers None none = tt
     ends_numbers (Some (EndsAre.Addresses addresses ports span)) none = addresses_numbers addresses none
     ends_numbers (Some (EndsAre.Ports ports span)) none = tt
@@ -182,7 +180,7 @@ module _ (stmts : List Stmt) (few : length (table_names stmts) ≤ 64) where
     destination_clean (Where.From from to span) none = back (tables_of_ends is_defined from) (tables_of_target is_defined to) none
     destination_clean (Where.To to span) none = none
 
-    pub rule_numbers : (declared : Declared) → declared.tables ≡ table_names stmts → (rule : RuleTree) → tables_of_where is_defined rule.filter.ends ≡ []
+    pub rule_numbers : (declared : Declared) → declared.tables ≡ names → (rule : RuleTree) → tables_of_where is_defined rule.filter.ends ≡ []
         → HasTableNumbers (rule_of_tree ifaces env declared rule)
     rule_numbers declared same rule none =
         subst (λ (tables : List (List ℕ)). HasTableNumbers (rule_of_tree ifaces env (record { tables = tables; procedures = declared.procedures }) rule)) (sym same)

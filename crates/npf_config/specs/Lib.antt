@@ -1,5 +1,6 @@
 pub mod Configurations
 pub mod Laws
+pub mod Loaded
 pub mod Reading
 pub mod Refusal
 pub mod RulePlaces

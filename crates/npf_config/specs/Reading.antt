@@ -7,12 +7,12 @@ use Rattle.npf_model.specs.Describes.{Tables}
 use Rattle.npf_outside.specs.declared.files.FileFault.{FileFault}
 use Rattle.npf_outside.specs.declared.files.FileFault.TheVariants.{Failed, Long, NoMemory}
 use Rattle.npf_outside.specs.Counts.{Rose}
-use Rattle.npf_outside.specs.Files.{FilesMoment, IsLonger, SameFiles}
+use Rattle.npf_outside.specs.Files.{FilesMoment, IsLonger}
 use Rattle.npf_config.specs.Tables.{AreFirstTables, file_place}
 
 -- files were read at most: what they hold and the count of failed writes stay, and no other count falls
 pub record OnlyReads (before now : FilesMoment) : Type 0 where
-  pub contents : SameFiles before.contents now.contents
+  pub contents : now.contents ≡ before.contents
   pub write_faults : now.write_faults ≡ before.write_faults
   pub read_faults : before.read_faults ≤ now.read_faults
   pub read_faults_of : (name : List ℕ) → before.read_faults_of name ≤ now.read_faults_of name
@@ -31,12 +31,11 @@ pub record ComesTo (before : FilesMoment) (decls : List TableDecl) (decl : Table
   pub are : decls ≡ front ++ decl ∷ behind
   pub read : AreFirstTables before.contents front tables
 
--- the file that is named at this place isn't read
-pub record RefusesFileAt (before now : FilesMoment) (decls : List TableDecl) (span : Span) (fault : FileFault) : Type 0 where
+-- the file of this name, which is written at this place, isn't read
+pub record RefusesFileAt (before now : FilesMoment) (decls : List TableDecl) (span : Span) (name : List ℕ) (fault : FileFault) : Type 0 where
   pub decl : TableDecl
   pub tables : Tables
   pub comes : ComesTo before decls decl tables
-  pub name : List ℕ
   pub named : decl.file ≡ Some name
   pub place : span ≡ file_place decl
   pub unread : IsUnread name before now fault

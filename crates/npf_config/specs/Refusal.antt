@@ -52,14 +52,14 @@ module _ (ifaces : List Iface) (text : List ℕ) (before now : FilesMoment) wher
         Means ifaces text tree model → AreFirstTables before.contents model.tables tables → RefusesRules tree model fault → RefusesConfiguration fault
 
   -- a file of a configuration whose text has no fault isn't read
-  pub record RefusesTableFile (span : Span) (fault : FileFault) : Type 0 where
+  pub record RefusesTableFile (span : Span) (name : List ℕ) (fault : FileFault) : Type 0 where
     pub tree : Tree
     pub model : Model
     pub means : Means ifaces text tree model
-    pub refused : RefusesFileAt before now model.tables span fault
+    pub refused : RefusesFileAt before now model.tables span name fault
 
   -- why a configuration isn't loaded; want of memory says nothing of it
   abbrev pub RefusesLoad : LoadFault → Type 0
   RefusesLoad (Conf fault) = RefusesConfiguration fault × SameReadFaults before now
-  RefusesLoad (File span fault) = RefusesTableFile span fault
+  RefusesLoad (File span name fault) = RefusesTableFile span name fault
   RefusesLoad NoMemory = Unit {0}

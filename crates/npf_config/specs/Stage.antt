@@ -12,5 +12,5 @@ told_by Refused.NoMemory = NoMemory
 -- a fact of the fault, where there is one; no file is told, and want of memory says nothing
 abbrev pub IfConf : (ConfFault → Type 0) → LoadFault → Type 0
 IfConf P (Conf fault) = P fault
-IfConf P (File span fault) = ⊥
+IfConf P (File span name fault) = ⊥
 IfConf P NoMemory = Unit {0}

@@ -33,9 +33,8 @@ pub record HasBadLine (before : FilesMoment) (decl : TableDecl) (fault : ConfFau
   pub bad : IsFirstBadLine decl.kind (lines text) number
   pub tells : fault ≡ record { span = file_place decl; fault = BadTableFile number }
 
--- a table's file isn't read
-pub record HasUnreadFile (before now : FilesMoment) (decl : TableDecl) (span : Span) (fault : FileFault) : Type 0 where
-  pub name : List ℕ
+-- a table's file, of this name, isn't read
+pub record HasUnreadFile (before now : FilesMoment) (decl : TableDecl) (span : Span) (name : List ℕ) (fault : FileFault) : Type 0 where
   pub named : decl.file ≡ Some name
   pub place : span ≡ file_place decl
   pub unread : IsUnread name before now fault
@@ -43,12 +42,12 @@ pub record HasUnreadFile (before now : FilesMoment) (decl : TableDecl) (span : S
 module _ (before now : FilesMoment) (decl : TableDecl) where
   abbrev pub StopsReading : LoadFault → Type 0
   StopsReading (Conf fault) = ⊥
-  StopsReading (File span fault) = HasUnreadFile before now decl span fault
+  StopsReading (File span name fault) = HasUnreadFile before now decl span name fault
   StopsReading NoMemory = Unit {0}
 
   abbrev pub StopsAtTable : LoadFault → Type 0
   StopsAtTable (Conf fault) = HasBadLine before decl fault × SameReadFaults before now
-  StopsAtTable (File span fault) = HasUnreadFile before now decl span fault
+  StopsAtTable (File span name fault) = HasUnreadFile before now decl span name fault
   StopsAtTable NoMemory = Unit {0}
 
 -- with the entries of this table the limit is passed, where so many stood before it
@@ -60,5 +59,5 @@ IsPastLimit before entries decl fault =
 -- why reading the tables stops
 abbrev pub StopsAtTables : FilesMoment → FilesMoment → List TableDecl → LoadFault → Type 0
 StopsAtTables before now decls (Conf fault) = RefusesTables before decls fault × SameReadFaults before now
-StopsAtTables before now decls (File span fault) = RefusesFileAt before now decls span fault
+StopsAtTables before now decls (File span name fault) = RefusesFileAt before now decls span name fault
 StopsAtTables before now decls NoMemory = Unit {0}

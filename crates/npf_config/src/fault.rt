@@ -2,16 +2,20 @@ ghost use Rattle.std.specs.Prelude.{◌≡◌};
 
 use npf_lexer::{ConfFault, Fault, Refused};
 use npf_outside::FileFault;
-use npf_types::{NoMemory, Span};
+use npf_types::{NoMemory, Span, Text};
 use std::alloc::{AllocError, AllocFailed};
 
 /// Why a configuration isn't loaded.
-#[derive(Clone, Copy, Debug, PartialEq, Eq)]
+#[derive(Debug, Drop)]
 pub enum LoadFault {
     /// The text has this fault, or a table's file has it, or the compiled rules do.
     Conf(ConfFault),
-    /// The file that is named at this place isn't read. Want of memory never stands here.
-    File { span: Span, fault: FileFault },
+    /// The file of this name, which is written at this place, isn't read. Want of memory never stands here.
+    File {
+        span: Span,
+        file: Text,
+        fault: FileFault,
+    },
     /// Memory ran out.
     NoMemory,
 }

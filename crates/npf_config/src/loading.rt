@@ -1,11 +1,10 @@
 ghost use Rattle.std.specs.Prelude.{◌≤◌, length, IfOk, IfErr, OnOk};
 ghost use Rattle.npf_outside.specs.Files.{SameReadFaults};
-ghost use Rattle.npf_ruleset.specs.Configuration.{configuration, programs};
-ghost use Rattle.npf_ruleset.specs.Refusal.{IsWithinLimits};
+ghost use Rattle.npf_ruleset.specs.Configuration.{configuration};
 ghost use Rattle.npf_config.specs.Configurations.{IsFirstConfiguration};
+ghost use Rattle.npf_config.specs.Loaded.{HasNextIds, IsLoaded};
 ghost use Rattle.npf_config.specs.Reading.{OnlyReads};
 ghost use Rattle.npf_config.specs.Refusal.{RefusesLoad};
-ghost use Rattle.npf_config.specs.Tables.{HaveKinds};
 
 use crate::fault::LoadFault;
 use crate::rules::compile_rules;
@@ -33,8 +32,8 @@ pub fn load<F: Files>(
 ) -> Result<Config, LoadFault>
     requires { length text.now ≤ MAX_TEXT_BYTES }
     ensures first { IfOk result (λ config. IsFirstConfiguration ifaces.now.list (F.moment files.old).contents text.now (configuration config)) }
-    ensures kinds { IfOk result (λ config. HaveKinds config.model.tables config.tables.items) }
-    ensures limits { IfOk result (λ config. IsWithinLimits config.model (programs config)) }
+    ensures loaded { IfOk result IsLoaded }
+    ensures ids { IfOk result (λ config. HasNextIds 1 config.model) }
     ensures refuses { IfErr result (RefusesLoad ifaces.now.list text.now (F.moment files.old) (F.moment files.new)) }
     ensures reads { OnlyReads (F.moment files.old) (F.moment files.new) }
     ensures faultless { OnOk result (SameReadFaults (F.moment files.old) (F.moment files.new)) }

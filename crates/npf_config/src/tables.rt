@@ -13,8 +13,8 @@ use npf_lexer::{Excess, Fault};
 use npf_model::TableDecl;
 use npf_outside::{FileFault, Files};
 use npf_table::{Table, TableFault};
-use npf_types::Span;
 use npf_types::limits::{MAX_TABLE_ENTRIES, MAX_TEXT_BYTES};
+use npf_types::{List, Span};
 use std::alloc::Global;
 use std::sync::Arc;
 
@@ -72,14 +72,15 @@ fn read_file<F: Files>(alloc: Global, decl: &TableDecl, files: &mut F) -> Result
     let Some(name) = &decl.file else {
         return Ok(Vec::new(alloc));
     };
-    let Ok(name) = str::from_utf8(name.as_slice()) else {
+    let Ok(text) = str::from_utf8(name.as_slice()) else {
         unreachable!()
     };
-    match files.read(alloc, name, MAX_TEXT_BYTES as u64) {
+    match files.read(alloc, text, MAX_TEXT_BYTES as u64) {
         Ok(text) => Ok(text),
         Err(FileFault::NoMemory) => Err(LoadFault::NoMemory),
         Err(fault) => Err(LoadFault::File {
             span: file_place(decl),
+            file: List::of_vec(name.as_slice().to_vec(alloc)?),
             fault,
         }),
     }

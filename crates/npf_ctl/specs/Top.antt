@@ -1,113 +1,51 @@
--- What the program answers to its words: what it did, or the first fault that it met with its cause and its line.
-use Rattle.std.specs.Prelude.{◌≡◌, ◌≢◌, ℕ, ◌<◌, ◌⊎◌, List, [], length, Option, Some, String}
-use Rattle.std.specs.Global.{Global}
-use Rattle.npf_outside.specs.Counts.{Rose, StoodStill}
-use Rattle.npf_outside.specs.Files.{Tree, FilesMoment}
-use Rattle.npf_outside.specs.Sink.{SinkMoment, Appends, AppendsFront}
-use Rattle.npf_pcap.specs.declared.capture.Record.{Record}
-use Rattle.npf_pcap.specs.declared.fault.CaptureFault.{CaptureFault}
-use Rattle.npf_ctl.specs.declared.fault.Fault.{Fault}
-use Rattle.npf_ctl.specs.declared.fault.Fault.TheVariants.{Usage, NoMemory}
-use Rattle.npf_ctl.specs.declared.fault.Input.{Input}
-use Rattle.npf_ctl.specs.declared.fault.Input.TheVariants.{Conf, Capture}
-use Rattle.npf_ctl.specs.Message.{message, status_of, file_of, most_bytes}
-use Rattle.npf_ctl.specs.Run.{IfTold, IsAccepted, IsRefused, IsBadCapture, Holds, Outside, PutsReport, PutsFront, PutsNothing, HasConf, FailsToRead, IsTooLong, HasFault}
-use Rattle.npf_ctl.specs.Words.{IsRun}
+-- What the program answers to its words.
+use Rattle.std.specs.Prelude.{◌≡◌, ◌≢◌, ◌⊎◌, ℕ, ⊤, Ok, Err, Result, Option, Some, None, List, []}
+use Rattle.npf_outside.specs.Files.{Tree}
+use Rattle.npf_outside.specs.Sink.{Appends}
+use Rattle.npf_model.specs.Configuration.{Configuration}
+use Rattle.npf_input.specs.File.{told_files}
+use Rattle.npf_input.specs.Loading.{LoadsAlone}
+use Rattle.npf_prepare.specs.Prepares.{RunPlan, PreparesRun}
+use Rattle.npf_messages.specs.declared.fault.CommandFault.{CommandFault}
+use Rattle.npf_words.specs.declared.command.Command.{Command}
+use Rattle.npf_words.specs.declared.command.Command.TheVariants as Words
+use Rattle.npf_words.specs.declared.command.Load.{Load}
+use Rattle.npf_words.specs.declared.command.Run.{Run}
+use Rattle.npf_words.specs.CommandLine.{SaysCommand, given_text}
+use Rattle.npf_ctl.specs.Commands.{loaded_by, names_of_run}
+use Rattle.npf_ctl.specs.Running.{Moment, IsRun}
+use Rattle.npf_ctl.specs.Texts.{TextOf}
 
-abbrev pub Words : Type 0
-Words = List (String Global)
+-- the command's whole text was put on the output
+pub record PutsText (command : Command) (before after : Moment) : Type 0 where
+  pub text : List ℕ
+  pub of : TextOf before after command text
+  pub put : Appends before.out.held after.out.held text
 
--- the words are no command line
-abbrev pub IsNoCommand : Words → Type 0
-IsNoCommand words = (conf capture : List ℕ) → ¬ IsRun words conf capture
+-- what the command does was done
+abbrev pub DoesCommand : Command → Moment → Moment → Type 0
+DoesCommand (Words.Run run) before after = IsRun run before after
+DoesCommand command before after = PutsText command before after
 
--- The line was put on the error sink; or a front of it, where the sink's own count rose; or, with status 1 alone, nothing.
-abbrev pub PutsLine : SinkMoment → SinkMoment → List ℕ → ℕ → Type 0
-PutsLine old new line status =
-    Appends old.held new.held line
-    ⊎ (Rose old.faults new.faults × AppendsFront old.held new.held line)
-    ⊎ ((status ≡ 1) × Appends old.held new.held [])
+-- what the words say was done
+pub record DoesWords (words : List (List ℕ)) (before after : Moment) : Type 0 where
+  pub command : Command
+  pub said : SaysCommand words command
+  pub does : DoesCommand command before after
 
--- the report was put on the output
-pub record IsDone (words : Words) (contents : Option Tree) (held held' : Option (List ℕ)) : Type 0 where
-  pub conf : List ℕ
-  pub capture : List ℕ
-  pub words_are : IsRun words conf capture
-  pub report : PutsReport contents conf capture held held'
+-- the words name this file to be written
+pub record NamesOutput (words : List (List ℕ)) (name : List ℕ) : Type 0 where
+  pub run : Run
+  pub said : SaysCommand words (Words.Run run)
+  pub named : given_text run.output ≡ Some name
 
--- a front of the report was put on the output
-pub record FrontOfReport (words : Words) (contents : Option Tree) (held held' : Option (List ℕ)) : Type 0 where
-  pub conf : List ℕ
-  pub capture : List ℕ
-  pub words_are : IsRun words conf capture
-  pub front : PutsFront contents conf capture held held'
+-- every file is as before, where contents are told, but one that the words name to be written
+abbrev pub KeepsOtherFiles : List (List ℕ) → Option Tree → Option Tree → Type 0
+KeepsOtherFiles words None None = ⊤
+KeepsOtherFiles words (Some old) (Some new) = (name : List ℕ) → ¬ NamesOutput words name → new name ≡ old name
+KeepsOtherFiles words _ _ = ⊥
 
--- a configuration was refused
-pub record RefusesConf (words : Words) (contents : Option Tree) : Type 0 where
-  pub conf : List ℕ
-  pub capture : List ℕ
-  pub words_are : IsRun words conf capture
-  pub refused : IfTold contents conf IsRefused
-
--- a capture was refused for this fault, and the configuration wasn't
-pub record RefusesCapture (words : Words) (contents : Option Tree) : Type 0 where
-  pub conf : List ℕ
-  pub capture : List ℕ
-  pub fault : CaptureFault
-  pub words_are : IsRun words conf capture
-  pub accepted : HasConf contents conf
-  pub refused : IfTold contents capture (λ bytes. IsBadCapture bytes fault)
-
--- a file that the words name is longer than its kind may be
-pub record RefusesLength (words : Words) (before after : FilesMoment) : Type 0 where
-  pub conf : List ℕ
-  pub capture : List ℕ
-  pub input : Input
-  pub words_are : IsRun words conf capture
-  pub longer : IsTooLong before after (file_of conf capture input) input
-
--- a read of a file that the words name failed
-pub record FailsToReadNamed (words : Words) (before after : FilesMoment) : Type 0 where
-  pub conf : List ℕ
-  pub capture : List ℕ
-  pub input : Input
-  pub words_are : IsRun words conf capture
-  pub failed : FailsToRead before after (file_of conf capture input)
-
--- no read of a file that the words name failed
-abbrev pub ReadsNamed : Words → FilesMoment → FilesMoment → Type 0
-ReadsNamed words before after = (conf capture : List ℕ) (input : Input) → IsRun words conf capture →
-    let file = file_of conf capture input in StoodStill (before.read_faults_of file) (after.read_faults_of file)
-
-module _ (words : Words) (before after : Outside) where
-  -- why this is the first fault, where the words name these files
-  abbrev pub HasCause : List ℕ → List ℕ → Fault → Type 0
-  HasCause conf capture Usage = IsNoCommand words × PutsNothing before.out.held after.out.held
-  HasCause conf capture NoMemory =
-      PutsNothing before.out.held after.out.held
-      ⊎ (IsRun words conf capture × PutsFront before.files.contents conf capture before.out.held after.out.held)
-  HasCause conf capture fault = IsRun words conf capture × HasFault before after conf capture fault
-
-  -- a fault was met first, and its line was put
-  pub record IsFaulted (old new : SinkMoment) (status : ℕ) : Type 0 where
-    pub conf : List ℕ
-    pub capture : List ℕ
-    pub fault : Fault
-    pub status_is : status ≡ status_of fault
-    pub cause : HasCause conf capture fault
-    pub line : PutsLine old new (message conf capture fault) status
-
-  -- the report was put and flushed, and nothing was put on the error sink
-  pub record IsQuietlyDone (old new : SinkMoment) : Type 0 where
-    pub done : IsDone words before.files.contents before.out.held after.out.held
-    pub flushed : after.out.waiting ≡ 0
-    pub silent : PutsNothing old.held new.held
-
-  -- the work was done, or there is a fault
-  abbrev pub IsAnswered : SinkMoment → SinkMoment → ℕ → Type 0
-  IsAnswered old new status = ((status ≡ 0) × IsQuietlyDone old new) ⊎ IsFaulted old new status
-
--- with these statuses nothing is put on the output
+-- with these statuses nothing is put on the output, and no file changes
 abbrev pub IsQuiet : ℕ → Type 0
 IsQuiet status = (status ≢ 0) × (status ≢ 1) × (status ≢ 5)
 
@@ -115,46 +53,25 @@ IsQuiet status = (status ≢ 0) × (status ≢ 1) × (status ≢ 5)
 abbrev pub Answers : ℕ → ℕ → Type 0
 Answers wanted status = (status ≡ wanted) ⊎ (status ≡ 1)
 
--- the files are told, and the file of this name has bytes of which this holds
-abbrev pub IsTold : Option Tree → List ℕ → (List ℕ → Type 0) → Type 0
-IsTold contents name P = (tree : Tree) × (contents ≡ Some tree) × ((bytes : List ℕ) × (tree name ≡ Some bytes) × P bytes)
+-- something is answered, and no fault
+abbrev pub IsOk : {A F : Type 0} → Result A F → Type 0
+IsOk (Ok a) = ⊤
+IsOk (Err fault) = ⊥
 
--- the words, the configuration and the capture are in their grammars and limits
-pub record CanRun (words : Words) (contents : Option Tree) : Type 0 where
-  pub conf : List ℕ
-  pub capture : List ℕ
-  pub words_are : IsRun words conf capture
-  pub configured : IsTold contents conf IsAccepted
-  pub captured : IsTold contents capture (λ bytes. (records : List Record) × Holds bytes records)
+module _ (words : List (List ℕ)) (tree : Tree) where
+  -- the command's files end in this fault, whichever way they are read
+  pub data MustRefuse (fault : CommandFault) : Type 0 where
+    run : {words_of : Run} → SaysCommand words (Words.Run words_of) →
+        ((result : Result RunPlan CommandFault) → PreparesRun (told_files tree) (told_files tree) (names_of_run words_of) result → result ≡ Err fault) →
+        MustRefuse fault
+    load : {command : Command} {load_of : Load} → SaysCommand words command → loaded_by command ≡ Some load_of →
+        ((result : Result Configuration CommandFault) → LoadsAlone (told_files tree) (told_files tree) (given_text load_of.ifaces) load_of.conf.now result →
+        result ≡ Err fault) → MustRefuse fault
 
--- the words and the configuration's bytes are such that the configuration is refused
-pub record MustRefuseConf (words : Words) (contents : Option Tree) : Type 0 where
-  pub conf : List ℕ
-  pub capture : List ℕ
-  pub words_are : IsRun words conf capture
-  pub refused : IsTold contents conf IsRefused
-
--- the words, the configuration and the capture's bytes are such that the capture is refused
-pub record MustRefuseCapture (words : Words) (contents : Option Tree) : Type 0 where
-  pub conf : List ℕ
-  pub capture : List ℕ
-  pub fault : CaptureFault
-  pub words_are : IsRun words conf capture
-  pub configured : IsTold contents conf IsAccepted
-  pub refused : IsTold contents capture (λ bytes. IsBadCapture bytes fault)
-
--- The fault's line was put, or a front of it where the sink's own count rose, and this is its status; or memory ran out
--- for the line, and nothing was put.
-abbrev pub SaysFault : SinkMoment → SinkMoment → List ℕ → List ℕ → Fault → ℕ → Type 0
-SaysFault old new conf capture fault status =
-    ((status ≡ status_of fault) × (Appends old.held new.held (message conf capture fault)
-    ⊎ (Rose old.faults new.faults × AppendsFront old.held new.held (message conf capture fault))))
-    ⊎ ((status ≡ 1) × Appends old.held new.held [])
-
--- the words and the files are such that a file is too long
-pub record MustRefuseLength (words : Words) (contents : Option Tree) : Type 0 where
-  pub conf : List ℕ
-  pub capture : List ℕ
-  pub words_are : IsRun words conf capture
-  pub longer : IsTold contents conf (λ bytes. most_bytes Conf < length bytes)
-      ⊎ (IsTold contents conf IsAccepted × IsTold contents capture (λ bytes. most_bytes Capture < length bytes))
+  -- the command's files are in their grammars and limits, whichever way they are read
+  pub data CanDo : Type 0 where
+    run : {words_of : Run} → SaysCommand words (Words.Run words_of) →
+        ((result : Result RunPlan CommandFault) → PreparesRun (told_files tree) (told_files tree) (names_of_run words_of) result → IsOk result) → CanDo
+    load : {command : Command} {load_of : Load} → SaysCommand words command → loaded_by command ≡ Some load_of →
+        ((result : Result Configuration CommandFault) → LoadsAlone (told_files tree) (told_files tree) (given_text load_of.ifaces) load_of.conf.now result →
+        IsOk result) → CanDo

@@ -1,39 +1,18 @@
-// What npfctl does: from the words of the command line and the bytes of its files to the lines of a report, a status
-// and the line of a fault.
+// What npfctl does: from the words of the command line and the bytes of its files to the lines of a report, a status and the line of a fault.
 //
-// The language is npf.conf(5)'s, the command npfctl(8)'s, the captures are pcap-savefile(5)'s. Only one default group
-// of rules with `final`, `from` and `to`, and `stateful` for UDP, is built so far, over captures of raw packets.
+// Each command is a few steps, the first fault of which is answered: `running` prepares a run, plays it, and puts and writes what it makes;
+// `looking` loads a configuration and puts what is to be seen of it; `generating` runs a generated input from files in memory; `top` gives
+// the status, and puts the line of a fault.
 //
-// The contract is that of the top call. With status 0 the bytes put are the report of the configuration that the text
-// spells over the capture that the file spells: one line for each packet, by time, each outcome explained by the facts
-// of the packet's bytes, the meaning of the rules and the legal history that the packets make of the machine of
-// connections, and then the total. Any other status is that of the first fault met, with its cause, and its line was put
-// on the error sink. `input`, `engine` with `connections`, and `output` do the work of a run; the text of a configuration
-// is read by `lexer` and `parser`, and `report` and `messages` write text.
+// The contract is that of `npfctl_top`. With status 0 what the words say was done (specs/Top): for a run, what its files say was prepared,
+// and played so that the history of the table's pass explains each packet's outcome; its report was put, and what passed was written. Any
+// other status is that of the first fault met, with its cause (specs/Faults), and its line was put on the error sink.
 #![tactic(auto)]
 
-mod capture;
-mod captured;
-mod class;
-mod config;
-mod connections;
-mod engine;
-mod fault;
-mod input;
-pub mod laws;
-mod lexer;
-mod messages;
-mod outcome;
-mod output;
-mod packet;
-mod parser;
-mod report;
-mod rule;
-mod run_token;
+mod generating;
+mod listing;
+mod looking;
 mod running;
-mod token;
 mod top;
-mod verdicts;
-mod words;
 
 pub use top::{Status, npfctl_top};

@@ -1,36 +1,168 @@
-// A run of one configuration over one capture.
-ghost use Rattle.std.specs.Prelude.{◌≡◌, OnOk, IfErr};
-ghost use Rattle.npf_outside.specs.Files.{SameFiles};
-ghost use Rattle.npf_ctl.specs.Run.{outside, PutsReport, HasFault};
+// A run: it is prepared, played and reported, and what passed is written where a file is named for it.
+ghost use Rattle.std.specs.Prelude.{◌≡◌, ◌≤◌, ℕ, List, All, IfOk, IfErr, OnOk, IsErrOf, length};
+ghost use Rattle.npf_outside.specs.Counts.{Rose};
+ghost use Rattle.npf_outside.specs.Files.{Has, SameFiles, SameOthers};
+ghost use Rattle.npf_outside.specs.Sink.{Appends};
+ghost use Rattle.npf_arrivals.specs.Within.{HasCaptureTime};
+ghost use Rattle.npf_runner.specs.declared.packet.Packet.{Packet as PacketType};
+ghost use Rattle.npf_runner.specs.Plays.{PlaysPhases};
+ghost use Rattle.npf_output.specs.Extents.{AreExtentsOf, EndsInPacket};
+ghost use Rattle.npf_output.specs.Outputs.{AreOutputsOf};
+ghost use Rattle.npf_output.specs.Report.{report_text};
+ghost use Rattle.npf_prepare.specs.Playable.{IsPlayable};
+ghost use Rattle.npf_prepare.specs.View.{run_plan_of};
+ghost use Rattle.npf_words.specs.declared.command.Command.{Command as CommandType};
+ghost use Rattle.npf_words.specs.CommandLine.{SaysCommand};
+ghost use Rattle.npf_messages.specs.declared.fault.CommandFault.{CommandFault as FaultType};
+ghost use Rattle.npf_ctl.specs.Commands.{spread_said};
+ghost use Rattle.npf_ctl.specs.Ends.{EndsIn, FailsReport, GoesOn, HasReadOn, IsFresh, IsUnwritten};
+ghost use Rattle.npf_ctl.specs.Running.{IsWrittenTo, moment};
+ghost use Rattle.npf_ctl.specs.Top.{KeepsOtherFiles};
 
-use crate::engine::explain;
-use crate::fault::Fault;
-use crate::input::{load, read_packets};
-use crate::output::put_report;
-use npf_outside::{Files, Sink};
+use npf_connections::Connections;
+use npf_flow::FlowLaw;
+use npf_messages::CommandFault;
+use npf_output::{IpExtent, ip_extents, put_report, written_capture};
+use npf_outside::{FileFault, Files, Sink};
+use npf_prepare::{Prepared, RunFiles, prepare_run};
+use npf_runner::{Gate, Played, Spread, play};
+use npf_types::{List, NoMemory, Text};
+use npf_words::{Run, Spread as SpreadWord};
 use std::alloc::Global;
+use std::sync::Wait;
+use std::thread::Threads;
 
-/// Reads the configuration and then the capture, and puts the report and flushes it. An error is the first fault met.
-pub(crate) fn run<F: Files, O: Sink>(
+/// Runs a script's packets, puts the report, and writes what passed where the words name a file for it. A failing put ends the run
+/// before anything is written.
+pub(crate) fn run<R: Threads + Wait + Sync, F: Files, O: Sink, C: Connections<FlowLaw>, G: Gate>(
+    rt: &R,
     alloc: Global,
-    conf: &str,
-    capture: &str,
+    words: Run<'_>,
     files: &mut F,
     out: &mut O,
-) -> Result<(), Fault>
-    ensures done { OnOk result (PutsReport (F.moment files.old).contents conf.now capture.now
-        (O.moment out.old).held (O.moment out.new).held) }
-    ensures flushed { OnOk result ((O.moment out.new).waiting ≡ 0) }
-    ensures fault { IfErr result (HasFault
-        (outside (F.moment files.old) (O.moment out.old)) (outside (F.moment files.new) (O.moment out.new))
-        conf.now capture.now) }
-    ensures files { SameFiles (F.moment files.old).contents (F.moment files.new).contents }
+    conns: &C,
+    pass: &mut C::Pass,
+    gate: &G,
+) -> Result<(), CommandFault>
+    requires own { C.fits conns.now pass.old }
+    requires fresh { IsFresh (C.view pass.old) }
+    requires workers { (1 ≤ words.workers) × (words.workers ≤ 64) }
+    ensures ends { (texts : List (List ℕ)) → SaysCommand texts (CommandType.Run words.entry) → EndsIn texts
+        (moment (F.moment files.old) (O.moment out.old) (C.view pass.old)) (moment (F.moment files.new) (O.moment out.new) (C.view pass.new)) result }
+    ensures files { (texts : List (List ℕ)) → SaysCommand texts (CommandType.Run words.entry)
+        → KeepsOtherFiles texts (F.moment files.old).contents (F.moment files.new).contents }
+    ensures own { C.fits conns.now pass.new }
+    ensures goes_on { GoesOn (C.view pass.old) (C.view pass.new) }
 {
-    let rules = load(alloc, conf, files)?;
-    let packets = read_packets(alloc, capture, files)?;
-    let outcomes = explain(alloc, rules.as_slice(), &packets)?;
-    match put_report(alloc, outcomes.as_slice(), out) {
-        Ok(()) => Ok(()),
-        Err(fault) => Err(fault),
+    let names = RunFiles {
+        conf: words.conf,
+        script: words.script,
+        ifaces: words.ifaces,
+    };
+    let prepared = prepare_run(alloc, names, files)?;
+    match words.output {
+        None => {
+            report_run(rt, alloc, prepared, words, out, conns, pass, gate)?;
+            Ok(())
+        }
+        Some(name) => {
+            let extents = ip_extents(alloc, prepared.packets.as_slice())?;
+            let played = report_run(rt, alloc, prepared, words, out, conns, pass, gate)?;
+            write_passed(alloc, name, extents.as_slice(), &played, files)
+        }
     }
+}
+
+// Plays what is prepared, and puts the report.
+fn report_run<R: Threads + Wait + Sync, O: Sink, C: Connections<FlowLaw>, G: Gate>(
+    rt: &R,
+    alloc: Global,
+    prepared: Prepared,
+    words: Run<'_>,
+    out: &mut O,
+    conns: &C,
+    pass: &mut C::Pass,
+    gate: &G,
+) -> Result<Played, CommandFault>
+    requires own { C.fits conns.now pass.old }
+    requires fresh { IsFresh (C.view pass.old) }
+    requires workers { (1 ≤ words.workers) × (words.workers ≤ 64) }
+    requires playable { IsPlayable prepared }
+    ensures played { IfOk result (λ played. PlaysPhases (run_plan_of prepared).configs words.entry.workers (spread_said words.entry.spread)
+        (C.view pass.old) (C.view pass.new) prepared.phases.items prepared.packets.items played.packets played.outcomes) }
+    ensures outputs { IfOk result (λ played. AreOutputsOf prepared.packets.items played.outcomes played.packets) }
+    ensures whole { IfOk result (λ played. Appends (O.moment out.old).held (O.moment out.new).held
+        (report_text prepared.ifaces.list prepared.packets.items played.outcomes)) }
+    ensures flushed { OnOk result ((O.moment out.new).waiting ≡ 0) }
+    ensures fails { IfErr result (FailsReport (run_plan_of prepared) words.entry.workers (spread_said words.entry.spread)
+        (C.view pass.old) (C.view pass.new) (O.moment out.old) (O.moment out.new)) }
+    ensures own { C.fits conns.now pass.new }
+    ensures goes_on { GoesOn (C.view pass.old) (C.view pass.new) }
+{
+    let Prepared {
+        ifaces,
+        configs,
+        packets,
+        phases,
+    } = prepared;
+    let spread = spread_of(words.spread);
+    let phases = phases.as_slice();
+    let configs = configs.as_slice();
+    let workers = words.workers;
+    let played = play(
+        rt, alloc, packets, phases, configs, workers, spread, conns, pass, gate,
+    )?;
+    let outputs = played.packets.as_slice();
+    let outcomes = played.outcomes.as_slice();
+    put_report(alloc, &ifaces, outputs, outcomes, out)?;
+    Ok(played)
+}
+
+fn spread_of(word: SpreadWord) -> Spread
+    ensures { result ≡ spread_said word }
+{
+    match word {
+        SpreadWord::Rr => Spread::Rr,
+        SpreadWord::Flow => Spread::Flow,
+    }
+}
+
+// Writes the packets that passed to the file of this name.
+fn write_passed<F: Files>(
+    alloc: Global,
+    name: &str,
+    extents: &[Option<IpExtent>],
+    played: &Played,
+    files: &mut F,
+) -> Result<(), CommandFault>
+    requires extents { length extents.now ≡ length played.now.packets }
+    requires outcomes { length played.now.outcomes ≡ length played.now.packets }
+    requires ends { All EndsInPacket extents.now }
+    requires timely { All HasCaptureTime played.now.packets }
+    ensures written { (packets : List PacketType) → AreExtentsOf packets extents.now → AreOutputsOf packets played.now.outcomes played.now.packets
+        → OnOk result (IsWrittenTo (F.moment files.new) packets played.now.packets played.now.outcomes name.now) }
+    ensures fails { IfErr result (IsUnwritten (F.moment files.old) (F.moment files.new) name.now) }
+    ensures others { SameOthers (F.moment files.old).contents (F.moment files.new).contents name.now }
+    ensures reads { HasReadOn (F.moment files.old) (F.moment files.new) }
+{
+    let bytes = written_capture(
+        alloc,
+        extents,
+        played.packets.as_slice(),
+        played.outcomes.as_slice(),
+    )?;
+    match files.write(name, bytes.as_slice()) {
+        Ok(()) => Ok(()),
+        Err(FileFault::Failed) => Err(CommandFault::Unwritten {
+            file: text_of(alloc, name)?,
+        }),
+        Err(FileFault::Long | FileFault::NoMemory) => Err(CommandFault::NoMemory),
+    }
+}
+
+// A copy of a file's name, for a fault.
+fn text_of(alloc: Global, name: &str) -> Result<Text, NoMemory>
+    ensures { IfOk result (λ text. text ≡ name.now) }
+{
+    Ok(List::of_vec(Vec::from_slice(alloc, name.as_bytes())?))
 }

@@ -1,103 +1,181 @@
-// The top call of the program: its words, the files and both sinks, and the status.
-ghost use Rattle.std.specs.Prelude.{◌≡◌, ◌≢◌, ◌⊎◌};
-ghost use Rattle.npf_outside.specs.Counts.{Rose, StoodStill};
-ghost use Rattle.npf_outside.specs.Files.{SameFiles};
-ghost use Rattle.npf_ctl.specs.Run.{outside, PutsNothing};
-ghost use Rattle.npf_ctl.specs.Top.{IsAnswered, SaysFault, IsDone, IsFaulted, FrontOfReport, IsNoCommand, RefusesConf, RefusesCapture, RefusesLength, FailsToReadNamed, ReadsNamed, Answers, MustRefuseConf, MustRefuseCapture, MustRefuseLength, CanRun, IsQuiet};
+// The top call of the program: its words, the files and both sinks, the table of connections, and the status.
+ghost use Rattle.std.specs.Prelude.{◌≡◌, ◌≢◌, ◌≤◌, ◌⊎◌, ℕ, Some, false, []};
+ghost use Rattle.npf_connections.specs.Pass.{IsPass, all_places};
+ghost use Rattle.npf_flow.specs.Flows.{flow_law};
+ghost use Rattle.npf_messages.specs.declared.fault.CommandFault.{CommandFault as FaultType};
+ghost use Rattle.npf_messages.specs.Message.{status_of_fault};
+ghost use Rattle.npf_outside.specs.Counts.{StoodStill};
+ghost use Rattle.npf_outside.specs.Files.{SameFiles, Tree};
+ghost use Rattle.npf_outside.specs.Sink.{Appends};
+ghost use Rattle.npf_words.specs.CommandLine.{is_command_line, word_texts};
+ghost use Rattle.npf_input.specs.File.{ReadsWell};
+ghost use Rattle.npf_ctl.specs.Ends.{EndsIn, GoesOn, IsAnswered, IsFresh, SaysFault};
+ghost use Rattle.npf_ctl.specs.Faults.{IsFaulted};
+ghost use Rattle.npf_ctl.specs.Running.{moment};
+ghost use Rattle.npf_ctl.specs.Top.{Answers, CanDo, DoesWords, IsQuiet, KeepsOtherFiles, MustRefuse};
 
-use crate::fault::Fault;
-use crate::messages::message;
+use crate::generating::run_generated;
+use crate::looking::{Look, look_at};
 use crate::running::run;
-use crate::words::run_of;
+use npf_connections::Connections;
+use npf_flow::FlowLaw;
+use npf_messages::{CommandFault, message};
 use npf_outside::{Files, Sink, SinkFault};
+use npf_runner::Gate;
+use npf_words::laws::one_command;
+use npf_words::{Command, WordsFault, read_words};
 use std::alloc::Global;
+use std::sync::Wait;
+use std::thread::Threads;
 
 /// The exit status of the program: 0 where the work was done, and otherwise that of the first fault met.
 pub type Status = u8;
 
-/// Does what the words ask: `run CONF CAPTURE` reads a configuration of npf.conf(5) and a capture, and puts a line for
-/// each packet and the total line on `out`. Otherwise the line of the first fault met is put on `err`. The words leave
-/// out the program's name.
-pub fn npfctl_top<F: Files, O: Sink, E: Sink>(
+/// Does what the words ask; they leave out the program's name.
+///
+/// - `run CONF SCRIPT [--ifaces FILE] [--workers N] [--spread rr|flow] [--write FILE]` runs the packets of a script's captures, or of a capture
+///   alone, through a configuration of npf.conf(5), and puts a line for each packet and the total line on `out`
+/// - `validate CONF`, `show CONF` and `debug CONF`, each with `[--ifaces FILE]`, put the count of a configuration's rules, its canonical text, and
+///   the programs of its rules
+/// - `gen NUMBER` runs the generated input of this number, and puts the total line
+///
+/// Where it is refused, the line of the first fault met is put on `err`. The table of connections is new, and `pass` is its first pass.
+pub fn npfctl_top<
+    R: Threads + Wait + Sync,
+    F: Files,
+    O: Sink,
+    E: Sink,
+    C: Connections<FlowLaw>,
+    G: Gate,
+>(
+    rt: &R,
     alloc: Global,
     words: &[String],
     files: &mut F,
     out: &mut O,
     err: &mut E,
+    conns: &C,
+    pass: &mut C::Pass,
+    gate: &G,
 ) -> Status
-    // 0: the report was put and flushed, of packets and outcomes that the configuration explains, and nothing on the error sink.
-    ensures done { result ≡ 0 → IsDone words.now (F.moment files.old).contents
-        (O.moment out.old).held (O.moment out.new).held }
+    requires own { C.fits conns.now pass.old }
+    requires legal { IsPass flow_law (C.view pass.old) }
+    requires out { (C.view pass.old).entered ≡ false }
+    requires places { (C.view pass.old).places ≡ all_places }
+    requires first { (C.view pass.old).history ≡ [] }
+
+    // 0: what the words say was done, the output is flushed, and nothing was put on the error sink.
+    ensures done { result ≡ 0 → DoesWords (word_texts words.now)
+        (moment (F.moment files.old) (O.moment out.old) (C.view pass.old)) (moment (F.moment files.new) (O.moment out.new) (C.view pass.new)) }
     ensures flushed { result ≡ 0 → (O.moment out.new).waiting ≡ 0 }
-    ensures silent { result ≡ 0 → PutsNothing (E.moment err.old).held (E.moment err.new).held }
+    ensures silent { result ≡ 0 → Appends (E.moment err.old).held (E.moment err.new).held [] }
 
     // Any other status: that of the first fault met, with its cause, and its line was put.
-    ensures faulted { result ≢ 0 → IsFaulted words.now
-        (outside (F.moment files.old) (O.moment out.old)) (outside (F.moment files.new) (O.moment out.new))
+    ensures faulted { result ≢ 0 → IsFaulted (word_texts words.now)
+        (moment (F.moment files.old) (O.moment out.old) (C.view pass.old)) (moment (F.moment files.new) (O.moment out.new) (C.view pass.new))
         (E.moment err.old) (E.moment err.new) result }
 
-    // The cause of each status.
-    ensures memory { result ≡ 1 → PutsNothing (O.moment out.old).held (O.moment out.new).held
-        ⊎ FrontOfReport words.now (F.moment files.old).contents (O.moment out.old).held (O.moment out.new).held }
-    ensures usage { result ≡ 2 → IsNoCommand words.now }
-    ensures conf { result ≡ 3 → RefusesConf words.now (F.moment files.old).contents }
-    ensures reads { result ≡ 4 → FailsToReadNamed words.now (F.moment files.old) (F.moment files.new) }
-    ensures writes { result ≡ 5 → Rose (O.moment out.old).faults (O.moment out.new).faults }
-    ensures written { result ≡ 5 → FrontOfReport words.now (F.moment files.old).contents
-        (O.moment out.old).held (O.moment out.new).held }
-    ensures capture { result ≡ 7 → RefusesCapture words.now (F.moment files.old).contents }
-    ensures lengths { result ≡ 9 → RefusesLength words.now (F.moment files.old) (F.moment files.new) }
+    // What must be refused is, for the fault that it comes to, and what can be done is, but for want of memory.
+    ensures refuses_words { is_command_line (word_texts words.now) ≡ false → Answers 2 result }
+    ensures refuses { (tree : Tree) (fault : FaultType) → (F.moment files.old).contents ≡ Some tree → MustRefuse (word_texts words.now) tree fault
+        → ReadsWell (F.moment files.old) (F.moment files.new) → Answers (status_of_fault fault) result }
+    ensures complete { (tree : Tree) → (F.moment files.old).contents ≡ Some tree → CanDo (word_texts words.now) tree
+        → ReadsWell (F.moment files.old) (F.moment files.new)
+        → StoodStill (O.moment out.old).faults (O.moment out.new).faults
+        → StoodStill (F.moment files.old).write_faults (F.moment files.new).write_faults → Answers 0 result }
 
-    // What must be refused is, and what can run does, but for want of memory.
-    ensures refuses_words { IsNoCommand words.now → Answers 2 result }
-    ensures refuses_conf { MustRefuseConf words.now (F.moment files.old).contents
-        → ReadsNamed words.now (F.moment files.old) (F.moment files.new) → Answers 3 result }
-    ensures refuses_capture { MustRefuseCapture words.now (F.moment files.old).contents
-        → ReadsNamed words.now (F.moment files.old) (F.moment files.new) → Answers 7 result }
-    ensures refuses_length { MustRefuseLength words.now (F.moment files.old).contents
-        → ReadsNamed words.now (F.moment files.old) (F.moment files.new) → Answers 9 result }
-    ensures complete { CanRun words.now (F.moment files.old).contents
-        → ReadsNamed words.now (F.moment files.old) (F.moment files.new)
-        → StoodStill (O.moment out.old).faults (O.moment out.new).faults → Answers 0 result }
+    // With 2, 3, 4, 7, 8 and 9 nothing is put on the output, and no file changes; with any, none but the one that is to be written.
+    ensures quiet { IsQuiet result → Appends (O.moment out.old).held (O.moment out.new).held [] }
+    ensures same { IsQuiet result → SameFiles (F.moment files.old).contents (F.moment files.new).contents }
+    ensures files { KeepsOtherFiles (word_texts words.now) (F.moment files.old).contents (F.moment files.new).contents }
 
-    // With 2, 3, 4, 7 and 9 nothing is put on the output, and no file changes.
-    ensures quiet { IsQuiet result → PutsNothing (O.moment out.old).held (O.moment out.new).held }
-    ensures files { SameFiles (F.moment files.old).contents (F.moment files.new).contents }
+    // The pass is as it was, but for its history, its sweeps and its epoch, none of which falls.
+    ensures own { C.fits conns.now pass.new }
+    ensures legal { IsPass flow_law (C.view pass.new) }
+    ensures out { (C.view pass.new).entered ≡ false }
+    ensures places { (C.view pass.new).places ≡ all_places }
+    ensures slots { (C.view pass.new).slots ≡ (C.view pass.old).slots }
+    ensures number { (C.view pass.new).number ≡ (C.view pass.old).number }
+    ensures sweeps { (C.view pass.old).sweeps ≤ (C.view pass.new).sweeps }
+    ensures epoch { (C.view pass.old).epoch ≤ (C.view pass.new).epoch }
 {
-    answer(alloc, words, files, out, err)
+    one_command();
+    npf_input::laws::contents_decide();
+    npf_prepare::laws::contents_decide();
+    answer(rt, alloc, words, files, out, err, conns, pass, gate)
 }
 
-fn answer<F: Files, O: Sink, E: Sink>(
+// The status of the words, with the line of the fault put.
+fn answer<R: Threads + Wait + Sync, F: Files, O: Sink, E: Sink, C: Connections<FlowLaw>, G: Gate>(
+    rt: &R,
     alloc: Global,
     words: &[String],
     files: &mut F,
     out: &mut O,
     err: &mut E,
+    conns: &C,
+    pass: &mut C::Pass,
+    gate: &G,
 ) -> Status
-    ensures answered { IsAnswered words.now
-        (outside (F.moment files.old) (O.moment out.old)) (outside (F.moment files.new) (O.moment out.new))
+    requires own { C.fits conns.now pass.old }
+    requires fresh { IsFresh (C.view pass.old) }
+    ensures answered { IsAnswered (word_texts words.now)
+        (moment (F.moment files.old) (O.moment out.old) (C.view pass.old)) (moment (F.moment files.new) (O.moment out.new) (C.view pass.new))
         (E.moment err.old) (E.moment err.new) result }
-    ensures files { SameFiles (F.moment files.old).contents (F.moment files.new).contents }
+    ensures files { KeepsOtherFiles (word_texts words.now) (F.moment files.old).contents (F.moment files.new).contents }
+    ensures own { C.fits conns.now pass.new }
+    ensures goes_on { GoesOn (C.view pass.old) (C.view pass.new) }
 {
-    match run_of(words) {
-        Some((conf, capture)) => match run(alloc, conf, capture, files, out) {
-            Ok(()) => 0,
-            Err(fault) => say(alloc, conf, capture, fault, err),
-        },
-        None => say(alloc, "", "", Fault::Usage, err),
+    match do_words(rt, alloc, words, files, out, conns, pass, gate) {
+        Ok(()) => 0,
+        Err(fault) => say(alloc, &fault, err),
     }
 }
 
-/// Puts the line of the fault in one call, and gives its status. A failure of the error sink changes no status; want
-/// of memory for the line is want of memory.
-fn say<E: Sink>(alloc: Global, conf: &str, capture: &str, fault: Fault, err: &mut E) -> Status
-    ensures { SaysFault (E.moment err.old) (E.moment err.new) conf.now capture.now fault result }
+// Does what the words ask, up to the first fault.
+fn do_words<R: Threads + Wait + Sync, F: Files, O: Sink, C: Connections<FlowLaw>, G: Gate>(
+    rt: &R,
+    alloc: Global,
+    words: &[String],
+    files: &mut F,
+    out: &mut O,
+    conns: &C,
+    pass: &mut C::Pass,
+    gate: &G,
+) -> Result<(), CommandFault>
+    requires own { C.fits conns.now pass.old }
+    requires fresh { IsFresh (C.view pass.old) }
+    ensures ends { EndsIn (word_texts words.now)
+        (moment (F.moment files.old) (O.moment out.old) (C.view pass.old)) (moment (F.moment files.new) (O.moment out.new) (C.view pass.new)) result }
+    ensures files { KeepsOtherFiles (word_texts words.now) (F.moment files.old).contents (F.moment files.new).contents }
+    ensures own { C.fits conns.now pass.new }
+    ensures goes_on { GoesOn (C.view pass.old) (C.view pass.new) }
 {
-    let Ok(line) = message(alloc, conf, capture, fault) else {
-        return Fault::NoMemory.status();
+    let command = match read_words(alloc, words) {
+        Ok(command) => command,
+        Err(WordsFault::Usage) => return Err(CommandFault::Usage),
+        Err(WordsFault::NoMemory) => return Err(CommandFault::NoMemory),
     };
-    match err.put(line.as_bytes()) {
+    match command {
+        Command::Run(words) => run(rt, alloc, words, files, out, conns, pass, gate),
+        Command::Validate(load) => look_at(alloc, Look::Count, load, files, out),
+        Command::Show(load) => look_at(alloc, Look::Model, load, files, out),
+        Command::Debug(load) => look_at(alloc, Look::Programs, load, files, out),
+        Command::Gen { number } => run_generated(rt, alloc, number, out, conns, pass, gate),
+    }
+}
+
+// Puts the line of the fault in one call, and gives its status. A failing error sink changes no status; want of memory for the line is
+// want of memory.
+#[tactic(auto, using(crate::proofs::FileLemmas::nothing_put))]
+fn say<E: Sink>(alloc: Global, fault: &CommandFault, err: &mut E) -> Status
+    ensures { SaysFault (E.moment err.old) (E.moment err.new) fault.now result }
+{
+    let Ok(line) = message(alloc, fault) else {
+        return CommandFault::NoMemory.status();
+    };
+    match err.put(line.as_slice()) {
         Ok(()) | Err(SinkFault::Failed) => fault.status(),
-        Err(SinkFault::NoMemory) => Fault::NoMemory.status(),
+        Err(SinkFault::NoMemory) => CommandFault::NoMemory.status(),
     }
 }

@@ -1,6 +1,6 @@
 -- An interface's place among the interfaces is that of its name among their names.
-use Rattle.std.proofs.Common.{◌≡◌, ◌+◌, ◌<◌, ◌++◌, length, take, ℕ, suc, Bool, true, false, Option, Some, None, List, [], ◌∷◌, get_or, map, if◌then◌else◌, refl, sym, ap, ◌∙◌, true≢false, arith}
-use Rattle.std.proofs.lemmas.List.{get_or-map, get_or_default, length-map, take_more}
+use Rattle.std.proofs.Common.{◌≡◌, ◌+◌, ◌<◌, length, ℕ, suc, Bool, true, false, Option, Some, None, List, [], ◌∷◌, get_or, map, if◌then◌else◌, refl, sym, ap, ◌∙◌, true≢false, arith}
+use Rattle.std.proofs.lemmas.List.{get_or-map, get_or_default, length-map}
 use Rattle.std.specs.Option.{option_map}
 use Rattle.std.specs.Str.{bytes_eq}
 use Rattle.std.proofs.lemmas.Slice.Eq.{bytes_eq-Decides}
@@ -39,13 +39,6 @@ iface_place (iface ∷ ifaces) name n =
       by false false is rest = rest
       by true false is rest = cc
       by false true is rest = cc
-
-pub names_more : (ifaces : List Iface) (i : ℕ) (iface d : Iface) (text : List ℕ) → i < length ifaces → iface ≡ get_or ifaces i d → text ≡ name_bytes iface.name
-    → take i (iface_texts ifaces) ++ text ∷ [] ≡ take (i + 1) (iface_texts ifaces)
-names_more ifaces i iface d text within is says =
-    let below : i < length (iface_texts ifaces) = omega (arith, within, length-map ifaces (λ (one : Iface). name_bytes one.name)) in
-    let at : get_or (iface_texts ifaces) i text ≡ name_bytes (get_or ifaces i d).name = get_or-map (λ one. name_bytes one.name) ifaces i d text within in
-    ap (λ t. take i (iface_texts ifaces) ++ t ∷ []) (says ∙ ap (λ (one : Iface). name_bytes one.name) is ∙ sym at) ∙ sym (take_more (iface_texts ifaces) i text below)
 
 abbrev pub if_id : ℕ → IfId
 if_id number = record { 0 = number }

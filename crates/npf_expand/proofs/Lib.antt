@@ -1,3 +1,4 @@
+pub mod ElementLemmas
 pub mod FaultLemmas
 pub mod FirstAtom
 pub mod IfaceFileLemmas

@@ -1,7 +1,8 @@
 -- Where a name first stands among names, and among those with one more.
-use Rattle.std.proofs.Common.{◌≡◌, ◌+◌, ℕ, Bool, true, false, is_some, Option, Some, None, List, [], ◌∷◌, ◌++◌, length, if◌then◌else◌, refl, sym, ap, subst, true≢false, ◌∙◌, arith}
+use Rattle.std.proofs.Common.{◌≡◌, ◌+◌, ◌<◌, ℕ, Bool, true, false, is_some, Option, Some, None, List, [], ◌∷◌, ◌++◌, length, get_or, map, take, if◌then◌else◌, refl, sym, ap, subst, true≢false, ◌∙◌, arith}
 use Rattle.std.specs.Option.{option_or}
 use Rattle.std.proofs.lemmas.Bool.{false_from_ne_true}
+use Rattle.std.proofs.lemmas.List.{get_or-map, length-map, take_more}
 use Rattle.std.specs.Str.{bytes_eq}
 use Rattle.std.proofs.lemmas.Slice.Eq.{bytes_eq-Decides}
 use Rattle.npf_model.specs.Verdict.{first_where}
@@ -62,3 +63,11 @@ place_added names name text count now absent counted put =
           ((bytes_eq-Decides text name).1 (sym same)) counted
       by false is = old_place _ _ (0 + length names)
           (false_from_ne_true (bytes_eq text name) (λ h. true≢false (sym ((bytes_eq-Decides name text).1 (sym ((bytes_eq-Decides text name).0 h))) ∙ is)))
+
+-- the names of the first things, with that of the next one
+pub names_more : {X : Type 0} (name_of : X → List ℕ) (xs : List X) (i : ℕ) (x d : X) (text : List ℕ) → i < length xs → x ≡ get_or xs i d → text ≡ name_of x
+    → take i (map name_of xs) ++ text ∷ [] ≡ take (i + 1) (map name_of xs)
+names_more name_of xs i x d text within is says =
+    let below : i < length (map name_of xs) = omega (arith, within, length-map xs name_of) in
+    let at : get_or (map name_of xs) i text ≡ name_of (get_or xs i d) = get_or-map name_of xs i d text within in
+    ap (λ t. take i (map name_of xs) ++ t ∷ []) (says ∙ ap name_of is ∙ sym at) ∙ sym (take_more (map name_of xs) i text below)

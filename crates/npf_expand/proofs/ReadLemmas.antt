@@ -1,5 +1,5 @@
 -- What is left of a text's statements, of which so many were read.
-use Rattle.std.proofs.Common.{◌≡◌, ◌≤◌, ◌<◌, ◌+◌, ℕ, None, List, [], ◌∷◌, ◌++◌, length, get_or, take, drop, refl, sym, ap, ◌∙◌, append-nil, append_assoc}
+use Rattle.std.proofs.Common.{◌≡◌, ◌≤◌, ◌<◌, ◌+◌, ℕ, None, List, [], ◌∷◌, ◌++◌, length, get_or, take, drop, refl, sym, ap, subst, ◌∙◌, append-nil, append_assoc}
 use Rattle.std.specs.List.{flat_map}
 use Rattle.std.proofs.Math.Path.{fun_ext}
 use Rattle.std.proofs.lemmas.List.{drop_more, drop_all, take_more}
@@ -182,19 +182,23 @@ model_in stmts ifaces =
 abbrev pub state_model : List Group → List Group → List Map → List Stmt → Model
 state_model groups defaults maps stmts = record { groups = groups ++ defaults; tables = flat_map tables_of stmts; maps = maps; procedures = flat_map procedures_of stmts }
 
-module _ (tree : Tree) (ifaces known : List Iface) (stmts : List Stmt) (state : State) (same_ifaces : known ≡ ifaces) (same_stmts : stmts ≡ tree.stmts) where
-  pub tree_first : state.met.first ≡ first_fault (stmts_faults known (declared_in stmts) [] 0 stmts) → state.met.first ≡ first_fault (tree_faults tree ifaces)
-  tree_first is = is ∙ ap (λ (k : List Iface). first_fault (stmts_faults k (declared_in stmts) [] 0 stmts)) same_ifaces
+module _ (tree : Tree) (ifaces known : List Iface) (declared : Declared) (stmts : List Stmt) (state : State) (same_ifaces : known ≡ ifaces)
+    (same_names : declared ≡ declared_in stmts) (same_stmts : stmts ≡ tree.stmts) where
+  pub tree_first : state.met.first ≡ first_fault (stmts_faults known declared [] 0 stmts) → state.met.first ≡ first_fault (tree_faults tree ifaces)
+  tree_first is = is ∙ ap (λ (d : Declared). first_fault (stmts_faults known d [] 0 stmts)) same_names
+      ∙ ap (λ (k : List Iface). first_fault (stmts_faults k (declared_in stmts) [] 0 stmts)) same_ifaces
       ∙ ap (λ (s : List Stmt). first_fault (stmts_faults ifaces (declared_in s) [] 0 s)) same_stmts
 
-  pub tree_elaborates : (model : Model) → state.met.first ≡ None → state.met.first ≡ first_fault (stmts_faults known (declared_in stmts) [] 0 stmts)
-      → Adding known (declared_in stmts) state stmts → model ≡ state_model state.groups.items state.defaults.items state.maps.items tree.stmts → Elaborates tree ifaces model
-  tree_elaborates model none is adding built = record {
-    clean = no_first_fault (tree_faults tree ifaces) (sym (tree_first is) ∙ none);
-    meant = built ∙ ap (λ (s : List Stmt). state_model state.groups.items state.defaults.items state.maps.items s) (sym same_stmts)
-        ∙ ap (λ (g : List Group). state_model g state.defaults.items state.maps.items stmts) adding.groups
-        ∙ ap (λ (g : List Group). state_model (gathered known (declared_in stmts) (named_group known (declared_in stmts)) [] stmts) g state.maps.items stmts) adding.defaults
-        ∙ ap (λ (m : List Map). state_model (gathered known (declared_in stmts) (named_group known (declared_in stmts)) [] stmts)
-        (gathered known (declared_in stmts) (default_group known (declared_in stmts)) [] stmts) m stmts) adding.maps
-        ∙ ap (λ (k : List Iface). model_in stmts k) same_ifaces ∙ ap (λ (s : List Stmt). model_in s ifaces) same_stmts;
-  }
+  pub tree_elaborates : (model : Model) → state.met.first ≡ None → state.met.first ≡ first_fault (stmts_faults known declared [] 0 stmts)
+      → Adding known declared state stmts → model ≡ state_model state.groups.items state.defaults.items state.maps.items tree.stmts → Elaborates tree ifaces model
+  tree_elaborates model none is all built =
+      let adding = subst (λ (d : Declared). Adding known d state stmts) same_names all in
+      record {
+        clean = no_first_fault (tree_faults tree ifaces) (sym (tree_first is) ∙ none);
+        meant = built ∙ ap (λ (s : List Stmt). state_model state.groups.items state.defaults.items state.maps.items s) (sym same_stmts)
+            ∙ ap (λ (g : List Group). state_model g state.defaults.items state.maps.items stmts) adding.groups
+            ∙ ap (λ (g : List Group). state_model (gathered known (declared_in stmts) (named_group known (declared_in stmts)) [] stmts) g state.maps.items stmts) adding.defaults
+            ∙ ap (λ (m : List Map). state_model (gathered known (declared_in stmts) (named_group known (declared_in stmts)) [] stmts)
+            (gathered known (declared_in stmts) (default_group known (declared_in stmts)) [] stmts) m stmts) adding.maps
+            ∙ ap (λ (k : List Iface). model_in stmts k) same_ifaces ∙ ap (λ (s : List Stmt). model_in s ifaces) same_stmts;
+      }

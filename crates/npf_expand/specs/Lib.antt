@@ -5,6 +5,7 @@ pub mod Group
 pub mod Iface
 pub mod IfaceFile
 pub mod Kept
+pub mod LoneRule
 pub mod Map
 pub mod Meets
 pub mod Parted
@@ -15,6 +16,7 @@ pub mod Protocol
 pub mod Rule
 pub mod Scope
 pub mod Service
+pub mod Source
 pub mod Step
 pub mod Summary
 pub mod Table

@@ -3,9 +3,9 @@ use Rattle.std.specs.Prelude.{List}
 use Rattle.npf_model.specs.declared.iface.Iface.{Iface}
 use Rattle.npf_expand.specs.declared.scope.Scope.{Scope}
 use Rattle.npf_expand.specs.Atom.{Binding, Env}
-use Rattle.npf_expand.specs.Elaborates.{declared_in}
 use Rattle.npf_expand.specs.Kept.{env_in, known}
 use Rattle.npf_expand.specs.Rule.{Declared}
+use Rattle.npf_expand.specs.Source.{declared_by}
 
 -- the interfaces of the run
 abbrev pub ifaces_of_scope : Scope → List Iface
@@ -19,6 +19,6 @@ env_of_scope scope = env_in scope.variables.now
 abbrev pub known_of_scope : Scope → List Binding
 known_of_scope scope = known scope.variables.now
 
--- the names that the configuration declares
+-- the names that are declared
 abbrev pub declared_of_scope : Scope → Declared
-declared_of_scope scope = declared_in scope.declarations.now.stmts.now
+declared_of_scope scope = declared_by scope.declarations.now.source

@@ -5,7 +5,7 @@ ghost use Rattle.npf_types.specs.Address.{width};
 ghost use Rattle.npf_types.specs.Block.{block};
 ghost use Rattle.npf_expand.specs.Address.{host_item, items_of};
 ghost use Rattle.npf_expand.specs.Atom.{kept_atom};
-ghost use Rattle.npf_expand.specs.Table.{table_names};
+ghost use Rattle.npf_expand.specs.Source.{declared_by};
 
 use crate::atom::Atom;
 use crate::declarations::Declarations;
@@ -20,7 +20,7 @@ pub(crate) fn items_of_each(
     atoms: &[Atom],
 ) -> Result<Vec<AddrItem>, NoMemory>
     ensures { IfOk result (λ items. items.items
-        ≡ flat_map (λ atom. items_of (table_names declarations.now.stmts.now) (kept_atom atom)) atoms.now) }
+        ≡ flat_map (λ atom. items_of (declared_by declarations.now.source).tables (kept_atom atom)) atoms.now) }
 {
     let mut items = Vec::new(alloc);
     for atom in atoms {
@@ -34,7 +34,7 @@ fn add_items(
     declarations: &Declarations,
     atom: &Atom,
 ) -> Result<(), NoMemory>
-    ensures { OnOk result (items.new.items ≡ items.old.items ++ items_of (table_names declarations.now.stmts.now) (kept_atom atom.now)) }
+    ensures { OnOk result (items.new.items ≡ items.old.items ++ items_of (declared_by declarations.now.source).tables (kept_atom atom.now)) }
 {
     match atom {
         Atom::Block(addr, len) => {

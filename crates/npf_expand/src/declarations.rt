@@ -1,31 +1,50 @@
 // The tables and procedures that a configuration declares, by their names.
-ghost use Rattle.std.specs.Prelude.{◌≡◌, ◌<◌, ◌≤◌, ◌+◌, ◌++◌, ℕ, IfOk, List, OnOk, min, unwrap_or};
+ghost use Rattle.std.specs.Prelude.{◌≡◌, ◌<◌, ◌≤◌, ◌+◌, ◌++◌, ℕ, IfOk, List, OnOk, map, min, unwrap_or};
+ghost use Rattle.npf_types.specs.Name.{name_bytes};
+ghost use Rattle.npf_expand.specs.Elaborates.{declared_in};
 ghost use Rattle.npf_expand.specs.Place.{ArePlaces};
+ghost use Rattle.npf_expand.specs.Source.{declared_by, declared_of};
 ghost use Rattle.npf_expand.specs.Table.{no_number, procedure_name, procedure_names, table_name, table_names, table_number};
 
 use crate::place::Places;
+use crate::source::Source;
+use npf_model::{Model, Procedure, TableDecl};
 use npf_syntax::Stmt;
 use npf_types::NoMemory;
 use std::alloc::Global;
 
-/// The statements of a configuration, and the places of the names that they declare.
+/// What declares tables and procedures, and the places of their names there.
 #[derive(Drop)]
 pub(crate) struct Declarations<'a> {
-    pub(crate) stmts: &'a [Stmt],
+    pub(crate) source: Source<'a>,
     tables: Places<'a>,
     procedures: Places<'a>,
-    ghost tables_placed: { ArePlaces tables (table_names stmts.now) },
-    ghost procedures_placed: { ArePlaces procedures (procedure_names stmts.now) },
+    ghost tables_placed: { ArePlaces tables (declared_by source).tables },
+    ghost procedures_placed: { ArePlaces procedures (declared_by source).procedures },
 }
 
 impl<'a> Declarations<'a> {
-    pub(crate) fn new(alloc: Global, stmts: &'a [Stmt]) -> Result<Declarations<'a>, NoMemory>
-        ensures { IfOk result (λ declarations. declarations.stmts.now ≡ stmts.now) }
+    /// Those of a text.
+    pub(crate) fn of_stmts(alloc: Global, stmts: &'a [Stmt]) -> Result<Declarations<'a>, NoMemory>
+        ensures { IfOk result (λ declarations. declared_by declarations.source ≡ declared_in stmts.now) }
     {
         let tables = table_places(alloc, stmts)?;
         let procedures = procedure_places(alloc, stmts)?;
         Ok(Declarations {
-            stmts,
+            source: Source::InText(stmts),
+            tables,
+            procedures,
+        })
+    }
+
+    /// Those of a model.
+    pub(crate) fn of_model(alloc: Global, model: &'a Model) -> Result<Declarations<'a>, NoMemory>
+        ensures { IfOk result (λ declarations. declared_by declarations.source ≡ declared_of model.now) }
+    {
+        let tables = places_of_tables(alloc, model.tables.as_slice())?;
+        let procedures = places_of_procedures(alloc, model.procedures.as_slice())?;
+        Ok(Declarations {
+            source: Source::InModel(model),
             tables,
             procedures,
         })
@@ -33,14 +52,14 @@ impl<'a> Declarations<'a> {
 
     /// The place of a table, counted from 0.
     pub(crate) fn table(&self, name: &[u8]) -> u32
-        ensures { result ≡ table_number (table_names self.now.stmts.now) name.now }
+        ensures { result ≡ table_number (declared_by self.now.source).tables name.now }
     {
         number_of(self.tables.place(name))
     }
 
     /// The place of a procedure, counted from 0.
     pub(crate) fn procedure(&self, name: &[u8]) -> u32
-        ensures { result ≡ table_number (procedure_names self.now.stmts.now) name.now }
+        ensures { result ≡ table_number (declared_by self.now.source).procedures name.now }
     {
         number_of(self.procedures.place(name))
     }
@@ -54,6 +73,29 @@ fn number_of(place: Option<usize>) -> u32
         Some(place) => place.min(u32::MAX as usize) as u32,
         None => u32::MAX,
     }
+}
+
+fn places_of_tables<'a>(alloc: Global, tables: &'a [TableDecl]) -> Result<Places<'a>, NoMemory>
+    ensures { IfOk result (λ places. ArePlaces places (map (λ table. name_bytes table.name) tables.now)) }
+{
+    let mut places = Places::new(alloc);
+    for table in tables {
+        places.add(table.name.as_bytes())?;
+    }
+    Ok(places)
+}
+
+fn places_of_procedures<'a>(
+    alloc: Global,
+    procedures: &'a [Procedure],
+) -> Result<Places<'a>, NoMemory>
+    ensures { IfOk result (λ places. ArePlaces places (map (λ procedure. procedure.name) procedures.now)) }
+{
+    let mut places = Places::new(alloc);
+    for procedure in procedures {
+        places.add(procedure.name.as_slice())?;
+    }
+    Ok(places)
 }
 
 fn table_places<'a>(alloc: Global, stmts: &'a [Stmt]) -> Result<Places<'a>, NoMemory>

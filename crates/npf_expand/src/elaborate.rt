@@ -4,8 +4,9 @@ ghost use Rattle.std.specs.List.{flat_map};
 ghost use Rattle.npf_types.specs.declared.span.Span.{Span};
 ghost use Rattle.npf_syntax.specs.declared.stmt.Stmt.{Stmt};
 ghost use Rattle.npf_faults.specs.First.{first_fault};
-ghost use Rattle.npf_expand.specs.Elaborates.{Elaborates, RefusesTree, declared_in, procedures_of, stmts_faults};
+ghost use Rattle.npf_expand.specs.Elaborates.{Elaborates, RefusesTree, procedures_of, stmts_faults};
 ghost use Rattle.npf_expand.specs.Kept.{AreSound, env_in};
+ghost use Rattle.npf_expand.specs.Source.{declared_by};
 ghost use Rattle.npf_expand.specs.Step.{Adding, IsStmtRead};
 ghost use Rattle.npf_expand.specs.Table.{tables_of};
 
@@ -42,8 +43,8 @@ fn expand_for<'a>(
     ensures refused { IfErr result (RefusesTree tree.now interfaces.now.list.now) }
 {
     let stmts = tree.stmts.as_slice();
-    let declarations = Declarations::new(alloc, stmts)?;
-    let state = read_stmts(alloc, interfaces, &declarations)?;
+    let declarations = Declarations::of_stmts(alloc, stmts)?;
+    let state = read_stmts(alloc, interfaces, &declarations, stmts)?;
     if let Some(fault) = state.met.first {
         return Err(Refused::Fault(fault));
     }
@@ -54,14 +55,15 @@ fn read_stmts<'a>(
     alloc: Global,
     interfaces: &'a Interfaces<'_>,
     declarations: &Declarations<'a>,
+    stmts: &'a [Stmt],
 ) -> Result<State<'a>, NoMemory>
     ensures first { IfOk result (λ state. state.met.first
-        ≡ first_fault (stmts_faults interfaces.now.list.now (declared_in declarations.now.stmts.now) [] 0 declarations.now.stmts.now)) }
+        ≡ first_fault (stmts_faults interfaces.now.list.now (declared_by declarations.now.source) [] 0 stmts.now)) }
     ensures adding { IfOk result (λ state. state.met.first ≡ None
-        → Adding interfaces.now.list.now (declared_in declarations.now.stmts.now) state declarations.now.stmts.now) }
+        → Adding interfaces.now.list.now (declared_by declarations.now.source) state stmts.now) }
 {
     let mut state = State::new(alloc);
-    for stmt in declarations.stmts {
+    for stmt in stmts {
         state.step(alloc, interfaces, declarations, stmt)?;
     }
     Ok(state)
@@ -101,7 +103,7 @@ impl<'a> State<'a> {
         stmt: &'a Stmt,
     ) -> Result<(), NoMemory>
         requires { AreSound self.old.variables }
-        ensures { OnOk result (IsStmtRead interfaces.now.list.now (declared_in declarations.now.stmts.now) self.old self.new stmt.now) }
+        ensures { OnOk result (IsStmtRead interfaces.now.list.now (declared_by declarations.now.source) self.old self.new stmt.now) }
     {
         match stmt {
             Stmt::Define { var, values, .. } => self.define(
@@ -151,7 +153,7 @@ impl<'a> State<'a> {
         values: &'a Values,
     ) -> Result<(), NoMemory>
         requires { AreSound self.old.variables }
-        ensures { OnOk result ((span : Span) → IsStmtRead interfaces.now.list.now (declared_in declarations.now.stmts.now) self.old self.new (Stmt.Define var.now values.now span)) }
+        ensures { OnOk result ((span : Span) → IsStmtRead interfaces.now.list.now (declared_by declarations.now.source) self.old self.new (Stmt.Define var.now values.now span)) }
     {
         let scope = Scope {
             variables: &self.variables,
@@ -174,7 +176,7 @@ impl<'a> State<'a> {
         span: Span,
     ) -> Result<(), NoMemory>
         requires { AreSound self.old.variables }
-        ensures { OnOk result (IsStmtRead interfaces.now.list.now (declared_in declarations.now.stmts.now) self.old self.new
+        ensures { OnOk result (IsStmtRead interfaces.now.list.now (declared_by declarations.now.source) self.old self.new
             (Stmt.Map line.now.iface.now line.now.kind.now line.now.proto.now line.now.left.now line.now.arrow line.now.right.now line.now.pass.now span)) }
     {
         let scope = Scope {
@@ -200,7 +202,7 @@ impl<'a> State<'a> {
         items: &'a [Item],
     ) -> Result<(), NoMemory>
         requires { AreSound self.old.variables }
-        ensures { OnOk result ((span : Span) → IsStmtRead interfaces.now.list.now (declared_in declarations.now.stmts.now) self.old self.new (Stmt.Group head.now items.now span)) }
+        ensures { OnOk result ((span : Span) → IsStmtRead interfaces.now.list.now (declared_by declarations.now.source) self.old self.new (Stmt.Group head.now items.now span)) }
     {
         let scope = Scope {
             variables: &self.variables,

@@ -177,16 +177,16 @@ impl<'a> Scope<'_, 'a, '_> {
         }
     }
 
-    // The first fault of a rule, but for the number of its elements.
+    /// The first fault of a rule, but for the number of its elements.
     #[tactic(auto, using(crate::proofs::FaultLemmas::both_faults))]
-    fn rule_fault(&self, rule: &'a RuleTree) -> Option<ConfFault>
+    pub(crate) fn rule_fault(&self, rule: &'a RuleTree) -> Option<ConfFault>
         requires { AreSound self.now.variables.now }
         ensures { result ≡ first_fault (rule_faults (ifaces_of_scope self.now) (env_of_scope self.now) rule.now) }
     {
         earlier(self.on_fault(&rule.on), self.filter_fault(&rule.filter))
     }
 
-    fn rule_of(&self, alloc: Global, tree: &'a RuleTree) -> Result<Rule, NoMemory>
+    pub(crate) fn rule_of(&self, alloc: Global, tree: &'a RuleTree) -> Result<Rule, NoMemory>
         requires { AreSound self.now.variables.now }
         ensures { IfOk result (λ rule. rule ≡ rule_of_tree (ifaces_of_scope self.now) (env_of_scope self.now) (declared_of_scope self.now) tree.now) }
     {

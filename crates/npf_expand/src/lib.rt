@@ -3,6 +3,7 @@
 //
 // Values and faults are two total functions of the tree (specs/Elaborates). The contract of `expand`: a tree without a fault is
 // its model, and any other is refused with its first fault in the text, of two at one place with that of the smaller number.
+// `expand_rule` reads one rule so, beside a model that is there.
 #![tactic(auto)]
 
 mod address;
@@ -13,6 +14,7 @@ mod filter;
 mod group;
 mod iface;
 mod iface_file;
+mod lone_rule;
 mod map;
 mod met;
 mod name;
@@ -22,6 +24,7 @@ mod role;
 mod rule;
 mod scope;
 mod service;
+mod source;
 mod summary;
 mod table;
 mod text;
@@ -30,3 +33,4 @@ mod variable;
 
 pub use elaborate::expand;
 pub use iface_file::read_ifaces;
+pub use lone_rule::expand_rule;

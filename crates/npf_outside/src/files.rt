@@ -37,7 +37,7 @@ pub trait Files {
             (moment self.old).read_faults_of other ≤ (moment self.new).read_faults_of other }
         ensures writes { (moment self.new).write_faults ≡ (moment self.old).write_faults }
         ensures taken { (moment self.old).taken ≤ (moment self.new).taken }
-        ensures same { SameFiles (moment self.old).contents (moment self.new).contents };
+        ensures same { (moment self.new).contents ≡ (moment self.old).contents };
 
     /// Replaces the file's contents. After `Failed` they are unknown, and all other files are as before; `Long` never comes.
     fn write(&mut self, name: &str, bytes: &[u8]) -> Result<(), FileFault>

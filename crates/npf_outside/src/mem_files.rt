@@ -98,7 +98,7 @@ impl Files for MemFiles {
             → times (unread_names self.old) other ≤ times (unread_names self.new) other }
         ensures writes { self.new.write_faults ≡ self.old.write_faults }
         ensures taken { self.old.taken ≤ self.new.taken }
-        ensures same { SameFiles (Some (tree_of self.old)) (Some (tree_of self.new)) }
+        ensures same { self.new.files ≡ self.old.files }
         ensures noted { IsErrOf result FileFault.Failed
             → unread_names self.new ≡ unread_names self.old ++ name.now ∷ [] }
         ensures unnoted { (IsErrOf result FileFault.Failed → ⊥) → unread_names self.new ≡ unread_names self.old }

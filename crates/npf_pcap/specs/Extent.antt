@@ -3,6 +3,7 @@ use Rattle.std.specs.Prelude.{ℕ, ◌+◌, ◌≤◌, List, length, take, drop,
 use Rattle.npf_types.specs.declared.limits.TheConstants.{MAX_PACKET_BYTES}
 use Rattle.npf_pcap.specs.declared.capture.Record.{Record}
 use Rattle.npf_pcap.specs.declared.extent.Extent.{Extent}
+use Rattle.npf_pcap.specs.Spelling.{IsCaptureTime}
 
 -- the bytes from there on, as many as it says
 abbrev pub bytes_at : List ℕ → Extent → List ℕ
@@ -22,3 +23,7 @@ EndsWithin size extent = extent.at + extent.len ≤ size
 -- it is no longer than a packet may be
 abbrev pub IsShort : Extent → Type 0
 IsShort extent = extent.len ≤ MAX_PACKET_BYTES
+
+-- a capture can hold its time
+abbrev pub IsTimely : Extent → Type 0
+IsTimely extent = IsCaptureTime extent.time

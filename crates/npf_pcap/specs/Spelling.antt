@@ -12,6 +12,10 @@ header_bytes =
     little_bytes 4 0xa1b23c4d ++ little_bytes 2 2 ++ little_bytes 2 4 ++ little_bytes 4 0 ++ little_bytes 4 0
     ++ little_bytes 4 MAX_PACKET_BYTES ++ little_bytes 4 101
 
+-- a packet with this time and these bytes
+abbrev pub record_with : ℕ → List ℕ → Record
+record_with time bytes = record { time = time; bytes = bytes }
+
 -- seconds and nanoseconds, twice the number of the bytes, and the bytes
 abbrev pub record_bytes : Record → List ℕ
 record_bytes r =
@@ -22,7 +26,11 @@ record_bytes r =
 abbrev pub capture_bytes : List Record → List ℕ
 capture_bytes records = header_bytes ++ flat_map record_bytes records
 
+-- the seconds of a time in nanoseconds have 32 bits
+abbrev pub IsCaptureTime : ℕ → Type 0
+IsCaptureTime time = time < 4294967296 * 10 ^ 9
+
 -- what a capture can hold: no more bytes than a packet may have, and a time whose seconds have 32 bits
 pub record FitsCapture (r : Record) : Type 0 where
   pub short : length r.bytes ≤ MAX_PACKET_BYTES
-  pub time : r.time < 4294967296 * 10 ^ 9
+  pub time : IsCaptureTime r.time

@@ -3,10 +3,11 @@ ghost use Rattle.npf_types.specs.declared.link.Link.{Link as LinkType};
 ghost use Rattle.npf_pcap.specs.declared.capture.Record.{Record as RecordType};
 ghost use Rattle.npf_pcap.specs.declared.fault.CaptureFault.{CaptureFault as FaultType};
 ghost use Rattle.npf_pcap.specs.Capture.{IsCapture, HasCaptureFault, HasHeader, HasVersion};
-ghost use Rattle.npf_pcap.specs.Extent.{record_at, records_at, EndsWithin, IsShort};
+ghost use Rattle.npf_pcap.specs.Extent.{record_at, records_at, EndsWithin, IsShort, IsTimely};
 ghost use Rattle.npf_pcap.specs.Format.{link_number};
 ghost use Rattle.npf_pcap.specs.Record.{AreRecords, Spells, record_len, time_of as time_said, HasRecord};
 ghost use Rattle.npf_pcap.specs.Reading.{HasRecordFault, FailsRecord};
+ghost use Rattle.npf_pcap.specs.Spelling.{IsCaptureTime};
 
 use crate::capture::{Capture, Record};
 use crate::extent::{Extent, Extents};
@@ -62,6 +63,7 @@ pub fn read_extents(alloc: Global, bytes: &[u8]) -> Result<Extents, CaptureFault
     ensures read { IfOk result (λ c. IsCapture bytes.now c.link (records_at bytes.now c.extents)) }
     ensures within { IfOk result (λ c. All (EndsWithin (length bytes.now)) c.extents) }
     ensures short { IfOk result (λ c. All IsShort c.extents) }
+    ensures timely { IfOk result (λ c. All IsTimely c.extents) }
     ensures fault { IfErr result (λ e. HasCaptureFault bytes.now e) }
 {
     let (format, link) = read_header(bytes)?;
@@ -113,6 +115,7 @@ fn extents_of(alloc: Global, format: Format, bytes: &[u8]) -> Result<List<Extent
     ensures read { IfOk result (λ extents. AreRecords format (drop 24 bytes.now) (records_at bytes.now extents)) }
     ensures within { IfOk result (λ extents. All (EndsWithin (length bytes.now)) extents) }
     ensures short { IfOk result (λ extents. All IsShort extents) }
+    ensures timely { IfOk result (λ extents. All IsTimely extents) }
     ensures fault { IfErr result (λ e. HasRecordFault format (drop 24 bytes.now) e) }
 {
     let mut extents = Vec::new(alloc);
@@ -135,6 +138,7 @@ fn extent_at(format: Format, bytes: &[u8], at: usize, number: u32) -> Result<Ext
     ensures behind { IfOk result (λ extent. extent.at + extent.len ≡ at + record_len format (drop at bytes.now)) }
     ensures within { IfOk result (λ extent. EndsWithin (length bytes.now) extent) }
     ensures short { IfOk result IsShort }
+    ensures timely { IfOk result IsTimely }
     ensures fault { IfErr result (λ e. FailsRecord format number (drop at bytes.now) e) }
 {
     let record = bytes.split_at(at).1;
@@ -175,7 +179,8 @@ fn records_at(alloc: Global, bytes: &[u8], extents: &[Extent]) -> Result<List<Re
 // The time of the first record.
 fn time_of(format: Format, bytes: &[u8]) -> u64
     requires { HasRecord format bytes.now }
-    ensures { result ≡ time_said format bytes.now }
+    ensures said { result ≡ time_said format bytes.now }
+    ensures timely { IsCaptureTime result }
 {
     let seconds = u64::from(format.order.number32(bytes, 0));
     let fraction = format.order.number32(bytes, 4);

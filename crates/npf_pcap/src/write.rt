@@ -1,7 +1,7 @@
 ghost use Rattle.std.specs.Prelude.{◌≡◌, ◌++◌, IfOk, OnOk, All};
 ghost use Rattle.byteorder.specs.Endian.{little_bytes};
 ghost use Rattle.npf_pcap.specs.Capture.{IsCapture};
-ghost use Rattle.npf_pcap.specs.Spelling.{FitsCapture, capture_bytes, header_bytes, record_bytes};
+ghost use Rattle.npf_pcap.specs.Spelling.{FitsCapture, capture_bytes, header_bytes, record_bytes, record_with};
 
 use crate::capture::Record;
 use npf_types::limits::MAX_PACKET_BYTES;
@@ -17,15 +17,16 @@ pub fn write_capture(alloc: Global, records: &[Record]) -> Result<Vec<u8>, NoMem
     ensures reads_again { IfOk result (λ v. IsCapture v.items Link.Raw records.now) }
 {
     let mut out = Vec::new(alloc);
-    write_header(&mut out)?;
+    append_header(&mut out)?;
     for record in records {
-        write_record(&mut out, record)?;
+        append_record(&mut out, record.time, record.bytes.as_slice())?;
     }
     Ok(out)
 }
 
-// The magic number, the version, the time zone, the accuracy, the snap length and the link type.
-fn write_header(out: &mut Vec<u8>) -> Result<(), NoMemory>
+/// Appends the header that `write_capture` writes: the magic number, the version, the time zone, the accuracy, the snap length
+/// and the link type. Where memory is wanting, a part of it may be appended.
+pub fn append_header(out: &mut Vec<u8>) -> Result<(), NoMemory>
     ensures { OnOk result (out.new.items ≡ out.old.items ++ header_bytes) }
 {
     write_u32(out, 0xa1b2_3c4d)?;
@@ -36,16 +37,17 @@ fn write_header(out: &mut Vec<u8>) -> Result<(), NoMemory>
     write_u32(out, 101)
 }
 
-fn write_record(out: &mut Vec<u8>, packet: &Record) -> Result<(), NoMemory>
-    requires { FitsCapture packet.now }
-    ensures { OnOk result (out.new.items ≡ out.old.items ++ record_bytes packet.now) }
+/// Appends the record of a packet with this time, in nanoseconds since 1970, and these bytes, as `write_capture` writes it and
+/// under what it requires. Where memory is wanting, a part of it may be appended.
+pub fn append_record(out: &mut Vec<u8>, time: u64, bytes: &[u8]) -> Result<(), NoMemory>
+    requires { FitsCapture (record_with time bytes.now) }
+    ensures { OnOk result (out.new.items ≡ out.old.items ++ record_bytes (record_with time bytes.now)) }
 {
-    let stored = packet.bytes.as_slice();
-    write_u32(out, (packet.time / 1_000_000_000) as u32)?;
-    write_u32(out, (packet.time % 1_000_000_000) as u32)?;
-    write_u32(out, stored.len() as u32)?;
-    write_u32(out, stored.len() as u32)?;
-    out.extend_from_slice(stored)?;
+    write_u32(out, (time / 1_000_000_000) as u32)?;
+    write_u32(out, (time % 1_000_000_000) as u32)?;
+    write_u32(out, bytes.len() as u32)?;
+    write_u32(out, bytes.len() as u32)?;
+    out.extend_from_slice(bytes)?;
     Ok(())
 }
 

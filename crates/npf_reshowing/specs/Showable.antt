@@ -1,6 +1,5 @@
 -- Models whose canonical text has the tokens of its pieces. Their numbers fit their types, what they name is there, names of tables are
--- words, what stands in quotes has no quote and no line feed, and flags have a letter. Models of accepted texts are meant to be such, which
--- is not proved.
+-- words, what stands in quotes has no quote and no line feed, and flags have a letter. Models of accepted texts are such: npf_shownlaw.
 use Rattle.std.specs.Prelude.{◌≡◌, ◌<◌, ◌^◌, ℕ, ⊤, true, IfSome, Ok, List, [], ◌∷◌, ◌++◌, length, map, slice_get}
 use Rattle.std.specs.List.{All, list_all}
 use Rattle.npf_types.specs.declared.address.Addr.{Addr}

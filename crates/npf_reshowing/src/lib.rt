@@ -2,8 +2,8 @@
 //
 // `npf_show` spells a model by pieces. Here stands that the lexer finds just these pieces in the text: where a word, a number, an address
 // or a sign is told from what stands behind it, its token is its own (specs/Tokens), and in the text of a model whose names and numbers
-// can be written each piece is told (specs/Showable); and what is written for a value means that value (specs/Values). That the whole text
-// means the model again isn't proved.
+// can be written each piece is told (specs/Showable); and what is written for a value means that value (specs/Values). What the
+// whole text means stands in `npf_showlaw`.
 #![tactic(auto)]
 
 ghost use Rattle.npf_reshowing.specs.Showable.{ShowsTokens};

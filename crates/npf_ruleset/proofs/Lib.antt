@@ -1,5 +1,5 @@
 mod BindingLemmas
-mod BuildLemmas
+mod CompileLemmas
 mod ConfigLemmas
 mod DescribesLemmas
 mod LayoutLemmas
@@ -8,6 +8,6 @@ mod NumberLemmas
 mod NumberedLemmas
 pub mod PairLemmas
 mod PlaceLemmas
-mod TableLemmas
 mod RowLemmas
+mod TableLemmas
 mod WalkLemmas

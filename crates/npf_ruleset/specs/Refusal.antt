@@ -50,8 +50,11 @@ pub record IsTooMuch (rules : List PlacedRule) (count : ℕ) : Type 0 where
   pub counted : count ≡ instructions programs
   pub over : MAX_INSTRUCTIONS < count
 
--- why a model is refused; want of memory says nothing of it
+-- why a model is refused for its rules; want of memory says nothing of it
+abbrev pub RefusesAllRules : List PlacedRule → BuildFault → Type 0
+RefusesAllRules rules (TooLong place weight) = IsFirstHeavy rules place weight
+RefusesAllRules rules (TooMuch count) = IsTooMuch rules count
+RefusesAllRules rules NoMemory = Unit {0}
+
 abbrev pub RefusesModel : Model → BuildFault → Type 0
-RefusesModel model (TooLong place weight) = IsFirstHeavy (all_rules model.groups) place weight
-RefusesModel model (TooMuch count) = IsTooMuch (all_rules model.groups) count
-RefusesModel model NoMemory = Unit {0}
+RefusesModel model fault = RefusesAllRules (all_rules model.groups) fault

@@ -71,7 +71,8 @@ impl Config {
         &self.tables
     }
 
-    pub(crate) fn rules(&self) -> &[FlatRule]
+    /// The flat rules, in the order of inspection.
+    pub fn rules(&self) -> &[FlatRule]
         ensures { result.now ≡ self.now.rules }
     {
         self.rules.as_slice()

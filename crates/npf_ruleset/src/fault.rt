@@ -1,5 +1,6 @@
 ghost use Rattle.std.specs.Prelude.{◌≡◌};
 
+use npf_types::NoMemory;
 use std::alloc::{AllocError, AllocFailed};
 use thiserror::Error;
 
@@ -16,6 +17,16 @@ pub enum BuildFault {
     /// Memory ran out.
     #[error("out of memory")]
     NoMemory,
+}
+
+impl From<NoMemory> for BuildFault {
+    ghost use Rattle.npf_ruleset.specs.declared.fault.BuildFault.{BuildFault};
+
+    ghost from_gives = { λ _ fault. fault ≡ BuildFault.NoMemory };
+
+    fn from(_error: NoMemory) -> BuildFault {
+        BuildFault::NoMemory
+    }
 }
 
 impl From<AllocError> for BuildFault {

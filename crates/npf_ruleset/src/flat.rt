@@ -1,4 +1,6 @@
 // What is laid out flat.
+ghost use Rattle.std.specs.Prelude.{◌≡◌};
+
 use crate::binding::Binding;
 use crate::place::Place;
 use crate::row::Row;
@@ -7,12 +9,21 @@ use npf_bpf::Program;
 /// A rule: what it is bound to, whether it is `final`, what each packet meets that it describes, its
 /// program, and where it stands in the model.
 #[derive(Drop)]
-pub(crate) struct FlatRule {
+pub struct FlatRule {
     pub(crate) binding: Binding,
     pub(crate) last: bool,
     pub(crate) row: Row,
     pub(crate) program: Program,
     pub(crate) place: Place,
+}
+
+impl FlatRule {
+    /// The program of the rule.
+    pub fn program(&self) -> &Program
+        ensures { result.now ≡ self.now.program }
+    {
+        &self.program
+    }
 }
 
 /// A group: what it is bound to, and how many rules it has, with those of its rulesets.

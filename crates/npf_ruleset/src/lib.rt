@@ -19,7 +19,9 @@
 mod addr_hull;
 mod binding;
 mod building;
+mod compiling;
 mod config;
+mod copying;
 mod describes;
 mod fault;
 mod flat;
@@ -34,8 +36,10 @@ mod row;
 mod tables;
 mod walking;
 
-pub use building::build;
+pub use building::{assemble, build, instructions};
 pub use config::Config;
+pub use copying::copy_program;
 pub use fault::BuildFault;
+pub use flat::FlatRule;
 pub use map_choice::map_for;
 pub use walking::walk;

@@ -1,11 +1,15 @@
-// npfctl: what a configuration of npf.conf(5) does to the packets of a capture.
+// npfctl: what a configuration of npf.conf(5) does to the packets of captures.
 //
-// `main` hands the words of the command line, the files of the current folder and both standard streams to the top
-// call of `npf_ctl`, whose contract says the rest.
+// `main` makes the table of connections, and hands the words of the command line, the files of the current folder and both standard
+// streams to the top call of `npf_ctl`, whose contract says the rest.
 #![tactic(auto)]
 
 use npf_ctl::npfctl_top;
+use npf_flow::FlowLaw;
+use npf_oneturn::OneTurn;
 use npf_outside::{FolderFiles, StderrSink, StdoutSink};
+use npf_runner::NoGate;
+use npf_types::limits::MAX_CONNECTIONS;
 use std::alloc::AllocError;
 use std::env;
 use std::io::ErrorKind;
@@ -15,10 +19,24 @@ fn main(rt: HostRuntime) -> ExitCode {
     let Ok(words) = words(&rt) else {
         return ExitCode::FAILURE;
     };
+    let alloc = rt.alloc();
+    let Ok((conns, mut pass)) = OneTurn::<FlowLaw>::new(alloc, MAX_CONNECTIONS as u32) else {
+        return ExitCode::FAILURE;
+    };
     let mut files = FolderFiles::new(&rt);
     let mut out = StdoutSink::new(&rt);
     let mut err = StderrSink::new(&rt);
-    ExitCode::from(npfctl_top(rt.alloc(), words.as_slice(), &mut files, &mut out, &mut err))
+    ExitCode::from(npfctl_top(
+        &rt,
+        alloc,
+        words.as_slice(),
+        &mut files,
+        &mut out,
+        &mut err,
+        &conns,
+        &mut pass,
+        &NoGate,
+    ))
 }
 
 /// The words behind the program's name; none where one of them isn't UTF-8, which is no command line.

@@ -73,7 +73,7 @@ procedure \"none\" {
 }
 ";
 
-const STATEMENTS: [(&str, &str); 13] = [
+const STATEMENTS: [(&str, &str); 14] = [
     ("table <t> type const", "table <t> type const\n"),
     (
         "map wm0 dynamic 10.0.0.0/8 -> inet4(wm0)",
@@ -112,6 +112,10 @@ const STATEMENTS: [(&str, &str); 13] = [
     (
         "group \"g\" in on wm1 { pass all; block all }",
         "group \"g\" in on \"wm1\" {\n  pass all\n  block all\n}\n",
+    ),
+    (
+        "group \"g\" { ruleset \"r\"; ruleset \"blocklist\" in on wm0 }",
+        "group \"g\" {\n  ruleset \"r\"\n  ruleset \"blocklist\" in on \"wm0\"\n}\n",
     ),
     (
         "$unused = { 1, <none>, \"x\" }; table <none> type lpm",

@@ -4,6 +4,7 @@ use Rattle.npf_ruleset.specs.Tables.{entries}
 use Rattle.npf_config.specs.Tables.{HasTextName}
 use Rattle.npf_config.proofs.BuildableLemmas.{buildable, places, text_names}
 use Rattle.npf_config.proofs.LoadLemmas.{rules_stop, tables_stop, text_stops}
+use Rattle.npf_config.proofs.LoadedLemmas.{all_first_ids, all_loaded}
 use Rattle.npf_config.proofs.loading.load.Goals as goal
 
 pub returns-in_err-tree-clause-refuses : goal.returns-in_err-tree-clause-refuses
@@ -36,3 +37,14 @@ returns-clause-refuses g c =
     rules_stop c.args.ifaces.now.list c.args.text.now (g.F.Files.moment c.args.files.now) (g.F.Files.moment c.read_tables.new.files)
     c.in_ok-tree.tree c.in_ok-tree.model c.in_ok-tree.ensures.ok c.as_slice.result.now c.as_slice.ensures (entries c.in_ok-tables.tables.items) c.in_ok-tables.ensures.ok
     c.in_ok-tables.ensures.faultless c.compile_rules.result c.compile_rules.ensures.refuses
+
+pub returns-clause-loaded : goal.returns-clause-loaded
+returns-clause-loaded g c =
+    all_loaded c.args.ifaces.now.list c.args.text.now ((g.F.Files.moment c.args.files.now).contents) c.in_ok-tree.tree c.in_ok-tree.model c.in_ok-tree.ensures.ok
+    c.as_slice.result.now c.as_slice.ensures c.in_ok-tables.tables c.in_ok-tables.ensures.ok c.in_ok-tables.ensures.kinds
+    c.compile_rules.result c.compile_rules.ensures.model c.compile_rules.ensures.tables c.compile_rules.ensures.limits
+
+pub returns-clause-ids : goal.returns-clause-ids
+returns-clause-ids g c =
+    all_first_ids c.args.ifaces.now.list c.args.text.now ((g.F.Files.moment c.args.files.now).contents) c.in_ok-tree.tree c.in_ok-tree.model c.in_ok-tree.ensures.ok
+    c.as_slice.result.now c.as_slice.ensures c.in_ok-tables.tables c.in_ok-tables.ensures.ok c.in_ok-tables.ensures.kinds c.compile_rules.result c.compile_rules.ensures.model

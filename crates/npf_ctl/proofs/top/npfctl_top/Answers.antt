@@ -1,51 +1,88 @@
-use Rattle.npf_ctl.specs.Run.{outside}
-use Rattle.npf_ctl.proofs.Clauses.{writes, refuses, refused_conf, refused_capture, refused_length, completes}
+use Rattle.npf_words.specs.CommandLine.{word_texts}
+use Rattle.npf_ctl.specs.Running.{moment}
+use Rattle.npf_ctl.proofs.AnswerLemmas.{refuses_usage, was_done, was_quiet, was_refused}
+use Rattle.npf_ctl.proofs.LawLemmas.{does_all, refuses_fault}
 use Rattle.npf_ctl.proofs.top.npfctl_top.Goals as goal
 
-pub returns-clause-written : goal.returns-clause-written
-returns-clause-written g c =
-    let before = outside (g.F.Files.moment c.args.files.now) (g.O.Sink.moment c.args.out.now) in
-    let after = outside (g.F.Files.moment c.answer.new.files) (g.O.Sink.moment c.answer.new.out) in
+pub returns-clause-done : goal.returns-clause-done
+returns-clause-done g c =
+    let before = moment (g.F.Files.moment c.args.files.now) (g.O.Sink.moment c.args.out.now) (g.C.Connections.view c.args.pass.now) in
+    let after = moment (g.F.Files.moment c.answer.new.files) (g.O.Sink.moment c.answer.new.out) (g.C.Connections.view c.answer.new.pass) in
     let old = g.E.Sink.moment c.args.err.now in
     let new = g.E.Sink.moment c.answer.new.err in
-    writes c.args.words.now before after old new c.answer.result c.answer.ensures.answered
+    let texts = word_texts c.args.words.now in
+    λ zero. (was_done texts before after old new c.answer.result c.answer.ensures.answered zero).0
 
-pub returns-clause-capture : goal.returns-clause-capture
-returns-clause-capture g c =
-    let before = outside (g.F.Files.moment c.args.files.now) (g.O.Sink.moment c.args.out.now) in
-    let after = outside (g.F.Files.moment c.answer.new.files) (g.O.Sink.moment c.answer.new.out) in
+pub returns-clause-flushed : goal.returns-clause-flushed
+returns-clause-flushed g c =
+    let before = moment (g.F.Files.moment c.args.files.now) (g.O.Sink.moment c.args.out.now) (g.C.Connections.view c.args.pass.now) in
+    let after = moment (g.F.Files.moment c.answer.new.files) (g.O.Sink.moment c.answer.new.out) (g.C.Connections.view c.answer.new.pass) in
     let old = g.E.Sink.moment c.args.err.now in
     let new = g.E.Sink.moment c.answer.new.err in
-    refuses c.args.words.now before after old new c.answer.result c.answer.ensures.answered
+    let texts = word_texts c.args.words.now in
+    λ zero. (was_done texts before after old new c.answer.result c.answer.ensures.answered zero).1
 
-pub returns-clause-refuses_conf : goal.returns-clause-refuses_conf
-returns-clause-refuses_conf g c =
-    let before = outside (g.F.Files.moment c.args.files.now) (g.O.Sink.moment c.args.out.now) in
-    let after = outside (g.F.Files.moment c.answer.new.files) (g.O.Sink.moment c.answer.new.out) in
+pub returns-clause-silent : goal.returns-clause-silent
+returns-clause-silent g c =
+    let before = moment (g.F.Files.moment c.args.files.now) (g.O.Sink.moment c.args.out.now) (g.C.Connections.view c.args.pass.now) in
+    let after = moment (g.F.Files.moment c.answer.new.files) (g.O.Sink.moment c.answer.new.out) (g.C.Connections.view c.answer.new.pass) in
     let old = g.E.Sink.moment c.args.err.now in
     let new = g.E.Sink.moment c.answer.new.err in
-    refused_conf c.args.words.now before after old new c.answer.result c.answer.ensures.answered
+    let texts = word_texts c.args.words.now in
+    λ zero. (was_done texts before after old new c.answer.result c.answer.ensures.answered zero).2
 
-pub returns-clause-refuses_capture : goal.returns-clause-refuses_capture
-returns-clause-refuses_capture g c =
-    let before = outside (g.F.Files.moment c.args.files.now) (g.O.Sink.moment c.args.out.now) in
-    let after = outside (g.F.Files.moment c.answer.new.files) (g.O.Sink.moment c.answer.new.out) in
+pub returns-clause-faulted : goal.returns-clause-faulted
+returns-clause-faulted g c =
+    let before = moment (g.F.Files.moment c.args.files.now) (g.O.Sink.moment c.args.out.now) (g.C.Connections.view c.args.pass.now) in
+    let after = moment (g.F.Files.moment c.answer.new.files) (g.O.Sink.moment c.answer.new.out) (g.C.Connections.view c.answer.new.pass) in
     let old = g.E.Sink.moment c.args.err.now in
     let new = g.E.Sink.moment c.answer.new.err in
-    refused_capture c.args.words.now before after old new c.answer.result c.answer.ensures.answered
+    let texts = word_texts c.args.words.now in
+    was_refused texts before after old new c.answer.result c.answer.ensures.answered
 
-pub returns-clause-refuses_length : goal.returns-clause-refuses_length
-returns-clause-refuses_length g c =
-    let before = outside (g.F.Files.moment c.args.files.now) (g.O.Sink.moment c.args.out.now) in
-    let after = outside (g.F.Files.moment c.answer.new.files) (g.O.Sink.moment c.answer.new.out) in
+pub returns-clause-refuses_words : goal.returns-clause-refuses_words
+returns-clause-refuses_words g c =
+    let before = moment (g.F.Files.moment c.args.files.now) (g.O.Sink.moment c.args.out.now) (g.C.Connections.view c.args.pass.now) in
+    let after = moment (g.F.Files.moment c.answer.new.files) (g.O.Sink.moment c.answer.new.out) (g.C.Connections.view c.answer.new.pass) in
     let old = g.E.Sink.moment c.args.err.now in
     let new = g.E.Sink.moment c.answer.new.err in
-    refused_length c.args.words.now before after old new c.answer.result c.answer.ensures.answered
+    let texts = word_texts c.args.words.now in
+    λ not. refuses_usage texts before after old new c.answer.result not c.answer.ensures.answered
+
+pub returns-clause-refuses : goal.returns-clause-refuses
+returns-clause-refuses g c =
+    let before = moment (g.F.Files.moment c.args.files.now) (g.O.Sink.moment c.args.out.now) (g.C.Connections.view c.args.pass.now) in
+    let after = moment (g.F.Files.moment c.answer.new.files) (g.O.Sink.moment c.answer.new.out) (g.C.Connections.view c.answer.new.pass) in
+    let old = g.E.Sink.moment c.args.err.now in
+    let new = g.E.Sink.moment c.answer.new.err in
+    let texts = word_texts c.args.words.now in
+    λ tree fault told must well.
+    refuses_fault texts before after tree told well c.one_command.ensures c.contents_decide-2.ensures c.contents_decide.ensures.loads old new c.answer.result fault must c.answer.ensures.answered
 
 pub returns-clause-complete : goal.returns-clause-complete
 returns-clause-complete g c =
-    let before = outside (g.F.Files.moment c.args.files.now) (g.O.Sink.moment c.args.out.now) in
-    let after = outside (g.F.Files.moment c.answer.new.files) (g.O.Sink.moment c.answer.new.out) in
+    let before = moment (g.F.Files.moment c.args.files.now) (g.O.Sink.moment c.args.out.now) (g.C.Connections.view c.args.pass.now) in
+    let after = moment (g.F.Files.moment c.answer.new.files) (g.O.Sink.moment c.answer.new.out) (g.C.Connections.view c.answer.new.pass) in
     let old = g.E.Sink.moment c.args.err.now in
     let new = g.E.Sink.moment c.answer.new.err in
-    completes c.args.words.now before after old new c.answer.result c.answer.ensures.answered
+    let texts = word_texts c.args.words.now in
+    λ tree told can well puts writes.
+    does_all texts before after tree told well c.one_command.ensures c.contents_decide-2.ensures c.contents_decide.ensures.loads old new c.answer.result can puts writes c.answer.ensures.answered
+
+pub returns-clause-quiet : goal.returns-clause-quiet
+returns-clause-quiet g c =
+    let before = moment (g.F.Files.moment c.args.files.now) (g.O.Sink.moment c.args.out.now) (g.C.Connections.view c.args.pass.now) in
+    let after = moment (g.F.Files.moment c.answer.new.files) (g.O.Sink.moment c.answer.new.out) (g.C.Connections.view c.answer.new.pass) in
+    let old = g.E.Sink.moment c.args.err.now in
+    let new = g.E.Sink.moment c.answer.new.err in
+    let texts = word_texts c.args.words.now in
+    λ quiet. (was_quiet texts before after old new c.answer.result c.answer.ensures.answered quiet).put
+
+pub returns-clause-same : goal.returns-clause-same
+returns-clause-same g c =
+    let before = moment (g.F.Files.moment c.args.files.now) (g.O.Sink.moment c.args.out.now) (g.C.Connections.view c.args.pass.now) in
+    let after = moment (g.F.Files.moment c.answer.new.files) (g.O.Sink.moment c.answer.new.out) (g.C.Connections.view c.answer.new.pass) in
+    let old = g.E.Sink.moment c.args.err.now in
+    let new = g.E.Sink.moment c.answer.new.err in
+    let texts = word_texts c.args.words.now in
+    λ quiet. (was_quiet texts before after old new c.answer.result c.answer.ensures.answered quiet).files

@@ -2,10 +2,10 @@ use Rattle.std.proofs.Common.{◌≡◌, take}
 use Rattle.std.specs.List.{flat_map}
 use Rattle.npf_expand.specs.Address.{items_of}
 use Rattle.npf_expand.specs.Atom.{kept_atom}
-use Rattle.npf_expand.specs.Table.{table_names}
+use Rattle.npf_expand.specs.Source.{declared_by}
 use Rattle.npf_expand.proofs.address.items_of_each.Given as goal
 
 abbrev pub invariant-loop-atom : goal.invariant-loop-atom
 invariant-loop-atom l = record {
-  so_far : l.items.items ≡ flat_map (λ atom. items_of (table_names l.fn.declarations.stmts.now) (kept_atom atom)) (take l.atom-index l.fn.atoms);
+  so_far : l.items.items ≡ flat_map (λ atom. items_of (declared_by l.fn.declarations.source).tables (kept_atom atom)) (take l.atom-index l.fn.atoms);
 }

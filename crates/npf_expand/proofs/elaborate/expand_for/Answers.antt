@@ -1,6 +1,7 @@
 use Rattle.std.proofs.Common.{refl, sym, ap, ◌∙◌}
 use Rattle.npf_faults.proofs.FirstLemmas.{is_first_fault}
 use Rattle.npf_expand.specs.Elaborates.{tree_faults}
+use Rattle.npf_expand.specs.Source.{declared_by}
 use Rattle.npf_expand.proofs.ReadLemmas.{state_model, tree_elaborates, tree_first}
 use Rattle.npf_expand.proofs.elaborate.expand_for.Goals as goal
 
@@ -10,7 +11,7 @@ returns-in-Some-clause-refused c =
     let ifaces = c.args.interfaces.now.list.now in
     let state = c.in_ok-state.state in
     is_first_fault (tree_faults tree ifaces) c.in-Some.fault
-    (sym (tree_first tree ifaces ifaces c.in_ok-declarations.declarations.stmts.now state refl (c.in_ok-declarations.ensures ∙ c.as_slice-stmts.ensures) c.in_ok-state.ensures.first)
+    (sym (tree_first tree ifaces ifaces (declared_by c.in_ok-declarations.declarations.source) c.as_slice-stmts.result.now state refl c.in_ok-declarations.ensures c.as_slice-stmts.ensures c.in_ok-state.ensures.first)
     ∙ c.in-Some.is)
 
 pub returns-clause-ok : goal.returns-clause-ok
@@ -19,6 +20,6 @@ returns-clause-ok c =
     let ifaces = c.args.interfaces.now.list.now in
     let state = c.in_ok-state.state in
     let none = c.in_default.is in
-    tree_elaborates tree ifaces ifaces c.in_ok-declarations.declarations.stmts.now state refl (c.in_ok-declarations.ensures ∙ c.as_slice-stmts.ensures)
+    tree_elaborates tree ifaces ifaces (declared_by c.in_ok-declarations.declarations.source) c.as_slice-stmts.result.now state refl c.in_ok-declarations.ensures c.as_slice-stmts.ensures
     c.in_ok-into_model.field-0 none c.in_ok-state.ensures.first (c.in_ok-state.ensures.adding none)
     (c.in_ok-into_model.ensures ∙ ap (λ stmts. state_model state.groups.items state.defaults.items state.maps.items stmts) c.as_slice-stmts.ensures)

@@ -1,8 +1,10 @@
 use Rattle.std.proofs.Common.{◌++◌, ◌∷◌, [], subst, take, arith}
 use Rattle.std.proofs.lemmas.List.{length_push}
+use Rattle.npf_types.specs.Name.{name_bytes}
+use Rattle.npf_model.specs.declared.iface.Iface.{Iface}
 use Rattle.npf_expand.specs.Parted.{iface_texts}
 use Rattle.npf_expand.specs.Place.{ArePlaces}
-use Rattle.npf_expand.proofs.IfaceLemmas.{names_more}
+use Rattle.npf_expand.proofs.PlaceLemmas.{names_more}
 use Rattle.npf_expand.proofs.iface.places_of.Goals as goal
 
 pub loop-iface-preserved : goal.loop-iface-preserved
@@ -15,5 +17,5 @@ loop-iface-preserved c =
     record {
       counted = omega (arith, pushed.counted, length_push front text, was.named.counted, was.counted);
       named = subst (ArePlaces c.add.new.self)
-          (names_more c.args.list.now i c.iface-item.result _ text c.loop-iface-test.true c.iface-item.is c.as_bytes.ensures.value) pushed;
+          (names_more (λ (iface : Iface). name_bytes iface.name) c.args.list.now i c.iface-item.result _ text c.loop-iface-test.true c.iface-item.is c.as_bytes.ensures.value) pushed;
     }

@@ -16,6 +16,6 @@ returns-clause-read c =
     } in
     record {
       whole = subst (HasRecord format) rest whole;
-      time = c.time_of.ensures ∙ ap (time_of format) rest;
+      time = c.time_of.ensures.said ∙ ap (time_of format) rest;
       stored = ap (λ n. take n (drop (c.args.at + 16) bytes)) len ∙ ap (take (stored_len format (drop c.args.at bytes))) (sym (drop-drop 16 c.args.at bytes));
     }

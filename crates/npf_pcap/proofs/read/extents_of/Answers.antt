@@ -2,7 +2,7 @@ use Rattle.std.proofs.Common.{◌≡◌, ◌∙◌, ◌+◌, ◌<◌, ◌^◌, s
 use Rattle.std.proofs.lemmas.List.{drop-drop, map-append}
 use Rattle.std.proofs.lemmas.List.Elements.{All-push}
 use Rattle.std.proofs.lemmas.Result.{err_from_is_err_and}
-use Rattle.npf_pcap.specs.Extent.{record_at, records_at, EndsWithin, IsShort}
+use Rattle.npf_pcap.specs.Extent.{record_at, records_at, EndsWithin, IsShort, IsTimely}
 use Rattle.npf_pcap.specs.Record.{record_len}
 use Rattle.npf_pcap.proofs.RecordLemmas.{Progress, progress_more, progress_end, progress_fault}
 use Rattle.npf_pcap.proofs.read.extents_of.Goals as goal
@@ -33,6 +33,7 @@ loop-at-preserved c =
       inside = c.in_ok-extent.ensures.within;
       within = All-push (EndsWithin (length bytes)) extents extent c.loop-at.invariant.within c.in_ok-extent.ensures.within;
       short = All-push IsShort extents extent c.loop-at.invariant.short c.in_ok-extent.ensures.short;
+      timely = All-push IsTimely extents extent c.loop-at.invariant.timely c.in_ok-extent.ensures.timely;
     })
 
 pub returns-clause-read : goal.returns-clause-read

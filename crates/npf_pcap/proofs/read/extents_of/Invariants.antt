@@ -1,5 +1,5 @@
 use Rattle.std.proofs.Common.{◌-◌, ◌≤◌, length, drop, All}
-use Rattle.npf_pcap.specs.Extent.{records_at, EndsWithin, IsShort}
+use Rattle.npf_pcap.specs.Extent.{records_at, EndsWithin, IsShort, IsTimely}
 use Rattle.npf_pcap.proofs.RecordLemmas.{Progress}
 use Rattle.npf_pcap.proofs.read.extents_of.Given as goal
 
@@ -9,6 +9,7 @@ invariant-loop-at l = record {
   inside : l.at ≤ length l.bytes;
   within : All (EndsWithin (length l.bytes)) l.extents.items;
   short : All IsShort l.extents.items;
+  timely : All IsTimely l.extents.items;
 }
 
 abbrev pub decreases-loop-at : goal.decreases-loop-at

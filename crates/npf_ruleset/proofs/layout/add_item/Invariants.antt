@@ -1,7 +1,6 @@
-use Rattle.std.proofs.Common.{take}
-use Rattle.npf_ruleset.specs.Layout.{AddsRules}
-use Rattle.npf_ruleset.specs.Place.{standing_rules}
+use Rattle.std.proofs.Common.{◌≡◌, ◌++◌}
+use Rattle.npf_ruleset.specs.Layout.{places_from}
 use Rattle.npf_ruleset.proofs.layout.add_item.Given as goal
 
 abbrev pub invariant-loop-number : goal.invariant-loop-number
-invariant-loop-number l = AddsRules l.groups (take l.number (standing_rules l.groups l.first)) l.fn.rules.items l.rules.items
+invariant-loop-number l = l.places.items ≡ l.fn.places.items ++ places_from l.first l.number

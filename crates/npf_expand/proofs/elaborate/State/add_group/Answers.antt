@@ -1,6 +1,6 @@
 use Rattle.std.proofs.Common.{List, ◌++◌, ◌∷◌, [], append-nil, refl, sym, ap, ◌∙◌}
 use Rattle.npf_model.specs.declared.group.Group.{Group}
-use Rattle.npf_expand.specs.Elaborates.{declared_in}
+use Rattle.npf_expand.specs.Source.{declared_by}
 use Rattle.npf_expand.specs.Kept.{env_in}
 use Rattle.npf_expand.proofs.StepLemmas.{default_is, default_none, named_is, named_none}
 use Rattle.npf_expand.proofs.elaborate.State.add_group.Goals as goal
@@ -9,7 +9,7 @@ pub returns-in_ok-push-in-Named : goal.returns-in_ok-push-in-Named
 returns-in_ok-push-in-Named c =
     let state = c.args.self.now in
     let ifaces = c.args.interfaces.now.list.now in
-    let declared = declared_in c.args.declarations.now.stmts.now in
+    let declared = declared_by c.args.declarations.now.source in
     let env = env_in state.variables in
     λ span. record {
       sound = c.requires;
@@ -27,7 +27,7 @@ pub returns-in_ok-push-in-Default : goal.returns-in_ok-push-in-Default
 returns-in_ok-push-in-Default c =
     let state = c.args.self.now in
     let ifaces = c.args.interfaces.now.list.now in
-    let declared = declared_in c.args.declarations.now.stmts.now in
+    let declared = declared_by c.args.declarations.now.source in
     let env = env_in state.variables in
     λ span. record {
       sound = c.requires;

@@ -1,7 +1,8 @@
 use Rattle.std.proofs.Common.{append-nil, refl, sym, ap, ◌∙◌}
-use Rattle.npf_expand.specs.Elaborates.{declared_in, filter_elements}
+use Rattle.npf_expand.specs.Elaborates.{filter_elements}
 use Rattle.npf_expand.specs.Kept.{env_in}
 use Rattle.npf_expand.specs.Map.{map_faults}
+use Rattle.npf_expand.specs.Source.{declared_by}
 use Rattle.npf_model.specs.declared.map.Map.{Map}
 use Rattle.std.proofs.Common.{◌++◌, ◌∷◌, []}
 use Rattle.npf_expand.proofs.FaultLemmas.{some_or_none}
@@ -17,7 +18,7 @@ returns-then-is_some c =
       sound = c.requires;
       env = λ text. refl;
       met = c.meet_rule.ensures (map_faults ifaces env line.iface.now line.proto.now line.left.now line.right.now line.pass.now)
-          (filter_elements ifaces (declared_in c.args.declarations.now.stmts.now) env line.pass.now) c.map_fault.ensures c.in_ok-more.ensures;
+          (filter_elements ifaces (declared_by c.args.declarations.now.source) env line.pass.now) c.map_fault.ensures c.in_ok-more.ensures;
       adds = λ none. absurd (some_or_none c.meet_rule.new.self.first (sym c.is_some.ensures ∙ c.if-is_some.true) none);
     }
 
@@ -31,7 +32,7 @@ returns c =
       sound = c.requires;
       env = λ text. refl;
       met = c.meet_rule.ensures (map_faults ifaces env line.iface.now line.proto.now line.left.now line.right.now line.pass.now)
-          (filter_elements ifaces (declared_in c.args.declarations.now.stmts.now) env line.pass.now) c.map_fault.ensures c.in_ok-more.ensures;
+          (filter_elements ifaces (declared_by c.args.declarations.now.source) env line.pass.now) c.map_fault.ensures c.in_ok-more.ensures;
       adds = λ none. record {
         groups = sym (append-nil state.groups.items);
         defaults = sym (append-nil state.defaults.items);

@@ -1,7 +1,7 @@
 use Rattle.std.proofs.Common.{subst, sym}
 use Rattle.npf_types.specs.declared.span.Span.{Span}
 use Rattle.npf_syntax.specs.declared.stmt.Stmt.{Stmt}
-use Rattle.npf_expand.specs.Elaborates.{declared_in}
+use Rattle.npf_expand.specs.Source.{declared_by}
 use Rattle.npf_expand.specs.Step.{IsStmtRead}
 use Rattle.npf_expand.proofs.FaultLemmas.{on_ok}
 use Rattle.npf_expand.proofs.elaborate.State.step.Goals as goal
@@ -9,7 +9,7 @@ use Rattle.npf_expand.proofs.elaborate.State.step.Goals as goal
 pub returns-in-Define : goal.returns-in-Define
 returns-in-Define c =
     let ifaces = c.args.interfaces.now.list.now in
-    let declared = declared_in c.args.declarations.now.stmts.now in
+    let declared = declared_by c.args.declarations.now.source in
     let Does : Stmt → Type 0 = λ stmt. IsStmtRead ifaces declared c.args.self.now c.define.new.self stmt in
     on_ok ((span : Span) → Does (Stmt.Define c.in-Define.var c.in-Define.values span)) (Does c.args.stmt.now) c.define.result
     (λ steps. subst Does (sym c.in-Define.is) (steps c.in-Define.span)) c.define.ensures

@@ -1,0 +1,7 @@
+// The tests of the table without locks, through its public calls alone. Expected values are counted by hand.
+#![tactic(auto)]
+
+#[cfg(test)]
+mod flat;
+#[cfg(test)]
+mod stays;

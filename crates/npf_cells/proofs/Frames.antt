@@ -1,0 +1,109 @@
+-- The rule from its parts: those that a step leaves alone stay.
+use Rattle.std.proofs.Common.{◌≡◌, ◌≢◌, ℕ, ◌+◌, ◌<◌, ◌≤◌, List, [], ◌∷◌, ◌++◌, map, length, set, slice_index, sym, ap, ◌∙◌, subst, length-set, ⊎_elim, arith}
+use Rattle.std.proofs.lemmas.List.{map-set, map-append, set-get_or}
+use Rattle.std.specs.List.{Contains}
+use mathlib.Core.Option.{some}
+use lib.ListN.{get_elem?}
+use Rattle.atomic_table.specs.Table.{State, stepped, keeps}
+use Rattle.atomic_table.proofs.Lists.{at_map, at_set, at_snoc}
+use Rattle.npf_core.specs.declared.conn_id.ConnId.{ConnId}
+use Rattle.npf_core.specs.declared.entry.Entry.{Entry}
+use Rattle.npf_core.specs.declared.stage.Stage.TheVariants.{Building}
+use Rattle.npf_core.specs.History.{state_of}
+use Rattle.npf_core.specs.Machine.{Machine, stage_of}
+use Rattle.npf_core.specs.Meaning.{Meaning}
+use Rattle.npf_cells.specs.declared.layout.Layout.{Layout}
+use Rattle.npf_cells.specs.declared.views.CellView.{CellView}
+use Rattle.npf_cells.specs.Cells.{seat_side, reader_view, IsCells}
+use Rattle.npf_cells.specs.Epochs.{ReaderView, Epochs}
+use Rattle.npf_cells.specs.Layout.{pools_at, nodes_at, connections_at, epoch_word, reader_word}
+use Rattle.npf_cells.specs.Pools.{taken, Pools}
+use Rattle.npf_cells.specs.Seats.{Seats}
+use Rattle.npf_cells.specs.Sums.{occurs}
+use Rattle.npf_cells.proofs.EpochLemmas.{epochs-words}
+use Rattle.npf_cells.proofs.PoolLemmas.{pools-same, taken-set}
+use Rattle.npf_cells.proofs.PrefixLemmas.{none_listed}
+use Rattle.npf_cells.proofs.SeatLemmas.{owned_within}
+use Rattle.npf_cells.proofs.SumLemmas.{from_map, side_same}
+
+pub pushed_side : {X Y : Type 0} (f : X → Y) (xs : List X) (i : ℕ) (x y : X) → map f (set xs i x ++ y ∷ []) ≡ set (map f xs) i (f x) ++ f y ∷ []
+pushed_side f xs i x y = map-append f (set xs i x) (y ∷ []) ∙ ap (λ z. z ++ f y ∷ []) (map-set f xs i x)
+
+pub merged_side : {X Y : Type 0} (f : X → Y) (xs : List X) (i j : ℕ) (x y : X) → map f (set (set xs i x) j y) ≡ set (set (map f xs) i (f x)) j (f y)
+merged_side f xs i j x y = map-set f (set xs i x) j y ∙ ap (λ z. set z j (f y)) (map-set f xs i x)
+
+module _ {S A R : Type 0} where
+  -- what passes are building is Building under their numbers
+  abbrev BuildsIn : Machine S → List (CellView S A R) → Type 0
+  BuildsIn k views = (j : ℕ) (v : CellView S A R) → get_elem? views j ≡ some v → (id : ConnId) → Contains v.pools.builds id → stage_of k id ≡ Building j
+
+  pub building-set : (k : Machine S) (views : List (CellView S A R)) (i : ℕ) (v w : CellView S A R) → get_elem? views i ≡ some v → w.pools.builds ≡ v.pools.builds →
+      BuildsIn k views → BuildsIn k (set views i w)
+  building-set k views i v w at same kept j u e id c = ⊎_elim
+      (λ (x : (j ≡ i) × (w ≡ u)).
+      let mine : Contains v.pools.builds id = subst (λ ids. Contains ids id) (ap (λ (y : CellView S A R). y.pools.builds) (sym x.1) ∙ same) c in
+      kept i v at id mine ∙ ap (λ n. Building n) (sym x.0))
+      (λ (x : (j ≢ i) × (get_elem? views j ≡ some u)). kept j u x.1 id c)
+      (at_set views i j w u e)
+
+  pub building-push : (k : Machine S) (views : List (CellView S A R)) (w : CellView S A R) → w.pools.builds ≡ [] → BuildsIn k views → BuildsIn k (views ++ w ∷ [])
+  building-push k views w none kept j u e id c = ⊎_elim
+      (λ (there : get_elem? views j ≡ some u). kept j u there id c)
+      (λ (x : w ≡ u). absurd (none_listed id (subst (λ ids. Contains ids id) (ap (λ (y : CellView S A R). y.pools.builds) (sym x) ∙ none) c)))
+      (at_snoc views w u j e)
+
+module _ {S A R F : Type 0} (m : Meaning S A R) (layout : Layout) where
+  -- a state of as many words, with the parts on seats, epochs and pools
+  pub framed : (s s' : State F (CellView S A R)) (kept : IsCells m layout s) → length s'.words ≡ length s.words →
+      Seats layout.slots kept.log (map seat_side s'.views) → Epochs (epoch_word s'.words) (reader_word s'.words) (map reader_view s'.views) →
+      Pools layout (taken (state_of m kept.log) s'.views) s'.words → BuildsIn (state_of m kept.log) s'.views → IsCells m layout s'
+  framed s s' kept count seats epochs pools building = record {
+    log = kept.log;
+    seats = seats;
+    epochs = epochs;
+    pools = pools;
+    trie = record { reach = subst (λ n. nodes_at layout ≤ n) (sym count) kept.trie.reach };
+    connections = record { reach = count ∙ kept.connections.reach; legal = kept.connections.legal; building = building };
+    nodes = record { reach = subst (λ n. connections_at layout ≤ n) (sym count) kept.nodes.reach };
+  }
+
+  -- a step on a word of the part on epochs, that changes this side of one view alone
+  pub epochs_step : (s : State F (CellView S A R)) (i n id : ℕ) (c : List (ℕ × F)) (v w : CellView S A R) → IsCells m layout s → get_elem? s.views id ≡ some v → w.seats ≡ v.seats → w.pools ≡ v.pools →
+      ((j : ℕ) → pools_at ≤ j → slice_index (set s.words i n) j ≡ slice_index s.words j) →
+      Epochs (epoch_word (set s.words i n)) (reader_word (set s.words i n)) (set (map reader_view s.views) id (reader_view w)) → IsCells m layout (stepped s i n id c w keeps)
+  epochs_step s i n id c v w kept at same pools words epochs = framed s (stepped s i n id c w keeps) kept (length-set s.words i n)
+      (subst (λ sides. Seats layout.slots kept.log sides) (sym (side_same seat_side s.views id v w at same)) kept.seats)
+      (subst (λ rs. Epochs (epoch_word (set s.words i n)) (reader_word (set s.words i n)) rs) (sym (map-set reader_view s.views id w)) epochs)
+      (pools-same layout (taken (state_of m kept.log) s.views) (taken (state_of m kept.log) (set s.views id w)) s.words (set s.words i n) kept.pools (length-set s.words i n) words
+      (taken-set (state_of m kept.log) s.views id v w at (ap (λ p. p.nodes) pools)))
+      (building-set (state_of m kept.log) s.views id v w at (ap (λ p. p.builds) pools) kept.connections.building)
+
+  -- a load that changes the seats' side of one view alone
+  pub seats_step : (s : State F (CellView S A R)) (i id : ℕ) (c : List (ℕ × F)) (v w : CellView S A R) (kept : IsCells m layout s) → get_elem? s.views id ≡ some v → reader_view w ≡ reader_view v → w.pools ≡ v.pools →
+      Seats layout.slots kept.log (set (map seat_side s.views) id w.seats) → IsCells m layout (stepped s i (slice_index s.words i) id c w keeps)
+  seats_step s i id c v w kept at same pools seats = framed s (stepped s i (slice_index s.words i) id c w keeps) kept (length-set s.words i (slice_index s.words i))
+      (subst (λ sides. Seats layout.slots kept.log sides) (sym (map-set seat_side s.views id w)) seats)
+      (subst (λ (ws : List ℕ). Epochs (epoch_word ws) (reader_word ws) (map reader_view (set s.views id w))) (sym (set-get_or s.words i 0))
+      (subst (λ rs. Epochs (epoch_word s.words) (reader_word s.words) rs) (sym (side_same reader_view s.views id v w at same)) kept.epochs))
+      (pools-same layout (taken (state_of m kept.log) s.views) (taken (state_of m kept.log) (set s.views id w)) s.words (set s.words i (slice_index s.words i)) kept.pools (length-set s.words i (slice_index s.words i))
+      (λ j h. ap (λ ws. slice_index ws j) (set-get_or s.words i 0)) (taken-set (state_of m kept.log) s.views id v w at (ap (λ p. p.nodes) pools)))
+      (building-set (state_of m kept.log) s.views id v w at (ap (λ p. p.builds) pools) kept.connections.building)
+
+  -- a step on a word of the part on pools, that changes this side of one view alone
+  pub pools_step : (s : State F (CellView S A R)) (i n id : ℕ) (c : List (ℕ × F)) (v w : CellView S A R) (kept : IsCells m layout s) → get_elem? s.views id ≡ some v → w.seats ≡ v.seats → reader_view w ≡ reader_view v → w.pools.builds ≡ v.pools.builds →
+      ((j : ℕ) → j < pools_at → slice_index (set s.words i n) j ≡ slice_index s.words j) →
+      Pools layout (taken (state_of m kept.log) (set s.views id w)) (set s.words i n) → IsCells m layout (stepped s i n id c w keeps)
+  pools_step s i n id c v w kept at same reads builds words pools = framed s (stepped s i n id c w keeps) kept (length-set s.words i n)
+      (subst (λ sides. Seats layout.slots kept.log sides) (sym (side_same seat_side s.views id v w at same)) kept.seats)
+      (subst (λ rs. Epochs (epoch_word (set s.words i n)) (reader_word (set s.words i n)) rs) (sym (side_same reader_view s.views id v w at reads))
+      (subst (λ now. Epochs now (reader_word (set s.words i n)) (map reader_view s.views)) (sym (words 0 (omega arith)))
+      (epochs-words (epoch_word s.words) (reader_word s.words) (reader_word (set s.words i n)) (map reader_view s.views) kept.epochs owned)))
+      pools
+      (building-set (state_of m kept.log) s.views id v w at builds kept.connections.building)
+    where
+      owned : (j place : ℕ) (q : ReaderView) → get_elem? (map reader_view s.views) j ≡ some q → 1 ≤ occurs place q.places → reader_word (set s.words i n) place ≡ reader_word s.words place
+      owned j place q e owns =
+          let x = from_map reader_view s.views j q e in
+          let same' : occurs place x.0.seats.readers ≡ occurs place q.places = ap (λ (u : ReaderView). occurs place u.places) x.2 in
+          let below = owned_within layout.slots kept.log (map seat_side s.views) j place x.0.seats kept.seats (at_map seat_side s.views j x.0 x.1) (omega (arith, same', owns)) in
+          words (1 + place) (omega (arith, below))

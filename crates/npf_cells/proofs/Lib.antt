@@ -1,0 +1,11 @@
+mod EpochLemmas
+mod Frames
+mod KeepLemmas
+mod KindLemmas
+mod MoveLemmas
+mod OpenLemmas
+mod PoolKeepLemmas
+mod PoolLemmas
+mod PrefixLemmas
+mod SeatLemmas
+mod SumLemmas

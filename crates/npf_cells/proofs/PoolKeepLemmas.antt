@@ -1,0 +1,203 @@
+-- Kinds 7 to 9 keep the rule: each by its part and the frame of a step on a pool's word.
+use Rattle.std.proofs.Common.{◌≡◌, ◌≢◌, ◌⊎◌, ℕ, zero, suc, ◌+◌, ◌-◌, ◌*◌, ◌/◌, ◌%◌, ◌^◌, ◌<◌, ◌≤◌, Bool, true, false, cond, eqb, eq-eqb, ne_eqb, List, [], ◌∷◌, set, length, slice_index, slice_index_or, refl, sym, ap, ◌∙◌, subst, arith, length-set, bit_and, bit_or}
+use Rattle.std.specs.Int.{bit_at, bit_not, w64}
+use Rattle.std.specs.List.{Contains}
+use Rattle.std.proofs.lemmas.Bool.Decides.{Decides-eqb, not_from_Decides}
+use Rattle.std.proofs.lemmas.List.{get_or-set_other, set-get_or}
+use Rattle.std.proofs.lemmas.Nat.Bits.{bit_at-lt, bit_at_set_same, bit_at_set_other, bit_at_clear_same, bit_at_clear_other}
+use mathlib.Core.Option.{some}
+use lib.ListN.{get_elem?}
+use Rattle.atomic_table.specs.Seated.{TableId}
+use Rattle.atomic_table.specs.Table.{State, Me, Step, Allows, stepped, keeps}
+use Rattle.npf_core.specs.History.{state_of}
+use Rattle.npf_core.specs.Machine.{Machine}
+use Rattle.npf_core.specs.Meaning.{Meaning}
+use Rattle.npf_cells.specs.declared.layout.Layout.{Layout}
+use Rattle.npf_cells.specs.declared.layout.Pool.{Pool}
+use Rattle.npf_cells.specs.declared.layout.Pool.TheVariants.{Slots, Nodes}
+use Rattle.npf_cells.specs.declared.views.CellView.{CellView}
+use Rattle.npf_cells.specs.declared.views.PoolSide.{PoolSide}
+use Rattle.npf_cells.specs.Cells.{IsCells}
+use Rattle.npf_cells.specs.Layout.{pools_at, pool_at, pool_words, place_word, pool_bit}
+use Rattle.npf_cells.specs.Passes.{IsPassOf}
+use Rattle.npf_cells.specs.PoolKinds.{with_pools, sweeping, claiming_node, others_than, giving_back, Sweeps, ClaimsNode, GivesNodeBack}
+use Rattle.npf_cells.specs.Pools.{node_owners, taken, Pools}
+use Rattle.npf_cells.specs.Sums.{occurs}
+use Rattle.npf_cells.proofs.Frames.{pools_step}
+use Rattle.npf_cells.proofs.PoolLemmas.{word_within, places_within, pools-same, pools-set, one_where, occurs-cons, taken-set}
+use Rattle.npf_cells.proofs.SumLemmas.{sum-set}
+
+sweeping-same : (pool : Pool) (count word : ℕ) (side : PoolSide) (found : ℕ) → ((sweeping pool count word side found).nodes ≡ side.nodes) × ((sweeping pool count word side found).builds ≡ side.builds)
+sweeping-same Slots count word side found = (refl, refl)
+sweeping-same Nodes count word side found = (refl, refl)
+
+-- what is left of a list without one of its numbers
+left_same : (n : ℕ) (xs : List ℕ) → occurs n (others_than n xs) ≡ 0
+left_same n [] = refl
+left_same n (x ∷ xs) = by_test (left_same n xs) (eqb x n) refl
+  where
+    by_test : occurs n (others_than n xs) ≡ 0 → (b : Bool) → eqb x n ≡ b → occurs n (cond (cond b false true) (x ∷ others_than n xs) (others_than n xs)) ≡ 0
+    by_test rest true e = rest
+    by_test rest false e = let more = occurs-cons n x (others_than n xs) in let none : one_where (eqb x n) ≡ 0 = ap one_where e in omega (arith, more, none, rest)
+
+left_others : (n p : ℕ) (xs : List ℕ) → p ≢ n → occurs p (others_than n xs) ≡ occurs p xs
+left_others n p [] ne = refl
+left_others n p (x ∷ xs) ne = by_test (left_others n p xs ne) (eqb x n) refl
+  where
+    by_test : occurs p (others_than n xs) ≡ occurs p xs → (b : Bool) → eqb x n ≡ b → occurs p (cond (cond b false true) (x ∷ others_than n xs) (others_than n xs)) ≡ occurs p (x ∷ xs)
+    by_test rest true e =
+        let same : x ≡ n = (Decides-eqb x n).0 e in
+        let none : one_where (eqb x p) ≡ 0 = ap one_where (ne_eqb x p (λ d. ne (sym d ∙ same))) in
+        let more = occurs-cons p x xs in
+        omega (arith, more, none, rest)
+    by_test rest false e = let more = occurs-cons p x xs in let left = occurs-cons p x (others_than n xs) in omega (arith, more, left, rest)
+
+stands_once : (n : ℕ) (xs : List ℕ) → Contains xs n → 1 ≤ occurs n xs
+stands_once n [] c = absurd (let below = c.1 in omega (arith, below))
+stands_once n (x ∷ xs) c = at_index (λ d. stands_once n xs d) c.0 c.1 c.2
+  where
+    at_index : (Contains xs n → 1 ≤ occurs n xs) → (i : ℕ) → i < length (x ∷ xs) → slice_index_or (x ∷ xs) i n ≡ n → 1 ≤ occurs n (x ∷ xs)
+    at_index rest zero h e = let more = occurs-cons n x xs in let one : one_where (eqb x n) ≡ 1 = ap one_where (eq-eqb x n e) in omega (arith, more, one)
+    at_index rest (suc i) h e = let more = occurs-cons n x xs in let later = rest (i, omega (arith, h), e) in omega (arith, more, later)
+
+module _ {S A R F : Type 0} (m : Meaning S A R) (layout : Layout) where
+  -- the rule doesn't speak of the slots' values
+  unhomed : (s : State F (CellView S A R)) → IsCells m layout s → IsCells {F = ℕ} m layout (record { words = s.words; homes = []; views = s.views })
+  unhomed s kept = record {
+    log = kept.log;
+    seats = kept.seats;
+    epochs = kept.epochs;
+    pools = kept.pools;
+    trie = kept.trie;
+    connections = kept.connections;
+    nodes = kept.nodes;
+  }
+
+  pub may_sweep : (st : Step F) (id n : ℕ) (pool : Pool) (word i : ℕ) (me : Me F (CellView S A R)) → i ≡ pool_at layout pool + word →
+      Allows (IsCells m layout) n id me i (λ k. k) (Sweeps m layout pool word st me)
+  may_sweep st id n pool word i me there s kept homes at bound =
+      let w : CellView S A R = record me.0 { pools = sweeping pool (pool_words layout.nodes) word me.0.pools (slice_index s.words i) } in
+      let same = sweeping-same pool (pool_words layout.nodes) word me.0.pools (slice_index s.words i) in
+      let words = set-get_or s.words i 0 in (
+        w,
+        keeps,
+        tt,
+        pools_step m layout s i (slice_index s.words i) id me.1 me.0 w kept at refl refl same.1 (λ j h. ap (λ ws. slice_index ws j) words)
+            (pools-same layout (taken (state_of m kept.log) s.views) (taken (state_of m kept.log) (set s.views id w)) s.words (set s.words i (slice_index s.words i)) kept.pools
+            (length-set s.words i (slice_index s.words i)) (λ j h. ap (λ ws. slice_index ws j) words) (taken-set (state_of m kept.log) s.views id me.0 w at same.0)),
+        record {
+          is = refl;
+          stood = record {
+            state = record { words = s.words; homes = []; views = s.views };
+            rule = unhomed s kept;
+            there = ap (slice_index s.words) (sym there);
+          };
+        },
+      )
+
+  -- a node's bit changes, and with it who owns the node
+  module _ (s : State F (CellView S A R)) (id : ℕ) (me : Me F (CellView S A R)) (kept : IsCells m layout s) (at : get_elem? s.views id ≡ some me.0) (node : ℕ) (within : node < layout.nodes) where
+    abbrev word : ℕ
+    word = place_word layout Nodes node
+
+    abbrev found : ℕ
+    found = slice_index s.words word
+
+    abbrev with_nodes : List ℕ → CellView S A R
+    with_nodes nodes = record me.0 { pools = record me.0.pools { found = found; nodes = nodes } }
+
+    abbrev k : Machine S
+    k = state_of m kept.log
+
+    -- the node's bit says how many own it
+    pub owned : bit_at found (node % 64) ≡ node_owners s.views node
+    owned = kept.pools.bits Nodes node within
+
+    pub owners_after : (nodes : List ℕ) (p : ℕ) → node_owners (set s.views id (with_nodes nodes)) p + occurs p me.0.pools.nodes ≡ node_owners s.views p + occurs p nodes
+    owners_after nodes p = sum-set (λ (u : CellView S A R). occurs p u.pools.nodes) s.views id me.0 (with_nodes nodes) at
+
+    pub node_step : (n : ℕ) (nodes : List ℕ) → bit_at n (node % 64) ≡ node_owners (set s.views id (with_nodes nodes)) node →
+        ((i : ℕ) → i < 64 → i ≢ node % 64 → bit_at n i ≡ bit_at found i) → ((p : ℕ) → p ≢ node → occurs p nodes ≡ occurs p me.0.pools.nodes) →
+        IsCells m layout (stepped s word n id me.1 (with_nodes nodes) keeps)
+    node_step n nodes here bits others =
+        let low = (word_within layout Nodes node (places_within layout Nodes node within)).0 in
+        pools_step m layout s word n id me.1 me.0 (with_nodes nodes) kept at refl refl refl (λ j h. get_or-set_other s.words word j n 0 (λ e. absurd (omega (arith, e, h, low))))
+        (pools-set layout (taken k s.views) (taken k (set s.views id (with_nodes nodes))) s.words Nodes node n kept.pools within here bits rest)
+      where
+        rest : (other : Pool) (p : ℕ) → (other ≡ Nodes → p ≢ node) → taken k (set s.views id (with_nodes nodes)) other p ≡ taken k s.views other p
+        rest Slots p two = refl
+        rest Nodes p two = let sums = owners_after nodes p in let same = others p (two refl) in omega (arith, sums, same)
+
+  pub may_claim_node : (st : Step F) (id n node mask : ℕ) (me : Me F (CellView S A R)) → node < layout.nodes → mask ≡ 1 * 2 ^ (node % 64) % 2 ^ 64 →
+      Allows (IsCells m layout) n id me (place_word layout Nodes node) (λ k. bit_or k mask) (ClaimsNode node st me)
+  may_claim_node st id n node mask me within is s kept homes at bound = rw is (
+    record me.0 { pools = claiming_node node me.0.pools (found s id me kept at node within) },
+    keeps,
+    tt,
+    by_bit (eqb (bit_at (found s id me kept at node within) (node % 64)) 0) refl,
+    record { is = refl },
+  )
+    where
+      by_bit : (b : Bool) → eqb (bit_at (found s id me kept at node within) (node % 64)) 0 ≡ b → IsCells m layout (stepped s (place_word layout Nodes node) (bit_or (found s id me kept at node within) (1 * 2 ^ (node % 64) % 2 ^ 64)) id me.1
+          (with_nodes s id me kept at node within (cond b (node ∷ me.0.pools.nodes) me.0.pools.nodes)) keeps)
+      by_bit b e = node_step s id me kept at node within (bit_or (found s id me kept at node within) (1 * 2 ^ (node % 64) % 2 ^ 64)) (cond b (node ∷ me.0.pools.nodes) me.0.pools.nodes)
+          (bit_at_set_same w64 (found s id me kept at node within) (node % 64) (omega arith) ∙ sym (one b e)) (λ i h ne. bit_at_set_other w64 (found s id me kept at node within) (node % 64) (omega arith) i ne) (others b)
+        where
+          one : (b : Bool) → eqb (bit_at (found s id me kept at node within) (node % 64)) 0 ≡ b → node_owners (set s.views id (with_nodes s id me kept at node within (cond b (node ∷ me.0.pools.nodes) me.0.pools.nodes))) node ≡ 1
+          one true e =
+              let none : bit_at (found s id me kept at node within) (node % 64) ≡ 0 = (Decides-eqb _ _).0 e in
+              let bit = owned s id me kept at node within in
+              let sums = owners_after s id me kept at node within (node ∷ me.0.pools.nodes) node in
+              let more = occurs-cons node node me.0.pools.nodes in
+              let once : one_where (eqb node node) ≡ 1 = ap one_where (eq-eqb node node refl) in
+              omega (arith, none, bit, sums, more, once)
+          one false e =
+              let some' : bit_at (found s id me kept at node within) (node % 64) ≢ 0 = not_from_Decides _ (Decides-eqb (bit_at (found s id me kept at node within) (node % 64)) 0) e in
+              let below = bit_at-lt (found s id me kept at node within) (node % 64) in
+              let bit = owned s id me kept at node within in
+              let sums = owners_after s id me kept at node within me.0.pools.nodes node in
+              omega (arith, some', below, bit, sums)
+
+          others : (b : Bool) (p : ℕ) → p ≢ node → occurs p (cond b (node ∷ me.0.pools.nodes) me.0.pools.nodes) ≡ occurs p me.0.pools.nodes
+          others true p ne =
+              let more = occurs-cons p node me.0.pools.nodes in
+              let none : one_where (eqb node p) ≡ 0 = ap one_where (ne_eqb node p (λ e. ne (sym e))) in
+              omega (arith, more, none)
+          others false p ne = refl
+
+  pub may_return_node : (st : Step F) (id n node mask : ℕ) (me : Me F (CellView S A R)) → node < layout.nodes → Contains me.0.pools.nodes node → mask ≡ bit_not w64 (1 * 2 ^ (node % 64) % 2 ^ 64) →
+      Allows (IsCells m layout) n id me (place_word layout Nodes node) (λ k. bit_and k mask) (GivesNodeBack node st me)
+  may_return_node st id n node mask me within owns is s kept homes at bound = rw is (
+    record me.0 { pools = giving_back node me.0.pools (found s id me kept at node within) },
+    keeps,
+    tt,
+    node_step s id me kept at node within (bit_and (found s id me kept at node within) (bit_not w64 (1 * 2 ^ (node % 64) % 2 ^ 64))) (others_than node me.0.pools.nodes)
+        (bit_at_clear_same w64 (found s id me kept at node within) (node % 64) (omega arith) ∙ sym none) (λ i h ne. bit_at_clear_other w64 (found s id me kept at node within) (node % 64) (omega arith) i h ne) (λ p ne. left_others node p me.0.pools.nodes ne),
+    record { is = refl },
+  )
+    where
+      none : node_owners (set s.views id (with_nodes s id me kept at node within (others_than node me.0.pools.nodes))) node ≡ 0
+      none =
+          let below = bit_at-lt (found s id me kept at node within) (node % 64) in
+          let bit = owned s id me kept at node within in
+          let sums = owners_after s id me kept at node within (others_than node me.0.pools.nodes) node in
+          let left = left_same node me.0.pools.nodes in
+          let one = stands_once node me.0.pools.nodes owns in
+          omega (arith, below, bit, sums, left, one)
+
+-- a pass of the table stays one through a step that changes what it knows and has of the pools
+pub pools_on : {S A R F : Type 0} (layout : Layout) (table seat seat' : TableId) (readers : List ℕ) (me next : Me F (CellView S A R)) (side : PoolSide) →
+    IsPassOf layout table seat readers me → seat' ≡ seat → next ≡ with_pools me side → IsPassOf layout table seat' readers next
+pools_on layout table seat seat' readers me next side own same is = rw is (record {
+  same = same ∙ own.same;
+  words = own.words;
+  free = own.free;
+  sized = own.sized;
+  lives = own.lives;
+  theirs = own.theirs;
+  owns = own.owns;
+  place = own.place;
+  most = own.most;
+  reader = own.reader;
+  epoch = own.epoch;
+})

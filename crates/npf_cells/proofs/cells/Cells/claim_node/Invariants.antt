@@ -1,0 +1,4 @@
+use Rattle.npf_cells.proofs.cells.Cells.claim_node.Given as goal
+
+abbrev pub ghosts-claim_node_as : goal.ghosts-claim_node_as
+ghosts-claim_node_as g a = record { node = a.node }

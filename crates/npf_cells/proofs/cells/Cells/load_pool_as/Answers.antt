@@ -1,0 +1,30 @@
+use Rattle.std.proofs.Common.{◌≡◌, ℕ, ◌∙◌, ◌+◌, sym, ap, subst, arith}
+use Rattle.npf_cells.specs.declared.layout.Layout.{Layout}
+use Rattle.npf_cells.specs.declared.layout.Pool.{Pool}
+use Rattle.npf_cells.specs.Layout.{pool_at, pool_words}
+use Rattle.npf_cells.specs.PoolKinds.{with_pools, sweeping, StoodSo}
+use Rattle.npf_cells.proofs.PoolKeepLemmas.{may_sweep, pools_on}
+use Rattle.npf_cells.proofs.PoolLemmas.{pool_reach}
+use Rattle.npf_cells.proofs.cells.Cells.load_pool_as.Goals as goal
+
+pub load-requires : goal.load-requires
+load-requires g c =
+    let own = c.requires.own in
+    let reach = pool_reach c.args.self.now.table.shared.key c.args.pool c.args.word c.requires.word in
+    let place : c.pool_place-place.result ≡ pool_at c.args.self.now.table.shared.key c.args.pool + c.args.word
+    = c.pool_place-place.ensures ∙ ap (λ l. pool_at l c.args.pool + c.args.word) (sym c.args.self.now.laid) in
+    rw (c.requires.aim.0, c.requires.aim.1, c.requires.aim.2)
+    (own.same, omega (arith, own.words, reach, place), may_sweep g.L.Law.meaning c.args.self.now.table.shared.key _ _ _ c.args.pool c.args.word _ c.args.pass.now.seat.me place)
+
+pub returns-clause-own : goal.returns-clause-own
+returns-clause-own g c = pools_on c.args.self.now.table.shared.key _ _ _ _ _ _ _ c.requires.own c.load.ensures.0 c.load.ensures.2.is
+
+pub returns-clause-next : goal.returns-clause-next
+returns-clause-next g c =
+    let aim = c.requires.aim in
+    c.load.ensures.2.is ∙ (λ i. with_pools c.args.pass.now.seat.me (sweeping (aim.1 i) (pool_words (aim.0 i).nodes) (aim.2 i) c.args.pass.now.seat.me.0.pools c.load.result))
+
+pub returns-clause-stood : goal.returns-clause-stood
+returns-clause-stood g c =
+    let aim = c.requires.aim in
+    subst (λ (y : Layout × Pool × ℕ). StoodSo g.L.Law.meaning y.0 (pool_at y.0 y.1 + y.2) c.load.result) (λ i. (aim.0 i, aim.1 i, aim.2 i)) c.load.ensures.2.stood

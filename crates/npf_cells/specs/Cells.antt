@@ -1,0 +1,83 @@
+-- The rule of the table without locks: six parts, each over its own words and its own side of the views.
+use Rattle.std.specs.Prelude.{◌≡◌, ℕ, ◌≤◌, true, List, [], Contains, map, length}
+use mathlib.Core.Option.{some}
+use lib.ListN.{get_elem?}
+use Rattle.atomic_table.specs.Table.{State}
+use Rattle.npf_core.specs.declared.conn_id.ConnId.{ConnId}
+use Rattle.npf_core.specs.declared.entry.Entry.{Entry}
+use Rattle.npf_core.specs.declared.stage.Stage.TheVariants.{Building}
+use Rattle.npf_core.specs.History.{Legal, state_of}
+use Rattle.npf_core.specs.Machine.{stage_of}
+use Rattle.npf_core.specs.Meaning.{Meaning}
+use Rattle.npf_connections.specs.Pass.{all_places}
+use Rattle.npf_cells.specs.declared.layout.Layout.{Layout}
+use Rattle.npf_cells.specs.declared.views.CellView.{CellView}
+use Rattle.npf_cells.specs.declared.views.EpochSide.{EpochSide}
+use Rattle.npf_cells.specs.declared.views.Pin.TheVariants.{Idle}
+use Rattle.npf_cells.specs.declared.views.PoolSide.{PoolSide}
+use Rattle.npf_cells.specs.declared.views.SeatSide.{SeatSide}
+use Rattle.npf_cells.specs.Epochs.{ReaderView, Epochs}
+use Rattle.npf_cells.specs.Layout.{root_at, nodes_at, connections_at, word_count, epoch_word, reader_word}
+use Rattle.npf_cells.specs.Pools.{taken, Pools}
+use Rattle.npf_cells.specs.Seats.{Seats}
+use Rattle.npf_cells.specs.Sums.{numbers_below}
+
+abbrev pub seat_side : {S A R : Type 0} → CellView S A R → SeatSide S A R
+seat_side v = v.seats
+
+abbrev pub reader_view : {S A R : Type 0} → CellView S A R → ReaderView
+reader_view v = record { places = v.seats.readers; side = v.epochs }
+
+-- the words are there, up to this place
+abbrev pub ReachTo : ℕ → List ℕ → Type 0
+ReachTo last words = last ≤ length words
+
+-- the root's places and locks
+pub record Trie (layout : Layout) (words : List ℕ) : Type 0 where
+  pub reach : ReachTo (nodes_at layout) words
+
+-- the nodes' places, states and parents
+pub record Nodes (layout : Layout) (words : List ℕ) : Type 0 where
+  pub reach : ReachTo (connections_at layout) words
+
+-- the connections' words, and the history whose state they have: what a pass is building is Building under its number
+pub record Conns {S A R : Type 0} (m : Meaning S A R) (layout : Layout) (log : List (Entry S A R)) (words : List ℕ) (views : List (CellView S A R)) : Type 0 where
+  pub reach : length words ≡ word_count layout
+  pub legal : Legal m layout.slots log
+  pub building : (j : ℕ) (v : CellView S A R) → get_elem? views j ≡ some v → (id : ConnId) → Contains v.pools.builds id → stage_of (state_of m log) id ≡ Building j
+
+-- the rule
+pub record IsCells {S A R F : Type 0} (m : Meaning S A R) (layout : Layout) (s : State F (CellView S A R)) : Type 0 where
+  pub log : List (Entry S A R)
+  pub seats : Seats layout.slots log (map seat_side s.views)
+  pub epochs : Epochs (epoch_word s.words) (reader_word s.words) (map reader_view s.views)
+  pub pools : Pools layout (taken (state_of m log) s.views) s.words
+  pub trie : Trie layout s.words
+  pub connections : Conns m layout log s.words s.views
+  pub nodes : Nodes layout s.words
+
+-- a pass that knows nothing of the epoch
+abbrev pub idle_side : EpochSide
+idle_side = record { pin = Idle; loaded = 0; scanned = []; behind = []; met = 0; known = 0 }
+
+-- a pass that owns nothing
+abbrev pub empty_handed : PoolSide
+empty_handed = record { sweeps = 0; row = 0; found = 0; nodes = []; builds = [] }
+
+-- the first pass, which owns all reader places
+abbrev pub first_cell_view : {S A R : Type 0} → Layout → CellView S A R
+first_cell_view layout = record {
+  seats = record {
+    slots = layout.slots;
+    number = 0;
+    lives = true;
+    history = [];
+    readers = numbers_below all_places;
+    joined = [];
+    told = [];
+    theirs = [];
+    others = [];
+  };
+  epochs = idle_side;
+  pools = empty_handed;
+}

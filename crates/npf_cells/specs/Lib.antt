@@ -1,0 +1,11 @@
+pub mod Cells
+pub mod Epochs
+pub mod Kinds
+pub mod Layout
+pub mod Moves
+pub mod Opening
+pub mod Passes
+pub mod PoolKinds
+pub mod Pools
+pub mod Seats
+pub mod Sums

@@ -1,0 +1,271 @@
+ghost use Rattle.std.specs.Prelude.{◌≡◌, ◌≤◌, ◌+◌, ◌-◌, ◌++◌, ℕ, IfOk, length, slice_index, take, drop};
+ghost use Rattle.npf_connections.specs.Pass.{all_places};
+ghost use Rattle.npf_cells.specs.Layout.{pool_words, word_count};
+ghost use Rattle.npf_cells.specs.Opening.{opening_words, with_past};
+ghost use Rattle.npf_cells.specs.Sums.{numbers_below};
+
+use crate::hash::KeyHash;
+use crate::kinds::{
+    AdvancesEpoch, LoadsEpoch, PinsReader, ProtectsReader, ScansReader, UnpinsReader,
+};
+use crate::layout::{EPOCH, FIRST_EPOCH, IDLE, Layout, Pool, READERS, reader_place};
+use crate::passing::{GetsBorn, Gives, Reads, TakesIn};
+use crate::rule::CellsRule;
+use crate::views::CellView;
+use arrayvec::ArrayVec;
+use atomic_table::{Refused, Seat, Table};
+use npf_core::Law;
+use npf_types::NoMemory;
+use std::alloc::Global;
+use std::marker::PhantomData;
+
+/// A table of connections without locks.
+#[derive(Drop)]
+pub struct Cells<L: Law, H: KeyHash> {
+    pub(crate) table: Table<
+        Option<(L::State, u64)>,
+        CellView<L::State, L::Arg, L::Reply>,
+        Layout,
+        CellsRule<L>,
+        Global,
+    >,
+    pub(crate) layout: Layout,
+    hash: PhantomData<H>,
+    ghost laid: { table.shared.key ≡ layout },
+}
+
+/// A pass of such a table.
+#[derive(Drop)]
+pub struct CellPass<L: Law> {
+    pub(crate) seat: Seat<Option<(L::State, u64)>, CellView<L::State, L::Arg, L::Reply>>,
+    /// Its reader places: the first is the one that it pins by.
+    readers: ArrayVec<u32, 66>,
+}
+
+impl<L: Law, H: KeyHash> Cells<L, H> {
+    ghost use Rattle.std.specs.Prelude.{◌≡◌, ◌≤◌, ◌<◌, ◌^◌, ◌↔◌, ℕ, true, [], IfOk};
+    ghost use Rattle.npf_connections.specs.Joining.{IsSplit, IsJoined};
+    ghost use Rattle.npf_connections.specs.Pass.{IsPass, IsFirstPass, all_places};
+    ghost use Rattle.npf_connections.specs.Worn.{last_epoch};
+    ghost use Rattle.npf_cells.specs.declared.views.Pin.TheVariants.{Idle, Pinned};
+    ghost use Rattle.npf_cells.specs.Cells.{empty_handed};
+    ghost use Rattle.npf_cells.specs.Epochs.{HasScannedAll};
+    ghost use Rattle.npf_cells.specs.Kinds.{HasLoaded, IsMet, with_epochs, loading, pinning, protecting, unpinning, scanning, advancing};
+    ghost use Rattle.npf_cells.specs.Passes.{IsPassOf, cell_pass};
+
+    /// A table of so many slots and nodes, and its first pass. All the memory that it ever has is taken here.
+    pub fn new(
+        alloc: Global,
+        slots: u32,
+        nodes: u32,
+    ) -> Result<(Cells<L, H>, CellPass<L>), NoMemory>
+        ensures own { IfOk result (λ made. IsPassOf made.0.table.shared.key made.0.table.shared.table_id made.1.seat.table_id made.1.readers.items made.1.seat.me) }
+        ensures first { IfOk result (λ made. IsFirstPass slots (cell_pass made.1.seat.me.0)) }
+        ensures legal { IfOk result (λ made. IsPass L.meaning (cell_pass made.1.seat.me.0)) }
+        ensures idle { IfOk result (λ made. made.1.seat.me.0.epochs.pin ≡ Idle) }
+        ensures empty { IfOk result (λ made. made.1.seat.me.0.pools ≡ empty_handed) }
+    {
+        let layout = Layout { slots, nodes };
+        let words = first_words(alloc, layout)?;
+        let homes = vacant_homes::<L::State>(alloc, slots)?;
+        match Table::new(alloc, words.as_slice(), homes, &layout) {
+            Ok((table, seat)) => {
+                let cells = Cells {
+                    table,
+                    layout,
+                    hash: PhantomData,
+                };
+                let readers = all_readers();
+                Ok((cells, CellPass { seat, readers }))
+            }
+            Err(Refused { .. }) => Err(NoMemory),
+        }
+    }
+
+    /// A pass gives up one of its reader places to a new one, which has seen what it has.
+    pub fn split(&self, pass: &mut CellPass<L>) -> CellPass<L>
+        requires own { IsPassOf self.now.table.shared.key self.now.table.shared.table_id pass.old.seat.table_id pass.old.readers.items pass.old.seat.me }
+        requires out { pass.old.seat.me.0.epochs.pin ≡ Idle }
+        requires places { 2 ≤ (cell_pass pass.old.seat.me.0).places }
+        ensures own { IsPassOf self.now.table.shared.key self.now.table.shared.table_id pass.new.seat.table_id pass.new.readers.items pass.new.seat.me }
+        ensures given { IsPassOf self.now.table.shared.key self.now.table.shared.table_id result.seat.table_id result.readers.items result.seat.me }
+        ensures splits { IsSplit (cell_pass pass.old.seat.me.0) (cell_pass pass.new.seat.me.0) (cell_pass result.seat.me.0) }
+        ensures given_idle { result.seat.me.0.epochs.pin ≡ Idle }
+        ensures given_empty { result.seat.me.0.pools ≡ empty_handed }
+        ensures idle { pass.new.seat.me.0.epochs.pin ≡ Idle }
+        ensures given_legal { IsPass L.meaning (cell_pass result.seat.me.0) }
+    {
+        let readers = give_last(&mut pass.readers);
+        let mut seat = self.table.shared.split_seat::<Gives>(&mut pass.seat);
+        self.table.shared.load::<GetsBorn<L>>(&mut seat, EPOCH);
+        CellPass { seat, readers }
+    }
+
+    /// A pass takes another in, with its reader places, and sees what either has seen.
+    pub fn join(&self, pass: &mut CellPass<L>, other: CellPass<L>)
+        requires own { IsPassOf self.now.table.shared.key self.now.table.shared.table_id pass.old.seat.table_id pass.old.readers.items pass.old.seat.me }
+        requires other_own { IsPassOf self.now.table.shared.key self.now.table.shared.table_id other.seat.table_id other.readers.items other.seat.me }
+        requires out { pass.old.seat.me.0.epochs.pin ≡ Idle }
+        requires other_out { other.seat.me.0.epochs.pin ≡ Idle }
+        requires done { pass.old.seat.me.0.pools.builds ≡ [] }
+        requires other_done { other.seat.me.0.pools.builds ≡ [] }
+        requires other_nodes { other.seat.me.0.pools.nodes ≡ [] }
+        ensures own { IsPassOf self.now.table.shared.key self.now.table.shared.table_id pass.new.seat.table_id pass.new.readers.items pass.new.seat.me }
+        ensures idle { pass.new.seat.me.0.epochs.pin ≡ Idle }
+        ensures joins { IsJoined (cell_pass pass.old.seat.me.0) (cell_pass other.seat.me.0) (cell_pass pass.new.seat.me.0) }
+        ensures legal { IsPass L.meaning (cell_pass pass.new.seat.me.0) }
+    {
+        let CellPass { seat, readers } = other;
+        self.table.shared.join_seat::<TakesIn>(&mut pass.seat, seat);
+        self.table.shared.load::<Reads<L>>(&mut pass.seat, EPOCH);
+        add_all(&mut pass.readers, &readers);
+    }
+
+    /// Loads the epoch, and begins a new scan of the readers.
+    pub fn load_epoch(&self, pass: &mut CellPass<L>) -> u64
+        requires own { IsPassOf self.now.table.shared.key self.now.table.shared.table_id pass.old.seat.table_id pass.old.readers.items pass.old.seat.me }
+        ensures own { IsPassOf self.now.table.shared.key self.now.table.shared.table_id pass.new.seat.table_id pass.new.readers.items pass.new.seat.me }
+        ensures met { IsMet pass.old.seat.me.0.epochs result }
+        ensures next { pass.new.seat.me ≡ with_epochs pass.old.seat.me (loading pass.old.seat.me.0.epochs result) }
+    {
+        self.table.shared.load::<LoadsEpoch>(&mut pass.seat, EPOCH)
+    }
+
+    /// Pins the epoch that was loaded last. What is protected is fixed only by `protect`.
+    pub fn pin(&self, pass: &mut CellPass<L>, epoch: u64)
+        requires own { IsPassOf self.now.table.shared.key self.now.table.shared.table_id pass.old.seat.table_id pass.old.readers.items pass.old.seat.me }
+        requires idle { pass.old.seat.me.0.epochs.pin ≡ Idle }
+        requires loaded { HasLoaded pass.old.seat.me.0.epochs epoch }
+        ensures own { IsPassOf self.now.table.shared.key self.now.table.shared.table_id pass.new.seat.table_id pass.new.readers.items pass.new.seat.me }
+        ensures next { pass.new.seat.me ≡ with_epochs pass.old.seat.me (pinning pass.old.seat.me.0.epochs epoch) }
+    {
+        let place = reader_place(pass.readers[0]);
+        self.table
+            .shared
+            .store::<PinsReader>(&mut pass.seat, place, epoch + 1);
+    }
+
+    /// Loads the epoch again: until `unpin` it is at most one more than the answer.
+    pub fn protect(&self, pass: &mut CellPass<L>) -> u64
+        requires own { IsPassOf self.now.table.shared.key self.now.table.shared.table_id pass.old.seat.table_id pass.old.readers.items pass.old.seat.me }
+        requires pinned { (epoch : ℕ) × (pass.old.seat.me.0.epochs.pin ≡ Pinned epoch) }
+        ensures own { IsPassOf self.now.table.shared.key self.now.table.shared.table_id pass.new.seat.table_id pass.new.readers.items pass.new.seat.me }
+        ensures met { IsMet pass.old.seat.me.0.epochs result }
+        ensures next { pass.new.seat.me ≡ with_epochs pass.old.seat.me (protecting pass.old.seat.me.0.epochs result) }
+    {
+        self.table
+            .shared
+            .load::<ProtectsReader>(&mut pass.seat, EPOCH)
+    }
+
+    /// Ends what was pinned.
+    pub fn unpin(&self, pass: &mut CellPass<L>)
+        requires own { IsPassOf self.now.table.shared.key self.now.table.shared.table_id pass.old.seat.table_id pass.old.readers.items pass.old.seat.me }
+        requires pinned { ¬ (pass.old.seat.me.0.epochs.pin ≡ Idle) }
+        ensures own { IsPassOf self.now.table.shared.key self.now.table.shared.table_id pass.new.seat.table_id pass.new.readers.items pass.new.seat.me }
+        ensures next { pass.new.seat.me ≡ with_epochs pass.old.seat.me (unpinning pass.old.seat.me.0.epochs) }
+    {
+        let reader = pass.readers[0];
+        self.table
+            .shared
+            .store::<UnpinsReader>(&mut pass.seat, reader_place(reader), IDLE);
+    }
+
+    /// Loads a reader word: 0 where it is idle, otherwise the pinned epoch and one.
+    pub fn scan_reader(&self, pass: &mut CellPass<L>, reader: u32) -> u64
+        requires own { IsPassOf self.now.table.shared.key self.now.table.shared.table_id pass.old.seat.table_id pass.old.readers.items pass.old.seat.me }
+        requires reader { reader < all_places }
+        ensures own { IsPassOf self.now.table.shared.key self.now.table.shared.table_id pass.new.seat.table_id pass.new.readers.items pass.new.seat.me }
+        ensures next { pass.new.seat.me ≡ with_epochs pass.old.seat.me (scanning pass.old.seat.me.0.epochs reader result) }
+    {
+        self.table
+            .shared
+            .load::<ScansReader>(&mut pass.seat, reader_place(reader))
+    }
+
+    /// Raises the epoch by one, unless it is another by now. Answers whether it did.
+    pub fn advance(&self, pass: &mut CellPass<L>, epoch: u64) -> bool
+        requires own { IsPassOf self.now.table.shared.key self.now.table.shared.table_id pass.old.seat.table_id pass.old.readers.items pass.old.seat.me }
+        requires loaded { HasLoaded pass.old.seat.me.0.epochs epoch }
+        requires below { epoch < last_epoch }
+        requires scanned { HasScannedAll pass.old.seat.me.0.epochs }
+        ensures own { IsPassOf self.now.table.shared.key self.now.table.shared.table_id pass.new.seat.table_id pass.new.readers.items pass.new.seat.me }
+        ensures met { IsMet pass.old.seat.me.0.epochs pass.new.seat.me.0.epochs.met }
+        ensures next { pass.new.seat.me ≡ with_epochs pass.old.seat.me (advancing pass.old.seat.me.0.epochs pass.new.seat.me.0.epochs.met) }
+        ensures moved { (result ≡ true) ↔ (pass.new.seat.me.0.epochs.met ≡ epoch) }
+    {
+        let found = self
+            .table
+            .shared
+            .compare_exchange::<AdvancesEpoch>(&mut pass.seat, EPOCH, epoch, epoch + 1);
+        found == epoch
+    }
+}
+
+// The words of a new table: but for the epoch and the bits past each pool's last place, all are 0.
+fn first_words(alloc: Global, layout: Layout) -> Result<Vec<u64>, NoMemory>
+    ensures words { IfOk result (λ words. words.items ≡ opening_words layout) }
+    ensures count { IfOk result (λ words. length words.items ≡ word_count layout) }
+{
+    let mut words = vec![in alloc; 0; layout.words()]?;
+    words[EPOCH] = FIRST_EPOCH;
+    set_past(&mut words, layout.pool_place(Pool::Slots, 0), layout.slots);
+    set_past(&mut words, layout.pool_place(Pool::Nodes, 0), layout.nodes);
+    Ok(words)
+}
+
+// The bits past the last of so many places are set, where their words begin there.
+fn set_past(words: &mut Vec<u64>, at: usize, places: u32)
+    requires { at + pool_words places ≤ length words.old.items }
+    ensures past { words.new.items ≡ with_past at places words.old.items }
+    ensures count { length words.new.items ≡ length words.old.items }
+{
+    if places % 64 != 0 {
+        words[at + places as usize / 64] = u64::MAX << (places % 64);
+    }
+}
+
+// The slots of a new table.
+fn vacant_homes<S: Copy>(alloc: Global, slots: u32) -> Result<Vec<Option<(S, u64)>>, NoMemory> {
+    let mut homes = Vec::with_capacity(alloc, slots as usize)?;
+    for _ in 0..slots {
+        homes.push(None)?;
+    }
+    Ok(homes)
+}
+
+// Each reader place, in order.
+#[tactic(auto, using(crate::proofs::SumLemmas::below_next))]
+fn all_readers() -> ArrayVec<u32, 66>
+    ensures { result.items ≡ numbers_below all_places }
+{
+    let mut readers = ArrayVec::new();
+    for reader in 0..READERS {
+        readers.push(reader);
+    }
+    readers
+}
+
+// The last of the reader places is given up.
+fn give_last(readers: &mut ArrayVec<u32, 66>) -> ArrayVec<u32, 66>
+    requires { 1 ≤ length readers.old.items }
+    ensures left { readers.new.items ≡ take (length readers.old.items - 1) readers.old.items }
+    ensures given { result.items ≡ drop (length readers.old.items - 1) readers.old.items }
+{
+    let mut given = ArrayVec::new();
+    if let Some(reader) = readers.pop() {
+        given.push(reader);
+    }
+    given
+}
+
+// Reader places are added behind the others.
+fn add_all(readers: &mut ArrayVec<u32, 66>, more: &ArrayVec<u32, 66>)
+    requires { length readers.old.items + length more.now.items ≤ 66 }
+    ensures { readers.new.items ≡ readers.old.items ++ more.now.items }
+{
+    match readers.try_extend_from_slice(more.as_slice()) {
+        Ok(()) => {}
+        Err(_) => {}
+    }
+}

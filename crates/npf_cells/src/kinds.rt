@@ -1,0 +1,56 @@
+use crate::views::CellView;
+use atomic_table::Play;
+
+/// A load of the epoch.
+pub(crate) struct LoadsEpoch;
+
+impl<F, S, A, R> Play<F, CellView<S, A, R>> for LoadsEpoch {
+    ghost use Rattle.npf_cells.specs.Kinds.{Loads};
+
+    ghost then = { Loads };
+}
+
+/// A store of the own reader word, pinned.
+pub(crate) struct PinsReader;
+
+impl<F, S, A, R> Play<F, CellView<S, A, R>> for PinsReader {
+    ghost use Rattle.npf_cells.specs.Kinds.{Pins};
+
+    ghost then = { Pins };
+}
+
+/// The load of the epoch after a pin.
+pub(crate) struct ProtectsReader;
+
+impl<F, S, A, R> Play<F, CellView<S, A, R>> for ProtectsReader {
+    ghost use Rattle.npf_cells.specs.Kinds.{Protects};
+
+    ghost then = { Protects };
+}
+
+/// A store of the own reader word, idle.
+pub(crate) struct UnpinsReader;
+
+impl<F, S, A, R> Play<F, CellView<S, A, R>> for UnpinsReader {
+    ghost use Rattle.npf_cells.specs.Kinds.{Unpins};
+
+    ghost then = { Unpins };
+}
+
+/// A load of a reader word.
+pub(crate) struct ScansReader;
+
+impl<F, S, A, R> Play<F, CellView<S, A, R>> for ScansReader {
+    ghost use Rattle.npf_cells.specs.Kinds.{Scans};
+
+    ghost then = { Scans };
+}
+
+/// A try to raise the epoch.
+pub(crate) struct AdvancesEpoch;
+
+impl<F, S, A, R> Play<F, CellView<S, A, R>> for AdvancesEpoch {
+    ghost use Rattle.npf_cells.specs.Kinds.{RaisesEpoch};
+
+    ghost then = { RaisesEpoch };
+}

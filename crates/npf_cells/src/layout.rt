@@ -1,0 +1,84 @@
+ghost use Rattle.std.specs.Prelude.{◌≡◌, ◌+◌, ◌<◌};
+ghost use Rattle.npf_cells.specs.Layout.{reader_at, pool_at, pool_places, pool_words, word_count};
+
+/// How many slots and nodes a table has, which says where each of its words lies.
+#[derive(Clone, Copy)]
+pub struct Layout {
+    pub slots: u32,
+    pub nodes: u32,
+}
+
+/// The places that passes claim and give back.
+#[derive(Clone, Copy)]
+pub enum Pool {
+    /// The places for connections.
+    Slots,
+    /// The nodes of the trie.
+    Nodes,
+}
+
+/// The place of the epoch among the words.
+pub(crate) const EPOCH: usize = 0;
+
+/// The epoch of a new table.
+pub(crate) const FIRST_EPOCH: u64 = 2;
+
+/// A reader word that is idle.
+pub(crate) const IDLE: u64 = 0;
+
+/// How many reader places a table has.
+pub const READERS: u32 = 66;
+
+/// The last epoch: the epoch of a table stands still there.
+pub const LAST_EPOCH: u64 = 1 << 62;
+
+impl Layout {
+    /// How many words such a table has.
+    pub fn words(&self) -> usize
+        ensures { result ≡ word_count self.now }
+    {
+        let pools = (self.slots as usize + 63) / 64 + (self.nodes as usize + 63) / 64;
+        1 + 66 + pools + 128 + 18 * self.nodes as usize + 21 * self.slots as usize
+    }
+
+    /// How many places a pool has.
+    pub fn places(&self, pool: Pool) -> u32
+        ensures { result ≡ pool_places self.now pool }
+    {
+        match pool {
+            Pool::Slots => self.slots,
+            Pool::Nodes => self.nodes,
+        }
+    }
+
+    /// How many words a pool has.
+    pub fn pool_words(&self, pool: Pool) -> u32
+        ensures { result ≡ pool_words (pool_places self.now pool) }
+    {
+        words_of(self.places(pool))
+    }
+
+    /// The place of a pool's word among the words.
+    pub(crate) fn pool_place(&self, pool: Pool, word: u32) -> usize
+        ensures { result ≡ pool_at self.now pool + word }
+    {
+        match pool {
+            Pool::Slots => 67 + word as usize,
+            Pool::Nodes => 67 + words_of(self.slots) as usize + word as usize,
+        }
+    }
+}
+
+/// How many words the bits of so many places take.
+fn words_of(places: u32) -> u32
+    ensures { result ≡ pool_words places }
+{
+    places.div_ceil(64)
+}
+
+/// The place of a reader word among the words.
+pub(crate) fn reader_place(reader: u32) -> usize
+    ensures { result ≡ reader_at reader }
+{
+    1 + reader as usize
+}

@@ -1,0 +1,25 @@
+// The words of the table without locks, and the rule that holds between any two steps on them.
+//
+// A table has an epoch, a reader word for each of its 66 reader places, a bit for each slot and each node, the places and locks of a
+// trie, and the words of connections; docs/ARCHITECTURE.md draws them. Each call here is one atomic step on one of them, or a base
+// move: making, splitting and joining passes. Epochs are those of Fraser, "Practical lock-freedom" (2004), section 5.2.3, with the
+// second load of crossbeam-epoch: what a pin protects is fixed by an epoch that is loaded after it.
+//
+// The one contract: the rule of specs/Cells.antt, the conjunction of six parts (seats, epochs, pools, trie, connections, nodes),
+// each over its own words, its own side of the views, and named facts of the others. A kind of step proves its own part.
+#![tactic(auto)]
+
+mod cells;
+mod hash;
+mod kinds;
+mod layout;
+mod passing;
+mod pools;
+mod rule;
+mod views;
+
+pub use cells::{CellPass, Cells};
+pub use hash::KeyHash;
+pub use layout::{LAST_EPOCH, Layout, Pool, READERS};
+pub use rule::CellsRule;
+pub use views::{CellView, EpochSide, Pin, PoolSide, SeatSide};

@@ -1,0 +1,181 @@
+ghost use Rattle.std.specs.Prelude.{◌≡◌, ◌-◌, ◌*◌, ◌%◌, ◌^◌, ◌==◌};
+ghost use Rattle.std.specs.Int.{bit_at};
+
+use crate::cells::{CellPass, Cells};
+use crate::hash::KeyHash;
+use crate::layout::Pool;
+use crate::rule::Running;
+use crate::views::CellView;
+use atomic_table::Play;
+use npf_core::Law;
+use std::marker::{Brand, PhantomData};
+
+// What a load of a pool's word is told.
+pub(crate) trait SweepAim {
+    ghost use Rattle.std.specs.Prelude.{ℕ};
+    ghost use Rattle.npf_cells.specs.declared.layout.Layout.{Layout};
+    ghost use Rattle.npf_cells.specs.declared.layout.Pool.{Pool};
+
+    ghost layout: { Layout };
+
+    ghost pool: { Pool };
+
+    ghost word: { ℕ };
+}
+
+impl SweepAim for Brand {
+    ghost use Rattle.npf_cells.specs.declared.layout.Pool.TheVariants.{Slots};
+
+    ghost layout = { record { slots = 0; nodes = 0 } };
+
+    ghost pool = { Slots };
+
+    ghost word = { 0 };
+}
+
+// What a step on a node's bit is told.
+pub(crate) trait NodeAim {
+    ghost use Rattle.std.specs.Prelude.{ℕ};
+
+    ghost node: { ℕ };
+}
+
+impl NodeAim for Brand {
+    ghost node = { 0 };
+}
+
+pub(crate) struct SweepsPool<L: Law, W> {
+    law: PhantomData<L>,
+    aim: PhantomData<W>,
+}
+
+impl<L: Law, W: SweepAim> Play<Running<L::State>, CellView<L::State, L::Arg, L::Reply>>
+    for SweepsPool<L, W> {
+    ghost use Rattle.npf_cells.specs.PoolKinds.{Sweeps};
+
+    ghost then = { Sweeps L.meaning W.layout W.pool W.word };
+}
+
+pub(crate) struct TakesNode<W> {
+    aim: PhantomData<W>,
+}
+
+impl<F, S, A, R, W: NodeAim> Play<F, CellView<S, A, R>> for TakesNode<W> {
+    ghost use Rattle.npf_cells.specs.PoolKinds.{ClaimsNode};
+
+    ghost then = { ClaimsNode W.node };
+}
+
+pub(crate) struct ReturnsNode<W> {
+    aim: PhantomData<W>,
+}
+
+impl<F, S, A, R, W: NodeAim> Play<F, CellView<S, A, R>> for ReturnsNode<W> {
+    ghost use Rattle.npf_cells.specs.PoolKinds.{GivesNodeBack};
+
+    ghost then = { GivesNodeBack W.node };
+}
+
+impl<L: Law, H: KeyHash> Cells<L, H> {
+    ghost use Rattle.std.specs.Prelude.{◌≡◌, ◌<◌, ◌↔◌, ◌==◌, ◌+◌, ◌%◌, true, ℕ, length, Contains};
+    ghost use Rattle.std.specs.Int.{bit_at};
+    ghost use Rattle.npf_cells.specs.declared.layout.Pool.TheVariants.{Slots, Nodes};
+    ghost use Rattle.npf_cells.specs.Layout.{pool_at, pool_places, pool_words};
+    ghost use Rattle.npf_cells.specs.Passes.{IsPassOf, IsProtected};
+    ghost use Rattle.npf_cells.specs.PoolKinds.{StoodSo, most_nodes, with_pools, sweeping, claiming_node, giving_back};
+
+    /// Loads a word of a pool: a bit for each of 64 places, set where it is taken or past the last place.
+    pub fn load_pool(&self, pass: &mut CellPass<L>, pool: Pool, word: u32) -> u64
+        requires own { IsPassOf self.now.table.shared.key self.now.table.shared.table_id pass.old.seat.table_id pass.old.readers.items pass.old.seat.me }
+        requires word { word < pool_words (pool_places self.now.table.shared.key pool) }
+        ensures own { IsPassOf self.now.table.shared.key self.now.table.shared.table_id pass.new.seat.table_id pass.new.readers.items pass.new.seat.me }
+        ensures next { pass.new.seat.me ≡ with_pools pass.old.seat.me (sweeping pool (pool_words self.now.table.shared.key.nodes) word pass.old.seat.me.0.pools result) }
+        ensures stood { StoodSo L.meaning self.now.table.shared.key (pool_at self.now.table.shared.key pool + word) result }
+    {
+        self.load_pool_as::<Brand>(pass, pool, word)
+    }
+
+    fn load_pool_as<W: SweepAim>(&self, pass: &mut CellPass<L>, pool: Pool, word: u32) -> u64
+        requires own { IsPassOf self.now.table.shared.key self.now.table.shared.table_id pass.old.seat.table_id pass.old.readers.items pass.old.seat.me }
+        requires word { word < pool_words (pool_places self.now.table.shared.key pool) }
+        requires aim { (W.layout ≡ self.now.table.shared.key) × (W.pool ≡ pool) × (W.word ≡ word) }
+        ensures own { IsPassOf self.now.table.shared.key self.now.table.shared.table_id pass.new.seat.table_id pass.new.readers.items pass.new.seat.me }
+        ensures next { pass.new.seat.me ≡ with_pools pass.old.seat.me (sweeping pool (pool_words self.now.table.shared.key.nodes) word pass.old.seat.me.0.pools result) }
+        ensures stood { StoodSo L.meaning self.now.table.shared.key (pool_at self.now.table.shared.key pool + word) result }
+    {
+        let place = self.layout.pool_place(pool, word);
+        self.table
+            .shared
+            .load::<SweepsPool<L, W>>(&mut pass.seat, place)
+    }
+
+    /// Takes a node, unless it is taken. Answers whether it did.
+    pub fn claim_node(&self, pass: &mut CellPass<L>, node: u32) -> bool
+        requires own { IsPassOf self.now.table.shared.key self.now.table.shared.table_id pass.old.seat.table_id pass.old.readers.items pass.old.seat.me }
+        requires node { node < self.now.table.shared.key.nodes }
+        requires protected { IsProtected pass.old.seat.me.0.epochs.pin }
+        requires few { length pass.old.seat.me.0.pools.nodes < most_nodes }
+        ensures own { IsPassOf self.now.table.shared.key self.now.table.shared.table_id pass.new.seat.table_id pass.new.readers.items pass.new.seat.me }
+        ensures next { pass.new.seat.me ≡ with_pools pass.old.seat.me (claiming_node node pass.old.seat.me.0.pools pass.new.seat.me.0.pools.found) }
+        ensures answers { (result ≡ true) ↔ (bit_at pass.new.seat.me.0.pools.found (node % 64) ≡ 0) }
+    {
+        self.claim_node_as::<Brand>(pass, node)
+    }
+
+    fn claim_node_as<W: NodeAim>(&self, pass: &mut CellPass<L>, node: u32) -> bool
+        requires own { IsPassOf self.now.table.shared.key self.now.table.shared.table_id pass.old.seat.table_id pass.old.readers.items pass.old.seat.me }
+        requires node { node < self.now.table.shared.key.nodes }
+        requires aim { W.node ≡ node }
+        ensures own { IsPassOf self.now.table.shared.key self.now.table.shared.table_id pass.new.seat.table_id pass.new.readers.items pass.new.seat.me }
+        ensures next { pass.new.seat.me ≡ with_pools pass.old.seat.me (claiming_node node pass.old.seat.me.0.pools pass.new.seat.me.0.pools.found) }
+        ensures answers { (result ≡ true) ↔ (bit_at pass.new.seat.me.0.pools.found (node % 64) ≡ 0) }
+    {
+        let place = self.layout.pool_place(Pool::Nodes, node / 64);
+        let found = self
+            .table
+            .shared
+            .fetch_or::<TakesNode<W>>(&mut pass.seat, place, place_bit(node));
+        is_clear(found, node)
+    }
+
+    /// Gives a node back that the pass owns.
+    pub fn give_back(&self, pass: &mut CellPass<L>, pool: Pool, place: u32)
+        requires own { IsPassOf self.now.table.shared.key self.now.table.shared.table_id pass.old.seat.table_id pass.old.readers.items pass.old.seat.me }
+        requires pool { pool ≡ Nodes }
+        requires place { place < self.now.table.shared.key.nodes }
+        requires owned { Contains pass.old.seat.me.0.pools.nodes place }
+        ensures own { IsPassOf self.now.table.shared.key self.now.table.shared.table_id pass.new.seat.table_id pass.new.readers.items pass.new.seat.me }
+        ensures next { pass.new.seat.me ≡ with_pools pass.old.seat.me (giving_back place pass.old.seat.me.0.pools pass.new.seat.me.0.pools.found) }
+    {
+        self.give_back_as::<Brand>(pass, pool, place);
+    }
+
+    fn give_back_as<W: NodeAim>(&self, pass: &mut CellPass<L>, pool: Pool, place: u32)
+        requires own { IsPassOf self.now.table.shared.key self.now.table.shared.table_id pass.old.seat.table_id pass.old.readers.items pass.old.seat.me }
+        requires pool { pool ≡ Nodes }
+        requires place { place < self.now.table.shared.key.nodes }
+        requires owned { Contains pass.old.seat.me.0.pools.nodes place }
+        requires aim { W.node ≡ place }
+        ensures own { IsPassOf self.now.table.shared.key self.now.table.shared.table_id pass.new.seat.table_id pass.new.readers.items pass.new.seat.me }
+        ensures next { pass.new.seat.me ≡ with_pools pass.old.seat.me (giving_back place pass.old.seat.me.0.pools pass.new.seat.me.0.pools.found) }
+    {
+        let word = self.layout.pool_place(pool, place / 64);
+        self.table
+            .shared
+            .fetch_and::<ReturnsNode<W>>(&mut pass.seat, word, !place_bit(place));
+    }
+}
+
+// The bit of a place in its word.
+fn place_bit(place: u32) -> u64
+    ensures { result ≡ 1 * 2 ^ (place % 64) % 2 ^ 64 }
+{
+    1 << (place % 64)
+}
+
+// Whether the bit of a place is clear in its word.
+fn is_clear(word: u64, place: u32) -> bool
+    ensures { result ≡ (bit_at word (place % 64) == 0) }
+{
+    (word >> (place % 64)) & 1 == 0
+}

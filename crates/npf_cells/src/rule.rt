@@ -1,0 +1,24 @@
+use crate::layout::Layout;
+use crate::views::CellView;
+use atomic_table::TableRule;
+use npf_core::Law;
+use std::marker::PhantomData;
+
+/// A connection's flow and its count of steps, or none where the slot is vacant.
+pub(crate) type Running<S> = Option<(S, u64)>;
+
+pub(crate) type Sight<L: Law> = CellView<L::State, L::Arg, L::Reply>;
+
+/// The rule of the table.
+pub struct CellsRule<L: Law> {
+    law: PhantomData<L>,
+}
+
+impl<L: Law> TableRule<Option<(L::State, u64)>, CellView<L::State, L::Arg, L::Reply>, Layout>
+    for CellsRule<L> {
+    ghost use Rattle.npf_cells.specs.Cells.{IsCells, first_cell_view};
+
+    ghost holds = { IsCells L.meaning };
+
+    ghost first = { first_cell_view };
+}

@@ -1,0 +1,63 @@
+use npf_core::{ConnId, Entry};
+use std::collections::LinkedList;
+
+/// Who a pass is, what it has seen, and which reader places it owns.
+pub struct SeatSide<S, A, R> {
+    pub slots: u32,
+    pub number: u64,
+    /// Whether it has its number: one that was split off gets it by its first step.
+    pub lives: bool,
+    pub history: LinkedList<Entry<S, A, R>>,
+    pub readers: LinkedList<u32>,
+    pub joined: LinkedList<u64>,
+    /// The history of a pass that was joined into this one, and the numbers that came with it, until the next step.
+    pub told: LinkedList<Entry<S, A, R>>,
+    pub theirs: LinkedList<u64>,
+    /// Numbers that aren't this pass's, while it has none.
+    pub others: LinkedList<u64>,
+}
+
+/// How a pass reads.
+pub enum Pin {
+    Idle,
+    /// Its reader word says so, and it hasn't loaded the epoch again.
+    Pinned { epoch: u64 },
+    /// It pinned this epoch and then loaded that one, which fixes what is protected.
+    Protected { pinned: u64, epoch: u64 },
+}
+
+/// What a pass knows of the epoch and of the readers.
+pub struct EpochSide {
+    pub pin: Pin,
+    /// The epoch that it loaded last by `load_epoch`, 0 where it loaded none.
+    pub loaded: u64,
+    /// The reader places that it found idle or in that epoch since then.
+    pub scanned: LinkedList<u32>,
+    /// Those that it found pinned in another epoch since then.
+    pub behind: LinkedList<u32>,
+    /// The epoch that its last step on that word found.
+    pub met: u64,
+    /// The greatest epoch that it knows of.
+    pub known: u64,
+}
+
+/// What a pass knows of the pools, and what it has of them.
+pub struct PoolSide {
+    /// How often it loaded each word of the nodes in a row, all bits set.
+    pub sweeps: u64,
+    /// How many words of the nodes, from the first on, it loaded so since it began the last row.
+    pub row: u32,
+    /// The pool word that its last step on one found.
+    pub found: u64,
+    /// The nodes that it owns.
+    pub nodes: LinkedList<u32>,
+    /// The connections that it is building.
+    pub builds: LinkedList<ConnId>,
+}
+
+/// What a pass knows, a side for each part of the rule that has one. No value of it is made.
+pub struct CellView<S, A, R> {
+    pub seats: SeatSide<S, A, R>,
+    pub epochs: EpochSide,
+    pub pools: PoolSide,
+}

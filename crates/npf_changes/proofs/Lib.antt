@@ -1,0 +1,7 @@
+mod AdditionLemmas
+mod AskLemmas
+mod EntryLemmas
+mod FindLemmas
+mod KeptLemmas
+mod ReadLemmas
+mod RemovalLemmas

@@ -1,0 +1,7 @@
+pub mod Additions
+pub mod Changes
+pub mod Entries
+pub mod Found
+pub mod Kept
+pub mod Rulesets
+pub mod Told

@@ -1,0 +1,27 @@
+// Changes of a configuration while a run goes on: entries of its tables, and rules of its dynamic rulesets (npf.conf(5), "Tables"
+// and "Groups"; npfctl(8)). Each gives the next configuration and leaves the old one as it is, with which packets go on being
+// walked; the tables that don't change are shared with it, and no rule that stays is compiled again.
+//
+// `finding` finds what a name names. `entries` changes a table; `addition` and `removal` change a ruleset: `reading` reads a rule's
+// text, `limit` counts for the limits, `change` says what becomes of the rules, in a copy of the model, and `programs` keeps the
+// programs of those that stay. `shared` shares the tables.
+//
+// The contract in words: a change gives exactly the configuration that specs/Entries, specs/Additions and specs/Changes say, in which
+// all else is as it was, or is refused for the first of its stages that has a fault; want of memory says nothing.
+#![tactic(auto)]
+
+mod addition;
+mod change;
+mod entries;
+mod fault;
+mod finding;
+mod limit;
+mod programs;
+mod reading;
+mod removal;
+mod shared;
+
+pub use addition::rule_add;
+pub use entries::{table_add, table_rem};
+pub use fault::ChangeFault;
+pub use removal::{rule_flush, rule_rem};

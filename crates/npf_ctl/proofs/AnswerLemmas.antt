@@ -1,0 +1,86 @@
+-- What the program answers, by how the work on its words ended.
+use Rattle.std.proofs.Common.{◌≡◌, ◌≢◌, ◌⊎◌, ◌∙◌, inl, inr, ℕ, true, false, List, [], Ok, Err, Result, refl, sym, ap, subst, arith}
+use Rattle.std.proofs.lemmas.Bool.{false≢true}
+use Rattle.npf_outside.specs.Counts.{Rose, StoodStill}
+use Rattle.npf_outside.specs.Files.{SameFiles}
+use Rattle.npf_outside.specs.Sink.{Appends, SinkMoment}
+use Rattle.npf_messages.specs.declared.fault.CommandFault.{CommandFault}
+use Rattle.npf_messages.specs.declared.fault.CommandFault.TheVariants.{Usage, Configuration, Unread, Long, Capture, Line, Many, Unwritten, OutputUnwritten, NoMemory}
+use Rattle.npf_messages.specs.Message.{status_of_fault}
+use Rattle.npf_words.specs.CommandLine.{is_command_line}
+use Rattle.npf_ctl.specs.Ends.{IsAnswered, SaysFault}
+use Rattle.npf_ctl.specs.Faults.{IsFaulted, IsUntouched, MeetsFault, PutsFront, PutsNothing}
+use Rattle.npf_ctl.specs.Running.{Moment}
+use Rattle.npf_ctl.specs.Top.{Answers, DoesWords, IsQuiet}
+use Rattle.npf_ctl.proofs.EndLemmas.{reported_front}
+
+-- no fault has the status of work that was done
+never_zero : (fault : CommandFault) → status_of_fault fault ≢ 0
+never_zero Usage e = omega (arith, e)
+never_zero (Configuration _ _) e = omega (arith, e)
+never_zero (Unread _) e = omega (arith, e)
+never_zero (Long _ _) e = omega (arith, e)
+never_zero (Capture _ _) e = omega (arith, e)
+never_zero (Line _ _ _) e = omega (arith, e)
+never_zero (Many _ _) e = omega (arith, e)
+never_zero (Unwritten _) e = omega (arith, e)
+never_zero OutputUnwritten e = omega (arith, e)
+never_zero NoMemory e = omega (arith, e)
+
+module _ (words : List (List ℕ)) (before after : Moment) where
+  -- nothing or a front was put before any fault
+  pub put_before : (fault : CommandFault) → MeetsFault words before after fault → PutsNothing before after ⊎ PutsFront words before after
+  put_before _ (MeetsFault.in_words not untouched) = inl untouched.put
+  put_before _ (MeetsFault.in_run said comes untouched) = inl untouched.put
+  put_before _ (MeetsFault.in_loading said loaded comes untouched) = inl untouched.put
+  put_before _ (MeetsFault.in_workload said holds reads comes untouched) = inl untouched.put
+  put_before _ (MeetsFault.in_output rose front) = inr front
+  put_before _ (MeetsFault.in_writing {run = run} {plan = plan} {outputs = outputs} {outcomes = outcomes} said named rose reports) =
+      inr (reported_front words before after run plan said outputs outcomes reports)
+  put_before _ (MeetsFault.in_memory put) = put
+
+  -- with a quiet status nothing was put, and no file changed
+  untouched_by : (fault : CommandFault) → MeetsFault words before after fault → IsQuiet (status_of_fault fault) → IsUntouched before after
+  untouched_by _ (MeetsFault.in_words not untouched) quiet = untouched
+  untouched_by _ (MeetsFault.in_run said comes untouched) quiet = untouched
+  untouched_by _ (MeetsFault.in_loading said loaded comes untouched) quiet = untouched
+  untouched_by _ (MeetsFault.in_workload said holds reads comes untouched) quiet = untouched
+  untouched_by _ (MeetsFault.in_output rose front) quiet = absurd (quiet.2 refl)
+  untouched_by _ (MeetsFault.in_writing said named rose reports) quiet = absurd (quiet.2 refl)
+  untouched_by _ (MeetsFault.in_memory put) quiet = absurd (quiet.1 refl)
+
+  module _ (old new : SinkMoment) (status : ℕ) where
+    -- what was said of a fault with its cause is an answer
+    pub said_fault : (fault : CommandFault) → MeetsFault words before after fault → SaysFault old new fault status → IsAnswered words before after old new status
+    said_fault fault cause (SaysFault.told is line) = IsAnswered.refused (record { fault = fault; status_is = is; cause = cause; line = line })
+    said_fault fault cause (SaysFault.untold is nothing) = IsAnswered.refused (record {
+      fault = NoMemory;
+      status_is = is;
+      cause = MeetsFault.in_memory (put_before fault cause);
+      line = inr (inr (is, nothing));
+    })
+
+    pub was_done : IsAnswered words before after old new status → status ≡ 0 → DoesWords words before after × (after.out.waiting ≡ 0) × Appends old.held new.held []
+    was_done (IsAnswered.done zero does flushed silent) is = (does, flushed, silent)
+    was_done (IsAnswered.refused faulted) is = absurd (never_zero faulted.fault (sym faulted.status_is ∙ is))
+
+    pub was_refused : IsAnswered words before after old new status → status ≢ 0 → IsFaulted words before after old new status
+    was_refused (IsAnswered.done zero does flushed silent) not = absurd (not zero)
+    was_refused (IsAnswered.refused faulted) not = faulted
+
+    pub was_quiet : IsAnswered words before after old new status → IsQuiet status → IsUntouched before after
+    was_quiet (IsAnswered.done zero does flushed silent) quiet = absurd (quiet.0 zero)
+    was_quiet (IsAnswered.refused faulted) quiet = untouched_by faulted.fault faulted.cause (subst IsQuiet faulted.status_is quiet)
+
+    -- words that are no command line are refused
+    pub refuses_usage : is_command_line words ≡ false → IsAnswered words before after old new status → Answers 2 status
+    refuses_usage not (IsAnswered.done zero does flushed silent) = absurd (false≢true (sym not ∙ does.said.taken))
+    refuses_usage not (IsAnswered.refused faulted) = by faulted.fault faulted.cause faulted.status_is where
+      by : (fault : CommandFault) → MeetsFault words before after fault → status ≡ status_of_fault fault → Answers 2 status
+      by _ (MeetsFault.in_words not_either untouched) is = inl is
+      by _ (MeetsFault.in_run said comes untouched) is = absurd (false≢true (sym not ∙ said.taken))
+      by _ (MeetsFault.in_loading said loaded comes untouched) is = absurd (false≢true (sym not ∙ said.taken))
+      by _ (MeetsFault.in_workload said holds reads comes untouched) is = absurd (false≢true (sym not ∙ said.taken))
+      by _ (MeetsFault.in_output rose front) is = absurd (false≢true (sym not ∙ front.said.taken))
+      by _ (MeetsFault.in_writing said named rose reports) is = absurd (false≢true (sym not ∙ said.taken))
+      by _ (MeetsFault.in_memory put) is = inr is

@@ -1,0 +1,108 @@
+-- How the work on a command ends before it is done.
+use Rattle.std.proofs.Common.{◌≡◌, ◌∙◌, Contains, inl, inr, ℕ, List, [], Option, Some, Ok, Err, Result, OnOk, IfErr, refl, sym, ap, subst, arith}
+use Rattle.npf_engine.specs.Histories.{History}
+use Rattle.npf_runner.specs.Plays.{IsUnnumbered}
+use Rattle.npf_outside.specs.Counts.{Rose}
+use Rattle.npf_outside.specs.Files.{FilesMoment}
+use Rattle.npf_outside.specs.Sink.{Appends, AppendsFront}
+use Rattle.npf_engine.specs.declared.outcome.Outcome.{Outcome}
+use Rattle.npf_messages.specs.declared.fault.CommandFault.{CommandFault}
+use Rattle.npf_messages.specs.declared.fault.CommandFault.TheVariants.{Usage, Configuration, Unread, Long, Capture, Line, Many, Unwritten, OutputUnwritten, NoMemory}
+use Rattle.npf_input.specs.Unless.{IfTold}
+use Rattle.npf_output.specs.Putting.{HasPutFault}
+use Rattle.npf_output.specs.Report.{report_text}
+use Rattle.npf_prepare.specs.Prepares.{RunPlan, PreparesRun}
+use Rattle.npf_runner.specs.declared.packet.Packet.{Packet}
+use Rattle.npf_words.specs.declared.command.Command.{Command}
+use Rattle.npf_words.specs.declared.command.Command.TheVariants.{Run}
+use Rattle.npf_words.specs.declared.command.Run.{Run as RunWords}
+use Rattle.npf_words.specs.CommandLine.{SaysCommand, given_text}
+use Rattle.npf_ctl.specs.Commands.{names_of_run, spread_said}
+use Rattle.npf_ctl.specs.Ends.{EndsIn, FailsReport, IsUnwritten}
+use Rattle.npf_ctl.specs.Faults.{MeetsFault, PutsFront, PutsNothing}
+use Rattle.npf_ctl.specs.Running.{Moment, IsReported}
+use Rattle.npf_ctl.specs.Texts.{TextOf}
+use Rattle.npf_ctl.specs.Top.{DoesCommand, PutsText}
+use Rattle.npf_ctl.proofs.FileLemmas.{front_of_whole}
+
+-- a write that failed failed since an earlier moment at which as many had failed
+pub unwritten_since : (first before after : FilesMoment) (name : List ℕ) → before.write_faults ≡ first.write_faults → (fault : CommandFault) →
+    IsUnwritten before after name fault → IsUnwritten first after name fault
+unwritten_since first before after name same (Unwritten file) (is, rose) = (is, subst (λ faults. Rose faults after.write_faults) same rose)
+unwritten_since first before after name same NoMemory why = tt
+unwritten_since first before after name same Usage why = why
+unwritten_since first before after name same (Configuration file fault) why = why
+unwritten_since first before after name same (Unread file) why = why
+unwritten_since first before after name same (Long file most) why = why
+unwritten_since first before after name same (Capture file fault) why = why
+unwritten_since first before after name same (Line file line fault) why = why
+unwritten_since first before after name same (Many what count) why = why
+unwritten_since first before after name same OutputUnwritten why = why
+
+pub each_unwritten_since : (first before after : FilesMoment) (name : List ℕ) → before.write_faults ≡ first.write_faults → (result : Result (Unit {0}) CommandFault) →
+    IfErr result (IsUnwritten before after name) → IfErr result (IsUnwritten first after name)
+each_unwritten_since first before after name same (Ok u) why = why
+each_unwritten_since first before after name same (Err fault) why = unwritten_since first before after name same fault why
+
+module _ (words : List (List ℕ)) (before after : Moment) where
+  -- what is said of a fault is its cause, and where memory runs out nothing was put
+  pub early : (Says : CommandFault → Type 0) → ((fault : CommandFault) → Says fault → MeetsFault words before after fault) → PutsNothing before after →
+      (fault : CommandFault) → IfTold Says fault → MeetsFault words before after fault
+  early Says meets nothing NoMemory told = MeetsFault.in_memory (inl nothing)
+  early Says meets nothing Usage told = meets Usage told
+  early Says meets nothing (Configuration file why) told = meets (Configuration file why) told
+  early Says meets nothing (Unread file) told = meets (Unread file) told
+  early Says meets nothing (Long file most) told = meets (Long file most) told
+  early Says meets nothing (Capture file why) told = meets (Capture file why) told
+  early Says meets nothing (Line file line why) told = meets (Line file line why) told
+  early Says meets nothing (Many what count) told = meets (Many what count) told
+  early Says meets nothing (Unwritten file) told = meets (Unwritten file) told
+  early Says meets nothing OutputUnwritten told = meets OutputUnwritten told
+
+  module _ (command : Command) (text : List ℕ) (said : SaysCommand words command) (of : TextOf before after command text) (front : AppendsFront before.out.held after.out.held text) where
+    puts_front : PutsFront words before after
+    puts_front = record { command = command; said = said; text = text; of = of; front = front }
+
+    -- the text wasn't put whole
+    pub unput : (fault : CommandFault) → HasPutFault before.out.faults after.out.faults fault → MeetsFault words before after fault
+    unput OutputUnwritten rose = MeetsFault.in_output rose puts_front
+    unput NoMemory why = MeetsFault.in_memory (inr puts_front)
+    unput _ why = absurd why
+
+  module _ (run : RunWords) (plan : RunPlan) (said : SaysCommand words (Run run)) where
+    -- a plan wasn't reported
+    pub unreported : PreparesRun before.files after.files (names_of_run run) (Ok plan) → (fault : CommandFault) →
+        FailsReport plan run.workers (spread_said run.spread) before.pass after.pass before.out after.out fault → MeetsFault words before after fault
+    unreported prepared _ (FailsReport.unplayed nothing) = MeetsFault.in_memory (inl nothing)
+    unreported prepared fault (FailsReport.unput plays why front) =
+        unput (Run run) _ said (TextOf.report (record { prepared = prepared; played = plays })) front fault why
+
+    module _ (outputs : List Packet) (outcomes : List Outcome) (reports : IsReported run before after plan outputs outcomes) where
+      -- the report that was put is a front of itself
+      pub reported_front : PutsFront words before after
+      reported_front = puts_front (Run run) (report_text plan.ifaces plan.packets outcomes) said (TextOf.report reports.played)
+          (front_of_whole before.out.held after.out.held (report_text plan.ifaces plan.packets outcomes) reports.reported)
+
+      -- and what passed wasn't written
+      pub unwritten : (name : List ℕ) → given_text run.output ≡ Some name → (fault : CommandFault) → IsUnwritten before.files after.files name fault →
+          MeetsFault words before after fault
+      unwritten name named (Unwritten file) why =
+          subst (λ (n : List ℕ). MeetsFault words before after (Unwritten n)) (sym why.0) (MeetsFault.in_writing said named why.1 reports)
+      unwritten name named NoMemory why = MeetsFault.in_memory (inr reported_front)
+      unwritten name named _ why = absurd why
+
+-- a history without entries carries no number
+pub unnumbered_first : (last : ℕ) (history : History) → history ≡ [] → IsUnnumbered last history
+unnumbered_first last history none = subst (IsUnnumbered last) (sym none) (λ n entry low high has. absurd (nothing_in entry has))
+  where
+    nothing_in : {X : Type 0} (x : X) → Contains [] x → ⊥
+    nothing_in x has = let below = has.1 in omega (arith, below)
+
+module _ (words : List (List ℕ)) (before after : Moment) (command : Command) (text : List ℕ) (said : SaysCommand words command) (of : TextOf before after command text) where
+  -- a text that was put, or not
+  pub text_ends : (PutsText command before after → DoesCommand command before after) → (result : Result (Unit {0}) CommandFault) →
+      OnOk result (Appends before.out.held after.out.held text) → OnOk result (after.out.waiting ≡ 0) → AppendsFront before.out.held after.out.held text →
+      IfErr result (HasPutFault before.out.faults after.out.faults) → EndsIn words before after result
+  text_ends does (Ok unit) whole flushed front fault =
+      (record { command = command; said = said; does = does (record { text = text; of = of; put = whole }) }, flushed)
+  text_ends does (Err why) whole flushed front fault = unput words before after command text said of front why fault

@@ -1,0 +1,188 @@
+-- What must be refused is, and what can be done is done, where contents are told and no read fails.
+use Rattle.std.proofs.Common.{◌≡◌, ◌≢◌, ◌⊎◌, ◌∙◌, inl, inr, ℕ, true, false, List, [], Option, Some, None, Ok, Err, Result, refl, sym, ap, subst, arith}
+use Rattle.std.proofs.lemmas.Bool.{false≢true}
+use Rattle.npf_outside.specs.Counts.{Rose, StoodStill}
+use Rattle.npf_outside.specs.Files.{Tree}
+use Rattle.npf_outside.specs.Sink.{Appends, SinkMoment}
+use Rattle.npf_input.specs.File.{ReadsWell, told_files}
+use Rattle.npf_input.specs.Laws.{LoadsAreOfContents}
+use Rattle.npf_input.specs.Loading.{LoadsAlone}
+use Rattle.npf_messages.specs.declared.fault.CommandFault.{CommandFault}
+use Rattle.npf_messages.specs.declared.fault.CommandFault.TheVariants.{Usage}
+use Rattle.npf_messages.specs.Message.{status_of_fault}
+use Rattle.npf_model.specs.Configuration.{Configuration}
+use Rattle.npf_prepare.specs.Laws.{RunsAreOfContents}
+use Rattle.npf_prepare.specs.Prepares.{RunPlan, PreparesRun}
+use Rattle.npf_words.specs.declared.command.Command.{Command}
+use Rattle.npf_words.specs.declared.command.Command.TheVariants as Words
+use Rattle.npf_words.specs.declared.command.Load.{Load}
+use Rattle.npf_words.specs.declared.command.Run.{Run}
+use Rattle.npf_words.specs.CommandLine.{SaysCommand, given_text, is_command_line}
+use Rattle.npf_words.specs.Laws.{IsSameCommand, IsSameLoad, IsSameRun, OneCommand}
+use Rattle.npf_ctl.specs.Commands.{loaded_by, names_of_run}
+use Rattle.npf_ctl.specs.Ends.{IsAnswered}
+use Rattle.npf_ctl.specs.Faults.{IsFaulted, MeetsFault, PutsFront}
+use Rattle.npf_ctl.specs.Running.{Moment}
+use Rattle.npf_ctl.specs.Texts.{TextOf}
+use Rattle.npf_ctl.specs.Top.{Answers, CanDo, DoesCommand, DoesWords, IsOk, MustRefuse}
+use Rattle.npf_ctl.proofs.EndLemmas.{reported_front}
+
+-- a fault of files is told by what they come to
+module _ (words : List (List ℕ)) (before after : Moment) (A : Type 0) (ComesTo : Result A CommandFault → Type 0) where
+  record IsToldBy : Type 0 where
+    taken : is_command_line words ≡ true
+    does : DoesWords words before after → (a : A) × ComesTo (Ok a)
+    front : PutsFront words before after → (a : A) × ComesTo (Ok a)
+    runs : {run : Run} {fault : CommandFault} → SaysCommand words (Words.Run run) → PreparesRun before.files after.files (names_of_run run) (Err fault) → ComesTo (Err fault)
+    loads : {command : Command} {load : Load} {fault : CommandFault} → SaysCommand words command → loaded_by command ≡ Some load →
+        LoadsAlone before.files after.files (given_text load.ifaces) load.conf.now (Err fault) → ComesTo (Err fault)
+    not_gen : {number : ℕ} → SaysCommand words (Words.Gen number) → ⊥
+
+  module _ (is : IsToldBy) (old new : SinkMoment) (status : ℕ) where
+    -- one fault alone can be told
+    only : (fault : CommandFault) → ((result : Result A CommandFault) → ComesTo result → result ≡ Err fault) → IsAnswered words before after old new status →
+        Answers (status_of_fault fault) status
+    only fault must (IsAnswered.done zero does flushed silent) = let ok = is.does does in let e = must (Ok ok.0) ok.1 in cc
+    only fault must (IsAnswered.refused faulted) = by faulted.fault faulted.cause faulted.status_is where
+      never : {X : Type 0} → (a : A) × ComesTo (Ok a) → X
+      never ok = let e = must (Ok ok.0) ok.1 in cc
+
+      same : (other : CommandFault) → ComesTo (Err other) → status ≡ status_of_fault other → Answers (status_of_fault fault) status
+      same other comes at = let e : other ≡ fault = (let e = must (Err other) comes in cc) in inl (at ∙ ap status_of_fault e)
+
+      by : (other : CommandFault) → MeetsFault words before after other → status ≡ status_of_fault other → Answers (status_of_fault fault) status
+      by _ (MeetsFault.in_words not untouched) at = absurd (false≢true (sym not ∙ is.taken))
+      by other (MeetsFault.in_run said comes untouched) at = same other (is.runs said comes) at
+      by other (MeetsFault.in_loading said loaded comes untouched) at = same other (is.loads said loaded comes) at
+      by _ (MeetsFault.in_workload said holds reads comes untouched) at = absurd (is.not_gen said)
+      by _ (MeetsFault.in_output rose front) at = never (is.front front)
+      by _ (MeetsFault.in_writing {run = run} {plan = plan} {outputs = outputs} {outcomes = outcomes} said named rose reports) at =
+          never (is.front (reported_front words before after run plan said outputs outcomes reports))
+      by _ (MeetsFault.in_memory put) at = inr at
+
+    -- no fault can be told
+    none : ((result : Result A CommandFault) → ComesTo result → IsOk result) → StoodStill before.out.faults after.out.faults →
+        StoodStill before.files.write_faults after.files.write_faults → IsAnswered words before after old new status → Answers 0 status
+    none can puts writes (IsAnswered.done zero does flushed silent) = inl zero
+    none can puts writes (IsAnswered.refused faulted) = by faulted.fault faulted.cause faulted.status_is where
+      by : (other : CommandFault) → MeetsFault words before after other → status ≡ status_of_fault other → Answers 0 status
+      by _ (MeetsFault.in_words not untouched) at = absurd (false≢true (sym not ∙ is.taken))
+      by other (MeetsFault.in_run said comes untouched) at = absurd (can (Err other) (is.runs said comes))
+      by other (MeetsFault.in_loading said loaded comes untouched) at = absurd (can (Err other) (is.loads said loaded comes))
+      by _ (MeetsFault.in_workload said holds reads comes untouched) at = absurd (is.not_gen said)
+      by _ (MeetsFault.in_output rose front) at = absurd (omega (arith, rose, puts.0, puts.1))
+      by _ (MeetsFault.in_writing said named rose reports) at = absurd (omega (arith, rose, writes.0, writes.1))
+      by _ (MeetsFault.in_memory put) at = inr at
+
+module _ (words : List (List ℕ)) (before after : Moment) (tree : Tree) (told : before.files.contents ≡ Some tree) (well : ReadsWell before.files after.files) (one : OneCommand) where
+  module _ (of_runs : RunsAreOfContents) (run : Run) (said : SaysCommand words (Words.Run run)) where
+    abbrev OfRun : Result RunPlan CommandFault → Type 0
+    OfRun = PreparesRun (told_files tree) (told_files tree) (names_of_run run)
+
+    same_names : (b : Run) → IsSameRun run b → names_of_run b ≡ names_of_run run
+    same_names b same = rw (same.conf, same.script, same.ifaces) refl
+
+    prepared : (b : Run) → SaysCommand words (Words.Run b) → (result : Result RunPlan CommandFault) → PreparesRun before.files after.files (names_of_run b) result → OfRun result
+    prepared b said_b result comes =
+        of_runs (names_of_run run) tree before.files after.files result told well
+        (subst (λ names. PreparesRun before.files after.files names result) (same_names b (one words (Words.Run run) (Words.Run b) said said_b)) comes)
+
+    run_text : (command : Command) (text : List ℕ) → SaysCommand words command → TextOf before after command text → (plan : RunPlan) × OfRun (Ok plan)
+    run_text _ _ said_b (TextOf.report {run = b} {plan = plan} plays) = (plan, prepared b said_b (Ok plan) plays.prepared)
+    run_text _ _ said_b (TextOf.count {load = load} loads) = absurd (one words (Words.Run run) (Words.Validate load) said said_b)
+    run_text _ _ said_b (TextOf.model {load = load} loads) = absurd (one words (Words.Run run) (Words.Show load) said said_b)
+    run_text _ _ said_b (TextOf.programs {load = load} loads within) = absurd (one words (Words.Run run) (Words.Debug load) said said_b)
+    run_text _ _ said_b (TextOf.total {number = number} holds reads plays) = absurd (one words (Words.Run run) (Words.Gen number) said said_b)
+
+    run_does : (command : Command) → SaysCommand words command → DoesCommand command before after → (plan : RunPlan) × OfRun (Ok plan)
+    run_does (Words.Run b) said_b does = (does.plan, prepared b said_b (Ok does.plan) does.reports.played.prepared)
+    run_does (Words.Validate load) said_b does = run_text _ _ said_b does.of
+    run_does (Words.Show load) said_b does = run_text _ _ said_b does.of
+    run_does (Words.Debug load) said_b does = run_text _ _ said_b does.of
+    run_does (Words.Gen number) said_b does = run_text _ _ said_b does.of
+
+    no_loads : {X : Type 0} (command : Command) (load : Load) → SaysCommand words command → loaded_by command ≡ Some load → X
+    no_loads (Words.Run b) load said_b loaded = cc
+    no_loads (Words.Validate l) load said_b loaded = absurd (one words (Words.Run run) (Words.Validate l) said said_b)
+    no_loads (Words.Show l) load said_b loaded = absurd (one words (Words.Run run) (Words.Show l) said said_b)
+    no_loads (Words.Debug l) load said_b loaded = absurd (one words (Words.Run run) (Words.Debug l) said said_b)
+    no_loads (Words.Gen number) load said_b loaded = cc
+
+    run_told : IsToldBy words before after RunPlan OfRun
+    run_told = record {
+      taken = said.taken;
+      does = λ does. run_does does.command does.said does.does;
+      front = λ front. run_text front.command front.text front.said front.of;
+      runs = λ {run = b} {fault} said_b comes. prepared b said_b (Err fault) comes;
+      loads = λ {command} {load} {fault} said_b loaded comes. no_loads command load said_b loaded;
+      not_gen = λ {number} said_b. one words (Words.Run run) (Words.Gen number) said said_b;
+    }
+
+  module _ (of_loads : LoadsAreOfContents) (command : Command) (load : Load) (said : SaysCommand words command) (loaded : loaded_by command ≡ Some load) where
+    abbrev OfLoad : Result Configuration CommandFault → Type 0
+    OfLoad = LoadsAlone (told_files tree) (told_files tree) (given_text load.ifaces) load.conf.now
+
+    -- another command of the same words loads the same
+    same_loaded : (a b : Command) → IsSameCommand a b → loaded_by a ≡ Some load → (other : Load) → loaded_by b ≡ Some other → IsSameLoad load other
+    same_loaded (Words.Validate l) (Words.Validate m) same e other f = let p : l ≡ load = cc in let q : m ≡ other = cc in subst (λ x. IsSameLoad x other) p (subst (IsSameLoad l) q same)
+    same_loaded (Words.Show l) (Words.Show m) same e other f = let p : l ≡ load = cc in let q : m ≡ other = cc in subst (λ x. IsSameLoad x other) p (subst (IsSameLoad l) q same)
+    same_loaded (Words.Debug l) (Words.Debug m) same e other f = let p : l ≡ load = cc in let q : m ≡ other = cc in subst (λ x. IsSameLoad x other) p (subst (IsSameLoad l) q same)
+    same_loaded (Words.Run l) b same e other f = cc
+    same_loaded (Words.Gen l) b same e other f = cc
+    same_loaded _ _ same e other f = absurd same
+
+    loads_so : (b : Command) (other : Load) → SaysCommand words b → loaded_by b ≡ Some other → (result : Result Configuration CommandFault) →
+        LoadsAlone before.files after.files (given_text other.ifaces) other.conf.now result → OfLoad result
+    loads_so b other said_b loaded_b result comes =
+        let same = same_loaded command b (one words command b said said_b) loaded other loaded_b in
+        of_loads (given_text load.ifaces) load.conf.now tree before.files after.files result told well
+        (subst (λ conf. LoadsAlone before.files after.files (given_text load.ifaces) conf result) (sym same.conf)
+        (subst (λ ifaces. LoadsAlone before.files after.files ifaces other.conf.now result) (sym same.ifaces) comes))
+
+    not_other : {X : Type 0} (b : Command) → SaysCommand words b → loaded_by b ≡ None → X
+    not_other {X} b said_b none = by command b (one words command b said said_b) loaded none where
+      by : (a b : Command) → IsSameCommand a b → loaded_by a ≡ Some load → loaded_by b ≡ None → X
+      by (Words.Run l) b same e f = cc
+      by (Words.Gen l) b same e f = cc
+      by (Words.Validate l) (Words.Validate m) same e f = cc
+      by (Words.Show l) (Words.Show m) same e f = cc
+      by (Words.Debug l) (Words.Debug m) same e f = cc
+      by _ _ same e f = absurd same
+
+    load_text : (b : Command) (text : List ℕ) → SaysCommand words b → TextOf before after b text → (config : Configuration) × OfLoad (Ok config)
+    load_text _ _ said_b (TextOf.report {run = b} plays) = not_other (Words.Run b) said_b refl
+    load_text _ _ said_b (TextOf.count {load = l} {config = config} loads) = (config, loads_so (Words.Validate l) l said_b refl (Ok config) loads)
+    load_text _ _ said_b (TextOf.model {load = l} {config = config} loads) = (config, loads_so (Words.Show l) l said_b refl (Ok config) loads)
+    load_text _ _ said_b (TextOf.programs {load = l} {config = config} loads within) = (config, loads_so (Words.Debug l) l said_b refl (Ok config) loads)
+    load_text _ _ said_b (TextOf.total {number = number} holds reads plays) = not_other (Words.Gen number) said_b refl
+
+    load_does : (b : Command) → SaysCommand words b → DoesCommand b before after → (config : Configuration) × OfLoad (Ok config)
+    load_does (Words.Run b) said_b does = not_other (Words.Run b) said_b refl
+    load_does (Words.Validate l) said_b does = load_text _ _ said_b does.of
+    load_does (Words.Show l) said_b does = load_text _ _ said_b does.of
+    load_does (Words.Debug l) said_b does = load_text _ _ said_b does.of
+    load_does (Words.Gen number) said_b does = load_text _ _ said_b does.of
+
+    load_told : IsToldBy words before after Configuration OfLoad
+    load_told = record {
+      taken = said.taken;
+      does = λ does. load_does does.command does.said does.does;
+      front = λ front. load_text front.command front.text front.said front.of;
+      runs = λ {run = b} {fault} said_b comes. not_other (Words.Run b) said_b refl;
+      loads = λ {command = b} {load = other} {fault} said_b loaded_b comes. loads_so b other said_b loaded_b (Err fault) comes;
+      not_gen = λ {number} said_b. not_other (Words.Gen number) said_b refl;
+    }
+
+  module _ (of_runs : RunsAreOfContents) (of_loads : LoadsAreOfContents) (old new : SinkMoment) (status : ℕ) where
+    pub refuses_fault : (fault : CommandFault) → MustRefuse words tree fault → IsAnswered words before after old new status → Answers (status_of_fault fault) status
+    refuses_fault fault (MustRefuse.run {words_of = run} said must) =
+        only words before after RunPlan (OfRun of_runs run said) (run_told of_runs run said) old new status fault must
+    refuses_fault fault (MustRefuse.load {command = command} {load_of = load} said loaded must) =
+        only words before after Configuration (OfLoad of_loads command load said loaded) (load_told of_loads command load said loaded) old new status fault must
+
+    pub does_all : CanDo words tree → StoodStill before.out.faults after.out.faults → StoodStill before.files.write_faults after.files.write_faults →
+        IsAnswered words before after old new status → Answers 0 status
+    does_all (CanDo.run {words_of = run} said can) =
+        none words before after RunPlan (OfRun of_runs run said) (run_told of_runs run said) old new status can
+    does_all (CanDo.load {command = command} {load_of = load} said loaded can) =
+        none words before after Configuration (OfLoad of_loads command load said loaded) (load_told of_loads command load said loaded) old new status can

@@ -1,0 +1,27 @@
+-- What the words of a command line name, as the layers below take it.
+use Rattle.std.specs.Prelude.{ℕ, Option, Some, None, List}
+use Rattle.npf_prepare.specs.Prepares.{RunNames}
+use Rattle.npf_runner.specs.declared.phase.Spread.{Spread}
+use Rattle.npf_runner.specs.declared.phase.Spread.TheVariants as Dealt
+use Rattle.npf_words.specs.declared.command.Command.{Command}
+use Rattle.npf_words.specs.declared.command.Command.TheVariants.{Run, Validate, Show, Debug, Gen}
+use Rattle.npf_words.specs.declared.command.Load.{Load as LoadWords}
+use Rattle.npf_words.specs.declared.command.Run.{Run as RunWords}
+use Rattle.npf_words.specs.declared.command.Spread.{Spread as SpreadWord}
+use Rattle.npf_words.specs.declared.command.Spread.TheVariants as Said
+use Rattle.npf_words.specs.CommandLine.{given_text}
+
+abbrev pub names_of_run : RunWords → RunNames
+names_of_run run = record { conf = run.conf.now; script = run.script.now; ifaces = given_text run.ifaces }
+
+abbrev pub spread_said : SpreadWord → Spread
+spread_said Said.Rr = Dealt.Rr
+spread_said Said.Flow = Dealt.Flow
+
+-- what a command loads that only looks at a configuration
+abbrev pub loaded_by : Command → Option LoadWords
+loaded_by (Run run) = None
+loaded_by (Validate load) = Some load
+loaded_by (Show load) = Some load
+loaded_by (Debug load) = Some load
+loaded_by (Gen number) = None

@@ -1,0 +1,82 @@
+-- How the work on a command ends, and what is left of the pass of the table of connections.
+use Rattle.std.specs.Prelude.{◌≡◌, ◌≤◌, ◌⊎◌, ℕ, ⊤, false, Result, Ok, Err, List, []}
+use Rattle.npf_connections.specs.Pass.{IsPass, Pass, all_places}
+use Rattle.npf_flow.specs.Flows.{flow_law}
+use Rattle.npf_engine.specs.declared.outcome.Outcome.{Outcome}
+use Rattle.npf_engine.specs.Histories.{FlowEntry}
+use Rattle.npf_messages.specs.declared.fault.CommandFault.{CommandFault}
+use Rattle.npf_messages.specs.declared.fault.CommandFault.TheVariants.{NoMemory, Unwritten}
+use Rattle.npf_messages.specs.Message.{message_line, status_of_fault}
+use Rattle.npf_config.specs.Reading.{OnlyReads}
+use Rattle.npf_input.specs.Unless.{UnlessMemory}
+use Rattle.npf_outside.specs.Counts.{Rose}
+use Rattle.npf_outside.specs.Files.{FilesMoment, SameReadFaults}
+use Rattle.npf_outside.specs.Sink.{Appends, AppendsFront, SinkMoment}
+use Rattle.npf_output.specs.Putting.{HasPutFault}
+use Rattle.npf_output.specs.Report.{report_text}
+use Rattle.npf_prepare.specs.declared.prepare.Prepared.{Prepared}
+use Rattle.npf_prepare.specs.Prepares.{RunPlan, PreparesRun}
+use Rattle.npf_prepare.specs.View.{run_plan_of}
+use Rattle.npf_runner.specs.declared.packet.Packet.{Packet}
+use Rattle.npf_runner.specs.declared.phase.Spread.{Spread}
+use Rattle.npf_runner.specs.Plays.{PlaysPhases}
+use Rattle.npf_ctl.specs.Faults.{IsFaulted, MeetsFault, PutsLine}
+use Rattle.npf_ctl.specs.Generated.{HoldWorkload, generated_names}
+use Rattle.npf_ctl.specs.Running.{Moment}
+use Rattle.npf_ctl.specs.Top.{DoesWords}
+
+-- a pass that owns all of its table, which nothing was asked yet
+pub record IsFresh (pass : Pass FlowEntry) : Type 0 where
+  pub legal : IsPass flow_law pass
+  pub out : pass.entered ≡ false
+  pub places : pass.places ≡ all_places
+  pub first : pass.history ≡ []
+
+-- what is left of it: its history, its sweeps and its epoch went on
+pub record GoesOn (old new : Pass FlowEntry) : Type 0 where
+  pub legal : IsPass flow_law new
+  pub out : new.entered ≡ false
+  pub places : new.places ≡ all_places
+  pub slots : new.slots ≡ old.slots
+  pub number : new.number ≡ old.number
+  pub sweeps : old.sweeps ≤ new.sweeps
+  pub epoch : old.epoch ≤ new.epoch
+
+-- why a plan isn't reported: memory ran out before it was played, and nothing was put; or its report wasn't put whole
+pub data FailsReport (plan : RunPlan) (workers : ℕ) (spread : Spread) (old new : Pass FlowEntry) (before after : SinkMoment) : CommandFault → Type 0 where
+  unplayed : Appends before.held after.held [] → FailsReport plan workers spread old new before after NoMemory
+  unput : {outputs : List Packet} {outcomes : List Outcome} {fault : CommandFault} →
+      PlaysPhases plan.configs workers spread old new plan.phases plan.packets outputs outcomes → HasPutFault before.faults after.faults fault →
+      AppendsFront before.held after.held (report_text plan.ifaces plan.packets outcomes) → FailsReport plan workers spread old new before after fault
+
+-- no read failed since, and none was made
+pub record HasReadOn (before after : FilesMoment) : Type 0 where
+  pub faults : SameReadFaults before after
+  pub taken : after.taken ≡ before.taken
+
+-- why the file of this name isn't written: a write failed; or memory was wanting
+abbrev pub IsUnwritten : FilesMoment → FilesMoment → List ℕ → CommandFault → Type 0
+IsUnwritten before after name (Unwritten file) = (file ≡ name) × Rose before.write_faults after.write_faults
+IsUnwritten before after name NoMemory = ⊤
+IsUnwritten before after name _ = ⊥
+
+-- what preparing the generated run of this number comes to, unless memory is wanting for its files
+pub data PreparesGenerated (number : ℕ) : Result Prepared CommandFault → Type 0 where
+  unmade : PreparesGenerated number (Err NoMemory)
+  made : {files read : FilesMoment} {result : Result Prepared CommandFault} → HoldWorkload number files → OnlyReads files read →
+      UnlessMemory run_plan_of result (PreparesRun files read generated_names) → PreparesGenerated number result
+
+-- what the words say was done, and the output is flushed; or the first fault was met
+abbrev pub EndsIn : List (List ℕ) → Moment → Moment → Result (Unit {0}) CommandFault → Type 0
+EndsIn words before after (Ok _) = DoesWords words before after × (after.out.waiting ≡ 0)
+EndsIn words before after (Err fault) = MeetsFault words before after fault
+
+-- the fault's line was put, or a front of it where the sink failed, and the status is the fault's; or memory was wanting for it
+pub data SaysFault (old new : SinkMoment) (fault : CommandFault) (status : ℕ) : Type 0 where
+  told : status ≡ status_of_fault fault → PutsLine old new (message_line fault) status → SaysFault old new fault status
+  untold : status ≡ 1 → Appends old.held new.held [] → SaysFault old new fault status
+
+-- the words were answered with this status
+pub data IsAnswered (words : List (List ℕ)) (before after : Moment) (old new : SinkMoment) (status : ℕ) : Type 0 where
+  done : status ≡ 0 → DoesWords words before after → after.out.waiting ≡ 0 → Appends old.held new.held [] → IsAnswered words before after old new status
+  refused : IsFaulted words before after old new status → IsAnswered words before after old new status

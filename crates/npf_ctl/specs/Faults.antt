@@ -1,0 +1,69 @@
+-- The first fault that a command met: its cause, what was put before it, and its line.
+use Rattle.std.specs.Prelude.{◌≡◌, ◌⊎◌, ℕ, false, Err, Option, Some, List, []}
+use Rattle.npf_outside.specs.Counts.{Rose}
+use Rattle.npf_outside.specs.Files.{FilesMoment, SameFiles}
+use Rattle.npf_outside.specs.Sink.{SinkMoment, Appends, AppendsFront}
+use Rattle.npf_config.specs.Reading.{OnlyReads}
+use Rattle.npf_engine.specs.declared.outcome.Outcome.{Outcome}
+use Rattle.npf_input.specs.Loading.{LoadsAlone}
+use Rattle.npf_prepare.specs.Prepares.{RunPlan, PreparesRun}
+use Rattle.npf_runner.specs.declared.packet.Packet.{Packet}
+use Rattle.npf_messages.specs.declared.fault.CommandFault.{CommandFault}
+use Rattle.npf_messages.specs.declared.fault.CommandFault.TheVariants.{Usage, Unwritten, OutputUnwritten, NoMemory}
+use Rattle.npf_messages.specs.Message.{message_line, status_of_fault}
+use Rattle.npf_words.specs.declared.command.Command.{Command}
+use Rattle.npf_words.specs.declared.command.Command.TheVariants.{Run, Gen}
+use Rattle.npf_words.specs.declared.command.Load.{Load}
+use Rattle.npf_words.specs.declared.command.Run.{Run as RunWords}
+use Rattle.npf_words.specs.CommandLine.{SaysCommand, given_text, is_command_line}
+use Rattle.npf_ctl.specs.Commands.{loaded_by, names_of_run}
+use Rattle.npf_ctl.specs.Generated.{HoldWorkload, generated_names}
+use Rattle.npf_ctl.specs.Running.{Moment, IsReported}
+use Rattle.npf_ctl.specs.Texts.{TextOf}
+
+-- The line was put on the error sink; or a front of it, where the sink's own count rose; or, with status 1 alone, nothing.
+abbrev pub PutsLine : SinkMoment → SinkMoment → List ℕ → ℕ → Type 0
+PutsLine old new line status =
+    Appends old.held new.held line
+    ⊎ (Rose old.faults new.faults × AppendsFront old.held new.held line)
+    ⊎ ((status ≡ 1) × Appends old.held new.held [])
+
+module _ (before after : Moment) where
+  -- nothing was put on the output
+  abbrev pub PutsNothing : Type 0
+  PutsNothing = Appends before.out.held after.out.held []
+
+  -- and no file changed
+  pub record IsUntouched : Type 0 where
+    pub put : PutsNothing
+    pub files : SameFiles before.files.contents after.files.contents
+
+module _ (words : List (List ℕ)) (before after : Moment) where
+  -- a front of the command's text was put on the output
+  pub record PutsFront : Type 0 where
+    pub command : Command
+    pub said : SaysCommand words command
+    pub text : List ℕ
+    pub of : TextOf before after command text
+    pub front : AppendsFront before.out.held after.out.held text
+
+  -- why this is the first fault, and what was done before it; want of memory says nothing of the words and the files
+  pub data MeetsFault : CommandFault → Type 0 where
+    in_words : is_command_line words ≡ false → IsUntouched before after → MeetsFault Usage
+    in_run : {run : RunWords} {fault : CommandFault} → SaysCommand words (Run run) →
+        PreparesRun before.files after.files (names_of_run run) (Err fault) → IsUntouched before after → MeetsFault fault
+    in_loading : {command : Command} {load : Load} {fault : CommandFault} → SaysCommand words command → loaded_by command ≡ Some load →
+        LoadsAlone before.files after.files (given_text load.ifaces) load.conf.now (Err fault) → IsUntouched before after → MeetsFault fault
+    in_workload : {number : ℕ} {files read : FilesMoment} {fault : CommandFault} → SaysCommand words (Gen number) → HoldWorkload number files →
+        OnlyReads files read → PreparesRun files read generated_names (Err fault) → IsUntouched before after → MeetsFault fault
+    in_output : Rose before.out.faults after.out.faults → PutsFront → MeetsFault OutputUnwritten
+    in_writing : {run : RunWords} {name : List ℕ} {plan : RunPlan} {outputs : List Packet} {outcomes : List Outcome} → SaysCommand words (Run run) →
+        given_text run.output ≡ Some name → Rose before.files.write_faults after.files.write_faults →
+        IsReported run before after plan outputs outcomes → MeetsFault (Unwritten name)
+    in_memory : PutsNothing before after ⊎ PutsFront → MeetsFault NoMemory
+
+  pub record IsFaulted (old new : SinkMoment) (status : ℕ) : Type 0 where
+    pub fault : CommandFault
+    pub status_is : status ≡ status_of_fault fault
+    pub cause : MeetsFault fault
+    pub line : PutsLine old new (message_line fault) status

@@ -1,0 +1,56 @@
+-- What a run does, from its files to the bytes that it puts and writes.
+use Rattle.std.specs.Prelude.{◌≡◌, ℕ, Ok, List, IfSome}
+use Rattle.npf_connections.specs.Pass.{Pass}
+use Rattle.npf_engine.specs.declared.outcome.Outcome.{Outcome}
+use Rattle.npf_engine.specs.Histories.{FlowEntry}
+use Rattle.npf_outside.specs.Files.{FilesMoment, Has}
+use Rattle.npf_outside.specs.Sink.{SinkMoment, Appends}
+use Rattle.npf_pcap.specs.declared.capture.Record.{Record}
+use Rattle.npf_pcap.specs.Spelling.{capture_bytes}
+use Rattle.npf_runner.specs.declared.packet.Packet.{Packet}
+use Rattle.npf_runner.specs.declared.phase.Spread.{Spread}
+use Rattle.npf_runner.specs.Plays.{PlaysPhases}
+use Rattle.npf_prepare.specs.Prepares.{RunPlan, PreparesRun, RunNames}
+use Rattle.npf_output.specs.Report.{report_text}
+use Rattle.npf_output.specs.Written.{AreWritten}
+use Rattle.npf_words.specs.declared.command.Run.{Run}
+use Rattle.npf_words.specs.CommandLine.{given_text}
+use Rattle.npf_ctl.specs.Commands.{names_of_run, spread_said}
+
+-- what is shown at a moment: the files, the output, and the pass of the table of connections
+pub record Moment : Type 0 where
+  pub files : FilesMoment
+  pub out : SinkMoment
+  pub pass : Pass FlowEntry
+
+abbrev pub moment : FilesMoment → SinkMoment → Pass FlowEntry → Moment
+moment files out pass = record { files = files; out = out; pass = pass }
+
+-- The plan of these names, as the files say it from the one moment to the other, was played: each packet has an outcome that the pass's
+-- history explains.
+pub record PlaysRun (names : RunNames) (workers : ℕ) (spread : Spread) (before after : FilesMoment) (old new : Pass FlowEntry) (plan : RunPlan) (outputs : List Packet) (outcomes : List Outcome) : Type 0 where
+  pub prepared : PreparesRun before after names (Ok plan)
+  pub played : PlaysPhases plan.configs workers spread old new plan.phases plan.packets outputs outcomes
+
+-- a run's words were followed so
+abbrev pub PlaysWords : Run → Moment → Moment → RunPlan → List Packet → List Outcome → Type 0
+PlaysWords run before after = PlaysRun (names_of_run run) run.workers (spread_said run.spread) before.files after.files before.pass after.pass
+
+-- a run was played, and its report was put on the output
+pub record IsReported (run : Run) (before after : Moment) (plan : RunPlan) (outputs : List Packet) (outcomes : List Outcome) : Type 0 where
+  pub played : PlaysWords run before after plan outputs outcomes
+  pub reported : Appends before.out.held after.out.held (report_text plan.ifaces plan.packets outcomes)
+
+-- the file of this name holds the packets that passed, as they were sent
+pub record IsWrittenTo (files : FilesMoment) (packets outputs : List Packet) (outcomes : List Outcome) (name : List ℕ) : Type 0 where
+  pub records : List Record
+  pub written : AreWritten packets outputs outcomes records
+  pub holds : Has files.contents name (capture_bytes records)
+
+-- a run was done: it was reported, and what passed was written where a file is named for it
+pub record IsRun (run : Run) (before after : Moment) : Type 0 where
+  pub plan : RunPlan
+  pub outputs : List Packet
+  pub outcomes : List Outcome
+  pub reports : IsReported run before after plan outputs outcomes
+  pub written : IfSome (given_text run.output) (IsWrittenTo after.files plan.packets outputs outcomes)

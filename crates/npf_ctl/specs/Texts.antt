@@ -1,0 +1,61 @@
+-- The text that each command puts on the output.
+use Rattle.std.specs.Prelude.{◌≡◌, ℕ, ◌+◌, Ok, Option, Some, List, [], ◌∷◌, ◌++◌, codes, length}
+use Rattle.std.specs.Fmt.{decimal}
+use Rattle.std.specs.List.{flat_map}
+use Rattle.npf_bpf.specs.declared.insn.Insn.{Insn}
+use Rattle.npf_engine.specs.declared.outcome.Outcome.{Outcome}
+use Rattle.npf_outside.specs.Files.{FilesMoment}
+use Rattle.npf_input.specs.Loading.{LoadsAlone}
+use Rattle.npf_prepare.specs.Prepares.{RunPlan}
+use Rattle.npf_model.specs.declared.model.Model.{Model}
+use Rattle.npf_model.specs.Configuration.{Configuration}
+use Rattle.npf_model.specs.Verdict.{all_rules}
+use Rattle.npf_config.specs.Reading.{OnlyReads}
+use Rattle.npf_report.specs.TotalText.{total_text}
+use Rattle.npf_output.specs.Report.{report_text}
+use Rattle.npf_ruleset.specs.Refusal.{IsWithinLimits}
+use Rattle.npf_runner.specs.declared.packet.Packet.{Packet}
+use Rattle.npf_runner.specs.declared.phase.Spread.TheVariants.{Rr}
+use Rattle.npf_show.specs.Piece.{spelled}
+use Rattle.npf_show.specs.Model.{model_pieces}
+use Rattle.npf_words.specs.declared.command.Command.{Command}
+use Rattle.npf_words.specs.declared.command.Command.TheVariants as Words
+use Rattle.npf_words.specs.declared.command.Load.{Load}
+use Rattle.npf_words.specs.declared.command.Run.{Run}
+use Rattle.npf_words.specs.CommandLine.{given_text}
+use Rattle.npf_ctl.specs.Generated.{HoldWorkload, generated_names}
+use Rattle.npf_ctl.specs.Running.{Moment, PlaysRun, PlaysWords}
+
+-- how many rules a configuration has
+abbrev pub valid_text : Model → List ℕ
+valid_text model = codes "valid " ++ (decimal (length (all_rules model.groups)) ++ codes " rules\n")
+
+abbrev pub insn_text : Insn → List ℕ
+insn_text insn =
+    decimal insn.code ++ (codes " " ++ (decimal insn.jt ++ (codes " " ++ (decimal insn.jf ++ (codes " " ++ (decimal insn.k ++ codes "\n"))))))
+
+-- the program of a rule of this number: how many instructions it has, and each of them
+abbrev pub program_text : ℕ → List Insn → List ℕ
+program_text number insns = codes "rule " ++ (decimal number ++ (codes "\n" ++ (decimal (length insns) ++ (codes "\n" ++ flat_map insn_text insns))))
+
+-- the programs of rules that are numbered from n on
+abbrev pub programs_text : ℕ → List (List Insn) → List ℕ
+programs_text n [] = []
+programs_text n (insns ∷ programs) = program_text n insns ++ programs_text (n + 1) programs
+
+-- the configuration of a command's words, as the files say it from the one moment to the other
+abbrev pub IsLoadedFor : Moment → Moment → Load → Configuration → Type 0
+IsLoadedFor before after load config = LoadsAlone before.files after.files (given_text load.ifaces) load.conf.now (Ok config)
+
+-- the text of a command
+pub data TextOf (before after : Moment) : Command → List ℕ → Type 0 where
+  report : {run : Run} {plan : RunPlan} {outputs : List Packet} {outcomes : List Outcome} → PlaysWords run before after plan outputs outcomes →
+      TextOf before after (Words.Run run) (report_text plan.ifaces plan.packets outcomes)
+  count : {load : Load} {config : Configuration} → IsLoadedFor before after load config → TextOf before after (Words.Validate load) (valid_text config.model)
+  model : {load : Load} {config : Configuration} → IsLoadedFor before after load config →
+      TextOf before after (Words.Show load) (spelled (model_pieces config.model))
+  programs : {load : Load} {config : Configuration} {programs : List (List Insn)} → IsLoadedFor before after load config →
+      IsWithinLimits config.model programs → TextOf before after (Words.Debug load) (programs_text 1 programs)
+  total : {number : ℕ} {files read : FilesMoment} {plan : RunPlan} {outputs : List Packet} {outcomes : List Outcome} → HoldWorkload number files →
+      OnlyReads files read → PlaysRun generated_names 1 Rr files read before.pass after.pass plan outputs outcomes →
+      TextOf before after (Words.Gen number) (total_text outcomes)

@@ -1,0 +1,82 @@
+// The run of a generated input.
+ghost use Rattle.std.specs.Prelude.{ℕ, List, IfOk};
+ghost use Rattle.npf_outside.specs.MemFiles.{files_moment};
+ghost use Rattle.npf_outside.specs.Files.{FilesMoment};
+ghost use Rattle.npf_prepare.specs.Playable.{IsPlayable};
+ghost use Rattle.npf_words.specs.declared.command.Command.{Command as CommandType};
+ghost use Rattle.npf_words.specs.CommandLine.{SaysCommand};
+ghost use Rattle.npf_ctl.specs.Ends.{EndsIn, GoesOn, IsFresh, PreparesGenerated};
+ghost use Rattle.npf_ctl.specs.Generated.{HoldWorkload};
+ghost use Rattle.npf_ctl.specs.Running.{moment};
+
+use npf_connections::Connections;
+use npf_flow::FlowLaw;
+use npf_gen::generate;
+use npf_messages::CommandFault;
+use npf_output::put_total;
+use npf_outside::{MemFiles, Sink};
+use npf_prepare::{Prepared, RunFiles, prepare_run};
+use npf_runner::{Gate, Spread, play};
+use npf_types::NoMemory;
+use std::alloc::Global;
+use std::sync::Wait;
+use std::thread::Threads;
+
+/// Runs the generated input of a number with one worker, and puts the total line alone.
+pub(crate) fn run_generated<R: Threads + Wait + Sync, O: Sink, C: Connections<FlowLaw>, G: Gate>(
+    rt: &R,
+    alloc: Global,
+    number: u64,
+    out: &mut O,
+    conns: &C,
+    pass: &mut C::Pass,
+    gate: &G,
+) -> Result<(), CommandFault>
+    requires own { C.fits conns.now pass.old }
+    requires fresh { IsFresh (C.view pass.old) }
+    ensures ends { (texts : List (List ℕ)) (files : FilesMoment) → SaysCommand texts (CommandType.Gen number) → EndsIn texts
+        (moment files (O.moment out.old) (C.view pass.old)) (moment files (O.moment out.new) (C.view pass.new)) result }
+    ensures own { C.fits conns.now pass.new }
+    ensures goes_on { GoesOn (C.view pass.old) (C.view pass.new) }
+{
+    let prepared = prepare_generated(alloc, number)?;
+    let Prepared {
+        ifaces: _,
+        configs,
+        packets,
+        phases,
+    } = prepared;
+    let phases = phases.as_slice();
+    let configs = configs.as_slice();
+    let spread = Spread::Rr;
+    let played = play(
+        rt, alloc, packets, phases, configs, 1, spread, conns, pass, gate,
+    )?;
+    let outcomes = played.outcomes.as_slice();
+    put_total(alloc, outcomes, out)
+}
+
+fn prepare_generated(alloc: Global, number: u64) -> Result<Prepared, CommandFault>
+    ensures comes { PreparesGenerated number result }
+    ensures playable { IfOk result IsPlayable }
+{
+    let mut files = generated_files(alloc, number)?;
+    let names = RunFiles {
+        conf: "npf.conf",
+        script: "script",
+        ifaces: None,
+    };
+    prepare_run(alloc, names, &mut files)
+}
+
+// The files of the generated run of this number, in memory.
+fn generated_files(alloc: Global, number: u64) -> Result<MemFiles, NoMemory>
+    ensures { IfOk result (λ files. HoldWorkload number (files_moment files)) }
+{
+    let workload = generate(alloc, number)?;
+    let mut files = MemFiles::new(alloc)?;
+    files.put_file("npf.conf", workload.conf.as_slice())?;
+    files.put_file("script", workload.script.as_slice())?;
+    files.put_file("g.pcap", workload.capture.as_slice())?;
+    Ok(files)
+}

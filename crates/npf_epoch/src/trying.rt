@@ -1,0 +1,63 @@
+ghost use Rattle.std.specs.Prelude.{◌≡◌, ◌↔◌, ◌+◌, ◌≤◌, ◌<◌, ◌==◌, ◌||◌, true, false, []};
+ghost use Rattle.npf_cells.specs.Epochs.{HasScannedAll};
+ghost use Rattle.npf_cells.specs.Kinds.{with_epochs};
+ghost use Rattle.npf_cells.specs.Passes.{IsPassOf};
+ghost use Rattle.npf_connections.specs.Worn.{last_epoch};
+ghost use Rattle.npf_epoch.specs.Tries.{CanRaise, scanning_on};
+
+use npf_cells::{CellPass, Cells, KeyHash, LAST_EPOCH, READERS};
+use npf_core::Law;
+
+/// Raises the epoch by one where no reader is pinned in an older one. Answers whether this call did.
+pub fn try_advance<L: Law, H: KeyHash>(cells: &Cells<L, H>, pass: &mut CellPass<L>) -> bool
+    requires own { IsPassOf cells.now.table.shared.key cells.now.table.shared.table_id pass.old.seat.table_id pass.old.readers.items pass.old.seat.me }
+    ensures own { IsPassOf cells.now.table.shared.key cells.now.table.shared.table_id pass.new.seat.table_id pass.new.readers.items pass.new.seat.me }
+    ensures same { pass.new.seat.me ≡ with_epochs pass.old.seat.me pass.new.seat.me.0.epochs }
+    ensures pin { pass.new.seat.me.0.epochs.pin ≡ pass.old.seat.me.0.epochs.pin }
+    ensures answers { (result ≡ true) ↔ CanRaise pass.new.seat.me.0.epochs }
+    ensures scanned { result ≡ true → HasScannedAll pass.new.seat.me.0.epochs }
+    ensures raised { result ≡ true → pass.new.seat.me.0.epochs.loaded + 1 ≤ pass.new.seat.me.0.epochs.known }
+    ensures loaded { pass.old.seat.me.0.epochs.known ≤ pass.new.seat.me.0.epochs.loaded }
+    ensures known { pass.old.seat.me.0.epochs.known ≤ pass.new.seat.me.0.epochs.known }
+{
+    let epoch = cells.load_epoch(pass);
+    if epoch == LAST_EPOCH {
+        return false;
+    }
+    if !scan_readers(cells, pass, epoch) {
+        return false;
+    }
+    cells.advance(pass, epoch)
+}
+
+/// Scans the readers, up to one that is pinned in another epoch than was loaded. Answers whether there was none.
+pub fn scan_readers<L: Law, H: KeyHash>(
+    cells: &Cells<L, H>,
+    pass: &mut CellPass<L>,
+    epoch: u64,
+) -> bool
+    requires own { IsPassOf cells.now.table.shared.key cells.now.table.shared.table_id pass.old.seat.table_id pass.old.readers.items pass.old.seat.me }
+    requires loaded { pass.old.seat.me.0.epochs.loaded ≡ epoch }
+    requires below { epoch < last_epoch }
+    requires begun { pass.old.seat.me.0.epochs.behind ≡ [] }
+    ensures own { IsPassOf cells.now.table.shared.key cells.now.table.shared.table_id pass.new.seat.table_id pass.new.readers.items pass.new.seat.me }
+    ensures next { pass.new.seat.me ≡ with_epochs pass.old.seat.me (scanning_on pass.old.seat.me.0.epochs pass.new.seat.me.0.epochs) }
+    ensures all { result ≡ true → HasScannedAll pass.new.seat.me.0.epochs }
+    ensures answers { (result ≡ true) ↔ (pass.new.seat.me.0.epochs.behind ≡ []) }
+{
+    for reader in 0..READERS {
+        let found = cells.scan_reader(pass, reader);
+        if !is_passed(found, epoch) {
+            return false;
+        }
+    }
+    true
+}
+
+// Whether a reader word is idle or pinned in this epoch.
+fn is_passed(found: u64, epoch: u64) -> bool
+    requires { epoch < last_epoch }
+    ensures { result ≡ ((found == 0) || (found == epoch + 1)) }
+{
+    found == 0 || found == epoch + 1
+}

@@ -1,0 +1,4 @@
+pub mod Draw
+pub mod Datagram
+pub mod Workload
+pub mod WorkloadLaw

@@ -1,0 +1,9 @@
+pub mod Around
+pub mod File
+pub mod Interfaces
+pub mod Laws
+pub mod Loading
+pub mod Rules
+pub mod Source
+pub mod Unless
+pub mod View

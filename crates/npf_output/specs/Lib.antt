@@ -1,0 +1,5 @@
+pub mod Extents
+pub mod Outputs
+pub mod Putting
+pub mod Report
+pub mod Written

@@ -1,0 +1,91 @@
+-- The packets of a run's captures, one line after another.
+use Rattle.std.proofs.Common.{◌≡◌, ◌≢◌, ℕ, Result, Ok, Err, OnOk, IfErr, List, [], ◌∷◌, refl, subst}
+use Rattle.npf_types.specs.declared.direction.Dir.{Dir}
+use Rattle.npf_types.specs.declared.interface.IfId.{IfId}
+use Rattle.npf_types.specs.declared.limits.TheConstants.{MAX_CAPTURE_BYTES}
+use Rattle.npf_types.specs.declared.name.Name.{Name}
+use Rattle.npf_stages.specs.Stages.{stops, goes_on}
+use Rattle.npf_model.specs.declared.iface.Iface.{Iface}
+use Rattle.npf_outside.specs.Files.{FilesMoment, SameReadFaults}
+use Rattle.npf_config.specs.Reading.{OnlyReads}
+use Rattle.npf_script.specs.declared.script.ScriptLine.{ScriptLine}
+use Rattle.npf_script.specs.declared.script.ScriptLine.TheVariants.{Capture}
+use Rattle.npf_schedule.specs.Schedule.{unnumbered}
+use Rattle.npf_arrivals.specs.declared.arrivals.Arrivals.{Arrivals}
+use Rattle.npf_arrivals.specs.Arrivals.{Gathered, GathersCapture, none_gathered}
+use Rattle.npf_arrivals.specs.Gathering.{gathered_so_far}
+use Rattle.npf_messages.specs.declared.fault.CommandFault.{CommandFault}
+use Rattle.npf_messages.specs.declared.fault.CommandFault.TheVariants.{NoMemory}
+use Rattle.npf_input.specs.Around.{Around}
+use Rattle.npf_input.specs.File.{ReadsFile}
+use Rattle.npf_input.specs.Source.{Source, Scripted}
+use Rattle.npf_input.specs.Unless.{IfTold, UnlessMemory}
+use Rattle.npf_input.proofs.AroundLemmas.{around_first, around_next}
+use Rattle.npf_prepare.specs.Captures.{GathersCaptures, GathersLine, ReadsCaptureFile, interface_id}
+use Rattle.npf_prepare.proofs.AroundLemmas.{faultless_none, faultless_on, reads_none, reads_on}
+use Rattle.npf_prepare.proofs.StageLemmas.{told_as, told_unless}
+
+module _ (source : Source) (ifaces : List Iface) (lines : List (ℕ × ScriptLine)) (first now : FilesMoment) where
+  -- the lines in front of the rest were followed
+  pub record GatheredSoFar (rest : List (ℕ × ScriptLine)) (gathered : Gathered) : Type 0 where
+    pub comes : (before after : FilesMoment) → Around before first now after → (result : Result Gathered CommandFault) →
+        GathersCaptures before after source ifaces (unnumbered rest) gathered result →
+        GathersCaptures before after source ifaces (unnumbered lines) none_gathered result
+    pub reads : OnlyReads first now
+    pub faultless : SameReadFaults first now
+
+module _ (source : Source) (ifaces : List Iface) (lines : List (ℕ × ScriptLine)) (first now : FilesMoment) where
+  module _ (line : ℕ × ScriptLine) (rest : List (ℕ × ScriptLine)) (gathered : Gathered) (so_far : GatheredSoFar source ifaces lines first now (line ∷ rest) gathered) (next : FilesMoment) (reads : OnlyReads now next) where
+    module _ (more : Gathered)
+        (comes : (before after : FilesMoment) → Around before now next after → GathersLine before after source ifaces line.1 gathered (Ok more)) where
+      pub gathered_more : SameReadFaults now next → GatheredSoFar source ifaces lines first next rest more
+      gathered_more faultless = record {
+        comes = λ before after around result then_comes.
+            so_far.comes before after (around_first before first now next after around reads) result
+            (goes_on (comes before after (around_next before first now next after around so_far.reads)) then_comes);
+        reads = reads_on first now next so_far.reads reads;
+        faultless = faultless_on first now next so_far.faultless faultless;
+      }
+
+    pub gathering_stops : (fault : CommandFault) →
+        ((before after : FilesMoment) → Around before now next after → IfTold (λ other. GathersLine before after source ifaces line.1 gathered (Err other)) fault) →
+        (before after : FilesMoment) → Around before first next after →
+        IfTold (λ other. GathersCaptures before after source ifaces (unnumbered lines) none_gathered (Err other)) fault
+    gathering_stops fault comes before after around =
+        told_as (λ other. GathersLine before after source ifaces line.1 gathered (Err other))
+        (λ other. GathersCaptures before after source ifaces (unnumbered lines) none_gathered (Err other))
+        (λ other is. so_far.comes before after (around_first before first now next after around reads) (Err other) (stops is)) fault
+        (comes before after (around_next before first now next after around so_far.reads))
+
+module _ (source : Source) (ifaces : List Iface) (lines : List (ℕ × ScriptLine)) (first : FilesMoment) where
+  pub gathered_none : GatheredSoFar source ifaces lines first first lines none_gathered
+  gathered_none = record { comes = λ before after around result is. is; reads = reads_none first; faultless = faultless_none first }
+
+  pub all_gathered : (now : FilesMoment) (gathered : Gathered) → GatheredSoFar source ifaces lines first now [] gathered → (before after : FilesMoment) →
+      Around before first now after → GathersCaptures before after source ifaces (unnumbered lines) none_gathered (Ok gathered)
+  all_gathered now gathered so_far before after around = so_far.comes before after around (Ok gathered) refl
+
+-- the capture of a line is gathered, whose file has these bytes
+module _ (before after : FilesMoment) (source : Source) (ifaces : List Iface) (name : Name) (dir : Dir) (file : List ℕ) (gathered more : Gathered) (bytes : List ℕ)
+    (reads : ReadsCaptureFile before after source ifaces source file (Ok bytes)) (said : List ℕ) (same_file : said ≡ file)
+    (id : IfId) (same_id : id ≡ interface_id ifaces name) (read : List ℕ) (same_bytes : read ≡ bytes) where
+  captured : (result : Result Gathered CommandFault) → GathersCapture gathered said id dir read result → GathersCapture gathered file (interface_id ifaces name) dir bytes result
+  captured result is =
+      subst (λ f. GathersCapture gathered f (interface_id ifaces name) dir bytes result) same_file
+      (subst (λ i. GathersCapture gathered said i dir bytes result) same_id (subst (λ b. GathersCapture gathered said id dir b result) same_bytes is))
+
+  pub line_done : (answer : Result (Unit {0}) CommandFault) → OnOk answer (GathersCapture gathered said id dir read (Ok more)) →
+      IfErr answer (λ fault. fault ≢ NoMemory → GathersCapture gathered said id dir read (Err fault)) →
+      UnlessMemory (λ _. more) answer (GathersLine before after source ifaces (Capture name dir file) gathered)
+  line_done (Ok _) done refused = goes_on reads (captured (Ok more) done)
+  line_done (Err fault) done refused =
+      told_unless (λ other. GathersLine before after source ifaces (Capture name dir file) gathered (Err other)) fault (λ real. goes_on reads (captured (Err fault) (refused real)))
+
+-- the file of the line's capture isn't read
+pub line_unread :
+    (before after : FilesMoment) (lines : List (ℕ × ScriptLine)) (ifaces : List Iface) (name : Name) (dir : Dir) (file : List ℕ) (gathered : Gathered) (fault : CommandFault) →
+    IfTold (λ other. ReadsFile before after file MAX_CAPTURE_BYTES (Err other)) fault →
+    IfTold (λ other. GathersLine before after (Scripted lines) ifaces (Capture name dir file) gathered (Err other)) fault
+line_unread before after lines ifaces name dir file gathered fault is =
+    told_as (λ other. ReadsFile before after file MAX_CAPTURE_BYTES (Err other))
+    (λ other. GathersLine before after (Scripted lines) ifaces (Capture name dir file) gathered (Err other)) (λ other unread. stops unread) fault is

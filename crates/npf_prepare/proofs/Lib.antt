@@ -1,0 +1,9 @@
+mod AroundLemmas
+mod GatherLemmas
+mod LawLemmas
+mod LimitLemmas
+mod LineLemmas
+mod MakeLemmas
+mod NumberLemmas
+mod PrepareLemmas
+mod StageLemmas

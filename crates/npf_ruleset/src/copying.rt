@@ -1,0 +1,60 @@
+// Copies of what is laid out flat, each equal to what was copied.
+ghost use Rattle.std.specs.Prelude.{◌≡◌, IfOk};
+
+use crate::config::Config;
+use crate::flat::FlatRule;
+use npf_bpf::{Program, validate};
+use npf_table::Table;
+use npf_types::{List, NoMemory};
+use std::alloc::Global;
+use std::sync::Arc;
+
+/// An equal program.
+pub fn copy_program(alloc: Global, program: &Program) -> Result<Program, NoMemory>
+    ensures { IfOk result (λ copy. copy ≡ program.now) }
+{
+    match validate(program.insns().to_vec(alloc)?) {
+        Ok(copy) => Ok(copy),
+        Err(_) => unreachable!(),
+    }
+}
+
+fn copy_rule(alloc: Global, rule: &FlatRule) -> Result<FlatRule, NoMemory>
+    ensures { IfOk result (λ copy. copy ≡ rule.now) }
+{
+    Ok(FlatRule {
+        binding: rule.binding,
+        last: rule.last,
+        row: rule.row,
+        program: copy_program(alloc, &rule.program)?,
+        place: rule.place,
+    })
+}
+
+fn copy_rules(alloc: Global, rules: &[FlatRule]) -> Result<Vec<FlatRule>, NoMemory>
+    ensures { IfOk result (λ copies. copies.items ≡ rules.now) }
+{
+    let mut copies = Vec::with_capacity(alloc, rules.len())?;
+    for rule in rules {
+        copies.push(copy_rule(alloc, rule)?)?;
+    }
+    Ok(copies)
+}
+
+impl Config {
+    ghost use Rattle.npf_ruleset.specs.Configuration.{programs};
+
+    /// The same configuration with these tables in place of its own.
+    pub fn with_tables(&self, alloc: Global, tables: Vec<Arc<Table>>) -> Result<Config, NoMemory>
+        ensures model { IfOk result (λ config. config.model ≡ self.now.model) }
+        ensures tables { IfOk result (λ config. config.tables ≡ tables) }
+        ensures programs { IfOk result (λ config. programs config ≡ programs self.now) }
+    {
+        Ok(Config {
+            model: self.model.copy(alloc)?,
+            tables,
+            groups: List::of_vec(self.groups.as_slice().to_vec(alloc)?),
+            rules: List::of_vec(copy_rules(alloc, self.rules.as_slice())?),
+        })
+    }
+}

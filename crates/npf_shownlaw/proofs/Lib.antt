@@ -1,0 +1,13 @@
+pub mod Gives
+pub mod Sound
+pub mod AddressFits
+pub mod IfacesFit
+pub mod Lexed
+pub mod Atoms
+pub mod Meant
+pub mod FilterMeant
+pub mod StmtMeant
+pub mod NameMeant
+pub mod ElementMeant
+pub mod TreeMeant
+pub mod Accepted

@@ -1,0 +1,4 @@
+pub mod SameLemmas
+pub mod SayLemmas
+pub mod SoundLemmas
+pub mod ValueLemmas

@@ -1,0 +1,61 @@
+// What a command line says. File names stand as they are in the words.
+
+/// How a run deals its packets to its workers, as the word of `--spread` has it.
+#[derive(Clone, Copy, Debug, PartialEq, Eq)]
+pub enum Spread {
+    /// In turn, one packet to each.
+    Rr,
+    /// By flow, so that all packets of a connection go to one worker.
+    Flow,
+}
+
+/// The five names of commands.
+#[derive(Clone, Copy, Debug, PartialEq, Eq)]
+pub enum CommandName {
+    Run,
+    Validate,
+    Show,
+    Debug,
+    Gen,
+}
+
+/// What `run` is to do.
+#[derive(Clone, Copy, Debug, PartialEq, Eq)]
+pub struct Run<'a> {
+    /// The configuration's file.
+    pub conf: &'a str,
+    /// The script's file, or a capture's.
+    pub script: &'a str,
+    /// The file of the interfaces' addresses.
+    pub ifaces: Option<&'a str>,
+    /// How many workers inspect the packets, 1 to 64.
+    pub workers: u32,
+    /// How the packets are dealt to them.
+    pub spread: Spread,
+    /// The file that the packets that pass are written to.
+    pub output: Option<&'a str>,
+}
+
+/// What the commands load that only look at a configuration.
+#[derive(Clone, Copy, Debug, PartialEq, Eq)]
+pub struct Load<'a> {
+    /// The configuration's file.
+    pub conf: &'a str,
+    /// The file of the interfaces' addresses.
+    pub ifaces: Option<&'a str>,
+}
+
+/// A command, with what its words say.
+#[derive(Clone, Copy, Debug, PartialEq, Eq)]
+pub enum Command<'a> {
+    /// Runs a script's packets through a configuration, and reports what becomes of each.
+    Run(Run<'a>),
+    /// Loads a configuration, and says how many rules it has.
+    Validate(Load<'a>),
+    /// Loads a configuration, and prints its canonical text.
+    Show(Load<'a>),
+    /// Loads a configuration, and prints the program of each rule.
+    Debug(Load<'a>),
+    /// Runs the generated input of this number.
+    Gen { number: u64 },
+}

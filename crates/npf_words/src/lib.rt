@@ -1,0 +1,19 @@
+// The words of the command line: five commands, each read by `clap` as one simple command without
+// subcommands (docs/FORMATS.md, "The command line", has them).
+//
+// The contract: words are refused exactly where the first is missing or names no command, byte for
+// byte, where `clap`'s definition of that command refuses the words behind it, or where a run's
+// spread is neither `rr` nor `flow`; words that ask for help or a version are refused. What is read
+// is what `clap`'s own matches say: each file as it is written, the workers from 1 to 64, the spread
+// by its name. Only want of memory comes besides. Words say one command at most (`laws`).
+#![tactic(auto)]
+
+mod command;
+mod definitions;
+mod fault;
+pub mod laws;
+mod reading;
+
+pub use command::{Command, CommandName, Load, Run, Spread};
+pub use fault::WordsFault;
+pub use reading::read_words;
