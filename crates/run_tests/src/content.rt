@@ -23,6 +23,8 @@ pub(crate) enum Content {
         after: &'static str,
         behind: &'static str,
     },
+    /// So many addresses from 10.0.0.0 on, a line each.
+    Addresses(u32),
     /// A capture of raw packets, the i-th at i seconds.
     Raw(&'static [Sent]),
     /// A capture of raw packets, each at its second.
@@ -61,6 +63,7 @@ impl Content {
                 bytes.extend_from_slice(behind.as_bytes())?;
                 Ok(bytes)
             }
+            Content::Addresses(count) => addresses(alloc, count),
             Content::Raw(packets) => raw(alloc, packets),
             Content::Stamped(packets) => stamped(alloc, packets),
             Content::Frames(packets) => frames(alloc, packets),
@@ -121,6 +124,16 @@ fn append_numbers(
         number = number.saturating_add(step);
     }
     Ok(())
+}
+
+fn addresses(alloc: Global, count: u32) -> Result<Vec<u8>, AllocError> {
+    let mut bytes = Vec::new(alloc);
+    for i in 0..count {
+        let (high, middle, low) = (i >> 16, i >> 8 & 255, i & 255);
+        let line = format!(in alloc; "10.{high}.{middle}.{low}\n")?;
+        bytes.extend_from_slice(line.as_bytes())?;
+    }
+    Ok(bytes)
 }
 
 /// Adds these files.

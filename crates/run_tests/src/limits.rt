@@ -7,6 +7,10 @@ const PASS: Content = Content::Text("group default { pass all }");
 
 const DYNAMIC: Content = Content::Text("group default { pass all; ruleset \"dyn\" }");
 
+const TABLE: Content = Content::Text("table <t> type lpm file \"t\"\ngroup default { pass all }\n");
+
+const ENTRY: Content = Content::Text("phase\ntable t add 11.0.0.1\n");
+
 const EMPTY: &str = "packets 0 pass 0 block 0 drop 0 skip 0 malformed 0\n";
 
 const NO_PACKETS: &[File] = &[("k", Content::Raw(&[]))];
@@ -16,7 +20,7 @@ const LONG: Content = Content::Repeated("#", " ", 4_194_303, "");
 
 const TOO_LONG: Content = Content::Repeated("#", " ", 4_194_304, "");
 
-const STORIES: [Story; 10] = [
+const STORIES: [Story; 12] = [
     Story::Run(
         "16 captures",
         PASS,
@@ -79,9 +83,24 @@ const STORIES: [Story; 10] = [
         9,
         "npfctl: limit bytes c over 4194304\n",
     ),
+    Story::Run(
+        "131,072 entries",
+        TABLE,
+        ENTRY,
+        &[("t", Content::Addresses(131_071))],
+        EMPTY,
+    ),
+    Story::Refused(
+        "131,073 entries",
+        TABLE,
+        ENTRY,
+        &[("t", Content::Addresses(131_072))],
+        8,
+        "npfctl: s:2: 49 TooMany entries 131073 over 131072\n",
+    ),
     Story::Refused(
         "a table file of 4,194,305 bytes",
-        Content::Text("table <t> type lpm file \"t\"\ngroup default { pass all }\n"),
+        TABLE,
         Content::Raw(&[]),
         &[("t", TOO_LONG)],
         9,

@@ -16,7 +16,7 @@ const TWO: &[File] = &[("k", Content::Raw(&[DATAGRAM, DATAGRAM]))];
 
 const THREE: &[File] = &[("k", Content::Raw(&[DATAGRAM, DATAGRAM, DATAGRAM]))];
 
-const STORIES: [Story; 7] = [
+const STORIES: [Story; 9] = [
     Story::Scripted(
         "a configuration is loaded between phases",
         PASS,
@@ -54,6 +54,42 @@ const STORIES: [Story; 7] = [
          2 cap0 in pass config 1 rule 2\n\
          3 cap0 in block config 2 rule 1\n\
          packets 3 pass 1 block 2 drop 0 skip 0 malformed 0\n",
+    ),
+    Story::Scripted(
+        "a rule that is added again has the next number",
+        DYNAMIC,
+        "capture cap0 in \"k\"\n\
+         phase\n\
+         rule dyn add pass all\n\
+         rule dyn rem-id 1\n\
+         rule dyn add pass all\n\
+         phase\n\
+         packets 1\n\
+         phase\n\
+         rule dyn rem-id 2\n\
+         phase\n\
+         packets rest\n",
+        TWO,
+        "1 cap0 in pass config 3 rule 2\n\
+         2 cap0 in block config 4 rule 1\n\
+         packets 2 pass 1 block 1 drop 0 skip 0 malformed 0\n",
+    ),
+    Story::Scripted(
+        "a rule that is added names a table",
+        "table <t> type ipset\ngroup default { block all; ruleset \"dyn\" }\n",
+        "capture cap0 in \"k\"\n\
+         phase\n\
+         rule dyn add pass from <t>\n\
+         phase\n\
+         packets 1\n\
+         phase\n\
+         table t add 10.0.0.1\n\
+         phase\n\
+         packets rest\n",
+        TWO,
+        "1 cap0 in block config 1 rule 1\n\
+         2 cap0 in pass config 2 rule 2\n\
+         packets 2 pass 1 block 1 drop 0 skip 0 malformed 0\n",
     ),
     Story::Scripted(
         "all rules go at once",
