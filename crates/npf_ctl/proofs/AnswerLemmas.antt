@@ -33,8 +33,8 @@ module _ (words : List (List ℕ)) (before after : Moment) where
   put_before _ (MeetsFault.in_words not untouched) = inl untouched.put
   put_before _ (MeetsFault.in_run said comes untouched) = inl untouched.put
   put_before _ (MeetsFault.in_loading said loaded comes untouched) = inl untouched.put
-  put_before _ (MeetsFault.in_workload said holds reads comes untouched) = inl untouched.put
-  put_before _ (MeetsFault.in_output rose front) = inr front
+  put_before _ (MeetsFault.in_workload said holds comes untouched) = inl untouched.put
+  put_before _ (MeetsFault.in_output rose same front) = inr front
   put_before _ (MeetsFault.in_writing {run = run} {plan = plan} {outputs = outputs} {outcomes = outcomes} said named rose reports) =
       inr (reported_front words before after run plan said outputs outcomes reports)
   put_before _ (MeetsFault.in_memory put) = put
@@ -44,8 +44,8 @@ module _ (words : List (List ℕ)) (before after : Moment) where
   untouched_by _ (MeetsFault.in_words not untouched) quiet = untouched
   untouched_by _ (MeetsFault.in_run said comes untouched) quiet = untouched
   untouched_by _ (MeetsFault.in_loading said loaded comes untouched) quiet = untouched
-  untouched_by _ (MeetsFault.in_workload said holds reads comes untouched) quiet = untouched
-  untouched_by _ (MeetsFault.in_output rose front) quiet = absurd (quiet.2 refl)
+  untouched_by _ (MeetsFault.in_workload said holds comes untouched) quiet = untouched
+  untouched_by _ (MeetsFault.in_output rose same front) quiet = absurd (quiet.2 refl)
   untouched_by _ (MeetsFault.in_writing said named rose reports) quiet = absurd (quiet.2 refl)
   untouched_by _ (MeetsFault.in_memory put) quiet = absurd (quiet.1 refl)
 
@@ -80,7 +80,7 @@ module _ (words : List (List ℕ)) (before after : Moment) where
       by _ (MeetsFault.in_words not_either untouched) is = inl is
       by _ (MeetsFault.in_run said comes untouched) is = absurd (false≢true (sym not ∙ said.taken))
       by _ (MeetsFault.in_loading said loaded comes untouched) is = absurd (false≢true (sym not ∙ said.taken))
-      by _ (MeetsFault.in_workload said holds reads comes untouched) is = absurd (false≢true (sym not ∙ said.taken))
-      by _ (MeetsFault.in_output rose front) is = absurd (false≢true (sym not ∙ front.said.taken))
+      by _ (MeetsFault.in_workload said holds comes untouched) is = absurd (false≢true (sym not ∙ said.taken))
+      by _ (MeetsFault.in_output rose same front) is = absurd (false≢true (sym not ∙ front.said.taken))
       by _ (MeetsFault.in_writing said named rose reports) is = absurd (false≢true (sym not ∙ said.taken))
       by _ (MeetsFault.in_memory put) is = inr is

@@ -19,7 +19,7 @@ use Rattle.npf_words.specs.declared.command.Run.{Run as RunWords}
 use Rattle.npf_words.specs.CommandLine.{SaysCommand, given_text}
 use Rattle.npf_ctl.specs.Commands.{names_of_run, spread_said}
 use Rattle.npf_ctl.specs.Ends.{EndsIn, FailsReport, IsUnwritten}
-use Rattle.npf_ctl.specs.Faults.{MeetsFault, PutsFront, PutsNothing}
+use Rattle.npf_ctl.specs.Faults.{ChangesNoFile, MeetsFault, PutsFront, PutsNothing}
 use Rattle.npf_ctl.specs.Running.{Moment, IsReported}
 use Rattle.npf_ctl.specs.Texts.{TextOf}
 use Rattle.npf_ctl.specs.Top.{DoesCommand, PutsText}
@@ -64,18 +64,18 @@ module _ (words : List (List ℕ)) (before after : Moment) where
     puts_front = record { command = command; said = said; text = text; of = of; front = front }
 
     -- the text wasn't put whole
-    pub unput : (fault : CommandFault) → HasPutFault before.out.faults after.out.faults fault → MeetsFault words before after fault
-    unput OutputUnwritten rose = MeetsFault.in_output rose puts_front
-    unput NoMemory why = MeetsFault.in_memory (inr puts_front)
-    unput _ why = absurd why
+    pub unput : ChangesNoFile before after → (fault : CommandFault) → HasPutFault before.out.faults after.out.faults fault → MeetsFault words before after fault
+    unput same OutputUnwritten rose = MeetsFault.in_output rose same puts_front
+    unput same NoMemory why = MeetsFault.in_memory (inr puts_front)
+    unput same _ why = absurd why
 
   module _ (run : RunWords) (plan : RunPlan) (said : SaysCommand words (Run run)) where
     -- a plan wasn't reported
-    pub unreported : PreparesRun before.files after.files (names_of_run run) (Ok plan) → (fault : CommandFault) →
+    pub unreported : ChangesNoFile before after → PreparesRun before.files after.files (names_of_run run) (Ok plan) → (fault : CommandFault) →
         FailsReport plan run.workers (spread_said run.spread) before.pass after.pass before.out after.out fault → MeetsFault words before after fault
-    unreported prepared _ (FailsReport.unplayed nothing) = MeetsFault.in_memory (inl nothing)
-    unreported prepared fault (FailsReport.unput plays why front) =
-        unput (Run run) _ said (TextOf.report (record { prepared = prepared; played = plays })) front fault why
+    unreported same prepared _ (FailsReport.unplayed nothing) = MeetsFault.in_memory (inl nothing)
+    unreported same prepared fault (FailsReport.unput plays why front) =
+        unput (Run run) _ said (TextOf.report (record { prepared = prepared; played = plays })) front same fault why
 
     module _ (outputs : List Packet) (outcomes : List Outcome) (reports : IsReported run before after plan outputs outcomes) where
       -- the report that was put is a front of itself
@@ -100,9 +100,9 @@ unnumbered_first last history none = subst (IsUnnumbered last) (sym none) (λ n 
 
 module _ (words : List (List ℕ)) (before after : Moment) (command : Command) (text : List ℕ) (said : SaysCommand words command) (of : TextOf before after command text) where
   -- a text that was put, or not
-  pub text_ends : (PutsText command before after → DoesCommand command before after) → (result : Result (Unit {0}) CommandFault) →
+  pub text_ends : ChangesNoFile before after → (PutsText command before after → DoesCommand command before after) → (result : Result (Unit {0}) CommandFault) →
       OnOk result (Appends before.out.held after.out.held text) → OnOk result (after.out.waiting ≡ 0) → AppendsFront before.out.held after.out.held text →
       IfErr result (HasPutFault before.out.faults after.out.faults) → EndsIn words before after result
-  text_ends does (Ok unit) whole flushed front fault =
+  text_ends same does (Ok unit) whole flushed front fault =
       (record { command = command; said = said; does = does (record { text = text; of = of; put = whole }) }, flushed)
-  text_ends does (Err why) whole flushed front fault = unput words before after command text said of front why fault
+  text_ends same does (Err why) whole flushed front fault = unput words before after command text said of front same why fault

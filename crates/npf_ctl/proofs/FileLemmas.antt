@@ -57,7 +57,7 @@ pub nothing_put : (sink : SinkMoment) → Appends sink.held sink.held []
 nothing_put sink = Appends-nothing sink.held
 
 pub not_touched : (moment : Moment) → IsUntouched moment moment
-not_touched moment = record { put = nothing_put moment.out; files = same_as_itself moment.files.contents }
+not_touched moment = record { put = nothing_put moment.out; files = same_as_itself moment.files.contents; idle = refl }
 
 -- extents stay those of packets where both are named otherwise
 pub extents_named : (packets sliced : List Packet) (extents lent : List (Option IpExtent)) → sliced ≡ packets → lent ≡ extents → AreExtentsOf sliced extents →

@@ -2,10 +2,10 @@
 use Rattle.std.proofs.Common.{◌≡◌, inl, ℕ, List, Ok, Err, Result, OnOk, IfErr}
 use Rattle.npf_engine.specs.declared.outcome.Outcome.{Outcome}
 use Rattle.npf_messages.specs.declared.fault.CommandFault.{CommandFault}
+use Rattle.npf_outside.specs.Files.{SameFiles}
 use Rattle.npf_outside.specs.Sink.{Appends, AppendsFront}
 use Rattle.npf_output.specs.Putting.{HasPutFault}
 use Rattle.npf_prepare.specs.declared.prepare.Prepared.{Prepared}
-use Rattle.npf_prepare.specs.Prepares.{PreparesRun}
 use Rattle.npf_prepare.specs.View.{run_plan_of}
 use Rattle.npf_report.specs.TotalText.{total_text}
 use Rattle.npf_runner.specs.declared.packet.Packet.{Packet}
@@ -15,7 +15,7 @@ use Rattle.npf_words.specs.declared.command.Command.TheVariants.{Gen}
 use Rattle.npf_words.specs.CommandLine.{SaysCommand}
 use Rattle.npf_ctl.specs.Ends.{EndsIn, PreparesGenerated}
 use Rattle.npf_ctl.specs.Faults.{IsUntouched, MeetsFault}
-use Rattle.npf_ctl.specs.Generated.{generated_names}
+use Rattle.npf_ctl.specs.Generated.{PreparesOf}
 use Rattle.npf_ctl.specs.Running.{Moment}
 use Rattle.npf_ctl.specs.Texts.{TextOf}
 use Rattle.npf_ctl.proofs.EndLemmas.{early, text_ends}
@@ -23,14 +23,14 @@ use Rattle.npf_ctl.proofs.EndLemmas.{early, text_ends}
 module _ (words : List (List ℕ)) (before after : Moment) (number : ℕ) (said : SaysCommand words (Gen number)) where
   pub unprepared : IsUntouched before after → (fault : CommandFault) → PreparesGenerated number (Err fault) → MeetsFault words before after fault
   unprepared untouched _ PreparesGenerated.unmade = MeetsFault.in_memory (inl untouched.put)
-  unprepared untouched fault (PreparesGenerated.made {files = files} {read = read} holds reads comes) =
-      early words before after (λ why. PreparesRun files read generated_names (Err why)) (λ why says. MeetsFault.in_workload said holds reads says untouched) untouched.put fault comes
+  unprepared untouched fault (PreparesGenerated.made {tree = tree} holds comes) =
+      early words before after (λ why. PreparesOf tree (Err why)) (λ why says. MeetsFault.in_workload said holds says untouched) untouched.put fault comes
 
   module _ (prepared : Prepared) (outputs : List Packet) (outcomes : List Outcome) where
-    pub generated_ends : PreparesGenerated number (Ok prepared) →
+    pub generated_ends : SameFiles before.files.contents after.files.contents → PreparesGenerated number (Ok prepared) →
         PlaysPhases (run_plan_of prepared).configs 1 Rr before.pass after.pass prepared.phases.items prepared.packets.items outputs outcomes →
         (result : Result (Unit {0}) CommandFault) → OnOk result (Appends before.out.held after.out.held (total_text outcomes)) → OnOk result (after.out.waiting ≡ 0) →
         AppendsFront before.out.held after.out.held (total_text outcomes) → IfErr result (HasPutFault before.out.faults after.out.faults) → EndsIn words before after result
-    generated_ends (PreparesGenerated.made {files = files} {read = read} holds reads comes) plays =
+    generated_ends same (PreparesGenerated.made {tree = tree} holds comes) plays =
         text_ends words before after (Gen number) (total_text outcomes) said
-        (TextOf.total {files = files} {read = read} {plan = run_plan_of prepared} {outputs = outputs} holds reads (record { prepared = comes; played = plays })) (λ puts. puts)
+        (TextOf.total {tree = tree} {plan = run_plan_of prepared} {outputs = outputs} holds (record { prepared = comes; played = plays })) same (λ puts. puts)

@@ -20,6 +20,7 @@ use Rattle.npf_words.specs.declared.command.Run.{Run}
 use Rattle.npf_words.specs.CommandLine.{SaysCommand, given_text, is_command_line}
 use Rattle.npf_words.specs.Laws.{IsSameCommand, IsSameLoad, IsSameRun, OneCommand}
 use Rattle.npf_ctl.specs.Commands.{loaded_by, names_of_run}
+use Rattle.npf_ctl.specs.Generated.{HoldsWorkload, PreparesOf}
 use Rattle.npf_ctl.specs.Ends.{IsAnswered}
 use Rattle.npf_ctl.specs.Faults.{IsFaulted, MeetsFault, PutsFront}
 use Rattle.npf_ctl.specs.Running.{Moment}
@@ -36,7 +37,8 @@ module _ (words : List (List ℕ)) (before after : Moment) (A : Type 0) (ComesTo
     runs : {run : Run} {fault : CommandFault} → SaysCommand words (Words.Run run) → PreparesRun before.files after.files (names_of_run run) (Err fault) → ComesTo (Err fault)
     loads : {command : Command} {load : Load} {fault : CommandFault} → SaysCommand words command → loaded_by command ≡ Some load →
         LoadsAlone before.files after.files (given_text load.ifaces) load.conf.now (Err fault) → ComesTo (Err fault)
-    not_gen : {number : ℕ} → SaysCommand words (Words.Gen number) → ⊥
+    generated : {number : ℕ} {tree : Tree} {fault : CommandFault} → SaysCommand words (Words.Gen number) → HoldsWorkload number tree → PreparesOf tree (Err fault) →
+        ComesTo (Err fault)
 
   module _ (is : IsToldBy) (old new : SinkMoment) (status : ℕ) where
     -- one fault alone can be told
@@ -54,8 +56,8 @@ module _ (words : List (List ℕ)) (before after : Moment) (A : Type 0) (ComesTo
       by _ (MeetsFault.in_words not untouched) at = absurd (false≢true (sym not ∙ is.taken))
       by other (MeetsFault.in_run said comes untouched) at = same other (is.runs said comes) at
       by other (MeetsFault.in_loading said loaded comes untouched) at = same other (is.loads said loaded comes) at
-      by _ (MeetsFault.in_workload said holds reads comes untouched) at = absurd (is.not_gen said)
-      by _ (MeetsFault.in_output rose front) at = never (is.front front)
+      by other (MeetsFault.in_workload said holds comes untouched) at = same other (is.generated said holds comes) at
+      by _ (MeetsFault.in_output rose unchanged front) at = never (is.front front)
       by _ (MeetsFault.in_writing {run = run} {plan = plan} {outputs = outputs} {outcomes = outcomes} said named rose reports) at =
           never (is.front (reported_front words before after run plan said outputs outcomes reports))
       by _ (MeetsFault.in_memory put) at = inr at
@@ -69,8 +71,8 @@ module _ (words : List (List ℕ)) (before after : Moment) (A : Type 0) (ComesTo
       by _ (MeetsFault.in_words not untouched) at = absurd (false≢true (sym not ∙ is.taken))
       by other (MeetsFault.in_run said comes untouched) at = absurd (can (Err other) (is.runs said comes))
       by other (MeetsFault.in_loading said loaded comes untouched) at = absurd (can (Err other) (is.loads said loaded comes))
-      by _ (MeetsFault.in_workload said holds reads comes untouched) at = absurd (is.not_gen said)
-      by _ (MeetsFault.in_output rose front) at = absurd (omega (arith, rose, puts.0, puts.1))
+      by other (MeetsFault.in_workload said holds comes untouched) at = absurd (can (Err other) (is.generated said holds comes))
+      by _ (MeetsFault.in_output rose same front) at = absurd (omega (arith, rose, puts.0, puts.1))
       by _ (MeetsFault.in_writing said named rose reports) at = absurd (omega (arith, rose, writes.0, writes.1))
       by _ (MeetsFault.in_memory put) at = inr at
 
@@ -92,7 +94,7 @@ module _ (words : List (List ℕ)) (before after : Moment) (tree : Tree) (told :
     run_text _ _ said_b (TextOf.count {load = load} loads) = absurd (one words (Words.Run run) (Words.Validate load) said said_b)
     run_text _ _ said_b (TextOf.model {load = load} loads) = absurd (one words (Words.Run run) (Words.Show load) said said_b)
     run_text _ _ said_b (TextOf.programs {load = load} loads within) = absurd (one words (Words.Run run) (Words.Debug load) said said_b)
-    run_text _ _ said_b (TextOf.total {number = number} holds reads plays) = absurd (one words (Words.Run run) (Words.Gen number) said said_b)
+    run_text _ _ said_b (TextOf.total {number = number} holds plays) = absurd (one words (Words.Run run) (Words.Gen number) said said_b)
 
     run_does : (command : Command) → SaysCommand words command → DoesCommand command before after → (plan : RunPlan) × OfRun (Ok plan)
     run_does (Words.Run b) said_b does = (does.plan, prepared b said_b (Ok does.plan) does.reports.played.prepared)
@@ -115,7 +117,7 @@ module _ (words : List (List ℕ)) (before after : Moment) (tree : Tree) (told :
       front = λ front. run_text front.command front.text front.said front.of;
       runs = λ {run = b} {fault} said_b comes. prepared b said_b (Err fault) comes;
       loads = λ {command} {load} {fault} said_b loaded comes. no_loads command load said_b loaded;
-      not_gen = λ {number} said_b. one words (Words.Run run) (Words.Gen number) said said_b;
+      generated = λ {number} {tree} {fault} said_b holds comes. absurd (one words (Words.Run run) (Words.Gen number) said said_b);
     }
 
   module _ (of_loads : LoadsAreOfContents) (command : Command) (load : Load) (said : SaysCommand words command) (loaded : loaded_by command ≡ Some load) where
@@ -151,10 +153,10 @@ module _ (words : List (List ℕ)) (before after : Moment) (tree : Tree) (told :
 
     load_text : (b : Command) (text : List ℕ) → SaysCommand words b → TextOf before after b text → (config : Configuration) × OfLoad (Ok config)
     load_text _ _ said_b (TextOf.report {run = b} plays) = not_other (Words.Run b) said_b refl
-    load_text _ _ said_b (TextOf.count {load = l} {config = config} loads) = (config, loads_so (Words.Validate l) l said_b refl (Ok config) loads)
-    load_text _ _ said_b (TextOf.model {load = l} {config = config} loads) = (config, loads_so (Words.Show l) l said_b refl (Ok config) loads)
-    load_text _ _ said_b (TextOf.programs {load = l} {config = config} loads within) = (config, loads_so (Words.Debug l) l said_b refl (Ok config) loads)
-    load_text _ _ said_b (TextOf.total {number = number} holds reads plays) = not_other (Words.Gen number) said_b refl
+    load_text _ _ said_b (TextOf.count {load = l} {config = config} loads) = (config, loads_so (Words.Validate l) l said_b refl (Ok config) loads.loads)
+    load_text _ _ said_b (TextOf.model {load = l} {config = config} loads) = (config, loads_so (Words.Show l) l said_b refl (Ok config) loads.loads)
+    load_text _ _ said_b (TextOf.programs {load = l} {config = config} loads within) = (config, loads_so (Words.Debug l) l said_b refl (Ok config) loads.loads)
+    load_text _ _ said_b (TextOf.total {number = number} holds plays) = not_other (Words.Gen number) said_b refl
 
     load_does : (b : Command) → SaysCommand words b → DoesCommand b before after → (config : Configuration) × OfLoad (Ok config)
     load_does (Words.Run b) said_b does = not_other (Words.Run b) said_b refl
@@ -170,7 +172,52 @@ module _ (words : List (List ℕ)) (before after : Moment) (tree : Tree) (told :
       front = λ front. load_text front.command front.text front.said front.of;
       runs = λ {run = b} {fault} said_b comes. not_other (Words.Run b) said_b refl;
       loads = λ {command = b} {load = other} {fault} said_b loaded_b comes. loads_so b other said_b loaded_b (Err fault) comes;
-      not_gen = λ {number} said_b. not_other (Words.Gen number) said_b refl;
+      generated = λ {number} {tree} {fault} said_b holds comes. not_other (Words.Gen number) said_b refl;
+    }
+
+  module _ (number : ℕ) (said : SaysCommand words (Words.Gen number)) where
+    abbrev OfGenerated : Result RunPlan CommandFault → Type 0
+    OfGenerated result = (held : Tree) × HoldsWorkload number held × PreparesOf held result
+
+    -- these words say no other command
+    no_other : {X : Type 0} (command : Command) → SaysCommand words command → ((other : ℕ) → command ≡ Words.Gen other → ⊥) → X
+    no_other {X} command said_b not = by command (one words (Words.Gen number) command said said_b) not where
+      by : (c : Command) → IsSameCommand (Words.Gen number) c → ((other : ℕ) → c ≡ Words.Gen other → ⊥) → X
+      by (Words.Gen other) same not = absurd (not other refl)
+      by (Words.Run r) same not = absurd same
+      by (Words.Validate l) same not = absurd same
+      by (Words.Show l) same not = absurd same
+      by (Words.Debug l) same not = absurd same
+
+    holds_so : (other : ℕ) → SaysCommand words (Words.Gen other) → (held : Tree) → HoldsWorkload other held → HoldsWorkload number held
+    holds_so other said_b held holds =
+        subst (λ n. HoldsWorkload n held) (sym (one words (Words.Gen number) (Words.Gen other) said said_b)) holds
+
+    generated_text : (command : Command) (text : List ℕ) → SaysCommand words command → TextOf before after command text → (plan : RunPlan) × OfGenerated (Ok plan)
+    generated_text _ _ said_b (TextOf.report {run = b} plays) = no_other (Words.Run b) said_b (λ other e. cc)
+    generated_text _ _ said_b (TextOf.count {load = load} loads) = no_other (Words.Validate load) said_b (λ other e. cc)
+    generated_text _ _ said_b (TextOf.model {load = load} loads) = no_other (Words.Show load) said_b (λ other e. cc)
+    generated_text _ _ said_b (TextOf.programs {load = load} loads within) = no_other (Words.Debug load) said_b (λ other e. cc)
+    generated_text _ _ said_b (TextOf.total {number = other} {tree = held} {plan = plan} holds plays) = (plan, (held, (holds_so other said_b held holds, plays.prepared)))
+
+    generated_does : (command : Command) → SaysCommand words command → DoesCommand command before after → (plan : RunPlan) × OfGenerated (Ok plan)
+    generated_does (Words.Run b) said_b does = no_other (Words.Run b) said_b (λ other e. cc)
+    generated_does (Words.Validate load) said_b does = generated_text _ _ said_b does.of
+    generated_does (Words.Show load) said_b does = generated_text _ _ said_b does.of
+    generated_does (Words.Debug load) said_b does = generated_text _ _ said_b does.of
+    generated_does (Words.Gen other) said_b does = generated_text _ _ said_b does.of
+
+    not_loading : {X : Type 0} (command : Command) (load : Load) → SaysCommand words command → loaded_by command ≡ Some load → X
+    not_loading command load said_b loaded = no_other command said_b (λ other e. (let l = subst (λ c. loaded_by c ≡ Some load) e loaded in cc))
+
+    generated_told : IsToldBy words before after RunPlan OfGenerated
+    generated_told = record {
+      taken = said.taken;
+      does = λ does. generated_does does.command does.said does.does;
+      front = λ front. generated_text front.command front.text front.said front.of;
+      runs = λ {run = b} {fault} said_b comes. no_other (Words.Run b) said_b (λ other e. cc);
+      loads = λ {command} {load} {fault} said_b loaded comes. not_loading command load said_b loaded;
+      generated = λ {number = other} {tree = held} {fault} said_b holds comes. (held, (holds_so other said_b held holds, comes));
     }
 
   module _ (of_runs : RunsAreOfContents) (of_loads : LoadsAreOfContents) (old new : SinkMoment) (status : ℕ) where
@@ -186,3 +233,5 @@ module _ (words : List (List ℕ)) (before after : Moment) (tree : Tree) (told :
         none words before after RunPlan (OfRun of_runs run said) (run_told of_runs run said) old new status can
     does_all (CanDo.load {command = command} {load_of = load} said loaded can) =
         none words before after Configuration (OfLoad of_loads command load said loaded) (load_told of_loads command load said loaded) old new status can
+    does_all (CanDo.generated {number = number} said can) =
+        none words before after RunPlan (OfGenerated number said) (generated_told number said) old new status (λ result comes. can comes.0 result comes.1 comes.2)

@@ -7,21 +7,20 @@ use Rattle.npf_engine.specs.Histories.{FlowEntry}
 use Rattle.npf_messages.specs.declared.fault.CommandFault.{CommandFault}
 use Rattle.npf_messages.specs.declared.fault.CommandFault.TheVariants.{NoMemory, Unwritten}
 use Rattle.npf_messages.specs.Message.{message_line, status_of_fault}
-use Rattle.npf_config.specs.Reading.{OnlyReads}
 use Rattle.npf_input.specs.Unless.{UnlessMemory}
 use Rattle.npf_outside.specs.Counts.{Rose}
-use Rattle.npf_outside.specs.Files.{FilesMoment, SameReadFaults}
+use Rattle.npf_outside.specs.Files.{FilesMoment, SameReadFaults, Tree}
 use Rattle.npf_outside.specs.Sink.{Appends, AppendsFront, SinkMoment}
 use Rattle.npf_output.specs.Putting.{HasPutFault}
 use Rattle.npf_output.specs.Report.{report_text}
 use Rattle.npf_prepare.specs.declared.prepare.Prepared.{Prepared}
-use Rattle.npf_prepare.specs.Prepares.{RunPlan, PreparesRun}
+use Rattle.npf_prepare.specs.Prepares.{RunPlan}
 use Rattle.npf_prepare.specs.View.{run_plan_of}
 use Rattle.npf_runner.specs.declared.packet.Packet.{Packet}
 use Rattle.npf_runner.specs.declared.phase.Spread.{Spread}
 use Rattle.npf_runner.specs.Plays.{PlaysPhases}
 use Rattle.npf_ctl.specs.Faults.{IsFaulted, MeetsFault, PutsLine}
-use Rattle.npf_ctl.specs.Generated.{HoldWorkload, generated_names}
+use Rattle.npf_ctl.specs.Generated.{HoldsWorkload, PreparesOf}
 use Rattle.npf_ctl.specs.Running.{Moment}
 use Rattle.npf_ctl.specs.Top.{DoesWords}
 
@@ -63,8 +62,8 @@ IsUnwritten before after name _ = ⊥
 -- what preparing the generated run of this number comes to, unless memory is wanting for its files
 pub data PreparesGenerated (number : ℕ) : Result Prepared CommandFault → Type 0 where
   unmade : PreparesGenerated number (Err NoMemory)
-  made : {files read : FilesMoment} {result : Result Prepared CommandFault} → HoldWorkload number files → OnlyReads files read →
-      UnlessMemory run_plan_of result (PreparesRun files read generated_names) → PreparesGenerated number result
+  made : {tree : Tree} {result : Result Prepared CommandFault} → HoldsWorkload number tree → UnlessMemory run_plan_of result (PreparesOf tree) →
+      PreparesGenerated number result
 
 -- what the words say was done, and the output is flushed; or the first fault was met
 abbrev pub EndsIn : List (List ℕ) → Moment → Moment → Result (Unit {0}) CommandFault → Type 0

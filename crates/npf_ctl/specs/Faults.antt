@@ -1,9 +1,8 @@
 -- The first fault that a command met: its cause, what was put before it, and its line.
 use Rattle.std.specs.Prelude.{◌≡◌, ◌⊎◌, ℕ, false, Err, Option, Some, List, []}
 use Rattle.npf_outside.specs.Counts.{Rose}
-use Rattle.npf_outside.specs.Files.{FilesMoment, SameFiles}
+use Rattle.npf_outside.specs.Files.{SameFiles, Tree}
 use Rattle.npf_outside.specs.Sink.{SinkMoment, Appends, AppendsFront}
-use Rattle.npf_config.specs.Reading.{OnlyReads}
 use Rattle.npf_engine.specs.declared.outcome.Outcome.{Outcome}
 use Rattle.npf_input.specs.Loading.{LoadsAlone}
 use Rattle.npf_prepare.specs.Prepares.{RunPlan, PreparesRun}
@@ -17,7 +16,7 @@ use Rattle.npf_words.specs.declared.command.Load.{Load}
 use Rattle.npf_words.specs.declared.command.Run.{Run as RunWords}
 use Rattle.npf_words.specs.CommandLine.{SaysCommand, given_text, is_command_line}
 use Rattle.npf_ctl.specs.Commands.{loaded_by, names_of_run}
-use Rattle.npf_ctl.specs.Generated.{HoldWorkload, generated_names}
+use Rattle.npf_ctl.specs.Generated.{HoldsWorkload, PreparesOf}
 use Rattle.npf_ctl.specs.Running.{Moment, IsReported}
 use Rattle.npf_ctl.specs.Texts.{TextOf}
 
@@ -33,10 +32,15 @@ module _ (before after : Moment) where
   abbrev pub PutsNothing : Type 0
   PutsNothing = Appends before.out.held after.out.held []
 
-  -- and no file changed
+  -- no file changed
+  abbrev pub ChangesNoFile : Type 0
+  ChangesNoFile = SameFiles before.files.contents after.files.contents
+
+  -- and neither, nor was the table of connections asked anything
   pub record IsUntouched : Type 0 where
     pub put : PutsNothing
-    pub files : SameFiles before.files.contents after.files.contents
+    pub files : ChangesNoFile
+    pub idle : after.pass ≡ before.pass
 
 module _ (words : List (List ℕ)) (before after : Moment) where
   -- a front of the command's text was put on the output
@@ -54,9 +58,9 @@ module _ (words : List (List ℕ)) (before after : Moment) where
         PreparesRun before.files after.files (names_of_run run) (Err fault) → IsUntouched before after → MeetsFault fault
     in_loading : {command : Command} {load : Load} {fault : CommandFault} → SaysCommand words command → loaded_by command ≡ Some load →
         LoadsAlone before.files after.files (given_text load.ifaces) load.conf.now (Err fault) → IsUntouched before after → MeetsFault fault
-    in_workload : {number : ℕ} {files read : FilesMoment} {fault : CommandFault} → SaysCommand words (Gen number) → HoldWorkload number files →
-        OnlyReads files read → PreparesRun files read generated_names (Err fault) → IsUntouched before after → MeetsFault fault
-    in_output : Rose before.out.faults after.out.faults → PutsFront → MeetsFault OutputUnwritten
+    in_workload : {number : ℕ} {tree : Tree} {fault : CommandFault} → SaysCommand words (Gen number) → HoldsWorkload number tree →
+        PreparesOf tree (Err fault) → IsUntouched before after → MeetsFault fault
+    in_output : Rose before.out.faults after.out.faults → ChangesNoFile before after → PutsFront → MeetsFault OutputUnwritten
     in_writing : {run : RunWords} {name : List ℕ} {plan : RunPlan} {outputs : List Packet} {outcomes : List Outcome} → SaysCommand words (Run run) →
         given_text run.output ≡ Some name → Rose before.files.write_faults after.files.write_faults →
         IsReported run before after plan outputs outcomes → MeetsFault (Unwritten name)

@@ -2,6 +2,7 @@ pub mod Commands
 pub mod Ends
 pub mod Faults
 pub mod Generated
+pub mod Limits
 pub mod Looking
 pub mod Running
 pub mod Texts

@@ -4,13 +4,13 @@ use Rattle.std.specs.Fmt.{decimal}
 use Rattle.std.specs.List.{flat_map}
 use Rattle.npf_bpf.specs.declared.insn.Insn.{Insn}
 use Rattle.npf_engine.specs.declared.outcome.Outcome.{Outcome}
-use Rattle.npf_outside.specs.Files.{FilesMoment}
+use Rattle.npf_outside.specs.Files.{Tree}
+use Rattle.npf_input.specs.File.{told_files}
 use Rattle.npf_input.specs.Loading.{LoadsAlone}
 use Rattle.npf_prepare.specs.Prepares.{RunPlan}
 use Rattle.npf_model.specs.declared.model.Model.{Model}
 use Rattle.npf_model.specs.Configuration.{Configuration}
 use Rattle.npf_model.specs.Verdict.{all_rules}
-use Rattle.npf_config.specs.Reading.{OnlyReads}
 use Rattle.npf_report.specs.TotalText.{total_text}
 use Rattle.npf_output.specs.Report.{report_text}
 use Rattle.npf_ruleset.specs.Refusal.{IsWithinLimits}
@@ -23,7 +23,7 @@ use Rattle.npf_words.specs.declared.command.Command.TheVariants as Words
 use Rattle.npf_words.specs.declared.command.Load.{Load}
 use Rattle.npf_words.specs.declared.command.Run.{Run}
 use Rattle.npf_words.specs.CommandLine.{given_text}
-use Rattle.npf_ctl.specs.Generated.{HoldWorkload, generated_names}
+use Rattle.npf_ctl.specs.Generated.{HoldsWorkload, generated_names}
 use Rattle.npf_ctl.specs.Running.{Moment, PlaysRun, PlaysWords}
 
 -- how many rules a configuration has
@@ -43,9 +43,10 @@ abbrev pub programs_text : ℕ → List (List Insn) → List ℕ
 programs_text n [] = []
 programs_text n (insns ∷ programs) = program_text n insns ++ programs_text (n + 1) programs
 
--- the configuration of a command's words, as the files say it from the one moment to the other
-abbrev pub IsLoadedFor : Moment → Moment → Load → Configuration → Type 0
-IsLoadedFor before after load config = LoadsAlone before.files after.files (given_text load.ifaces) load.conf.now (Ok config)
+-- the configuration of a command's words, as the files say it from the one moment to the other; the table of connections is asked nothing
+pub record IsLoadedFor (before after : Moment) (load : Load) (config : Configuration) : Type 0 where
+  pub loads : LoadsAlone before.files after.files (given_text load.ifaces) load.conf.now (Ok config)
+  pub idle : after.pass ≡ before.pass
 
 -- the text of a command
 pub data TextOf (before after : Moment) : Command → List ℕ → Type 0 where
@@ -56,6 +57,6 @@ pub data TextOf (before after : Moment) : Command → List ℕ → Type 0 where
       TextOf before after (Words.Show load) (spelled (model_pieces config.model))
   programs : {load : Load} {config : Configuration} {programs : List (List Insn)} → IsLoadedFor before after load config →
       IsWithinLimits config.model programs → TextOf before after (Words.Debug load) (programs_text 1 programs)
-  total : {number : ℕ} {files read : FilesMoment} {plan : RunPlan} {outputs : List Packet} {outcomes : List Outcome} → HoldWorkload number files →
-      OnlyReads files read → PlaysRun generated_names 1 Rr files read before.pass after.pass plan outputs outcomes →
+  total : {number : ℕ} {tree : Tree} {plan : RunPlan} {outputs : List Packet} {outcomes : List Outcome} → HoldsWorkload number tree →
+      PlaysRun generated_names 1 Rr (told_files tree) (told_files tree) before.pass after.pass plan outputs outcomes →
       TextOf before after (Words.Gen number) (total_text outcomes)

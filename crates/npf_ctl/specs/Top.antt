@@ -13,6 +13,7 @@ use Rattle.npf_words.specs.declared.command.Load.{Load}
 use Rattle.npf_words.specs.declared.command.Run.{Run}
 use Rattle.npf_words.specs.CommandLine.{SaysCommand, given_text}
 use Rattle.npf_ctl.specs.Commands.{loaded_by, names_of_run}
+use Rattle.npf_ctl.specs.Generated.{HoldsWorkload, PreparesOf}
 use Rattle.npf_ctl.specs.Running.{Moment, IsRun}
 use Rattle.npf_ctl.specs.Texts.{TextOf}
 
@@ -68,10 +69,12 @@ module _ (words : List (List ℕ)) (tree : Tree) where
         ((result : Result Configuration CommandFault) → LoadsAlone (told_files tree) (told_files tree) (given_text load_of.ifaces) load_of.conf.now result →
         result ≡ Err fault) → MustRefuse fault
 
-  -- the command's files are in their grammars and limits, whichever way they are read
+  -- the command's files are in their grammars and limits, whichever way they are read; those of a generated run are in memory
   pub data CanDo : Type 0 where
     run : {words_of : Run} → SaysCommand words (Words.Run words_of) →
         ((result : Result RunPlan CommandFault) → PreparesRun (told_files tree) (told_files tree) (names_of_run words_of) result → IsOk result) → CanDo
     load : {command : Command} {load_of : Load} → SaysCommand words command → loaded_by command ≡ Some load_of →
         ((result : Result Configuration CommandFault) → LoadsAlone (told_files tree) (told_files tree) (given_text load_of.ifaces) load_of.conf.now result →
         IsOk result) → CanDo
+    generated : {number : ℕ} → SaysCommand words (Words.Gen number) →
+        ((held : Tree) (result : Result RunPlan CommandFault) → HoldsWorkload number held → PreparesOf held result → IsOk result) → CanDo

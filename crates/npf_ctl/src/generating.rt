@@ -1,23 +1,21 @@
 // The run of a generated input.
 ghost use Rattle.std.specs.Prelude.{ℕ, List, IfOk};
-ghost use Rattle.npf_outside.specs.MemFiles.{files_moment};
 ghost use Rattle.npf_outside.specs.Files.{FilesMoment};
 ghost use Rattle.npf_prepare.specs.Playable.{IsPlayable};
 ghost use Rattle.npf_words.specs.declared.command.Command.{Command as CommandType};
 ghost use Rattle.npf_words.specs.CommandLine.{SaysCommand};
 ghost use Rattle.npf_ctl.specs.Ends.{EndsIn, GoesOn, IsFresh, PreparesGenerated};
-ghost use Rattle.npf_ctl.specs.Generated.{HoldWorkload};
 ghost use Rattle.npf_ctl.specs.Running.{moment};
 
+use crate::generated_files::GeneratedFiles;
 use npf_connections::Connections;
 use npf_flow::FlowLaw;
-use npf_gen::generate;
 use npf_messages::CommandFault;
 use npf_output::put_total;
-use npf_outside::{MemFiles, Sink};
+use npf_outside::Sink;
+use npf_prepare::laws::contents_decide;
 use npf_prepare::{Prepared, RunFiles, prepare_run};
 use npf_runner::{Gate, Spread, play};
-use npf_types::NoMemory;
 use std::alloc::Global;
 use std::sync::Wait;
 use std::thread::Threads;
@@ -60,23 +58,12 @@ fn prepare_generated(alloc: Global, number: u64) -> Result<Prepared, CommandFaul
     ensures comes { PreparesGenerated number result }
     ensures playable { IfOk result IsPlayable }
 {
-    let mut files = generated_files(alloc, number)?;
+    contents_decide();
+    let mut files = GeneratedFiles::new(alloc, number)?;
     let names = RunFiles {
         conf: "npf.conf",
         script: "script",
         ifaces: None,
     };
     prepare_run(alloc, names, &mut files)
-}
-
-// The files of the generated run of this number, in memory.
-fn generated_files(alloc: Global, number: u64) -> Result<MemFiles, NoMemory>
-    ensures { IfOk result (λ files. HoldWorkload number (files_moment files)) }
-{
-    let workload = generate(alloc, number)?;
-    let mut files = MemFiles::new(alloc)?;
-    files.put_file("npf.conf", workload.conf.as_slice())?;
-    files.put_file("script", workload.script.as_slice())?;
-    files.put_file("g.pcap", workload.capture.as_slice())?;
-    Ok(files)
 }

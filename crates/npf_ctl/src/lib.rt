@@ -1,7 +1,8 @@
 // What npfctl does: from the words of the command line and the bytes of its files to the lines of a report, a status and the line of a fault.
 //
 // Each command is a few steps, the first fault of which is answered: `running` prepares a run, plays it, and puts and writes what it makes;
-// `looking` loads a configuration and puts what is to be seen of it; `generating` runs a generated input from files in memory; `top` gives
+// `looking` loads a configuration and puts what is to be seen of it; `generating` runs a generated input from files in memory
+// (`generated_files`); `top` gives
 // the status, and puts the line of a fault.
 //
 // The contract is that of `npfctl_top`. With status 0 what the words say was done (specs/Top): for a run, what its files say was prepared,
@@ -9,7 +10,9 @@
 // other status is that of the first fault met, with its cause (specs/Faults), and its line was put on the error sink.
 #![tactic(auto)]
 
+mod generated_files;
 mod generating;
+pub mod laws;
 mod listing;
 mod looking;
 mod running;

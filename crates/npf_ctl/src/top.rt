@@ -84,12 +84,14 @@ pub fn npfctl_top<
         → StoodStill (O.moment out.old).faults (O.moment out.new).faults
         → StoodStill (F.moment files.old).write_faults (F.moment files.new).write_faults → Answers 0 result }
 
-    // With 2, 3, 4, 7, 8 and 9 nothing is put on the output, and no file changes; with any, none but the one that is to be written.
+    // With 2, 3, 4, 7, 8 and 9 nothing is put on the output, no file changes, and the table of connections is asked nothing; with any status
+    // no file changes but the one that is to be written.
     ensures quiet { IsQuiet result → Appends (O.moment out.old).held (O.moment out.new).held [] }
     ensures same { IsQuiet result → SameFiles (F.moment files.old).contents (F.moment files.new).contents }
+    ensures idle { IsQuiet result → C.view pass.new ≡ C.view pass.old }
     ensures files { KeepsOtherFiles (word_texts words.now) (F.moment files.old).contents (F.moment files.new).contents }
 
-    // The pass is as it was, but for its history, its sweeps and its epoch, none of which falls.
+    // The pass isn't entered, owns all places, and has its number and slots; its sweeps and its epoch don't fall.
     ensures own { C.fits conns.now pass.new }
     ensures legal { IsPass flow_law (C.view pass.new) }
     ensures out { (C.view pass.new).entered ≡ false }

@@ -1,7 +1,10 @@
-use Rattle.std.proofs.Common.{rules, ◌≡◌, Err}
+use Rattle.std.proofs.Common.{rules, ◌≡◌, Err, Some, refl, arith}
 use Rattle.npf_messages.specs.declared.fault.CommandFault.TheVariants.{NoMemory}
-use Rattle.npf_outside.specs.MemFiles.{files_moment}
+use Rattle.npf_prepare.specs.View.{run_plan_of}
+use Rattle.npf_input.proofs.UnlessLemmas.{unless_lasts}
+use Rattle.npf_prepare.specs.Prepares.{PreparesRun}
 use Rattle.npf_ctl.specs.Ends.{PreparesGenerated}
+use Rattle.npf_ctl.specs.Generated.{PreparesOf, contents_of, generated_moment, generated_names}
 use Rattle.npf_ctl.proofs.FileLemmas.{around_work, read_on}
 use Rattle.npf_ctl.proofs.generating.prepare_generated.Goals as goal
 
@@ -12,6 +15,10 @@ returns-in_err-files-clause-comes c =
 
 pub returns-clause-comes : goal.returns-clause-comes
 returns-clause-comes c =
-    let files = files_moment c.in_ok-files.files in
-    let read = files_moment c.prepare_run.new.files in
-    PreparesGenerated.made c.in_ok-files.ensures c.prepare_run.ensures.reads (c.prepare_run.ensures.comes files read (around_work files read read (read_on read)))
+    let files = generated_moment c.in_ok-files.files in
+    let read = generated_moment c.prepare_run.new.files in
+    let tree = λ name. Some (contents_of c.in_ok-files.files.workload name) in
+    PreparesGenerated.made {tree = tree} c.in_ok-files.ensures
+    (unless_lasts run_plan_of (PreparesRun files read generated_names) (PreparesOf tree)
+    (λ result. c.contents_decide.ensures generated_names tree files read result refl (λ name. (refl, omega arith)))
+    c.prepare_run.result (c.prepare_run.ensures.comes files read (around_work files read read (read_on read))))

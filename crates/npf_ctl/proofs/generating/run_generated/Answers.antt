@@ -6,7 +6,7 @@ use Rattle.npf_runner.specs.declared.phase.Spread.TheVariants.{Rr}
 use Rattle.npf_runner.specs.Plays.{PlaysPhases}
 use Rattle.npf_ctl.specs.Faults.{MeetsFault}
 use Rattle.npf_ctl.specs.Running.{moment}
-use Rattle.npf_ctl.proofs.FileLemmas.{nothing_put, not_touched}
+use Rattle.npf_ctl.proofs.FileLemmas.{nothing_put, not_touched, same_as_itself}
 use Rattle.npf_ctl.proofs.GenerateLemmas.{generated_ends, unprepared}
 use Rattle.npf_ctl.proofs.generating.run_generated.Goals as goal
 
@@ -31,5 +31,5 @@ returns-clause-ends g c = λ texts files said.
     let plays = rw (c.as_slice-configs.ensures.value, c.as_slice-phases.ensures.value) at c.in_ok-played.ensures.plays in
     let told = subst (λ (outcomes : List Outcome). PlaysPhases (run_plan_of prepared).configs 1 Rr before.pass after.pass prepared.phases.items prepared.packets.items played.packets outcomes)
     (sym c.as_slice-outcomes.ensures) plays in
-    generated_ends texts before after c.args.number said prepared played.packets c.as_slice-outcomes.result.now c.in_ok-prepared.ensures.comes told
+    generated_ends texts before after c.args.number said prepared played.packets c.as_slice-outcomes.result.now (same_as_itself files.contents) c.in_ok-prepared.ensures.comes told
     c.put_total.result c.put_total.ensures.whole c.put_total.ensures.flushed c.put_total.ensures.front c.put_total.ensures.fault

@@ -1,4 +1,4 @@
-use Rattle.std.proofs.Common.{rules, ◌≡◌, Err, inl, subst, sym}
+use Rattle.std.proofs.Common.{rules, ◌≡◌, Err, inl, refl, subst, sym}
 use Rattle.npf_input.specs.Loading.{LoadsAlone}
 use Rattle.npf_messages.specs.declared.fault.CommandFault.TheVariants.{NoMemory}
 use Rattle.npf_ruleset.specs.Configuration.{configuration}
@@ -20,7 +20,7 @@ returns-in_err-config-clause-ends g c =
     let fault = c.in_err-config.field-0.0 in
     let same : c.from_residual.result ≡ Err fault = search rules in
     rw same (λ texts pass said. early texts (moment first out pass) (moment last out pass) (λ why. LoadsAlone first last (given_text load.ifaces) load.conf.now (Err why))
-    (λ why comes. MeetsFault.in_loading said (look_loads c.args.look load) comes (record { put = nothing_put out; files = only_read first last c.load_alone.ensures.reads }))
+    (λ why comes. MeetsFault.in_loading said (look_loads c.args.look load) comes (record { put = nothing_put out; files = only_read first last c.load_alone.ensures.reads; idle = refl }))
     (nothing_put out) fault (c.in_err-config.ensures.comes first last (around_work first last last (read_on last))))
 
 pub returns-in_err-text-clause-ends : goal.returns-in_err-text-clause-ends
@@ -40,8 +40,8 @@ returns-clause-ends g c = λ texts pass said.
     let text = c.as_slice.result.now in
     let is = subst (IsLookText look config.model) (sym c.as_slice.ensures.value) c.in_ok-text.ensures in
     text_ends texts before after (looking_command look load) text said
-    (text_of_look before after load look config text (c.in_ok-config.ensures.comes first last (around_work first last last (read_on last))) is)
-    (look_does before after load look) c.put_text.result c.put_text.ensures.whole c.put_text.ensures.flushed c.put_text.ensures.front c.put_text.ensures.fault
+    (text_of_look before after load look config text (record { loads = c.in_ok-config.ensures.comes first last (around_work first last last (read_on last)); idle = refl }) is)
+    (only_read first last c.load_alone.ensures.reads) (look_does before after load look) c.put_text.result c.put_text.ensures.whole c.put_text.ensures.flushed c.put_text.ensures.front c.put_text.ensures.fault
 
 pub returns-in_err-config-clause-files : goal.returns-in_err-config-clause-files
 returns-in_err-config-clause-files g c = only_read (g.F.Files.moment c.args.files.now) (g.F.Files.moment c.load_alone.new.files) c.load_alone.ensures.reads

@@ -1,4 +1,4 @@
-use Rattle.std.proofs.Common.{rules, ◌≡◌, ◌∙◌, Err, Some, None, inl, length, sym, subst}
+use Rattle.std.proofs.Common.{rules, ◌≡◌, ◌∙◌, Err, Some, None, inl, length, refl, sym, subst}
 use Rattle.npf_messages.specs.declared.fault.CommandFault.TheVariants.{NoMemory}
 use Rattle.npf_words.specs.CommandLine.{given_text}
 use Rattle.std.proofs.lemmas.Slice.Zip.{AllZip-long}
@@ -21,7 +21,7 @@ returns-in_err-prepared-clause-ends g c =
     let fault = c.in_err-prepared.field-0.0 in
     let same : c.from_residual.result ≡ Err fault = search rules in
     rw same (λ texts said. run_unprepared texts (moment first out pass) (moment last out pass) c.args.words said
-    (record { put = nothing_put out; files = only_read first last c.prepare_run.ensures.reads }) fault (c.in_err-prepared.ensures.comes first last (around_work first last last (read_on last))))
+    (record { put = nothing_put out; files = only_read first last c.prepare_run.ensures.reads; idle = refl }) fault (c.in_err-prepared.ensures.comes first last (around_work first last last (read_on last))))
 
 pub returns-in_err-report_run-in-None-clause-ends : goal.returns-in_err-report_run-in-None-clause-ends
 returns-in_err-report_run-in-None-clause-ends g c =
@@ -32,7 +32,7 @@ returns-in_err-report_run-in-None-clause-ends g c =
     let fault = c.in_err-report_run-in-None.field-0.0 in
     let same : c.from_residual-in_err-report_run-in-None.result ≡ Err fault = search rules in
     rw same (λ texts said. unreported texts (moment first out pass) (moment last (g.O.Sink.moment c.report_run.new.out) (g.C.Connections.view c.report_run.new.pass)) c.args.words
-    (run_plan_of c.in_ok-prepared.prepared) said (c.in_ok-prepared.ensures.comes first last (around_work first last last (read_on last))) fault c.in_err-report_run-in-None.ensures.fails)
+    (run_plan_of c.in_ok-prepared.prepared) said (only_read first last c.prepare_run.ensures.reads) (c.in_ok-prepared.ensures.comes first last (around_work first last last (read_on last))) fault c.in_err-report_run-in-None.ensures.fails)
 
 pub returns-in_err-extents-in-Some-clause-ends : goal.returns-in_err-extents-in-Some-clause-ends
 returns-in_err-extents-in-Some-clause-ends g c =
@@ -48,7 +48,7 @@ returns-in_err-played-in-Some-clause-ends g c =
     let fault = c.in_err-played-in-Some.field-0.0 in
     let same : c.from_residual-in_err-played-in-Some.result ≡ Err fault = search rules in
     rw same (λ texts said. unreported texts (moment first out pass) (moment last (g.O.Sink.moment c.report_run-in-Some.new.out) (g.C.Connections.view c.report_run-in-Some.new.pass)) c.args.words
-    (run_plan_of c.in_ok-prepared.prepared) said (c.in_ok-prepared.ensures.comes first last (around_work first last last (read_on last))) fault c.in_err-played-in-Some.ensures.fails)
+    (run_plan_of c.in_ok-prepared.prepared) said (only_read first last c.prepare_run.ensures.reads) (c.in_ok-prepared.ensures.comes first last (around_work first last last (read_on last))) fault c.in_err-played-in-Some.ensures.fails)
 
 pub write_passed-requires-clause-extents : goal.write_passed-requires-clause-extents
 write_passed-requires-clause-extents g c =

@@ -86,3 +86,12 @@ returns-clause-same g c =
     let new = g.E.Sink.moment c.answer.new.err in
     let texts = word_texts c.args.words.now in
     λ quiet. (was_quiet texts before after old new c.answer.result c.answer.ensures.answered quiet).files
+
+pub returns-clause-idle : goal.returns-clause-idle
+returns-clause-idle g c =
+    let before = moment (g.F.Files.moment c.args.files.now) (g.O.Sink.moment c.args.out.now) (g.C.Connections.view c.args.pass.now) in
+    let after = moment (g.F.Files.moment c.answer.new.files) (g.O.Sink.moment c.answer.new.out) (g.C.Connections.view c.answer.new.pass) in
+    let old = g.E.Sink.moment c.args.err.now in
+    let new = g.E.Sink.moment c.answer.new.err in
+    let texts = word_texts c.args.words.now in
+    λ quiet. (was_quiet texts before after old new c.answer.result c.answer.ensures.answered quiet).idle
