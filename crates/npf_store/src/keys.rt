@@ -1,4 +1,4 @@
-ghost use Rattle.std.specs.Prelude.{◌≡◌, false, ◌≢◌, ℕ, ◌<◌, ◌≤◌, ◌*◌, ◌+◌, ◌↔◌, length, vec_len, get_or, Option, Some, None, IfOk, IfSome, IfNone, IsTrue, replicate};
+ghost use Rattle.std.specs.Prelude.{◌≡◌, false, ◌≢◌, ℕ, ◌<◌, ◌≤◌, ◌*◌, ◌+◌, ◌↔◌, length, vec_len, vec_capacity, get_or, Option, Some, None, IfOk, IfSome, IfNone, IsTrue};
 ghost use Rattle.npf_core.specs.NextState.{is_found};
 ghost use Rattle.npf_store.specs.Hash.{bucket_of};
 ghost use Rattle.npf_store.specs.Places.{AreKept, AreSized, key_place, way_number};
@@ -16,7 +16,7 @@ const WIDTH: usize = 16;
 #[derive(Drop)]
 pub(crate) struct Keys {
     buckets: usize,
-    // What each connection holds of each way, at 3 times its slot and the way's number.
+    // What each connection holds of each way, at 3 times its slot and the way's number. Only slots that were claimed have places.
     holdings: Vec<Option<Holding>>,
     // The places that each bucket names. Its keys stand there, and others' may, too.
     cells: Vec<u32>,
@@ -29,21 +29,39 @@ pub(crate) struct Keys {
 impl Keys {
     ghost use Rattle.npf_core.specs.NextState.{given_up};
     ghost use Rattle.npf_types.specs.declared.key.Key.{Key};
-    ghost use Rattle.npf_store.specs.Keys.{Reholds, keeper_of};
+    ghost use Rattle.npf_store.specs.Keys.{Reholds, Grows, keeper_of};
     ghost use Rattle.npf_store.specs.Places.{IsStale, IsUnnamed, found_at, standing};
 
-    /// Room for the keys of so many slots, of which none is held.
+    /// Room for the keys of so many slots, of which none has places yet.
     pub(crate) fn new(alloc: Global, slots: u32) -> Result<Keys, NoMemory>
         ensures unheld { IfOk result (λ keys. (key : Key) → keeper_of keys key ≡ None) }
-        ensures sized { IfOk result (λ keys. length keys.holdings.items ≡ 3 * slots) }
+        ensures empty { IfOk result (λ keys. length keys.holdings.items ≡ 0) }
+        ensures room { IfOk result (λ keys. 3 * slots ≤ vec_capacity keys.holdings) }
     {
         let buckets = slots.max(1) as usize;
         Ok(Keys {
             buckets,
-            holdings: empty(alloc, 3 * slots as usize)?,
+            holdings: Vec::with_capacity(alloc, 3 * slots as usize)?,
             cells: vec![in alloc; u32::MAX; WIDTH * buckets]?,
             spilled: vec![in alloc; false; buckets]?,
         })
+    }
+
+    /// Places for the keys of the next slot, which holds none.
+    pub(crate) fn add_slot(&mut self)
+        requires { length self.old.holdings.items + 3 ≤ vec_capacity self.old.holdings }
+        ensures { Grows 3 self.old self.new }
+    {
+        self.add_place();
+        self.add_place();
+        self.add_place();
+    }
+
+    fn add_place(&mut self)
+        requires { length self.old.holdings.items < vec_capacity self.old.holdings }
+        ensures { Grows 1 self.old self.new }
+    {
+        self.holdings.push_reserved(None);
     }
 
     /// The key's bucket.
@@ -189,18 +207,13 @@ impl Keys {
     pub(crate) fn take_back(&mut self, found: Found)
         ensures holder { (key : Key) → keeper_of self.new key ≡ given_up (keeper_of self.old key) found }
         ensures sized { length self.new.holdings.items ≡ length self.old.holdings.items }
+        ensures room { vec_capacity self.new.holdings ≡ vec_capacity self.old.holdings }
     {
         let Some(holding) = self.holding(found) else {
             return;
         };
         self.holdings[key_place(holding.found)] = None;
     }
-}
-
-fn empty(alloc: Global, places: usize) -> Result<Vec<Option<Holding>>, NoMemory>
-    ensures { IfOk result (λ holdings. holdings.items ≡ replicate places None) }
-{
-    Ok(vec![in alloc; None; places]?)
 }
 
 fn is_found(found: Found, other: Found) -> bool
