@@ -206,12 +206,13 @@ impl<S: Copy> Store<S> {
     pub fn dead(&self, slot: u32) -> Option<ConnId>
         ensures { TellsDead self.now slot result }
     {
-        let connection = self.connection(slot);
-        match connection.phase {
-            Phase::Dead => Some(ConnId {
-                slot,
-                inc: connection.inc,
-            }),
+        match self.connections.get(slot as usize) {
+            Some(
+                Connection {
+                    inc,
+                    phase: Phase::Dead,
+                },
+            ) => Some(ConnId { slot, inc: *inc }),
             _ => None,
         }
     }
@@ -231,17 +232,12 @@ impl<S: Copy> Store<S> {
         self.first = self.first.min(id.slot);
     }
 
-    /// The slot's last connection, which was never claimed where there is no such slot.
-    pub(crate) fn connection(&self, slot: u32) -> Connection<S>
-        ensures { result ≡ slot_of self.now slot }
+    // The slot's last connection. A slot without one isn't claimed.
+    pub(crate) fn connection(&self, slot: u32) -> Option<&Connection<S>>
+        ensures some { IfSome result (λ connection. slot_of self.now slot ≡ connection.now) }
+        ensures none { IfNone result ((slot_of self.now slot).phase ≡ Phase.Vacant) }
     {
-        match self.connections.get(slot as usize) {
-            Some(connection) => *connection,
-            None => Connection {
-                inc: 0,
-                phase: Phase::Vacant,
-            },
-        }
+        self.connections.get(slot as usize)
     }
 
     // Puts a claimed connection at a phase.
