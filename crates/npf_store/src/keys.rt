@@ -1,7 +1,8 @@
 ghost use Rattle.std.specs.Prelude.{◌≡◌, false, ◌≢◌, ℕ, ◌<◌, ◌≤◌, ◌*◌, ◌+◌, ◌↔◌, length, vec_len, vec_capacity, get_or, Option, Some, None, IfOk, IfSome, IfNone, IsTrue};
 ghost use Rattle.npf_core.specs.NextState.{is_found};
+ghost use Rattle.npf_types.specs.declared.key.Key.{Key};
 ghost use Rattle.npf_store.specs.Hash.{bucket_of};
-ghost use Rattle.npf_store.specs.Places.{AreKept, AreSized, key_place, way_number};
+ghost use Rattle.npf_store.specs.Places.{AreKept, AreSized, holder_among, key_place, way_number};
 
 use crate::hash::bucket_of;
 use crate::holding::Holding;
@@ -15,6 +16,8 @@ const WIDTH: usize = 16;
 /// The keys that connections hold.
 #[derive(Drop)]
 pub(crate) struct Keys {
+    // Whether a key was ever given.
+    used: bool,
     buckets: usize,
     // What each connection holds of each way, at 3 times its slot and the way's number. Only slots that were claimed have places.
     holdings: Vec<Option<Holding>>,
@@ -24,11 +27,11 @@ pub(crate) struct Keys {
     spilled: Vec<bool>,
     pub ghost sized: { AreSized buckets cells.items spilled.items },
     pub ghost kept: { AreKept buckets holdings.items cells.items spilled.items },
+    pub ghost unused: { used ≡ false → (key : Key) → holder_among holdings.items key ≡ None },
 }
 
 impl Keys {
     ghost use Rattle.npf_core.specs.NextState.{given_up};
-    ghost use Rattle.npf_types.specs.declared.key.Key.{Key};
     ghost use Rattle.npf_store.specs.Keys.{Reholds, Grows, keeper_of};
     ghost use Rattle.npf_store.specs.Places.{IsStale, IsUnnamed, found_at, standing};
 
@@ -40,6 +43,7 @@ impl Keys {
     {
         let buckets = slots.max(1) as usize;
         Ok(Keys {
+            used: false,
             buckets,
             holdings: Vec::with_capacity(alloc, 3 * slots as usize)?,
             cells: vec![in alloc; u32::MAX; WIDTH * buckets]?,
@@ -77,6 +81,9 @@ impl Keys {
         requires { bucket ≡ bucket_of self.now.buckets key }
         ensures { result ≡ keeper_of self.now key }
     {
+        if !self.used {
+            return None;
+        }
         if let Some(found) = self.named(bucket, key) {
             return Some(found);
         }
@@ -177,6 +184,7 @@ impl Keys {
     {
         let place = key_place(found);
         self.name(bucket, place);
+        self.used = true;
         self.holdings[place] = Some(Holding { key, found });
     }
 

@@ -6,7 +6,11 @@ use Rattle.npf_store.proofs.keys.Keys.add_place.Goals as goal
 pub invariant_of-self : goal.invariant_of-self
 invariant_of-self c =
     let s = c.args.self.now in
-    record { sized = s.sized; kept = rw c.push_reserved.ensures.items (kept_added s.buckets s.holdings.items s.cells.items s.spilled.items s.kept) }
+    record {
+      sized = s.sized;
+      kept = rw c.push_reserved.ensures.items (kept_added s.buckets s.holdings.items s.cells.items s.spilled.items s.kept);
+      unused = λ e key. rw c.push_reserved.ensures.items (holder_added s.holdings.items key ∙ s.unused e key);
+    }
 
 pub returns : goal.returns
 returns c =

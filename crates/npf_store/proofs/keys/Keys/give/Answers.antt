@@ -19,6 +19,7 @@ invariant_of-self c =
           (rw (same, c.key_place-place.ensures) c.requires.within) (sym c.key_place-place.ensures)
           (ap (λ v. holder_among v.items c.args.key) same ∙ c.requires.unheld)
           (rw (← bucket) c.name.ensures.named);
+      unused = λ e. absurd cc;
     }
 
 pub returns : goal.returns
