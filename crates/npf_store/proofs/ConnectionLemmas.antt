@@ -1,8 +1,8 @@
 -- Connections by the numbers of their slots, as one of them changes.
-use Rattle.std.proofs.Common.{◌≡◌, ◌≢◌, ℕ, zero, suc, replicate, get_or, ◌+◌, ◌-◌, ◌^◌, ◌<◌, ◌≤◌, ◌==◌, Bool, true, false, cond, List, length, set, arith, refl, sym, ap, ◌∙◌, ⊎_elim}
+use Rattle.std.proofs.Common.{◌≡◌, ◌≢◌, ℕ, zero, suc, [], ◌∷◌, ◌++◌, get_or, ◌+◌, ◌-◌, ◌^◌, ◌<◌, ◌≤◌, ◌==◌, Bool, true, false, cond, List, length, set, arith, refl, sym, ap, ◌∙◌, ⊎_elim}
 use Rattle.std.proofs.lemmas.Bool.{cases_eq, cases_lt}
 use Rattle.std.proofs.lemmas.Bool.Decides.{Decides-eqb}
-use Rattle.std.proofs.lemmas.List.{get_or-set_same, get_or-set_other, length-set}
+use Rattle.std.proofs.lemmas.List.{get_or-set_same, get_or-set_other}
 use Rattle.std.proofs.lemmas.Option.{slice_get_past, slice_get_read, unwrap_or-slice_get}
 use Rattle.npf_core.specs.declared.conn_id.ConnId.{ConnId}
 use Rattle.npf_store.specs.declared.connection.Connection.{Connection}
@@ -13,14 +13,12 @@ use Rattle.npf_store.specs.Connection.{connection_in, phase_at, phase_among, Are
 abbrev never : {S : Type 0} → Connection S
 never = record { inc = 0; phase = Vacant }
 
-replicated : {S : Type 0} (n s : ℕ) → get_or (replicate n (never {S = S})) s never ≡ never
-replicated zero s = refl
-replicated (suc n) zero = refl
-replicated (suc n) (suc s) = replicated n s
-
--- where no slot was ever claimed none is
-pub never_claimed : {S : Type 0} (n s : ℕ) → connection_in (replicate n (never {S = S})) s ≡ record { inc = 0; phase = Vacant }
-never_claimed n s = unwrap_or-slice_get (replicate n never) s never ∙ replicated n s
+-- a slot that is written as never claimed is as it was
+pub written_same : {S : Type 0} (xs : List (Connection S)) (s : ℕ) → connection_in (xs ++ never ∷ []) s ≡ connection_in xs s
+written_same [] zero = refl
+written_same [] (suc s) = refl
+written_same (x ∷ xs) zero = refl
+written_same (x ∷ xs) (suc s) = written_same xs s
 
 module _ {S : Type 0} (xs : List (Connection S)) where
   -- past the list no connection was claimed yet
@@ -75,12 +73,22 @@ module _ {S : Type 0} (xs : List (Connection S)) where
       let incs : other.inc ≡ id.inc = sym (claimed_inc other too) ∙ (ap (λ s. (connection_in xs s).inc) e ∙ claimed_inc id claimed) in
       λ i. record { slot = e i; inc = incs i }
 
+  -- the lowest that isn't claimed is written, or next to be
+  pub lowest_within : (s : ℕ) → ((r : ℕ) → r < s → (connection_in xs r).phase ≢ Vacant) → s ≤ length xs
+  lowest_within s lower = ⊎_elim
+      (λ (past : length xs < s). absurd (lower (length xs) past (ap (λ (x : Connection S). x.phase) (connection_past (length xs) (omega arith)))))
+      (λ (below : s ≤ length xs). below)
+      (cases_lt (length xs) s)
+
   -- what stays fit as a slot changes: a claimed one that stays so, one that is claimed, one that is freed
+  pub fit_same : (first : ℕ) (ys : List (Connection S)) → AreFit first xs → ((r : ℕ) → connection_in ys r ≡ connection_in xs r) → AreFit first ys
+  fit_same first ys fit same = record { claimed = λ r. rw (same r) (fit.claimed r); further = λ r. rw (same r) (fit.further r) }
+
   pub fit_put : (first s : ℕ) (x : Connection S) → AreFit first xs → s < length xs → x.phase ≢ Vacant → AreFit first (set xs s x)
   fit_put first s x fit within claimed = record {
-    claimed = λ r below inside. ⊎_elim
+    claimed = λ r below. ⊎_elim
         (λ (e : r ≡ s). λ vacant. claimed (sym (ap (λ (y : Connection S). y.phase) (ap (connection_in (set xs s x)) e ∙ set_there s x within)) ∙ vacant))
-        (λ (ne : r ≢ s). λ vacant. fit.claimed r below (omega (arith, inside, length-set xs s x)) (sym (ap (λ (y : Connection S). y.phase) (set_elsewhere s r x ne)) ∙ vacant))
+        (λ (ne : r ≢ s). λ vacant. fit.claimed r below (sym (ap (λ (y : Connection S). y.phase) (set_elsewhere s r x ne)) ∙ vacant))
         (cases_eq r s);
     further = λ r vacant. ⊎_elim
         (λ (e : r ≡ s). absurd (claimed (sym (ap (λ (y : Connection S). y.phase) (ap (connection_in (set xs s x)) e ∙ set_there s x within)) ∙ vacant)))
@@ -90,7 +98,7 @@ module _ {S : Type 0} (xs : List (Connection S)) where
 
   pub fit_claimed : (first s : ℕ) (x : Connection S) → AreFit first xs → s < length xs → x.phase ≢ Vacant → ((r : ℕ) → r < s → (connection_in xs r).phase ≢ Vacant) → AreFit (s + 1) (set xs s x)
   fit_claimed first s x fit within claimed lower = record {
-    claimed = λ r below inside. ⊎_elim
+    claimed = λ r below. ⊎_elim
         (λ (e : r ≡ s). λ vacant. claimed (sym (ap (λ (y : Connection S). y.phase) (ap (connection_in (set xs s x)) e ∙ set_there s x within)) ∙ vacant))
         (λ (ne : r ≢ s). λ vacant. lower r (omega arith) (sym (ap (λ (y : Connection S). y.phase) (set_elsewhere s r x ne)) ∙ vacant))
         (cases_eq r s);
@@ -99,9 +107,9 @@ module _ {S : Type 0} (xs : List (Connection S)) where
 
   pub fit_freed : (first lower s : ℕ) (x : Connection S) → AreFit first xs → s < length xs → lower ≤ first → lower ≤ s → x.inc < 2 ^ 64 - 1 → AreFit lower (set xs s x)
   fit_freed first lower s x fit within low under further = record {
-    claimed = λ r below inside vacant. ⊎_elim
+    claimed = λ r below vacant. ⊎_elim
         (λ (e : r ≡ s). omega arith)
-        (λ (ne : r ≢ s). fit.claimed r (omega arith) (omega (arith, inside, length-set xs s x)) (sym (ap (λ (y : Connection S). y.phase) (set_elsewhere s r x ne)) ∙ vacant))
+        (λ (ne : r ≢ s). fit.claimed r (omega arith) (sym (ap (λ (y : Connection S). y.phase) (set_elsewhere s r x ne)) ∙ vacant))
         (cases_eq r s);
     further = λ r vacant. ⊎_elim
         (λ (e : r ≡ s). rw (e, set_there s x within) further)

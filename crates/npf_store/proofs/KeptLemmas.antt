@@ -1,29 +1,27 @@
 -- What stays so as places, cells and flags change.
-use Rattle.std.proofs.Common.{◌≡◌, ◌≢◌, ℕ, zero, suc, replicate, ◌+◌, ◌-◌, ◌*◌, ◌<◌, ◌≤◌, Bool, true, false, List, length, get_or, set, Option, Some, None, refl, ap, sym, ◌∙◌, arith, ⊎_elim}
+use Rattle.std.proofs.Common.{◌≡◌, ◌≢◌, ℕ, zero, suc, ◌+◌, ◌-◌, ◌*◌, ◌<◌, ◌≤◌, Bool, true, false, List, [], ◌∷◌, ◌++◌, length, get_or, set, Option, Some, None, refl, ap, sym, ◌∙◌, arith, ⊎_elim}
 use Rattle.std.proofs.lemmas.Bool.{cases_eq}
 use Rattle.std.proofs.lemmas.List.{get_or-set_same, get_or-set_other}
 use Rattle.npf_types.specs.declared.key.Key.{Key}
 use Rattle.npf_store.specs.declared.holding.Holding.{Holding}
 use Rattle.npf_store.specs.Hash.{bucket_of}
-use Rattle.npf_store.specs.Places.{standing, found_in, holder_among, key_place, IsStale, IsUnnamed, AreKept}
-use Rattle.npf_store.proofs.HolderLemmas.{no_holder, still_there}
+use Rattle.npf_store.specs.Places.{standing, found_in, first_found, holder_among, key_place, IsStale, IsUnnamed, AreKept}
+use Rattle.npf_store.proofs.HolderLemmas.{still_there}
 use Rattle.npf_store.proofs.HomeLemmas.{some_holding, holder_here}
 
--- nothing stands where no key was ever held
-standing_nothing : (n place : ℕ) → standing (replicate n None) place ≡ None
-standing_nothing zero place = refl
-standing_nothing (suc n) zero = refl
-standing_nothing (suc n) (suc place) = standing_nothing n place
+-- a place more, at which nothing stands
+pub standing_added : (xs : List (Option Holding)) (place : ℕ) → standing (xs ++ None ∷ []) place ≡ standing xs place
+standing_added [] zero = refl
+standing_added [] (suc place) = refl
+standing_added (x ∷ xs) zero = refl
+standing_added (x ∷ xs) (suc place) = standing_added xs place
 
-pub no_holder_new : (n : ℕ) (key : Key) → holder_among (replicate n None) key ≡ None
-no_holder_new n key = no_holder (replicate n None) key (λ place within. ap (λ x. found_in key x) (standing_nothing n place))
+pub holder_added : (xs : List (Option Holding)) (key : Key) → holder_among (xs ++ None ∷ []) key ≡ holder_among xs key
+holder_added [] key = refl
+holder_added (x ∷ xs) key = ap (λ rest. first_found (found_in key x) rest) (holder_added xs key)
 
-pub kept_new : (buckets n : ℕ) (cells : List ℕ) (spilled : List Bool) → AreKept buckets (replicate n None) cells spilled
-kept_new buckets n cells spilled = record {
-  home = λ q h there. let no = standing_nothing n q in absurd cc;
-  once = λ q r h g there here. let no = standing_nothing n q in absurd cc;
-  named = λ q h there. let no = standing_nothing n q in absurd cc;
-}
+pub kept_new : (buckets : ℕ) (cells : List ℕ) (spilled : List Bool) → AreKept buckets [] cells spilled
+kept_new buckets cells spilled = record { home = λ q h there. absurd cc; once = λ q r h g there here. absurd cc; named = λ q h there. absurd cc }
 
 -- a cell of a bucket that has a place's number names it
 pub named_by : (cells : List ℕ) (cell place bucket : ℕ) → cell < length cells → bucket * 16 ≤ cell → cell < bucket * 16 + 16 →
@@ -107,6 +105,14 @@ module _ (buckets : ℕ) (xs : List (Option Holding)) (cells : List ℕ) (spille
           (λ (e : q ≡ place). rw (e, ← (is_new q h e there)) new)
           (λ (ne : q ≢ place). kept.named q h (is_old q h ne there))
           (cases_eq q place)
+
+  -- a place more
+  pub kept_added : AreKept buckets (xs ++ None ∷ []) cells spilled
+  kept_added = record {
+    home = λ q h there. kept.home q h (sym (standing_added xs q) ∙ there);
+    once = λ q r h g here there. kept.once q r h g (sym (standing_added xs q) ∙ here) (sym (standing_added xs r) ∙ there);
+    named = λ q h there. kept.named q h (sym (standing_added xs q) ∙ there);
+  }
 
   -- a place has nothing from now on
   pub kept_cleared : (place : ℕ) → place < length xs → AreKept buckets (set xs place None) cells spilled

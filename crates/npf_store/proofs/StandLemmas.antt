@@ -36,6 +36,11 @@ module _ {S : Type 0} (xs : List (Connection S)) (holdings : List (Option Holdin
   pub unclaimed_bare : (id : ConnId) → (connection_in xs id.slot).phase ≡ Vacant → (way : Way) (key : Key) → holder_among holdings key ≢ Some (record { id = id; way = way })
   unclaimed_bare id vacant way key held = stand key (record { id = id; way = way }) held (vacant_phase xs id vacant)
 
+  -- where slots and keys are as they were
+  pub stand_same : (ys : List (Connection S)) (others : List (Option Holding)) → ((s : ℕ) → connection_in ys s ≡ connection_in xs s) →
+      ((key : Key) → holder_among others key ≡ holder_among holdings key) → HoldersStand ys others
+  stand_same ys others same held key found h = rw (same found.id.slot) (stand key found (sym (held key) ∙ h))
+
   -- the others of a slot's identities than the claimed one hold none either, so a change of the slot goes by what is claimed now
   changed : (s : ℕ) (x : Connection S) → ((key : Key) (found : Found) → holder_among holdings key ≡ Some found → found.id.slot ≡ s → phase_among (set xs s x) found.id ≢ Vacant) → HoldersStand (set xs s x) holdings
   changed s x here key found held = ⊎_elim

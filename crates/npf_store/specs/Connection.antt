@@ -1,5 +1,5 @@
 -- Connections by the numbers of their slots.
-use Rattle.std.specs.Prelude.{◌≡◌, ◌≢◌, ℕ, ◌-◌, ◌^◌, ◌<◌, ◌==◌, if◌then◌else◌, List, length, Option, Some, slice_get, unwrap_or}
+use Rattle.std.specs.Prelude.{◌≡◌, ◌≢◌, ℕ, ◌-◌, ◌^◌, ◌<◌, ◌==◌, if◌then◌else◌, List, Option, Some, slice_get, unwrap_or}
 use Rattle.npf_types.specs.declared.key.Key.{Key}
 use Rattle.npf_core.specs.declared.conn_id.ConnId.{ConnId}
 use Rattle.npf_core.specs.declared.found.Found.{Found}
@@ -23,7 +23,7 @@ phase_among connections id = phase_at (connection_in connections id.slot) id.inc
 
 -- each slot below the first one that may be unclaimed is claimed, and the next incarnation of each that isn't is a number of 64 bits
 pub record AreFit {S : Type 0} (first : ℕ) (connections : List (Connection S)) : Type 0 where
-  pub claimed : (s : ℕ) → s < first → s < length connections → (connection_in connections s).phase ≢ Vacant
+  pub claimed : (s : ℕ) → s < first → (connection_in connections s).phase ≢ Vacant
   pub further : (s : ℕ) → (connection_in connections s).phase ≡ Vacant → (connection_in connections s).inc < 2 ^ 64 - 1
 
 -- each key's holder is claimed

@@ -1,6 +1,6 @@
 -- What can be asked of a store, and what each call makes of it. A store knows no seats: which one builds a connection is told by
 -- no call.
-use Rattle.std.specs.Prelude.{◌≡◌, ◌≢◌, ℕ, ◌+◌, ◌-◌, ◌^◌, ◌<◌, min, Option, Some, None, IsTrue, vec_len}
+use Rattle.std.specs.Prelude.{◌≡◌, ◌≢◌, ℕ, ◌+◌, ◌-◌, ◌^◌, ◌<◌, min, Option, Some, None, IsTrue}
 use Rattle.npf_types.specs.declared.key.Key.{Key}
 use Rattle.npf_types.specs.declared.key.Way.{Way}
 use Rattle.npf_types.specs.declared.key.Way.TheVariants.{Forward, Backward, Port}
@@ -20,7 +20,7 @@ use Rattle.npf_store.specs.Keys.{keeper_of}
 
 -- how many slots a store has
 abbrev pub slots_of : {S : Type 0} → Store S → ℕ
-slots_of store = vec_len store.connections
+slots_of store = store.slots
 
 -- the last connection of a slot: its incarnation and its phase
 abbrev pub slot_of : {S : Type 0} → Store S → ℕ → Connection S

@@ -1,7 +1,8 @@
-ghost use Rattle.std.specs.Prelude.{◌≡◌, false, ◌≢◌, ℕ, ◌<◌, ◌≤◌, ◌*◌, ◌+◌, ◌↔◌, length, vec_len, get_or, Option, Some, None, IfOk, IfSome, IfNone, IsTrue, replicate};
+ghost use Rattle.std.specs.Prelude.{◌≡◌, false, ◌≢◌, ℕ, ◌<◌, ◌≤◌, ◌*◌, ◌+◌, ◌↔◌, length, vec_len, vec_capacity, get_or, Option, Some, None, IfOk, IfSome, IfNone, IsTrue};
 ghost use Rattle.npf_core.specs.NextState.{is_found};
+ghost use Rattle.npf_types.specs.declared.key.Key.{Key};
 ghost use Rattle.npf_store.specs.Hash.{bucket_of};
-ghost use Rattle.npf_store.specs.Places.{AreKept, AreSized, key_place, way_number};
+ghost use Rattle.npf_store.specs.Places.{AreKept, AreSized, holder_among, key_place, way_number};
 
 use crate::hash::bucket_of;
 use crate::holding::Holding;
@@ -15,8 +16,10 @@ const WIDTH: usize = 16;
 /// The keys that connections hold.
 #[derive(Drop)]
 pub(crate) struct Keys {
+    // Whether a key was ever given.
+    used: bool,
     buckets: usize,
-    // What each connection holds of each way, at 3 times its slot and the way's number.
+    // What each connection holds of each way, at 3 times its slot and the way's number. Only slots that were claimed have places.
     holdings: Vec<Option<Holding>>,
     // The places that each bucket names. Its keys stand there, and others' may, too.
     cells: Vec<u32>,
@@ -24,26 +27,45 @@ pub(crate) struct Keys {
     spilled: Vec<bool>,
     pub ghost sized: { AreSized buckets cells.items spilled.items },
     pub ghost kept: { AreKept buckets holdings.items cells.items spilled.items },
+    pub ghost unused: { used ≡ false → (key : Key) → holder_among holdings.items key ≡ None },
 }
 
 impl Keys {
     ghost use Rattle.npf_core.specs.NextState.{given_up};
-    ghost use Rattle.npf_types.specs.declared.key.Key.{Key};
-    ghost use Rattle.npf_store.specs.Keys.{Reholds, keeper_of};
+    ghost use Rattle.npf_store.specs.Keys.{Reholds, Grows, keeper_of};
     ghost use Rattle.npf_store.specs.Places.{IsStale, IsUnnamed, found_at, standing};
 
-    /// Room for the keys of so many slots, of which none is held.
+    /// Room for the keys of so many slots, of which none has places yet.
     pub(crate) fn new(alloc: Global, slots: u32) -> Result<Keys, NoMemory>
         ensures unheld { IfOk result (λ keys. (key : Key) → keeper_of keys key ≡ None) }
-        ensures sized { IfOk result (λ keys. length keys.holdings.items ≡ 3 * slots) }
+        ensures empty { IfOk result (λ keys. length keys.holdings.items ≡ 0) }
+        ensures room { IfOk result (λ keys. 3 * slots ≤ vec_capacity keys.holdings) }
     {
         let buckets = slots.max(1) as usize;
         Ok(Keys {
+            used: false,
             buckets,
-            holdings: empty(alloc, 3 * slots as usize)?,
+            holdings: Vec::with_capacity(alloc, 3 * slots as usize)?,
             cells: vec![in alloc; u32::MAX; WIDTH * buckets]?,
             spilled: vec![in alloc; false; buckets]?,
         })
+    }
+
+    /// Places for the keys of the next slot, which holds none.
+    pub(crate) fn add_slot(&mut self)
+        requires { length self.old.holdings.items + 3 ≤ vec_capacity self.old.holdings }
+        ensures { Grows 3 self.old self.new }
+    {
+        self.add_place();
+        self.add_place();
+        self.add_place();
+    }
+
+    fn add_place(&mut self)
+        requires { length self.old.holdings.items < vec_capacity self.old.holdings }
+        ensures { Grows 1 self.old self.new }
+    {
+        self.holdings.push_reserved(None);
     }
 
     /// The key's bucket.
@@ -59,6 +81,9 @@ impl Keys {
         requires { bucket ≡ bucket_of self.now.buckets key }
         ensures { result ≡ keeper_of self.now key }
     {
+        if !self.used {
+            return None;
+        }
         if let Some(found) = self.named(bucket, key) {
             return Some(found);
         }
@@ -159,6 +184,7 @@ impl Keys {
     {
         let place = key_place(found);
         self.name(bucket, place);
+        self.used = true;
         self.holdings[place] = Some(Holding { key, found });
     }
 
@@ -189,18 +215,13 @@ impl Keys {
     pub(crate) fn take_back(&mut self, found: Found)
         ensures holder { (key : Key) → keeper_of self.new key ≡ given_up (keeper_of self.old key) found }
         ensures sized { length self.new.holdings.items ≡ length self.old.holdings.items }
+        ensures room { vec_capacity self.new.holdings ≡ vec_capacity self.old.holdings }
     {
         let Some(holding) = self.holding(found) else {
             return;
         };
         self.holdings[key_place(holding.found)] = None;
     }
-}
-
-fn empty(alloc: Global, places: usize) -> Result<Vec<Option<Holding>>, NoMemory>
-    ensures { IfOk result (λ holdings. holdings.items ≡ replicate places None) }
-{
-    Ok(vec![in alloc; None; places]?)
 }
 
 fn is_found(found: Found, other: Found) -> bool

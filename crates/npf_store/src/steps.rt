@@ -1,5 +1,6 @@
 ghost use Rattle.npf_store.specs.Store.{AnswersStep, TellsDue};
 
+use crate::connection::Connection;
 use crate::phase::Phase;
 use crate::store::Store;
 use npf_core::{ConnId, Law, Stepped};
@@ -34,12 +35,13 @@ pub fn step<L: Law>(
 pub fn due<L: Law>(store: &Store<L::State>, slot: u32, now: u64) -> Option<ConnId>
     ensures { TellsDue L.meaning store.now slot now result }
 {
-    let connection = store.connection(slot);
-    match connection.phase {
-        Phase::Live { flow, .. } if L::due(&flow, now) => Some(ConnId {
-            slot,
-            inc: connection.inc,
-        }),
+    match store.connection(slot) {
+        Some(
+            Connection {
+                inc,
+                phase: Phase::Live { flow, .. },
+            },
+        ) if L::due(flow, now) => Some(ConnId { slot, inc: *inc }),
         _ => None,
     }
 }

@@ -1,4 +1,4 @@
-ghost use Rattle.std.specs.Prelude.{◌≡◌, ◌≢◌, ◌<◌, ◌*◌, ◌-◌, ◌^◌, ◌↔◌, length, vec_len, replicate, IsTrue, IfOk, IfSome, IfNone};
+ghost use Rattle.std.specs.Prelude.{◌≡◌, ◌≢◌, ◌<◌, ◌≤◌, ◌+◌, ◌*◌, ◌-◌, ◌^◌, ◌↔◌, length, vec_len, vec_capacity, IsTrue, IfOk, IfSome, IfNone};
 ghost use Rattle.npf_store.specs.Connection.{AreFit, HoldersStand};
 
 use crate::connection::Connection;
@@ -12,12 +12,15 @@ use std::alloc::Global;
 /// The connections of a run, by slot and by key.
 #[derive(Drop)]
 pub struct Store<S> {
-    // The last connection of each slot.
+    slots: u32,
+    // The last connection of each slot. Those past the last slot that was ever claimed aren't written yet, but have their room.
     connections: Vec<Connection<S>>,
     // Each slot below this one is claimed.
     first: u32,
     keys: Keys,
-    pub ghost few: { vec_len connections < 2 ^ 32 },
+    pub ghost few: { vec_len connections ≤ slots },
+    pub ghost reserved: { slots ≤ vec_capacity connections },
+    pub ghost reserved_keys: { 3 * slots ≤ vec_capacity keys.holdings },
     pub ghost roomy: { length keys.holdings.items ≡ 3 * vec_len connections },
     pub ghost fit: { AreFit first connections.items },
     pub ghost stand: { HoldersStand connections.items keys.holdings.items },
@@ -26,14 +29,15 @@ pub struct Store<S> {
 impl<S: Copy> Store<S> {
     ghost use Rattle.npf_types.specs.declared.key.Way.{Way};
     ghost use Rattle.npf_core.specs.declared.conn_id.ConnId.{ConnId};
-    ghost use Rattle.npf_store.specs.Store.{slots_of, slot_of, holder_of, phase_of, HoldsNoKey, TellsKey, TellsKeys, TellsDead, IsNew, AnswersClaim, IsLowest, IsFull, AnswersHold, StaysBare, Starts, IsAlivePhase, IsLivePhase, Kills, Unholds, Frees, Puts};
+    ghost use Rattle.npf_store.specs.Store.{slots_of, slot_of, holder_of, phase_of, HoldsNoKey, TellsKey, TellsKeys, TellsDead, IsNew, AnswersClaim, IsLowest, IsFull, AnswersHold, StaysBare, Starts, IsAlivePhase, IsLivePhase, Kills, Unholds, Frees, Puts, IsSame};
 
     /// A store of so many slots of which none is claimed. All the memory that it ever has is taken here.
     pub fn new(alloc: Global, slots: u32) -> Result<Store<S>, NoMemory>
         ensures { IfOk result (λ store. IsNew slots store) }
     {
         Ok(Store {
-            connections: unclaimed(alloc, slots)?,
+            slots,
+            connections: Vec::with_capacity(alloc, slots as usize)?,
             first: 0,
             keys: Keys::new(alloc, slots)?,
         })
@@ -43,7 +47,7 @@ impl<S: Copy> Store<S> {
     pub fn slots(&self) -> u32
         ensures { result ≡ slots_of self.now }
     {
-        self.connections.len() as u32
+        self.slots
     }
 
     /// The key's holder, in whatever phase it is.
@@ -93,7 +97,7 @@ impl<S: Copy> Store<S> {
         ensures some { IfSome result (IsLowest self.now) }
         ensures none { IfNone result (IsFull self.now) }
     {
-        for slot in self.first..self.slots() {
+        for slot in self.first..self.slots {
             if self.is_vacant(slot) {
                 return Some(slot);
             }
@@ -109,6 +113,7 @@ impl<S: Copy> Store<S> {
         let Some(slot) = self.lowest() else {
             return None;
         };
+        self.reach(slot);
         let inc = self.connections[slot as usize].inc + 1;
         self.connections[slot as usize] = Connection {
             inc,
@@ -116,6 +121,22 @@ impl<S: Copy> Store<S> {
         };
         self.first = slot + 1;
         Some(ConnId { slot, inc })
+    }
+
+    // Has the slot written, if it is the one behind those that are. It stays as it was: never claimed, without a key.
+    fn reach(&mut self, slot: u32)
+        requires exists { slot < self.old.slots }
+        requires next { slot ≤ vec_len self.old.connections }
+        ensures written { slot < vec_len self.new.connections }
+        ensures same { IsSame self.old self.new }
+    {
+        if slot as usize == self.connections.len() {
+            self.connections.push_reserved(Connection {
+                inc: 0,
+                phase: Phase::Vacant,
+            });
+            self.keys.add_slot();
+        }
     }
 
     /// Gives the connection the key, as its key of that way. Done, or Taken, with nothing changed, exactly where the key has a
@@ -185,12 +206,13 @@ impl<S: Copy> Store<S> {
     pub fn dead(&self, slot: u32) -> Option<ConnId>
         ensures { TellsDead self.now slot result }
     {
-        let connection = self.connection(slot);
-        match connection.phase {
-            Phase::Dead => Some(ConnId {
-                slot,
-                inc: connection.inc,
-            }),
+        match self.connections.get(slot as usize) {
+            Some(
+                Connection {
+                    inc,
+                    phase: Phase::Dead,
+                },
+            ) => Some(ConnId { slot, inc: *inc }),
             _ => None,
         }
     }
@@ -210,17 +232,12 @@ impl<S: Copy> Store<S> {
         self.first = self.first.min(id.slot);
     }
 
-    /// The slot's last connection, which was never claimed where there is no such slot.
-    pub(crate) fn connection(&self, slot: u32) -> Connection<S>
-        ensures { result ≡ slot_of self.now slot }
+    // The slot's last connection. A slot without one isn't claimed.
+    pub(crate) fn connection(&self, slot: u32) -> Option<&Connection<S>>
+        ensures some { IfSome result (λ connection. slot_of self.now slot ≡ connection.now) }
+        ensures none { IfNone result ((slot_of self.now slot).phase ≡ Phase.Vacant) }
     {
-        match self.connections.get(slot as usize) {
-            Some(connection) => *connection,
-            None => Connection {
-                inc: 0,
-                phase: Phase::Vacant,
-            },
-        }
+        self.connections.get(slot as usize)
     }
 
     // Puts a claimed connection at a phase.
@@ -231,14 +248,4 @@ impl<S: Copy> Store<S> {
     {
         self.connections[id.slot as usize] = Connection { inc: id.inc, phase };
     }
-}
-
-fn unclaimed<S: Copy>(alloc: Global, slots: u32) -> Result<Vec<Connection<S>>, NoMemory>
-    ensures { IfOk result (λ connections. connections.items ≡ replicate slots (record { inc = 0; phase = Phase.Vacant })) }
-{
-    let never = Connection {
-        inc: 0,
-        phase: Phase::Vacant,
-    };
-    Ok(vec![in alloc; never; slots as usize]?)
 }

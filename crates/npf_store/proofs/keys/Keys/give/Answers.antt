@@ -1,4 +1,4 @@
-use Rattle.std.proofs.Common.{ap, sym, subst, ◌∙◌, ◌≡◌, ◌<◌, refl, length, set, Some}
+use Rattle.std.proofs.Common.{ap, sym, subst, ◌∙◌, ◌≡◌, ◌<◌, refl, length, set, Some, vec_capacity}
 use Rattle.std.proofs.lemmas.List.{length-set}
 use Rattle.npf_store.specs.declared.holding.Holding.{Holding}
 use Rattle.npf_store.specs.Hash.{bucket_of}
@@ -19,6 +19,7 @@ invariant_of-self c =
           (rw (same, c.key_place-place.ensures) c.requires.within) (sym c.key_place-place.ensures)
           (ap (λ v. holder_among v.items c.args.key) same ∙ c.requires.unheld)
           (rw (← bucket) c.name.ensures.named);
+      unused = λ e. absurd cc;
     }
 
 pub returns : goal.returns
@@ -36,4 +37,5 @@ returns c =
           subst (λ ys. holder_among (set ys place (Some x)) other ≡ holder_among xs other) (sym same)
           (holder_kept xs place (Some x) other (found_elsewhere x other (λ e. ne (sym e))) (ap (λ y. found_in other y) vacant));
       sized = length-set c.name.new.self.holdings.items place (Some x) ∙ ap length same;
+      room = ap vec_capacity c.name.ensures.holdings;
     }

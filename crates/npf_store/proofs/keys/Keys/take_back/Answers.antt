@@ -2,7 +2,7 @@ use Rattle.std.proofs.Common.{ap, sym, subst, ◌∙◌, length, ◌<◌}
 use Rattle.npf_store.specs.Places.{key_place, holder_among}
 use Rattle.npf_store.proofs.HolderLemmas.{standing_within}
 use Rattle.npf_store.proofs.GivenUpLemmas.{not_given_up}
-use Rattle.npf_store.proofs.HomeLemmas.{holder_cleared}
+use Rattle.npf_store.proofs.HomeLemmas.{holder_cleared, holder_here}
 use Rattle.npf_store.proofs.KeptLemmas.{kept_cleared}
 use Rattle.npf_store.proofs.keys.Keys.take_back.Goals as goal
 
@@ -14,6 +14,7 @@ invariant_of-self c =
     record {
       sized = s.sized;
       kept = kept_cleared s.buckets s.holdings.items s.cells.items s.spilled.items s.kept c.key_place.result (subst (λ q. q < length s.holdings.items) (sym place) within);
+      unused = λ e key. absurd (let none = s.unused e c.in-Some.holding.key in let held = holder_here s.buckets s.holdings.items s.cells.items s.spilled.items s.kept (key_place c.args.found) c.in-Some.holding c.in-Some.ensures.some in cc);
     }
 
 pub returns-clause-holder : goal.returns-clause-holder
