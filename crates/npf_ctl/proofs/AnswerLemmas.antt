@@ -1,8 +1,6 @@
 -- What the program answers, by how the work on its words ended.
-use Rattle.std.proofs.Common.{◌≡◌, ◌≢◌, ◌⊎◌, ◌∙◌, inl, inr, ℕ, true, false, List, [], Ok, Err, Result, refl, sym, ap, subst, arith}
+use Rattle.std.proofs.Common.{◌≡◌, ◌≢◌, ◌⊎◌, ◌∙◌, inl, inr, ℕ, false, List, [], refl, sym, subst, arith}
 use Rattle.std.proofs.lemmas.Bool.{false≢true}
-use Rattle.npf_outside.specs.Counts.{Rose, StoodStill}
-use Rattle.npf_outside.specs.Files.{SameFiles}
 use Rattle.npf_outside.specs.Sink.{Appends, SinkMoment}
 use Rattle.npf_messages.specs.declared.fault.CommandFault.{CommandFault}
 use Rattle.npf_messages.specs.declared.fault.CommandFault.TheVariants.{Usage, Configuration, Unread, Long, Capture, Line, Many, Unwritten, OutputUnwritten, NoMemory}

@@ -1,5 +1,5 @@
 -- How the work on a command ends before it is done.
-use Rattle.std.proofs.Common.{◌≡◌, ◌∙◌, Contains, inl, inr, ℕ, List, [], Option, Some, Ok, Err, Result, OnOk, IfErr, refl, sym, ap, subst, arith}
+use Rattle.std.proofs.Common.{◌≡◌, Contains, inl, inr, ℕ, List, [], Some, Ok, Err, Result, OnOk, IfErr, sym, subst, arith}
 use Rattle.npf_engine.specs.Histories.{History}
 use Rattle.npf_runner.specs.Plays.{IsUnnumbered}
 use Rattle.npf_outside.specs.Counts.{Rose}

@@ -1,5 +1,5 @@
 -- Files that were only read, or of which one was written.
-use Rattle.std.proofs.Common.{◌≡◌, ◌≢◌, ◌∙◌, ℕ, List, [], ◌++◌, Option, Some, None, refl, sym, ap, subst, arith, append-nil}
+use Rattle.std.proofs.Common.{◌≡◌, ◌∙◌, ℕ, List, [], Option, Some, None, refl, sym, subst, arith, append-nil}
 use Rattle.npf_config.specs.Reading.{OnlyReads}
 use Rattle.npf_input.specs.Around.{Around}
 use Rattle.npf_outside.specs.Files.{FilesMoment, SameFiles, SameOthers, Tree}

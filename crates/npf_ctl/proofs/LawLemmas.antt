@@ -1,14 +1,13 @@
 -- What must be refused is, and what can be done is done, where contents are told and no read fails.
-use Rattle.std.proofs.Common.{◌≡◌, ◌≢◌, ◌⊎◌, ◌∙◌, inl, inr, ℕ, true, false, List, [], Option, Some, None, Ok, Err, Result, refl, sym, ap, subst, arith}
+use Rattle.std.proofs.Common.{◌≡◌, ◌∙◌, inl, inr, ℕ, true, List, Some, None, Ok, Err, Result, refl, sym, ap, subst, arith}
 use Rattle.std.proofs.lemmas.Bool.{false≢true}
-use Rattle.npf_outside.specs.Counts.{Rose, StoodStill}
+use Rattle.npf_outside.specs.Counts.{StoodStill}
 use Rattle.npf_outside.specs.Files.{Tree}
-use Rattle.npf_outside.specs.Sink.{Appends, SinkMoment}
+use Rattle.npf_outside.specs.Sink.{SinkMoment}
 use Rattle.npf_input.specs.File.{ReadsWell, told_files}
 use Rattle.npf_input.specs.Laws.{LoadsAreOfContents}
 use Rattle.npf_input.specs.Loading.{LoadsAlone}
 use Rattle.npf_messages.specs.declared.fault.CommandFault.{CommandFault}
-use Rattle.npf_messages.specs.declared.fault.CommandFault.TheVariants.{Usage}
 use Rattle.npf_messages.specs.Message.{status_of_fault}
 use Rattle.npf_model.specs.Configuration.{Configuration}
 use Rattle.npf_prepare.specs.Laws.{RunsAreOfContents}
@@ -22,7 +21,7 @@ use Rattle.npf_words.specs.Laws.{IsSameCommand, IsSameLoad, IsSameRun, OneComman
 use Rattle.npf_ctl.specs.Commands.{loaded_by, names_of_run}
 use Rattle.npf_ctl.specs.Generated.{HoldsWorkload, PreparesOf}
 use Rattle.npf_ctl.specs.Ends.{IsAnswered}
-use Rattle.npf_ctl.specs.Faults.{IsFaulted, MeetsFault, PutsFront}
+use Rattle.npf_ctl.specs.Faults.{MeetsFault, PutsFront}
 use Rattle.npf_ctl.specs.Running.{Moment}
 use Rattle.npf_ctl.specs.Texts.{TextOf}
 use Rattle.npf_ctl.specs.Top.{Answers, CanDo, DoesCommand, DoesWords, IsOk, MustRefuse}
@@ -198,7 +197,7 @@ module _ (words : List (List ℕ)) (before after : Moment) (tree : Tree) (told :
     generated_text _ _ said_b (TextOf.count {load = load} loads) = no_other (Words.Validate load) said_b (λ other e. cc)
     generated_text _ _ said_b (TextOf.model {load = load} loads) = no_other (Words.Show load) said_b (λ other e. cc)
     generated_text _ _ said_b (TextOf.programs {load = load} loads within) = no_other (Words.Debug load) said_b (λ other e. cc)
-    generated_text _ _ said_b (TextOf.total {number = other} {tree = held} {plan = plan} holds plays) = (plan, (held, (holds_so other said_b held holds, plays.prepared)))
+    generated_text _ _ said_b (TextOf.total {number = other} {tree = held} {plan = plan} holds plays) = (plan, (held, holds_so other said_b held holds, plays.prepared))
 
     generated_does : (command : Command) → SaysCommand words command → DoesCommand command before after → (plan : RunPlan) × OfGenerated (Ok plan)
     generated_does (Words.Run b) said_b does = no_other (Words.Run b) said_b (λ other e. cc)
@@ -217,7 +216,7 @@ module _ (words : List (List ℕ)) (before after : Moment) (tree : Tree) (told :
       front = λ front. generated_text front.command front.text front.said front.of;
       runs = λ {run = b} {fault} said_b comes. no_other (Words.Run b) said_b (λ other e. cc);
       loads = λ {command} {load} {fault} said_b loaded comes. not_loading command load said_b loaded;
-      generated = λ {number = other} {tree = held} {fault} said_b holds comes. (held, (holds_so other said_b held holds, comes));
+      generated = λ {number = other} {tree = held} {fault} said_b holds comes. (held, holds_so other said_b held holds, comes);
     }
 
   module _ (of_runs : RunsAreOfContents) (of_loads : LoadsAreOfContents) (old new : SinkMoment) (status : ℕ) where

@@ -1,5 +1,5 @@
 -- A run that was reported, and written where a file is named for it.
-use Rattle.std.proofs.Common.{◌≡◌, ◌∙◌, inl, ℕ, List, Option, Some, None, Ok, Err, Result, IfSome, OnOk, IfErr, sym, subst}
+use Rattle.std.proofs.Common.{◌≡◌, ℕ, List, Option, Some, None, Ok, Err, Result, IfSome, OnOk, IfErr, sym, subst}
 use Rattle.npf_engine.specs.declared.outcome.Outcome.{Outcome}
 use Rattle.npf_messages.specs.declared.fault.CommandFault.{CommandFault}
 use Rattle.npf_input.specs.Unless.{IfTold}

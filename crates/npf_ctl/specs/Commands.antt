@@ -1,5 +1,5 @@
 -- What the words of a command line name, as the layers below take it.
-use Rattle.std.specs.Prelude.{ℕ, Option, Some, None, List}
+use Rattle.std.specs.Prelude.{Option, Some, None}
 use Rattle.npf_prepare.specs.Prepares.{RunNames}
 use Rattle.npf_runner.specs.declared.phase.Spread.{Spread}
 use Rattle.npf_runner.specs.declared.phase.Spread.TheVariants as Dealt

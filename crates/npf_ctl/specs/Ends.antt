@@ -1,5 +1,5 @@
 -- How the work on a command ends, and what is left of the pass of the table of connections.
-use Rattle.std.specs.Prelude.{◌≡◌, ◌≤◌, ◌⊎◌, ℕ, ⊤, false, Result, Ok, Err, List, []}
+use Rattle.std.specs.Prelude.{◌≡◌, ◌≤◌, ℕ, ⊤, false, Result, Ok, Err, List, []}
 use Rattle.npf_connections.specs.Pass.{IsPass, Pass, all_places}
 use Rattle.npf_flow.specs.Flows.{flow_law}
 use Rattle.npf_engine.specs.declared.outcome.Outcome.{Outcome}

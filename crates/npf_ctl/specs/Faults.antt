@@ -1,5 +1,5 @@
 -- The first fault that a command met: its cause, what was put before it, and its line.
-use Rattle.std.specs.Prelude.{◌≡◌, ◌⊎◌, ℕ, false, Err, Option, Some, List, []}
+use Rattle.std.specs.Prelude.{◌≡◌, ◌⊎◌, ℕ, false, Err, Some, List, []}
 use Rattle.npf_outside.specs.Counts.{Rose}
 use Rattle.npf_outside.specs.Files.{SameFiles, Tree}
 use Rattle.npf_outside.specs.Sink.{SinkMoment, Appends, AppendsFront}

@@ -1,5 +1,5 @@
 -- The files of a generated run, in memory.
-use Rattle.std.specs.Prelude.{◌≡◌, ℕ, List, Some, None, Result, codes}
+use Rattle.std.specs.Prelude.{◌≡◌, ℕ, if◌then◌else◌, List, [], Some, None, Result, codes}
 use Rattle.std.specs.Str.{bytes_eq}
 use Rattle.npf_outside.specs.Files.{FilesMoment, Tree}
 use Rattle.npf_pcap.specs.Spelling.{capture_bytes}

@@ -1,5 +1,5 @@
 -- What a run does, from its files to the bytes that it puts and writes.
-use Rattle.std.specs.Prelude.{◌≡◌, ℕ, Ok, List, IfSome}
+use Rattle.std.specs.Prelude.{ℕ, Ok, List, IfSome}
 use Rattle.npf_connections.specs.Pass.{Pass}
 use Rattle.npf_engine.specs.declared.outcome.Outcome.{Outcome}
 use Rattle.npf_engine.specs.Histories.{FlowEntry}

@@ -1,5 +1,5 @@
 -- The text that each command puts on the output.
-use Rattle.std.specs.Prelude.{◌≡◌, ℕ, ◌+◌, Ok, Option, Some, List, [], ◌∷◌, ◌++◌, codes, length}
+use Rattle.std.specs.Prelude.{◌≡◌, ℕ, ◌+◌, Ok, List, [], ◌∷◌, ◌++◌, codes, length}
 use Rattle.std.specs.Fmt.{decimal}
 use Rattle.std.specs.List.{flat_map}
 use Rattle.npf_bpf.specs.declared.insn.Insn.{Insn}

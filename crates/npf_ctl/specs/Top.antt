@@ -1,5 +1,5 @@
 -- What the program answers to its words.
-use Rattle.std.specs.Prelude.{◌≡◌, ◌≢◌, ◌⊎◌, ℕ, ⊤, Ok, Err, Result, Option, Some, None, List, []}
+use Rattle.std.specs.Prelude.{◌≡◌, ◌≢◌, ◌⊎◌, ℕ, ⊤, Ok, Err, Result, Option, Some, None, List}
 use Rattle.npf_outside.specs.Files.{Tree}
 use Rattle.npf_outside.specs.Sink.{Appends}
 use Rattle.npf_model.specs.Configuration.{Configuration}

@@ -21,8 +21,7 @@ impl GeneratedFiles {
 
     /// The files of the run of this number.
     pub(crate) fn new(alloc: Global, number: u64) -> Result<GeneratedFiles, NoMemory>
-        ensures holds { IfOk result (λ files. HoldsWorkload number (λ name. Some (contents_of files.workload name))) }
-        ensures unwritten { IfOk result (λ files. files.write_faults ≡ 0) }
+        ensures { IfOk result (λ files. HoldsWorkload number (λ name. Some (contents_of files.workload name))) }
     {
         Ok(GeneratedFiles {
             workload: generate(alloc, number)?,

@@ -1,5 +1,6 @@
 use Rattle.std.proofs.Common.{rules, ◌≡◌, Err, Some, refl, arith}
 use Rattle.npf_messages.specs.declared.fault.CommandFault.TheVariants.{NoMemory}
+use Rattle.npf_outside.specs.Files.{Tree}
 use Rattle.npf_prepare.specs.View.{run_plan_of}
 use Rattle.npf_input.proofs.UnlessLemmas.{unless_lasts}
 use Rattle.npf_prepare.specs.Prepares.{PreparesRun}
@@ -17,7 +18,7 @@ pub returns-clause-comes : goal.returns-clause-comes
 returns-clause-comes c =
     let files = generated_moment c.in_ok-files.files in
     let read = generated_moment c.prepare_run.new.files in
-    let tree = λ name. Some (contents_of c.in_ok-files.files.workload name) in
+    let tree : Tree = λ name. Some (contents_of c.in_ok-files.files.workload name) in
     PreparesGenerated.made {tree = tree} c.in_ok-files.ensures
     (unless_lasts run_plan_of (PreparesRun files read generated_names) (PreparesOf tree)
     (λ result. c.contents_decide.ensures generated_names tree files read result refl (λ name. (refl, omega arith)))

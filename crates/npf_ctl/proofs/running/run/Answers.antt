@@ -1,6 +1,5 @@
-use Rattle.std.proofs.Common.{rules, ◌≡◌, ◌∙◌, Err, Some, None, inl, length, refl, sym, subst}
+use Rattle.std.proofs.Common.{rules, ◌≡◌, ◌∙◌, Err, inl, refl, sym}
 use Rattle.npf_messages.specs.declared.fault.CommandFault.TheVariants.{NoMemory}
-use Rattle.npf_words.specs.CommandLine.{given_text}
 use Rattle.std.proofs.lemmas.Slice.Zip.{AllZip-long}
 use Rattle.npf_output.specs.Extents.{IsExtentOf}
 use Rattle.npf_output.proofs.OutputLemmas.{counts_of_outputs, outputs_have_time}
