@@ -1,4 +1,4 @@
-ghost use Rattle.std.specs.Prelude.{◌≡◌, ◌≢◌, ◌<◌, ◌≤◌, ◌+◌, ◌*◌, ◌-◌, ◌^◌, ◌↔◌, length, vec_len, vec_capacity, IsTrue, IfOk, IfSome, IfNone};
+ghost use Rattle.std.specs.Prelude.{◌≡◌, ◌≢◌, ◌<◌, ◌≤◌, ◌*◌, ◌-◌, ◌^◌, ◌↔◌, length, vec_len, vec_capacity, IsTrue, IfOk, IfSome, IfNone};
 ghost use Rattle.npf_store.specs.Connection.{AreFit, HoldersStand};
 
 use crate::connection::Connection;
