@@ -1,5 +1,5 @@
 -- Kinds 7 to 9 keep the rule: each by its part and the frame of a step on a pool's word.
-use Rattle.std.proofs.Common.{◌≡◌, ◌≢◌, ◌⊎◌, ℕ, zero, suc, ◌+◌, ◌-◌, ◌*◌, ◌/◌, ◌%◌, ◌^◌, ◌<◌, ◌≤◌, Bool, true, false, cond, eqb, eq-eqb, ne_eqb, List, [], ◌∷◌, set, length, slice_index, slice_index_or, refl, sym, ap, ◌∙◌, subst, arith, length-set, bit_and, bit_or}
+use Rattle.std.proofs.Common.{◌≡◌, ◌≢◌, ℕ, zero, suc, ◌+◌, ◌*◌, ◌%◌, ◌^◌, ◌<◌, ◌≤◌, Bool, true, false, cond, eqb, eq-eqb, ne_eqb, List, [], ◌∷◌, set, length, slice_index, slice_index_or, refl, sym, ap, ◌∙◌, arith, length-set, bit_and, bit_or}
 use Rattle.std.specs.Int.{bit_at, bit_not, w64}
 use Rattle.std.specs.List.{Contains}
 use Rattle.std.proofs.lemmas.Bool.Decides.{Decides-eqb, not_from_Decides}
@@ -18,10 +18,10 @@ use Rattle.npf_cells.specs.declared.layout.Pool.TheVariants.{Slots, Nodes}
 use Rattle.npf_cells.specs.declared.views.CellView.{CellView}
 use Rattle.npf_cells.specs.declared.views.PoolSide.{PoolSide}
 use Rattle.npf_cells.specs.Cells.{IsCells}
-use Rattle.npf_cells.specs.Layout.{pools_at, pool_at, pool_words, place_word, pool_bit}
+use Rattle.npf_cells.specs.Layout.{pool_at, pool_words, place_word}
 use Rattle.npf_cells.specs.Passes.{IsPassOf}
 use Rattle.npf_cells.specs.PoolKinds.{with_pools, sweeping, claiming_node, others_than, giving_back, Sweeps, ClaimsNode, GivesNodeBack}
-use Rattle.npf_cells.specs.Pools.{node_owners, taken, Pools}
+use Rattle.npf_cells.specs.Pools.{node_owners, taken}
 use Rattle.npf_cells.specs.Sums.{occurs}
 use Rattle.npf_cells.proofs.Frames.{pools_step}
 use Rattle.npf_cells.proofs.PoolLemmas.{word_within, places_within, pools-same, pools-set, one_where, occurs-cons, taken-set}

@@ -17,7 +17,7 @@ use Rattle.npf_cells.specs.declared.views.Pin.TheVariants.{Idle}
 use Rattle.npf_cells.specs.declared.views.PoolSide.{PoolSide}
 use Rattle.npf_cells.specs.declared.views.SeatSide.{SeatSide}
 use Rattle.npf_cells.specs.Epochs.{ReaderView, Epochs}
-use Rattle.npf_cells.specs.Layout.{root_at, nodes_at, connections_at, word_count, epoch_word, reader_word}
+use Rattle.npf_cells.specs.Layout.{nodes_at, connections_at, word_count, epoch_word, reader_word}
 use Rattle.npf_cells.specs.Pools.{taken, Pools}
 use Rattle.npf_cells.specs.Seats.{Seats}
 use Rattle.npf_cells.specs.Sums.{numbers_below}
