@@ -1,5 +1,5 @@
 -- The part on epochs stays through the base's moves, and through a step by what it shows of one seat.
-use Rattle.std.proofs.Common.{◌≡◌, ◌≢◌, ◌⊎◌, ℕ, ◌^◌, ◌≤◌, max, Bool, true, false, cond, eqb, List, [], ◌∷◌, ◌++◌, set, take, drop, refl, sym, ap, ◌∙◌, subst, ⊎_elim, inl, inr, arith}
+use Rattle.std.proofs.Common.{◌≡◌, ◌≢◌, ◌⊎◌, ℕ, ◌+◌, ◌^◌, ◌≤◌, max, Bool, true, false, cond, eqb, List, [], ◌∷◌, ◌++◌, set, take, drop, refl, sym, ap, ◌∙◌, subst, ⊎_elim, inl, inr, arith}
 use Rattle.std.specs.List.{Contains}
 use Rattle.std.proofs.lemmas.Bool.{cases_eq}
 use Rattle.std.proofs.lemmas.List.Sums.{sum_by-append, sum_by-take-drop}
@@ -10,6 +10,7 @@ use Rattle.npf_cells.specs.declared.views.Pin.{Pin}
 use Rattle.npf_cells.specs.declared.views.Pin.TheVariants.{Idle}
 use Rattle.npf_cells.specs.Cells.{idle_side}
 use Rattle.npf_cells.specs.Epochs.{ReaderView, pin_place, pin_word, reader_holds, NotProtectedBefore, FitsEpochs, Epochs}
+use Rattle.npf_cells.specs.Moves.{joined_epochs}
 use Rattle.npf_cells.specs.Sums.{occurs}
 use Rattle.npf_cells.proofs.PrefixLemmas.{none_listed}
 
@@ -63,6 +64,7 @@ module _ (now : ℕ) (reader : ℕ → ℕ) (readings : List ReaderView) where
     newly places idle = record {
       fits = record {
         loaded = omega arith;
+        greatest = omega arith;
         known = omega arith;
         guards = tt;
         kept = λ place owns. idle place owns ∙ sym (idle_holds (record { places = places; side = idle_side }) refl place);
@@ -73,14 +75,15 @@ module _ (now : ℕ) (reader : ℕ → ℕ) (readings : List ReaderView) where
     }
 
     -- an idle pass with other places, whose words are idle too
-    resettled : (j : ℕ) (r : ReaderView) (places : List ℕ) (known : ℕ) → get_elem? readings j ≡ some r → r.side.pin ≡ Idle → known ≤ now →
-        ((place : ℕ) → 1 ≤ occurs place places → reader place ≡ 0) → ComesFrom (record { places = places; side = record r.side { known = known } })
-    resettled j r places known e idle le words = record {
+    resettled : (j : ℕ) (r : ReaderView) (places : List ℕ) (greatest known raises : ℕ) → get_elem? readings j ≡ some r → r.side.pin ≡ Idle → greatest ≤ now → known ≤ now →
+        ((place : ℕ) → 1 ≤ occurs place places → reader place ≡ 0) → ComesFrom (record { places = places; side = record r.side { greatest = greatest; known = known; raises = raises } })
+    resettled j r places greatest known raises e idle found le words = record {
       fits = record {
         loaded = (kept.each j r e).loaded;
+        greatest = found;
         known = le;
         guards = (kept.each j r e).guards;
-        kept = λ place owns. words place owns ∙ sym (idle_holds (record { places = places; side = record r.side { known = known } }) idle place);
+        kept = λ place owns. words place owns ∙ sym (idle_holds (record { places = places; side = record r.side { greatest = greatest; known = known; raises = raises } }) idle place);
         pinned = λ _. idle;
       };
       scanner = λ place c. (j, r, e, c, refl);
@@ -99,7 +102,7 @@ module _ (now : ℕ) (reader : ℕ → ℕ) (readings : List ReaderView) where
     epochs-split id k r e idle = epochs_from _ (λ j q d. ⊎_elim
         (λ (there : get_elem? (set readings id (record { places = take k r.places; side = r.side })) j ≡ some q). ⊎_elim
         (λ (x : (j ≡ id) × (record { places = take k r.places; side = r.side } ≡ q)). subst ComesFrom x.1
-        (resettled id r (take k r.places) r.side.known e idle (kept.each id r e).known (λ place owns. idle_word id r e idle place ((some_of r k place).0 owns))))
+        (resettled id r (take k r.places) r.side.greatest r.side.known r.side.raises e idle (kept.each id r e).greatest (kept.each id r e).known (λ place owns. idle_word id r e idle place ((some_of r k place).0 owns))))
         (λ (x : (j ≢ id) × (get_elem? readings j ≡ some q)). as_it_was j q x.1)
         (at_set readings id j _ q there))
         (λ (x : record { places = drop k r.places; side = idle_side } ≡ q). subst ComesFrom x
@@ -107,17 +110,20 @@ module _ (now : ℕ) (reader : ℕ → ℕ) (readings : List ReaderView) where
         (at_snoc _ _ q j d))
 
     pub epochs-join : (id other : ℕ) (r q : ReaderView) → get_elem? readings id ≡ some r → get_elem? readings other ≡ some q → r.side.pin ≡ Idle → q.side.pin ≡ Idle →
-        Epochs now reader (set (set readings id (record { places = r.places ++ q.places; side = record r.side { known = max r.side.known q.side.known } })) other (record { places = []; side = idle_side }))
+        Epochs now reader (set (set readings id (record { places = r.places ++ q.places; side = joined_epochs r.side q.side })) other (record { places = []; side = idle_side }))
     epochs-join id other r q e d r-idle q-idle =
-        let both : ReaderView = record { places = r.places ++ q.places; side = record r.side { known = max r.side.known q.side.known } } in
+        let both : ReaderView = record { places = r.places ++ q.places; side = joined_epochs r.side q.side } in
         epochs_from _ (λ j u f. ⊎_elim
         (λ (x : (j ≡ other) × (record { places = []; side = idle_side } ≡ u)). subst ComesFrom x.1 (newly [] (λ place owns. absurd (omega (arith, owns)))))
         (λ (x : (j ≢ other) × (get_elem? (set readings id both) j ≡ some u)). ⊎_elim
-        (λ (y : (j ≡ id) × (both ≡ u)). subst ComesFrom y.1 (resettled id r (r.places ++ q.places) (max r.side.known q.side.known) e r-idle most words))
+        (λ (y : (j ≡ id) × (both ≡ u)). subst ComesFrom y.1 (resettled id r (r.places ++ q.places) (max r.side.greatest q.side.greatest) (max r.side.known q.side.known) (r.side.raises + q.side.raises) e r-idle found most words))
         (λ (y : (j ≢ id) × (get_elem? readings j ≡ some u)). as_it_was j u y.1)
         (at_set readings id j both u x.1))
         (at_set (set readings id both) other j _ u f))
       where
+        found : max r.side.greatest q.side.greatest ≤ now
+        found = let a = (kept.each id r e).greatest in let b = (kept.each other q d).greatest in omega (arith, a, b)
+
         most : max r.side.known q.side.known ≤ now
         most = let a = (kept.each id r e).known in let b = (kept.each other q d).known in omega (arith, a, b)
 
@@ -139,6 +145,7 @@ epochs-words now reader reader' readings kept same = record {
       let fits = kept.each j q e in
       record {
         loaded = fits.loaded;
+        greatest = fits.greatest;
         known = fits.known;
         guards = fits.guards;
         kept = λ place owns. same j place q e owns ∙ fits.kept place owns;

@@ -26,16 +26,19 @@ module _ (now : ℕ) (reader : ℕ → ℕ) (readings : List ReaderView) (id : �
 
   -- a step on the epoch finds a number within what the pass knows and protects
   pub is_met : IsMet r.side now
-  is_met = record { from = kept.from; most = kept.most; loaded = mine.loaded; known = mine.known; guarded = mine.guards }
+  is_met = record { from = kept.from; most = kept.most; loaded = mine.loaded; greatest = mine.greatest; known = mine.known; guarded = mine.guards }
 
   more_known : max r.side.known now ≤ now
   more_known = let a = mine.known in omega (arith, a)
+
+  more_greatest : max r.side.greatest now ≤ now
+  more_greatest = let a = mine.greatest in omega (arith, a)
 
   pub loads : Change now reader readings id (record { places = r.places; side = loading r.side now })
   loads = record {
     from = kept.from;
     most = kept.most;
-    fits = record { loaded = omega arith; known = more_known; guards = mine.guards; kept = mine.kept; pinned = mine.pinned };
+    fits = record { loaded = omega arith; greatest = more_greatest; known = more_known; guards = mine.guards; kept = mine.kept; pinned = mine.pinned };
     others = λ j q ne e. kept.each j q e;
     scanner = λ j q ne e c. absurd (none_listed (pin_place q.places) c);
     target = λ i q ne e. kept.scans i id q r e at;
@@ -49,6 +52,7 @@ module _ (now : ℕ) (reader : ℕ → ℕ) (readings : List ReaderView) (id : �
     most = kept.most;
     fits = record {
       loaded = mine.loaded;
+      greatest = more_greatest;
       known = more_known;
       guards = (let before : epoch ≤ now = rw is at mine.guards in rw is (before, omega arith, omega arith));
       kept = λ place owns. mine.kept place owns ∙ ap (λ n. cond (eqb place (pin_place r.places)) n 0) word_same;
@@ -94,7 +98,7 @@ module _ (now : ℕ) (reader : ℕ → ℕ) (readings : List ReaderView) (id : �
   scans place false by = record {
     from = kept.from;
     most = kept.most;
-    fits = record { loaded = mine.loaded; known = mine.known; guards = mine.guards; kept = mine.kept; pinned = mine.pinned };
+    fits = record { loaded = mine.loaded; greatest = mine.greatest; known = mine.known; guards = mine.guards; kept = mine.kept; pinned = mine.pinned };
     others = λ j q ne e. kept.each j q e;
     scanner = λ j q ne e. kept.scans id j r q at e;
     target = λ i q ne e. kept.scans i id q r e at;
@@ -103,7 +107,7 @@ module _ (now : ℕ) (reader : ℕ → ℕ) (readings : List ReaderView) (id : �
   scans place true by = record {
     from = kept.from;
     most = kept.most;
-    fits = record { loaded = mine.loaded; known = mine.known; guards = mine.guards; kept = mine.kept; pinned = mine.pinned };
+    fits = record { loaded = mine.loaded; greatest = mine.greatest; known = mine.known; guards = mine.guards; kept = mine.kept; pinned = mine.pinned };
     others = λ j q ne e. kept.each j q e;
     scanner = λ j q ne e c. one j q e c;
     target = λ i q ne e. kept.scans i id q r e at;
@@ -125,6 +129,7 @@ module _ (now : ℕ) (reader : ℕ → ℕ) (readings : List ReaderView) (id : �
     most = kept.most;
     fits = record {
       loaded = mine.loaded;
+      greatest = mine.greatest;
       known = mine.known;
       guards = guards;
       kept = λ place owns. ⊎_elim
@@ -139,6 +144,7 @@ module _ (now : ℕ) (reader : ℕ → ℕ) (readings : List ReaderView) (id : �
         let fits = kept.each j q e in
         record {
           loaded = fits.loaded;
+          greatest = fits.greatest;
           known = fits.known;
           guards = fits.guards;
           kept = λ place owns. else' place (λ h. apart j q ne e (subst (λ p. 1 ≤ occurs p q.places) h owns)) ∙ fits.kept place owns;
@@ -150,14 +156,15 @@ module _ (now : ℕ) (reader : ℕ → ℕ) (readings : List ReaderView) (id : �
   }
 
   -- the epoch is raised by one: no seat is protected from before it
-  pub advances : (reader' : ℕ → ℕ) (met known : ℕ) → now ≡ r.side.loaded → r.side.loaded < 2 ^ 62 → HasScannedAll r.side → known ≤ r.side.loaded + 1 →
+  pub advances : (reader' : ℕ → ℕ) (met greatest known raises : ℕ) → now ≡ r.side.loaded → r.side.loaded < 2 ^ 62 → HasScannedAll r.side → greatest ≤ r.side.loaded + 1 → known ≤ r.side.loaded + 1 →
       ((place : ℕ) → reader' place ≡ reader place) → ((j place : ℕ) (q : ReaderView) → get_elem? readings j ≡ some q → 1 ≤ occurs place q.places → place < all_places) →
-      Change (r.side.loaded + 1) reader' readings id (record { places = r.places; side = record r.side { met = met; known = known } })
-  advances reader' met known same below all le words within = record {
+      Change (r.side.loaded + 1) reader' readings id (record { places = r.places; side = record r.side { met = met; greatest = greatest; known = known; raises = raises } })
+  advances reader' met greatest known raises same below all found le words within = record {
     from = (let a = kept.from in omega (arith, a, same));
     most = omega (arith, below);
     fits = record {
       loaded = omega arith;
+      greatest = found;
       known = le;
       guards = raised r id at;
       kept = λ place owns. words place ∙ mine.kept place owns;
@@ -167,6 +174,7 @@ module _ (now : ℕ) (reader : ℕ → ℕ) (readings : List ReaderView) (id : �
         let fits = kept.each j q e in
         record {
           loaded = (let a = fits.loaded in omega (arith, a, same));
+          greatest = (let a = fits.greatest in omega (arith, a, same));
           known = (let a = fits.known in omega (arith, a, same));
           guards = raised q j e;
           kept = λ place owns. words place ∙ fits.kept place owns;
@@ -194,11 +202,11 @@ module _ (now : ℕ) (reader : ℕ → ℕ) (readings : List ReaderView) (id : �
               (guards.0, omega (arith, guards.1, same), omega (arith, late))
 
   -- the epoch is another
-  pub misses : (met known : ℕ) → known ≤ now → Change now reader readings id (record { places = r.places; side = record r.side { met = met; known = known } })
-  misses met known le = record {
+  pub misses : (met greatest known raises : ℕ) → greatest ≤ now → known ≤ now → Change now reader readings id (record { places = r.places; side = record r.side { met = met; greatest = greatest; known = known; raises = raises } })
+  misses met greatest known raises found le = record {
     from = kept.from;
     most = kept.most;
-    fits = record { loaded = mine.loaded; known = le; guards = mine.guards; kept = mine.kept; pinned = mine.pinned };
+    fits = record { loaded = mine.loaded; greatest = found; known = le; guards = mine.guards; kept = mine.kept; pinned = mine.pinned };
     others = λ j q ne e. kept.each j q e;
     scanner = λ j q ne e. kept.scans id j r q at e;
     target = λ i q ne e. kept.scans i id q r e at;

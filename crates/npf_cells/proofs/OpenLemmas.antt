@@ -191,6 +191,7 @@ module _ {S A R : Type 0} (layout : Layout) where
       first_reads : FitsEpochs (epoch_word (opening_words layout)) (reader_word (opening_words layout)) (reader_view view)
       first_reads = record {
         loaded = omega arith;
+        greatest = omega arith;
         known = omega arith;
         guards = tt;
         kept = λ place owns. before layout (1 + place) (let low = within place owns in omega (arith, low)) ∙ (start_zero layout (1 + place) (omega arith) ∙ sym (idle_holds (reader_view view) refl place));

@@ -58,7 +58,7 @@ pub record IsCells {S A R F : Type 0} (m : Meaning S A R) (layout : Layout) (s :
 
 -- a pass that knows nothing of the epoch
 abbrev pub idle_side : EpochSide
-idle_side = record { pin = Idle; loaded = 0; scanned = []; behind = []; met = 0; known = 0 }
+idle_side = record { pin = Idle; loaded = 0; scanned = []; behind = []; met = 0; greatest = 0; known = 0; raises = 0 }
 
 -- a pass that owns nothing
 abbrev pub empty_handed : PoolSide

@@ -46,6 +46,7 @@ HasScannedAll side = (reader : ℕ) → reader < all_places → Contains side.sc
 -- what the part says of one seat
 pub record FitsEpochs (now : ℕ) (reader : ℕ → ℕ) (r : ReaderView) : Type 0 where
   pub loaded : r.side.loaded ≤ now
+  pub greatest : r.side.greatest ≤ now
   pub known : r.side.known ≤ now
   pub guards : PinAllows r.side.pin now
   -- each of its reader words is as it left it

@@ -54,9 +54,13 @@ spent_seat = record {
   others = [];
 }
 
--- it knows of the later of the two epochs, and its count of sweeps is the sum of both; what else it knows and owns stays
+-- it knows the later of the two epochs, and its counts are the sums of both; what else it knows and owns stays
 abbrev pub joined_epochs : EpochSide → EpochSide → EpochSide
-joined_epochs mine theirs = record mine { known = max mine.known theirs.known }
+joined_epochs mine theirs = record mine {
+  greatest = max mine.greatest theirs.greatest;
+  known = max mine.known theirs.known;
+  raises = mine.raises + theirs.raises;
+}
 
 abbrev pub joined_pools : PoolSide → PoolSide → PoolSide
 joined_pools mine theirs = record mine { sweeps = mine.sweeps + theirs.sweeps }

@@ -43,7 +43,7 @@ pub struct CellPass<L: Law> {
 }
 
 impl<L: Law, H: KeyHash> Cells<L, H> {
-    ghost use Rattle.std.specs.Prelude.{◌≡◌, ◌≤◌, ◌<◌, ◌^◌, ◌↔◌, ℕ, true, [], IfOk};
+    ghost use Rattle.std.specs.Prelude.{◌≡◌, ◌≤◌, ◌<◌, ◌+◌, ◌^◌, ◌↔◌, ℕ, true, [], IfOk, if◌then◌else◌};
     ghost use Rattle.npf_connections.specs.Joining.{IsSplit, IsJoined};
     ghost use Rattle.npf_connections.specs.Pass.{IsPass, IsFirstPass, all_places};
     ghost use Rattle.npf_connections.specs.Worn.{last_epoch};
@@ -199,6 +199,7 @@ impl<L: Law, H: KeyHash> Cells<L, H> {
         ensures own { IsPassOf self.now.table.shared.key self.now.table.shared.table_id pass.new.seat.table_id pass.new.readers.items pass.new.seat.me }
         ensures met { IsMet pass.old.seat.me.0.epochs pass.new.seat.me.0.epochs.met }
         ensures next { pass.new.seat.me ≡ with_epochs pass.old.seat.me (advancing pass.old.seat.me.0.epochs pass.new.seat.me.0.epochs.met) }
+        ensures raises { pass.new.seat.me.0.epochs.raises ≡ pass.old.seat.me.0.epochs.raises + (if result then 1 else 0) }
         ensures moved { (result ≡ true) ↔ (pass.new.seat.me.0.epochs.met ≡ epoch) }
     {
         let found = self
