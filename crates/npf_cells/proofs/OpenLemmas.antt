@@ -23,7 +23,7 @@ use Rattle.npf_cells.specs.Cells.{reader_view, IsCells, first_cell_view}
 use Rattle.npf_cells.specs.Epochs.{ReaderView, pin_place, FitsEpochs}
 use Rattle.npf_cells.specs.Layout.{pools_at, pool_words, pool_places, pool_at, pool_bit, word_count, epoch_word, reader_word}
 use Rattle.npf_cells.specs.Opening.{with_past, opening_words}
-use Rattle.npf_cells.specs.Pools.{taken}
+use Rattle.npf_cells.specs.Pools.{taken, OwnsNothing}
 use Rattle.npf_cells.specs.Seats.{FitsSeats, Seats}
 use Rattle.npf_cells.specs.Sums.{occurs, numbers_below}
 use Rattle.npf_cells.proofs.EpochLemmas.{idle_holds}
@@ -183,6 +183,7 @@ module _ {S A R : Type 0} (layout : Layout) where
     trie = record { reach = (let a = count layout in omega (arith, a)) };
     connections = record { reach = count layout; legal = tt; building = λ j v e id c. absurd (unbuilt j v e id c) };
     nodes = record { reach = (let a = count layout in omega (arith, a)) };
+    spent = λ j v e none. nothing j v e;
   })
     where
       epoch : epoch_word (opening_words layout) ≡ 2
@@ -208,6 +209,10 @@ module _ {S A R : Type 0} (layout : Layout) where
       nobody : (j : ℕ) (r : ReaderView) → get_elem? (reader_view view ∷ []) j ≡ some r → (place : ℕ) → Contains r.side.scanned place → ⊥
       nobody zero r e place c = none_listed place (subst (λ (u : ReaderView). Contains u.side.scanned place) (sym (some-injective _ _ e)) c)
       nobody (suc j) r e place c = absurd (some-ne-none r (sym e))
+
+      nothing : (j : ℕ) (v : CellView S A R) → get_elem? (view ∷ []) j ≡ some v → OwnsNothing v.pools
+      nothing zero v e = subst (λ (u : CellView S A R). OwnsNothing u.pools) (some-injective _ _ e) (record { nodes = refl; builds = refl })
+      nothing (suc j) v e = absurd (some-ne-none v (sym e))
 
       unbuilt : (j : ℕ) (v : CellView S A R) → get_elem? (view ∷ []) j ≡ some v → (id : ConnId) → Contains v.pools.builds id → ⊥
       unbuilt zero v e id c = none_listed id (subst (λ (u : CellView S A R). Contains u.pools.builds id) (sym (some-injective _ _ e)) c)
