@@ -21,6 +21,7 @@ use Rattle.npf_cells.specs.Kinds.{with_epochs, loading, pinning, protecting, unp
 use Rattle.npf_cells.specs.Layout.{reader_at, epoch_word, reader_word}
 use Rattle.npf_cells.specs.Passes.{IsPassOf}
 use Rattle.npf_cells.specs.Sums.{occurs}
+use Rattle.npf_cells.specs.TableLaw.{HoldsBack}
 use Rattle.npf_cells.proofs.EpochLemmas.{Change, changed}
 use Rattle.npf_cells.proofs.Frames.{epochs_step}
 use Rattle.npf_cells.proofs.KindLemmas.{is_met, loads, protects, scans, stores, advances, misses}
@@ -213,6 +214,13 @@ module _ {S A R F : Type 0} (m : Meaning S A R) (layout : Layout) where
                 (max me.0.epochs.greatest (epoch_word s.words)) (known_after me (epoch_word s.words)) (raises_after me (epoch_word s.words)) greatest le),
             tells,
           )
+
+-- the part on epochs says it of each seat
+pub holds_back : {S A R : Type 0} (m : Meaning S A R) (layout : Layout) → HoldsBack m layout
+holds_back m layout s j pinned epoch v kept at is =
+    let guards : (pinned ≤ epoch) × (epoch ≤ epoch_word s.words) × (epoch_word s.words ≤ epoch + 1)
+    = rw is at (kept.epochs.each j (reader_view v) (at_map reader_view s.views j v at)).guards in
+    (guards.1, guards.2)
 
 -- a pass of the table stays one through a step that changes what it knows of the epoch
 pub pass_on : {S A R F : Type 0} (layout : Layout) (table seat seat' : TableId) (readers : List ℕ) (me next : Me F (CellView S A R)) (side : EpochSide) →

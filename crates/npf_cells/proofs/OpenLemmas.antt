@@ -179,6 +179,7 @@ module _ {S A R : Type 0} (layout : Layout) where
       reach = (let a = count layout in omega (arith, a));
       bits = λ pool p h. clear layout pool p h ∙ sym (untaken view refl pool p);
       past = past layout;
+      beyond = λ p h. untaken view refl Nodes p;
     };
     trie = record { reach = (let a = count layout in omega (arith, a)) };
     connections = record { reach = count layout; legal = tt; building = λ j v e id c. absurd (unbuilt j v e id c) };

@@ -1,7 +1,8 @@
 -- Kinds 7 to 9 keep the rule: each by its part and the frame of a step on a pool's word.
-use Rattle.std.proofs.Common.{◌≡◌, ◌≢◌, ℕ, zero, suc, ◌+◌, ◌*◌, ◌%◌, ◌^◌, ◌<◌, ◌≤◌, Bool, true, false, cond, eqb, eq-eqb, ne_eqb, List, [], ◌∷◌, set, length, slice_index, slice_index_or, refl, sym, ap, ◌∙◌, subst, arith, length-set, bit_and, bit_or}
+use Rattle.std.proofs.Common.{◌≡◌, ◌≢◌, ℕ, zero, suc, ◌+◌, ◌*◌, ◌%◌, ◌^◌, ◌<◌, ◌≤◌, Bool, true, false, cond, eqb, eq-eqb, ne_eqb, List, [], ◌∷◌, set, length, slice_index, slice_index_or, refl, sym, ap, ◌∙◌, subst, ⊎_elim, arith, length-set, bit_and, bit_or}
 use Rattle.std.specs.Int.{bit_at, bit_not, w64}
 use Rattle.std.specs.List.{Contains}
+use Rattle.std.proofs.lemmas.Bool.{cases_eq}
 use Rattle.std.proofs.lemmas.Bool.Decides.{Decides-eqb, not_from_Decides}
 use Rattle.std.proofs.lemmas.List.{get_or-set_other, set-get_or}
 use Rattle.std.proofs.lemmas.Nat.Bits.{bit_at-lt, bit_at_set_same, bit_at_set_other, bit_at_clear_same, bit_at_clear_other}
@@ -24,9 +25,11 @@ use Rattle.npf_cells.specs.Passes.{IsPassOf}
 use Rattle.npf_cells.specs.PoolKinds.{with_pools, sweeping, claiming_node, others_than, giving_back, Sweeps, ClaimsNode, GivesNodeBack, StoodSo}
 use Rattle.npf_cells.specs.Pools.{node_owners, taken}
 use Rattle.npf_cells.specs.Sums.{occurs}
+use Rattle.npf_cells.specs.TableLaw.{OwnsAlone}
 use Rattle.npf_cells.proofs.Frames.{pools_step}
 use Rattle.npf_cells.proofs.PoolLemmas.{word_within, places_within, pools-same, pools-set, one_where, occurs-cons, taken-set}
-use Rattle.npf_cells.proofs.SumLemmas.{sum-set, one_of_sum}
+use Rattle.npf_cells.proofs.SeatLemmas.{cases_lt}
+use Rattle.npf_cells.proofs.SumLemmas.{sum-set, one_of_sum, two_of_sum}
 
 sweeping-same : (pool : Pool) (count word : ℕ) (side : PoolSide) (found : ℕ) → ((sweeping pool count word side found).nodes ≡ side.nodes) × ((sweeping pool count word side found).builds ≡ side.builds)
 sweeping-same Slots count word side found = (refl, refl)
@@ -201,6 +204,28 @@ not_owned {S} {A} {R} m layout v node found within stood clear owns =
     let mine = one_of_sum (λ (u : CellView S A R). occurs node u.pools.nodes) stood.state.views v.seats.number v stood.seated in
     let one = stands_once node v.pools.nodes owns in
     omega (arith, bit, none, mine, one)
+
+-- the bit of a node counts its owners
+few_owners : {S A R : Type 0} (m : Meaning S A R) (layout : Layout) (s : State ℕ (CellView S A R)) (node : ℕ) → IsCells m layout s → node_owners s.views node ≤ 1
+few_owners m layout s node kept = ⊎_elim
+    (λ (h : node < layout.nodes).
+    let bit = kept.pools.bits Nodes node h in
+    let below = bit_at-lt (slice_index s.words (place_word layout Nodes node)) (node % 64) in
+    omega (arith, bit, below))
+    (λ (h : layout.nodes ≤ node). let none = kept.pools.beyond node h in omega (arith, none))
+    (cases_lt node layout.nodes)
+
+-- so two seats that own it are one
+pub owns_alone : {S A R : Type 0} (m : Meaning S A R) (layout : Layout) → OwnsAlone m layout
+owns_alone {S} {A} {R} m layout s i j node v w kept at there mine theirs = ⊎_elim
+    (λ e. e)
+    (λ (ne : i ≢ j).
+    let few = few_owners m layout s node kept in
+    let both = two_of_sum (λ (u : CellView S A R). occurs node u.pools.nodes) s.views i j v w at there ne in
+    let one = stands_once node v.pools.nodes mine in
+    let another = stands_once node w.pools.nodes theirs in
+    absurd (omega (arith, few, both, one, another)))
+    (cases_eq i j)
 
 -- a pass of the table stays one through a step that changes what it knows and has of the pools
 pub pools_on : {S A R F : Type 0} (layout : Layout) (table seat seat' : TableId) (readers : List ℕ) (me next : Me F (CellView S A R)) (side : PoolSide) →

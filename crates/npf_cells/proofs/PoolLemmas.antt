@@ -47,6 +47,7 @@ module _ (layout : Layout) where
     reach = (let a = kept.reach in omega (arith, a, count));
     bits = λ pool p h. bit pool p (places_within pool p h) ∙ (kept.bits pool p h ∙ sym (taken' pool p));
     past = λ pool p h k. bit pool p k ∙ kept.past pool p h k;
+    beyond = λ p h. taken' Nodes p ∙ kept.beyond p h;
   }
     where
       bit : (pool : Pool) (p : ℕ) → p < 64 * pool_words (pool_places layout pool) → pool_bit layout pool words' p ≡ pool_bit layout pool words p
@@ -64,6 +65,7 @@ module _ (layout : Layout) where
         (λ (two : other ≡ pool → p ≢ place). elsewhere other p (places_within other p h) two ∙ (kept.bits other p h ∙ sym (others other p two)))
         (one_place other pool p place);
     past = λ other p h k. elsewhere other p k (λ e. λ same. absurd (not_past other p e same h)) ∙ kept.past other p h k;
+    beyond = λ p h. others Nodes p (λ e same. absurd (not_past Nodes p e same h)) ∙ kept.beyond p h;
   }
     where
       there : place_word layout pool place < length words

@@ -32,8 +32,9 @@ pub record OwnsNothing (side : PoolSide) : Type 0 where
   pub nodes : side.nodes ≡ []
   pub builds : side.builds ≡ []
 
--- the bit of each place says whether it is taken, and the bits past the last place are set
+-- the bit of each place says whether it is taken, the bits past the last place are set, and no pass owns a node past the last
 pub record Pools (layout : Layout) (takes : Pool → ℕ → ℕ) (words : List ℕ) : Type 0 where
   pub reach : root_at layout ≤ length words
   pub bits : (pool : Pool) (place : ℕ) → place < pool_places layout pool → pool_bit layout pool words place ≡ takes pool place
   pub past : (pool : Pool) (place : ℕ) → pool_places layout pool ≤ place → place < 64 * pool_words (pool_places layout pool) → pool_bit layout pool words place ≡ 1
+  pub beyond : (node : ℕ) → layout.nodes ≤ node → takes Nodes node ≡ 0

@@ -1,0 +1,15 @@
+// What holds of every table between any two steps. The functions do nothing: each is a theorem.
+ghost use Rattle.npf_cells.specs.declared.layout.Layout.{Layout};
+ghost use Rattle.npf_cells.specs.TableLaw.{OwnsAlone, HoldsBack};
+
+use npf_core::Law;
+
+/// The claim law: a node has one owner at most.
+pub fn claim_law<L: Law>()
+    ensures alone { (layout : Layout) → OwnsAlone L.meaning layout }
+{}
+
+/// The protection law: while a pass is protected with the epoch that it loaded after its pin, the table's epoch is at most one more.
+pub fn protection_law<L: Law>()
+    ensures within { (layout : Layout) → HoldsBack L.meaning layout }
+{}
