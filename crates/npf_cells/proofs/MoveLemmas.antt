@@ -58,7 +58,7 @@ module _ {S A R F : Type 0} (m : Meaning S A R) (layout : Layout) where
       (seats-join layout.slots kept.log (map seat_side s.views) id v.seats other w.seats kept.seats (at_map seat_side s.views id v at) apart (at_map seat_side s.views other w was)
       lives theirs place w-lives w-theirs))
       (subst (λ rs. Epochs (epoch_word s.words) (reader_word s.words) rs) (sym (merged_side reader_view s.views id other (takes_in v w) nothing_left))
-      (epochs-join (epoch_word s.words) (reader_word s.words) (map reader_view s.views) kept.epochs id other (reader_view v) (reader_view w)
+      (epochs-join (epoch_word s.words) (reader_word s.words) (map reader_view s.views) kept.epochs id other (reader_view v) (reader_view w) apart
       (at_map reader_view s.views id v at) (at_map reader_view s.views other w was) idle w-idle))
       (pools-same layout (taken (state_of m kept.log) s.views) (taken (state_of m kept.log) (set (set s.views id (takes_in v w)) other nothing_left)) s.words s.words kept.pools refl (λ j h. refl)
       (λ pool p. taken-set (state_of m kept.log) (set s.views id (takes_in v w)) other w nothing_left there (sym w-nodes) pool p ∙ taken-set (state_of m kept.log) s.views id v (takes_in v w) at refl pool p))

@@ -20,7 +20,7 @@ use Rattle.npf_cells.specs.declared.layout.Pool.TheVariants.{Slots, Nodes}
 use Rattle.npf_cells.specs.declared.views.CellView.{CellView}
 use Rattle.npf_cells.specs.declared.views.SeatSide.{SeatSide}
 use Rattle.npf_cells.specs.Cells.{reader_view, IsCells, first_cell_view}
-use Rattle.npf_cells.specs.Epochs.{ReaderView, pin_place, FitsEpochs}
+use Rattle.npf_cells.specs.Epochs.{ReaderView, pin_place, FitsEpochs, all_raises}
 use Rattle.npf_cells.specs.Layout.{pools_at, pool_words, pool_places, pool_at, pool_bit, word_count, epoch_word, reader_word}
 use Rattle.npf_cells.specs.Opening.{with_past, opening_words}
 use Rattle.npf_cells.specs.Pools.{taken, OwnsNothing}
@@ -172,6 +172,7 @@ module _ {S A R : Type 0} (layout : Layout) where
     epochs = record {
       from = omega (arith, epoch);
       most = omega (arith, epoch);
+      counted = (let none : all_raises (reader_view view ∷ []) ≡ 0 = sum_by-cons (λ (u : ReaderView). u.side.raises) (reader_view view) [] in omega (arith, epoch, none));
       each = each;
       scans = λ i j r q e d c. absurd (nobody i r e (pin_place q.places) c);
     };
