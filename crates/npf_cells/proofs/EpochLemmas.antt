@@ -1,17 +1,19 @@
 -- The part on epochs stays through the base's moves, and through a step by what it shows of one seat.
-use Rattle.std.proofs.Common.{◌≡◌, ◌≢◌, ◌⊎◌, ℕ, ◌^◌, ◌≤◌, max, Bool, true, false, cond, eqb, List, [], ◌∷◌, ◌++◌, set, take, drop, refl, sym, ap, ◌∙◌, subst, ⊎_elim, inl, inr, arith}
+use Rattle.std.proofs.Common.{◌≡◌, ◌≢◌, ◌⊎◌, ℕ, ◌+◌, ◌^◌, ◌≤◌, max, Bool, true, false, cond, eqb, List, [], ◌∷◌, ◌++◌, set, take, drop, refl, sym, ap, ◌∙◌, subst, ⊎_elim, inl, inr, arith}
 use Rattle.std.specs.List.{Contains}
 use Rattle.std.proofs.lemmas.Bool.{cases_eq}
-use Rattle.std.proofs.lemmas.List.Sums.{sum_by-append, sum_by-take-drop}
+use Rattle.std.proofs.lemmas.List.Sums.{sum_by-append, sum_by_push, sum_by-take-drop}
 use mathlib.Core.Option.{some}
 use lib.ListN.{get_elem?}
-use Rattle.atomic_table.proofs.Lists.{at_set, at_snoc}
+use Rattle.atomic_table.proofs.Lists.{at_set, at_snoc, set_else}
 use Rattle.npf_cells.specs.declared.views.Pin.{Pin}
 use Rattle.npf_cells.specs.declared.views.Pin.TheVariants.{Idle}
 use Rattle.npf_cells.specs.Cells.{idle_side}
-use Rattle.npf_cells.specs.Epochs.{ReaderView, pin_place, pin_word, reader_holds, NotProtectedBefore, FitsEpochs, Epochs}
+use Rattle.npf_cells.specs.Epochs.{ReaderView, pin_place, pin_word, reader_holds, NotProtectedBefore, FitsEpochs, Epochs, all_raises}
+use Rattle.npf_cells.specs.Moves.{joined_epochs}
 use Rattle.npf_cells.specs.Sums.{occurs}
 use Rattle.npf_cells.proofs.PrefixLemmas.{none_listed}
+use Rattle.npf_cells.proofs.SumLemmas.{sum-set}
 
 nothing_either : (b : Bool) (n : ℕ) → n ≡ 0 → cond b n 0 ≡ 0
 nothing_either true n e = e
@@ -32,10 +34,11 @@ module _ (now : ℕ) (reader : ℕ → ℕ) (readings : List ReaderView) where
     pub target : ((n : ℕ) → NotProtectedBefore n r.side.pin) ⊎ ((j : ℕ) × (o : ReaderView) × (get_elem? readings j ≡ some o) × (pin_place o.places ≡ pin_place r.places) × (o.side.pin ≡ r.side.pin))
 
   module _ (kept : Epochs now reader readings) where
-    epochs_from : (after : List ReaderView) → ((j : ℕ) (r : ReaderView) → get_elem? after j ≡ some r → ComesFrom r) → Epochs now reader after
-    epochs_from after comes = record {
+    epochs_from : (after : List ReaderView) → now ≡ 2 + all_raises after → ((j : ℕ) (r : ReaderView) → get_elem? after j ≡ some r → ComesFrom r) → Epochs now reader after
+    epochs_from after counted comes = record {
       from = kept.from;
       most = kept.most;
+      counted = counted;
       each = λ j r e. (comes j r e).fits;
       scans = λ i j r q e d c.
           let s = (comes i r e).scanner (pin_place q.places) c in
@@ -63,6 +66,7 @@ module _ (now : ℕ) (reader : ℕ → ℕ) (readings : List ReaderView) where
     newly places idle = record {
       fits = record {
         loaded = omega arith;
+        greatest = omega arith;
         known = omega arith;
         guards = tt;
         kept = λ place owns. idle place owns ∙ sym (idle_holds (record { places = places; side = idle_side }) refl place);
@@ -73,14 +77,15 @@ module _ (now : ℕ) (reader : ℕ → ℕ) (readings : List ReaderView) where
     }
 
     -- an idle pass with other places, whose words are idle too
-    resettled : (j : ℕ) (r : ReaderView) (places : List ℕ) (known : ℕ) → get_elem? readings j ≡ some r → r.side.pin ≡ Idle → known ≤ now →
-        ((place : ℕ) → 1 ≤ occurs place places → reader place ≡ 0) → ComesFrom (record { places = places; side = record r.side { known = known } })
-    resettled j r places known e idle le words = record {
+    resettled : (j : ℕ) (r : ReaderView) (places : List ℕ) (greatest known raises : ℕ) → get_elem? readings j ≡ some r → r.side.pin ≡ Idle → greatest ≤ now → known ≤ now →
+        ((place : ℕ) → 1 ≤ occurs place places → reader place ≡ 0) → ComesFrom (record { places = places; side = record r.side { greatest = greatest; known = known; raises = raises } })
+    resettled j r places greatest known raises e idle found le words = record {
       fits = record {
         loaded = (kept.each j r e).loaded;
+        greatest = found;
         known = le;
         guards = (kept.each j r e).guards;
-        kept = λ place owns. words place owns ∙ sym (idle_holds (record { places = places; side = record r.side { known = known } }) idle place);
+        kept = λ place owns. words place owns ∙ sym (idle_holds (record { places = places; side = record r.side { greatest = greatest; known = known; raises = raises } }) idle place);
         pinned = λ _. idle;
       };
       scanner = λ place c. (j, r, e, c, refl);
@@ -96,28 +101,50 @@ module _ (now : ℕ) (reader : ℕ → ℕ) (readings : List ReaderView) where
 
     pub epochs-split : (id k : ℕ) (r : ReaderView) → get_elem? readings id ≡ some r → r.side.pin ≡ Idle →
         Epochs now reader (set readings id (record { places = take k r.places; side = r.side }) ++ record { places = drop k r.places; side = idle_side } ∷ [])
-    epochs-split id k r e idle = epochs_from _ (λ j q d. ⊎_elim
+    epochs-split id k r e idle = epochs_from _ counted (λ j q d. ⊎_elim
         (λ (there : get_elem? (set readings id (record { places = take k r.places; side = r.side })) j ≡ some q). ⊎_elim
         (λ (x : (j ≡ id) × (record { places = take k r.places; side = r.side } ≡ q)). subst ComesFrom x.1
-        (resettled id r (take k r.places) r.side.known e idle (kept.each id r e).known (λ place owns. idle_word id r e idle place ((some_of r k place).0 owns))))
+        (resettled id r (take k r.places) r.side.greatest r.side.known r.side.raises e idle (kept.each id r e).greatest (kept.each id r e).known (λ place owns. idle_word id r e idle place ((some_of r k place).0 owns))))
         (λ (x : (j ≢ id) × (get_elem? readings j ≡ some q)). as_it_was j q x.1)
         (at_set readings id j _ q there))
         (λ (x : record { places = drop k r.places; side = idle_side } ≡ q). subst ComesFrom x
         (newly (drop k r.places) (λ place owns. idle_word id r e idle place ((some_of r k place).1 owns))))
         (at_snoc _ _ q j d))
+      where
+        counted : now ≡ 2 + all_raises (set readings id (record { places = take k r.places; side = r.side }) ++ record { places = drop k r.places; side = idle_side } ∷ [])
+        counted =
+            let left : ReaderView = record { places = take k r.places; side = r.side } in
+            let right : ReaderView = record { places = drop k r.places; side = idle_side } in
+            let one : all_raises (set readings id left) + r.side.raises ≡ all_raises readings + r.side.raises = sum-set (λ (u : ReaderView). u.side.raises) readings id r left e in
+            let two : all_raises (set readings id left ++ right ∷ []) ≡ all_raises (set readings id left) + 0 = sum_by_push (λ (u : ReaderView). u.side.raises) (set readings id left) right in
+            let all = kept.counted in
+            omega (arith, one, two, all)
 
-    pub epochs-join : (id other : ℕ) (r q : ReaderView) → get_elem? readings id ≡ some r → get_elem? readings other ≡ some q → r.side.pin ≡ Idle → q.side.pin ≡ Idle →
-        Epochs now reader (set (set readings id (record { places = r.places ++ q.places; side = record r.side { known = max r.side.known q.side.known } })) other (record { places = []; side = idle_side }))
-    epochs-join id other r q e d r-idle q-idle =
-        let both : ReaderView = record { places = r.places ++ q.places; side = record r.side { known = max r.side.known q.side.known } } in
-        epochs_from _ (λ j u f. ⊎_elim
+    pub epochs-join : (id other : ℕ) (r q : ReaderView) → other ≢ id → get_elem? readings id ≡ some r → get_elem? readings other ≡ some q → r.side.pin ≡ Idle → q.side.pin ≡ Idle →
+        Epochs now reader (set (set readings id (record { places = r.places ++ q.places; side = joined_epochs r.side q.side })) other (record { places = []; side = idle_side }))
+    epochs-join id other r q apart e d r-idle q-idle =
+        let both : ReaderView = record { places = r.places ++ q.places; side = joined_epochs r.side q.side } in
+        epochs_from _ counted (λ j u f. ⊎_elim
         (λ (x : (j ≡ other) × (record { places = []; side = idle_side } ≡ u)). subst ComesFrom x.1 (newly [] (λ place owns. absurd (omega (arith, owns)))))
         (λ (x : (j ≢ other) × (get_elem? (set readings id both) j ≡ some u)). ⊎_elim
-        (λ (y : (j ≡ id) × (both ≡ u)). subst ComesFrom y.1 (resettled id r (r.places ++ q.places) (max r.side.known q.side.known) e r-idle most words))
+        (λ (y : (j ≡ id) × (both ≡ u)). subst ComesFrom y.1 (resettled id r (r.places ++ q.places) (max r.side.greatest q.side.greatest) (max r.side.known q.side.known) (r.side.raises + q.side.raises) e r-idle found most words))
         (λ (y : (j ≢ id) × (get_elem? readings j ≡ some u)). as_it_was j u y.1)
         (at_set readings id j both u x.1))
         (at_set (set readings id both) other j _ u f))
       where
+        counted : now ≡ 2 + all_raises (set (set readings id (record { places = r.places ++ q.places; side = joined_epochs r.side q.side })) other (record { places = []; side = idle_side }))
+        counted =
+            let both : ReaderView = record { places = r.places ++ q.places; side = joined_epochs r.side q.side } in
+            let none : ReaderView = record { places = []; side = idle_side } in
+            let one : all_raises (set readings id both) + r.side.raises ≡ all_raises readings + (r.side.raises + q.side.raises) = sum-set (λ (u : ReaderView). u.side.raises) readings id r both e in
+            let two : all_raises (set (set readings id both) other none) + q.side.raises ≡ all_raises (set readings id both) + 0
+            = sum-set (λ (u : ReaderView). u.side.raises) (set readings id both) other q none (set_else readings id other both apart ∙ d) in
+            let all = kept.counted in
+            omega (arith, one, two, all)
+
+        found : max r.side.greatest q.side.greatest ≤ now
+        found = let a = (kept.each id r e).greatest in let b = (kept.each other q d).greatest in omega (arith, a, b)
+
         most : max r.side.known q.side.known ≤ now
         most = let a = (kept.each id r e).known in let b = (kept.each other q d).known in omega (arith, a, b)
 
@@ -135,10 +162,12 @@ pub epochs-words : (now : ℕ) (reader reader' : ℕ → ℕ) (readings : List R
 epochs-words now reader reader' readings kept same = record {
   from = kept.from;
   most = kept.most;
+  counted = kept.counted;
   each = λ j q e.
       let fits = kept.each j q e in
       record {
         loaded = fits.loaded;
+        greatest = fits.greatest;
         known = fits.known;
         guards = fits.guards;
         kept = λ place owns. same j place q e owns ∙ fits.kept place owns;
@@ -151,6 +180,7 @@ epochs-words now reader reader' readings kept same = record {
 pub record Change (now' : ℕ) (reader' : ℕ → ℕ) (readings : List ReaderView) (id : ℕ) (w : ReaderView) : Type 0 where
   pub from : 2 ≤ now'
   pub most : now' ≤ 2 ^ 62
+  pub counted : now' ≡ 2 + all_raises (set readings id w)
   pub fits : FitsEpochs now' reader' w
   pub others : (j : ℕ) (q : ReaderView) → j ≢ id → get_elem? readings j ≡ some q → FitsEpochs now' reader' q
   pub scanner : (j : ℕ) (q : ReaderView) → j ≢ id → get_elem? readings j ≡ some q → Contains w.side.scanned (pin_place q.places) → NotProtectedBefore w.side.loaded q.side.pin
@@ -162,6 +192,7 @@ pub changed : (now now' : ℕ) (reader reader' : ℕ → ℕ) (readings : List R
 changed now now' reader reader' readings id w kept c = record {
   from = c.from;
   most = c.most;
+  counted = c.counted;
   each = λ j r e. ⊎_elim
       (λ (x : (j ≡ id) × (w ≡ r)). subst (λ (u : ReaderView). FitsEpochs now' reader' u) x.1 c.fits)
       (λ (x : (j ≢ id) × (get_elem? readings j ≡ some r)). c.others j r x.0 x.1)

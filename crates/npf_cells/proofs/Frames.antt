@@ -7,17 +7,16 @@ use lib.ListN.{get_elem?}
 use Rattle.atomic_table.specs.Table.{State, stepped, keeps}
 use Rattle.atomic_table.proofs.Lists.{at_map, at_set, at_snoc}
 use Rattle.npf_core.specs.declared.conn_id.ConnId.{ConnId}
-use Rattle.npf_core.specs.declared.entry.Entry.{Entry}
 use Rattle.npf_core.specs.declared.stage.Stage.TheVariants.{Building}
 use Rattle.npf_core.specs.History.{state_of}
 use Rattle.npf_core.specs.Machine.{Machine, stage_of}
 use Rattle.npf_core.specs.Meaning.{Meaning}
 use Rattle.npf_cells.specs.declared.layout.Layout.{Layout}
 use Rattle.npf_cells.specs.declared.views.CellView.{CellView}
-use Rattle.npf_cells.specs.Cells.{seat_side, reader_view, IsCells}
+use Rattle.npf_cells.specs.Cells.{seat_side, reader_view, SpentOwnNothing, IsCells}
 use Rattle.npf_cells.specs.Epochs.{ReaderView, Epochs}
 use Rattle.npf_cells.specs.Layout.{pools_at, nodes_at, connections_at, epoch_word, reader_word}
-use Rattle.npf_cells.specs.Pools.{taken, Pools}
+use Rattle.npf_cells.specs.Pools.{taken, OwnsNothing, Pools}
 use Rattle.npf_cells.specs.Seats.{Seats}
 use Rattle.npf_cells.specs.Sums.{occurs}
 use Rattle.npf_cells.proofs.EpochLemmas.{epochs-words}
@@ -52,12 +51,25 @@ module _ {S A R : Type 0} where
       (λ (x : w ≡ u). absurd (none_listed id (subst (λ ids. Contains ids id) (ap (λ (y : CellView S A R). y.pools.builds) (sym x) ∙ none) c)))
       (at_snoc views w u j e)
 
+  -- who owns no reader place owns nothing
+  pub spent-set : (views : List (CellView S A R)) (i : ℕ) (w : CellView S A R) → (length w.seats.readers ≡ 0 → OwnsNothing w.pools) → SpentOwnNothing views → SpentOwnNothing (set views i w)
+  spent-set views i w mine kept j u e none = ⊎_elim
+      (λ (x : (j ≡ i) × (w ≡ u)). subst (λ (y : CellView S A R). OwnsNothing y.pools) x.1 (mine (ap (λ (y : CellView S A R). length y.seats.readers) x.1 ∙ none)))
+      (λ (x : (j ≢ i) × (get_elem? views j ≡ some u)). kept j u x.1 none)
+      (at_set views i j w u e)
+
+  pub spent-push : (views : List (CellView S A R)) (w : CellView S A R) → OwnsNothing w.pools → SpentOwnNothing views → SpentOwnNothing (views ++ w ∷ [])
+  spent-push views w nothing kept j u e none = ⊎_elim
+      (λ (there : get_elem? views j ≡ some u). kept j u there none)
+      (λ (x : w ≡ u). subst (λ (y : CellView S A R). OwnsNothing y.pools) x nothing)
+      (at_snoc views w u j e)
+
 module _ {S A R F : Type 0} (m : Meaning S A R) (layout : Layout) where
   -- a state of as many words, with the parts on seats, epochs and pools
   pub framed : (s s' : State F (CellView S A R)) (kept : IsCells m layout s) → length s'.words ≡ length s.words →
       Seats layout.slots kept.log (map seat_side s'.views) → Epochs (epoch_word s'.words) (reader_word s'.words) (map reader_view s'.views) →
-      Pools layout (taken (state_of m kept.log) s'.views) s'.words → BuildsIn (state_of m kept.log) s'.views → IsCells m layout s'
-  framed s s' kept count seats epochs pools building = record {
+      Pools layout (taken (state_of m kept.log) s'.views) s'.words → BuildsIn (state_of m kept.log) s'.views → SpentOwnNothing s'.views → IsCells m layout s'
+  framed s s' kept count seats epochs pools building spent = record {
     log = kept.log;
     seats = seats;
     epochs = epochs;
@@ -65,6 +77,7 @@ module _ {S A R F : Type 0} (m : Meaning S A R) (layout : Layout) where
     trie = record { reach = subst (λ n. nodes_at layout ≤ n) (sym count) kept.trie.reach };
     connections = record { reach = count ∙ kept.connections.reach; legal = kept.connections.legal; building = building };
     nodes = record { reach = subst (λ n. connections_at layout ≤ n) (sym count) kept.nodes.reach };
+    spent = spent;
   }
 
   -- a step on a word of the part on epochs, that changes this side of one view alone
@@ -77,6 +90,7 @@ module _ {S A R F : Type 0} (m : Meaning S A R) (layout : Layout) where
       (pools-same layout (taken (state_of m kept.log) s.views) (taken (state_of m kept.log) (set s.views id w)) s.words (set s.words i n) kept.pools (length-set s.words i n) words
       (taken-set (state_of m kept.log) s.views id v w at (ap (λ p. p.nodes) pools)))
       (building-set (state_of m kept.log) s.views id v w at (ap (λ p. p.builds) pools) kept.connections.building)
+      (spent-set s.views id w (λ none. subst OwnsNothing (sym pools) (kept.spent id v at (ap (λ side. length side.readers) (sym same) ∙ none))) kept.spent)
 
   -- a load that changes the seats' side of one view alone
   pub seats_step : (s : State F (CellView S A R)) (i id : ℕ) (c : List (ℕ × F)) (v w : CellView S A R) (kept : IsCells m layout s) → get_elem? s.views id ≡ some v → reader_view w ≡ reader_view v → w.pools ≡ v.pools →
@@ -88,18 +102,20 @@ module _ {S A R F : Type 0} (m : Meaning S A R) (layout : Layout) where
       (pools-same layout (taken (state_of m kept.log) s.views) (taken (state_of m kept.log) (set s.views id w)) s.words (set s.words i (slice_index s.words i)) kept.pools (length-set s.words i (slice_index s.words i))
       (λ j h. ap (λ ws. slice_index ws j) (set-get_or s.words i 0)) (taken-set (state_of m kept.log) s.views id v w at (ap (λ p. p.nodes) pools)))
       (building-set (state_of m kept.log) s.views id v w at (ap (λ p. p.builds) pools) kept.connections.building)
+      (spent-set s.views id w (λ none. subst OwnsNothing (sym pools) (kept.spent id v at (ap (λ (r : ReaderView). length r.places) (sym same) ∙ none))) kept.spent)
 
   -- a step on a word of the part on pools, that changes this side of one view alone
   pub pools_step : (s : State F (CellView S A R)) (i n id : ℕ) (c : List (ℕ × F)) (v w : CellView S A R) (kept : IsCells m layout s) → get_elem? s.views id ≡ some v → w.seats ≡ v.seats → reader_view w ≡ reader_view v → w.pools.builds ≡ v.pools.builds →
-      ((j : ℕ) → j < pools_at → slice_index (set s.words i n) j ≡ slice_index s.words j) →
+      (length w.seats.readers ≡ 0 → OwnsNothing w.pools) → ((j : ℕ) → j < pools_at → slice_index (set s.words i n) j ≡ slice_index s.words j) →
       Pools layout (taken (state_of m kept.log) (set s.views id w)) (set s.words i n) → IsCells m layout (stepped s i n id c w keeps)
-  pools_step s i n id c v w kept at same reads builds words pools = framed s (stepped s i n id c w keeps) kept (length-set s.words i n)
+  pools_step s i n id c v w kept at same reads builds spent words pools = framed s (stepped s i n id c w keeps) kept (length-set s.words i n)
       (subst (λ sides. Seats layout.slots kept.log sides) (sym (side_same seat_side s.views id v w at same)) kept.seats)
       (subst (λ rs. Epochs (epoch_word (set s.words i n)) (reader_word (set s.words i n)) rs) (sym (side_same reader_view s.views id v w at reads))
       (subst (λ now. Epochs now (reader_word (set s.words i n)) (map reader_view s.views)) (sym (words 0 (omega arith)))
       (epochs-words (epoch_word s.words) (reader_word s.words) (reader_word (set s.words i n)) (map reader_view s.views) kept.epochs owned)))
       pools
       (building-set (state_of m kept.log) s.views id v w at builds kept.connections.building)
+      (spent-set s.views id w spent kept.spent)
     where
       owned : (j place : ℕ) (q : ReaderView) → get_elem? (map reader_view s.views) j ≡ some q → 1 ≤ occurs place q.places → reader_word (set s.words i n) place ≡ reader_word s.words place
       owned j place q e owns =

@@ -21,6 +21,7 @@ use Rattle.npf_cells.specs.Kinds.{with_epochs, loading, pinning, protecting, unp
 use Rattle.npf_cells.specs.Layout.{reader_at, epoch_word, reader_word}
 use Rattle.npf_cells.specs.Passes.{IsPassOf}
 use Rattle.npf_cells.specs.Sums.{occurs}
+use Rattle.npf_cells.specs.TableLaw.{HoldsBack}
 use Rattle.npf_cells.proofs.EpochLemmas.{Change, changed}
 use Rattle.npf_cells.proofs.Frames.{epochs_step}
 use Rattle.npf_cells.proofs.KindLemmas.{is_met, loads, protects, scans, stores, advances, misses}
@@ -84,17 +85,17 @@ module _ {S A R F : Type 0} (m : Meaning S A R) (layout : Layout) where
         guards free)))
 
     -- the epoch is raised
-    pub raise_keeps : (known : ℕ) → now ≡ v.epochs.loaded → v.epochs.loaded < 2 ^ 62 → HasScannedAll v.epochs → known ≤ v.epochs.loaded + 1 →
-        IsCells m layout (stepped s 0 (v.epochs.loaded + 1) id c (record v { epochs = record v.epochs { met = now; known = known } }) keeps)
-    raise_keeps known same below all le =
+    pub raise_keeps : (greatest known raises : ℕ) → now ≡ v.epochs.loaded → v.epochs.loaded < 2 ^ 62 → HasScannedAll v.epochs → greatest ≤ v.epochs.loaded + 1 → known ≤ v.epochs.loaded + 1 → raises ≡ v.epochs.raises + 1 →
+        IsCells m layout (stepped s 0 (v.epochs.loaded + 1) id c (record v { epochs = record v.epochs { met = now; greatest = greatest; known = known; raises = raises } }) keeps)
+    raise_keeps greatest known raises same below all found le once =
         let words' : List ℕ = set s.words 0 (v.epochs.loaded + 1) in
         let a = kept.connections.reach in
         let epoch : epoch_word words' ≡ v.epochs.loaded + 1 = get_or-set_same s.words 0 (v.epochs.loaded + 1) 0 (omega (arith, a)) in
-        epochs_step m layout s 0 (v.epochs.loaded + 1) id c v (record v { epochs = record v.epochs { met = now; known = known } }) kept at refl refl
+        epochs_step m layout s 0 (v.epochs.loaded + 1) id c v (record v { epochs = record v.epochs { met = now; greatest = greatest; known = known; raises = raises } }) kept at refl refl
         (λ j h. get_or-set_other s.words 0 j (v.epochs.loaded + 1) 0 (λ e. absurd (omega (arith, e, h))))
-        (subst (λ n. Epochs n (reader_word words') (set readings id (record { places = v.seats.readers; side = record v.epochs { met = now; known = known } }))) (sym epoch)
-        (changed now (v.epochs.loaded + 1) reader (reader_word words') readings id (record { places = v.seats.readers; side = record v.epochs { met = now; known = known } }) kept.epochs
-        (advances now reader readings id (reader_view v) kept.epochs there (reader_word words') now known same below all le
+        (subst (λ n. Epochs n (reader_word words') (set readings id (record { places = v.seats.readers; side = record v.epochs { met = now; greatest = greatest; known = known; raises = raises } }))) (sym epoch)
+        (changed now (v.epochs.loaded + 1) reader (reader_word words') readings id (record { places = v.seats.readers; side = record v.epochs { met = now; greatest = greatest; known = known; raises = raises } }) kept.epochs
+        (advances now reader readings id (reader_view v) kept.epochs there (reader_word words') now greatest known raises same below all found le once
         (λ p. get_or-set_other s.words 0 (reader_at p) (v.epochs.loaded + 1) 0 (λ e. absurd (omega (arith, e))))
         within)))
 
@@ -158,6 +159,9 @@ module _ {S A R F : Type 0} (m : Meaning S A R) (layout : Layout) where
   abbrev known_after : Me F (CellView S A R) → ℕ → ℕ
   known_after me found = max me.0.epochs.known (cond (eqb found me.0.epochs.loaded) (found + 1) found)
 
+  abbrev raises_after : Me F (CellView S A R) → ℕ → ℕ
+  raises_after me found = me.0.epochs.raises + cond (eqb found me.0.epochs.loaded) 1 0
+
   -- a try that makes the epoch this
   abbrev Try : (st : Step F) (id : ℕ) (me : Me F (CellView S A R)) (s : State F (CellView S A R)) → ℕ → Type 0
   Try st id me s k =
@@ -177,18 +181,23 @@ module _ {S A R F : Type 0} (m : Meaning S A R) (layout : Layout) where
       mine-known : me.0.epochs.known ≤ epoch_word s.words
       mine-known = (kept.epochs.each id (reader_view me.0) (there s id me.1 me.0 kept at)).known
 
+      greatest : max me.0.epochs.greatest (epoch_word s.words) ≤ epoch_word s.words
+      greatest = let a = (kept.epochs.each id (reader_view me.0) (there s id me.1 me.0 kept at)).greatest in omega (arith, a)
+
       hit : epoch_word s.words ≡ epoch → Try st id me s (epoch + 1)
       hit e =
           let same : epoch_word s.words ≡ me.0.epochs.loaded = e ∙ sym loaded in
           let is : known_after me (epoch_word s.words) ≡ max me.0.epochs.known (epoch_word s.words + 1)
           = ap (λ b. max me.0.epochs.known (cond b (epoch_word s.words + 1) (epoch_word s.words))) (eq-eqb (epoch_word s.words) me.0.epochs.loaded same) in
           let most : max me.0.epochs.known (epoch_word s.words + 1) ≤ me.0.epochs.loaded + 1 = (let a = mine-known in omega (arith, a, same)) in
-          let le : known_after me (epoch_word s.words) ≤ me.0.epochs.loaded + 1 = omega (arith, is, most) in (
+          let le : known_after me (epoch_word s.words) ≤ me.0.epochs.loaded + 1 = omega (arith, is, most) in
+          let once : raises_after me (epoch_word s.words) ≡ me.0.epochs.raises + 1 = ap (λ b. me.0.epochs.raises + cond b 1 0) (eq-eqb (epoch_word s.words) me.0.epochs.loaded same) in
+          let found : max me.0.epochs.greatest (epoch_word s.words) ≤ me.0.epochs.loaded + 1 = (let a = greatest in omega (arith, a, same)) in (
             tried me (epoch_word s.words),
             keeps,
             tt,
             subst (λ k. IsCells m layout (stepped s 0 (k + 1) id me.1 (tried me (epoch_word s.words)) keeps)) loaded
-                (raise_keeps s id me.1 me.0 kept at (known_after me (epoch_word s.words)) same (omega (arith, below, loaded)) all le),
+                (raise_keeps s id me.1 me.0 kept at (max me.0.epochs.greatest (epoch_word s.words)) (known_after me (epoch_word s.words)) (raises_after me (epoch_word s.words)) same (omega (arith, below, loaded)) all found le once),
             tells,
           )
 
@@ -197,15 +206,25 @@ module _ {S A R F : Type 0} (m : Meaning S A R) (layout : Layout) where
           let is : known_after me (epoch_word s.words) ≡ max me.0.epochs.known (epoch_word s.words)
           = ap (λ b. max me.0.epochs.known (cond b (epoch_word s.words + 1) (epoch_word s.words))) (ne_eqb (epoch_word s.words) me.0.epochs.loaded (λ e. ne (e ∙ loaded))) in
           let most : max me.0.epochs.known (epoch_word s.words) ≤ epoch_word s.words = (let a = mine-known in omega (arith, a)) in
-          let le : known_after me (epoch_word s.words) ≤ epoch_word s.words = omega (arith, is, most) in (
+          let le : known_after me (epoch_word s.words) ≤ epoch_word s.words = omega (arith, is, most) in
+          let so : raises_after me (epoch_word s.words) ≡ me.0.epochs.raises + 0
+          = ap (λ b. me.0.epochs.raises + cond b 1 0) (ne_eqb (epoch_word s.words) me.0.epochs.loaded (λ e. ne (e ∙ loaded))) in
+          let none : raises_after me (epoch_word s.words) ≡ me.0.epochs.raises = omega (arith, so) in (
             tried me (epoch_word s.words),
             keeps,
             tt,
             load_keeps s id me.1 me.0 kept at 0 (advancing me.0.epochs (epoch_word s.words))
                 (misses (epoch_word s.words) (reader_word s.words) (map reader_view s.views) id (reader_view me.0) kept.epochs (there s id me.1 me.0 kept at) (epoch_word s.words)
-                (known_after me (epoch_word s.words)) le),
+                (max me.0.epochs.greatest (epoch_word s.words)) (known_after me (epoch_word s.words)) (raises_after me (epoch_word s.words)) greatest le none),
             tells,
           )
+
+-- the part on epochs says it of each seat
+pub holds_back : {S A R : Type 0} (m : Meaning S A R) (layout : Layout) → HoldsBack m layout
+holds_back m layout s j pinned epoch v kept at is =
+    let guards : (pinned ≤ epoch) × (epoch ≤ epoch_word s.words) × (epoch_word s.words ≤ epoch + 1)
+    = rw is at (kept.epochs.each j (reader_view v) (at_map reader_view s.views j v at)).guards in
+    (guards.1, guards.2)
 
 -- a pass of the table stays one through a step that changes what it knows of the epoch
 pub pass_on : {S A R F : Type 0} (layout : Layout) (table seat seat' : TableId) (readers : List ℕ) (me next : Me F (CellView S A R)) (side : EpochSide) →

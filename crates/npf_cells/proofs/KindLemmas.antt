@@ -1,5 +1,5 @@
 -- The part on epochs stays through kinds 1 to 6, by what each shows of its own seat.
-use Rattle.std.proofs.Common.{◌≡◌, ◌≢◌, ℕ, ◌+◌, ◌^◌, ◌<◌, ◌≤◌, max, Bool, true, false, true≢false, cond, eqb, eq-eqb, ne_eqb, ◌||◌, List, ◌∷◌, length, refl, sym, ap, ◌∙◌, subst, ⊎_elim, arith}
+use Rattle.std.proofs.Common.{◌≡◌, ◌≢◌, ℕ, ◌+◌, ◌^◌, ◌<◌, ◌≤◌, max, Bool, true, false, true≢false, cond, eqb, eq-eqb, ne_eqb, ◌||◌, List, ◌∷◌, set, length, refl, sym, ap, ◌∙◌, subst, ⊎_elim, arith}
 use Rattle.std.specs.List.{Contains}
 use Rattle.std.proofs.lemmas.Bool.{cases_eq}
 use mathlib.Core.Option.{some}
@@ -7,12 +7,12 @@ use lib.ListN.{get_elem?}
 use Rattle.npf_connections.specs.Pass.{all_places}
 use Rattle.npf_cells.specs.declared.views.Pin.{Pin}
 use Rattle.npf_cells.specs.declared.views.Pin.TheVariants.{Idle, Pinned, Protected}
-use Rattle.npf_cells.specs.Epochs.{ReaderView, pin_place, pin_word, PinAllows, NotProtectedBefore, FitsEpochs, Epochs, HasScannedAll}
+use Rattle.npf_cells.specs.Epochs.{ReaderView, pin_place, pin_word, PinAllows, NotProtectedBefore, FitsEpochs, Epochs, all_raises, HasScannedAll}
 use Rattle.npf_cells.specs.Kinds.{loading, protecting, pinned_epoch, passes_by, IsMet}
 use Rattle.npf_cells.specs.Sums.{occurs}
 use Rattle.npf_cells.proofs.EpochLemmas.{Change}
 use Rattle.npf_cells.proofs.PrefixLemmas.{none_listed, cons_cases}
-use Rattle.npf_cells.proofs.SumLemmas.{first_occurs}
+use Rattle.npf_cells.proofs.SumLemmas.{first_occurs, sum-set}
 
 pinned_apart : (epoch : ℕ) → Pinned epoch ≡ Idle → ⊥
 pinned_apart epoch e = cc
@@ -24,18 +24,29 @@ module _ (now : ℕ) (reader : ℕ → ℕ) (readings : List ReaderView) (id : �
   mine : FitsEpochs now reader r
   mine = kept.each id r at
 
+  sums_with : (w : ReaderView) → all_raises (set readings id w) + r.side.raises ≡ all_raises readings + w.side.raises
+  sums_with w = sum-set (λ (u : ReaderView). u.side.raises) readings id r w at
+
+  -- a step that doesn't raise the epoch leaves the count of raises
+  still : (w : ReaderView) → w.side.raises ≡ r.side.raises → now ≡ 2 + all_raises (set readings id w)
+  still w same = let sums = sums_with w in let all = kept.counted in omega (arith, sums, all, same)
+
   -- a step on the epoch finds a number within what the pass knows and protects
   pub is_met : IsMet r.side now
-  is_met = record { from = kept.from; most = kept.most; loaded = mine.loaded; known = mine.known; guarded = mine.guards }
+  is_met = record { from = kept.from; most = kept.most; loaded = mine.loaded; greatest = mine.greatest; known = mine.known; guarded = mine.guards }
 
   more_known : max r.side.known now ≤ now
   more_known = let a = mine.known in omega (arith, a)
+
+  more_greatest : max r.side.greatest now ≤ now
+  more_greatest = let a = mine.greatest in omega (arith, a)
 
   pub loads : Change now reader readings id (record { places = r.places; side = loading r.side now })
   loads = record {
     from = kept.from;
     most = kept.most;
-    fits = record { loaded = omega arith; known = more_known; guards = mine.guards; kept = mine.kept; pinned = mine.pinned };
+    counted = still _ refl;
+    fits = record { loaded = omega arith; greatest = more_greatest; known = more_known; guards = mine.guards; kept = mine.kept; pinned = mine.pinned };
     others = λ j q ne e. kept.each j q e;
     scanner = λ j q ne e c. absurd (none_listed (pin_place q.places) c);
     target = λ i q ne e. kept.scans i id q r e at;
@@ -47,8 +58,10 @@ module _ (now : ℕ) (reader : ℕ → ℕ) (readings : List ReaderView) (id : �
   protects epoch is = record {
     from = kept.from;
     most = kept.most;
+    counted = still _ refl;
     fits = record {
       loaded = mine.loaded;
+      greatest = more_greatest;
       known = more_known;
       guards = (let before : epoch ≤ now = rw is at mine.guards in rw is (before, omega arith, omega arith));
       kept = λ place owns. mine.kept place owns ∙ ap (λ n. cond (eqb place (pin_place r.places)) n 0) word_same;
@@ -94,7 +107,8 @@ module _ (now : ℕ) (reader : ℕ → ℕ) (readings : List ReaderView) (id : �
   scans place false by = record {
     from = kept.from;
     most = kept.most;
-    fits = record { loaded = mine.loaded; known = mine.known; guards = mine.guards; kept = mine.kept; pinned = mine.pinned };
+    counted = still _ refl;
+    fits = record { loaded = mine.loaded; greatest = mine.greatest; known = mine.known; guards = mine.guards; kept = mine.kept; pinned = mine.pinned };
     others = λ j q ne e. kept.each j q e;
     scanner = λ j q ne e. kept.scans id j r q at e;
     target = λ i q ne e. kept.scans i id q r e at;
@@ -103,7 +117,8 @@ module _ (now : ℕ) (reader : ℕ → ℕ) (readings : List ReaderView) (id : �
   scans place true by = record {
     from = kept.from;
     most = kept.most;
-    fits = record { loaded = mine.loaded; known = mine.known; guards = mine.guards; kept = mine.kept; pinned = mine.pinned };
+    counted = still _ refl;
+    fits = record { loaded = mine.loaded; greatest = mine.greatest; known = mine.known; guards = mine.guards; kept = mine.kept; pinned = mine.pinned };
     others = λ j q ne e. kept.each j q e;
     scanner = λ j q ne e c. one j q e c;
     target = λ i q ne e. kept.scans i id q r e at;
@@ -123,8 +138,10 @@ module _ (now : ℕ) (reader : ℕ → ℕ) (readings : List ReaderView) (id : �
   stores reader' pin some' here else' apart guards free = record {
     from = kept.from;
     most = kept.most;
+    counted = still _ refl;
     fits = record {
       loaded = mine.loaded;
+      greatest = mine.greatest;
       known = mine.known;
       guards = guards;
       kept = λ place owns. ⊎_elim
@@ -139,6 +156,7 @@ module _ (now : ℕ) (reader : ℕ → ℕ) (readings : List ReaderView) (id : �
         let fits = kept.each j q e in
         record {
           loaded = fits.loaded;
+          greatest = fits.greatest;
           known = fits.known;
           guards = fits.guards;
           kept = λ place owns. else' place (λ h. apart j q ne e (subst (λ p. 1 ≤ occurs p q.places) h owns)) ∙ fits.kept place owns;
@@ -150,14 +168,16 @@ module _ (now : ℕ) (reader : ℕ → ℕ) (readings : List ReaderView) (id : �
   }
 
   -- the epoch is raised by one: no seat is protected from before it
-  pub advances : (reader' : ℕ → ℕ) (met known : ℕ) → now ≡ r.side.loaded → r.side.loaded < 2 ^ 62 → HasScannedAll r.side → known ≤ r.side.loaded + 1 →
+  pub advances : (reader' : ℕ → ℕ) (met greatest known raises : ℕ) → now ≡ r.side.loaded → r.side.loaded < 2 ^ 62 → HasScannedAll r.side → greatest ≤ r.side.loaded + 1 → known ≤ r.side.loaded + 1 → raises ≡ r.side.raises + 1 →
       ((place : ℕ) → reader' place ≡ reader place) → ((j place : ℕ) (q : ReaderView) → get_elem? readings j ≡ some q → 1 ≤ occurs place q.places → place < all_places) →
-      Change (r.side.loaded + 1) reader' readings id (record { places = r.places; side = record r.side { met = met; known = known } })
-  advances reader' met known same below all le words within = record {
+      Change (r.side.loaded + 1) reader' readings id (record { places = r.places; side = record r.side { met = met; greatest = greatest; known = known; raises = raises } })
+  advances reader' met greatest known raises same below all found le once words within = record {
     from = (let a = kept.from in omega (arith, a, same));
     most = omega (arith, below);
+    counted = (let sums = sums_with (record { places = r.places; side = record r.side { met = met; greatest = greatest; known = known; raises = raises } }) in let all = kept.counted in omega (arith, sums, all, same, once));
     fits = record {
       loaded = omega arith;
+      greatest = found;
       known = le;
       guards = raised r id at;
       kept = λ place owns. words place ∙ mine.kept place owns;
@@ -167,6 +187,7 @@ module _ (now : ℕ) (reader : ℕ → ℕ) (readings : List ReaderView) (id : �
         let fits = kept.each j q e in
         record {
           loaded = (let a = fits.loaded in omega (arith, a, same));
+          greatest = (let a = fits.greatest in omega (arith, a, same));
           known = (let a = fits.known in omega (arith, a, same));
           guards = raised q j e;
           kept = λ place owns. words place ∙ fits.kept place owns;
@@ -194,11 +215,12 @@ module _ (now : ℕ) (reader : ℕ → ℕ) (readings : List ReaderView) (id : �
               (guards.0, omega (arith, guards.1, same), omega (arith, late))
 
   -- the epoch is another
-  pub misses : (met known : ℕ) → known ≤ now → Change now reader readings id (record { places = r.places; side = record r.side { met = met; known = known } })
-  misses met known le = record {
+  pub misses : (met greatest known raises : ℕ) → greatest ≤ now → known ≤ now → raises ≡ r.side.raises → Change now reader readings id (record { places = r.places; side = record r.side { met = met; greatest = greatest; known = known; raises = raises } })
+  misses met greatest known raises found le none = record {
     from = kept.from;
     most = kept.most;
-    fits = record { loaded = mine.loaded; known = le; guards = mine.guards; kept = mine.kept; pinned = mine.pinned };
+    counted = still _ none;
+    fits = record { loaded = mine.loaded; greatest = found; known = le; guards = mine.guards; kept = mine.kept; pinned = mine.pinned };
     others = λ j q ne e. kept.each j q e;
     scanner = λ j q ne e. kept.scans id j r q at e;
     target = λ i q ne e. kept.scans i id q r e at;

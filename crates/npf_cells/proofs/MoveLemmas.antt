@@ -21,10 +21,10 @@ use Rattle.npf_cells.specs.Epochs.{Epochs, pin_place}
 use Rattle.npf_cells.specs.Layout.{epoch_word, reader_word}
 use Rattle.npf_cells.specs.Moves.{given_seat, gives_reader, given_view, taking_seat, takes_in, nothing_left, IsBorn, HasRead}
 use Rattle.npf_cells.specs.Passes.{cell_pass, IsPassOf}
-use Rattle.npf_cells.specs.Pools.{taken}
+use Rattle.npf_cells.specs.Pools.{taken, OwnsNothing}
 use Rattle.npf_cells.specs.Seats.{Seats}
 use Rattle.npf_cells.proofs.EpochLemmas.{epochs-split, epochs-join}
-use Rattle.npf_cells.proofs.Frames.{pushed_side, merged_side, building-set, building-push, framed, seats_step}
+use Rattle.npf_cells.proofs.Frames.{pushed_side, merged_side, building-set, building-push, framed, seats_step, spent-set, spent-push}
 use Rattle.npf_cells.proofs.PoolLemmas.{pools-same, taken-set, taken-push}
 use Rattle.npf_cells.proofs.PrefixLemmas.{none_listed, none_in_prefix, seen_entry}
 use Rattle.npf_cells.proofs.SeatLemmas.{unspent, seats-split, none_seen, seats-born, seats-join, long, mine_seen, told_seen, seats-read, only_seat, most_places, owned_within}
@@ -43,6 +43,10 @@ module _ {S A R F : Type 0} (m : Meaning S A R) (layout : Layout) where
       (pools-same layout (taken (state_of m kept.log) s.views) (taken (state_of m kept.log) (set s.views id (gives_reader v) ++ given_view v ∷ [])) s.words s.words kept.pools refl (λ j h. refl)
       (λ pool p. taken-push (state_of m kept.log) (set s.views id (gives_reader v)) (given_view v) refl pool p ∙ taken-set (state_of m kept.log) s.views id v (gives_reader v) at refl pool p))
       (building-push (state_of m kept.log) (set s.views id (gives_reader v)) (given_view v) refl (building-set (state_of m kept.log) s.views id v (gives_reader v) at refl kept.connections.building))
+      (spent-push (set s.views id (gives_reader v)) (given_view v) (record { nodes = refl; builds = refl }) (spent-set s.views id (gives_reader v) some_left kept.spent))
+    where
+      some_left : length (gives_reader v).seats.readers ≡ 0 → OwnsNothing v.pools
+      some_left none = let left = length-take-le (length v.seats.readers - 1) v.seats.readers (omega arith) in absurd (omega (arith, left, none, places))
 
   -- two seats are joined so
   pub joins : (id : ℕ) (v : CellView S A R) (other : ℕ) (w : CellView S A R) → v.seats.lives ≡ true → v.seats.theirs ≡ [] → v.epochs.pin ≡ Idle → 1 ≤ length v.seats.readers →
@@ -54,11 +58,15 @@ module _ {S A R F : Type 0} (m : Meaning S A R) (layout : Layout) where
       (seats-join layout.slots kept.log (map seat_side s.views) id v.seats other w.seats kept.seats (at_map seat_side s.views id v at) apart (at_map seat_side s.views other w was)
       lives theirs place w-lives w-theirs))
       (subst (λ rs. Epochs (epoch_word s.words) (reader_word s.words) rs) (sym (merged_side reader_view s.views id other (takes_in v w) nothing_left))
-      (epochs-join (epoch_word s.words) (reader_word s.words) (map reader_view s.views) kept.epochs id other (reader_view v) (reader_view w)
+      (epochs-join (epoch_word s.words) (reader_word s.words) (map reader_view s.views) kept.epochs id other (reader_view v) (reader_view w) apart
       (at_map reader_view s.views id v at) (at_map reader_view s.views other w was) idle w-idle))
       (pools-same layout (taken (state_of m kept.log) s.views) (taken (state_of m kept.log) (set (set s.views id (takes_in v w)) other nothing_left)) s.words s.words kept.pools refl (λ j h. refl)
       (λ pool p. taken-set (state_of m kept.log) (set s.views id (takes_in v w)) other w nothing_left there (sym w-nodes) pool p ∙ taken-set (state_of m kept.log) s.views id v (takes_in v w) at refl pool p))
       (building-set (state_of m kept.log) (set s.views id (takes_in v w)) other w nothing_left there (sym w-builds) (building-set (state_of m kept.log) s.views id v (takes_in v w) at refl kept.connections.building))
+      (spent-set (set s.views id (takes_in v w)) other nothing_left (λ _. record { nodes = refl; builds = refl }) (spent-set s.views id (takes_in v w) some_left kept.spent))
+    where
+      some_left : length (v.seats.readers ++ w.seats.readers) ≡ 0 → OwnsNothing (takes_in v w).pools
+      some_left none = let has = length-append v.seats.readers w.seats.readers in absurd (omega (arith, has, none, place))
 
   -- a new seat gets its number by a load
   pub gets_born : (st : Step F) (id n i : ℕ) (me : Me F (CellView S A R)) → me.0.seats.lives ≡ false → 1 ≤ length me.0.seats.readers →

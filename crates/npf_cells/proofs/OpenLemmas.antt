@@ -1,5 +1,5 @@
 -- A new table keeps the rule.
-use Rattle.std.proofs.Common.{◌≡◌, ◌≢◌, ◌⊎◌, ℕ, zero, suc, ◌+◌, ◌-◌, ◌*◌, ◌/◌, ◌%◌, ◌^◌, ◌<◌, ◌≤◌, Bool, true, false, true≢false, cond, eqb, List, [], ◌∷◌, map, length, set, slice_index, replicate, sum_by, refl, sym, ap, ◌∙◌, subst, ⊎_elim, inl, inr, arith, length-set}
+use Rattle.std.proofs.Common.{◌≡◌, ◌≢◌, ◌⊎◌, ℕ, zero, suc, ◌+◌, ◌-◌, ◌*◌, ◌/◌, ◌%◌, ◌^◌, ◌<◌, ◌≤◌, Bool, true, false, true≢false, cond, eqb, List, [], ◌∷◌, length, set, slice_index, replicate, sum_by, refl, sym, ap, ◌∙◌, subst, ⊎_elim, inl, inr, arith, length-set}
 use Rattle.std.specs.Int.{bit_at}
 use Rattle.std.specs.List.{Contains}
 use Rattle.std.proofs.lemmas.Bool.{cases_eq}
@@ -9,9 +9,9 @@ use Rattle.std.proofs.lemmas.List.Sums.{sum_by-cons}
 use Rattle.std.proofs.lemmas.Nat.Bits.{bit_at-zero, bit_at_mask_inside, bit_at_mask_below}
 use mathlib.Core.Option.{some, some-injective, some-ne-none}
 use lib.ListN.{get_elem?}
-use Rattle.atomic_table.specs.Table.{State, opening as table_opening}
+use Rattle.atomic_table.specs.Table.{opening as table_opening}
 use Rattle.npf_core.specs.declared.conn_id.ConnId.{ConnId}
-use Rattle.npf_core.specs.Machine.{Machine, opening}
+use Rattle.npf_core.specs.Machine.{opening}
 use Rattle.npf_core.specs.Meaning.{Meaning}
 use Rattle.npf_connections.specs.Pass.{all_places}
 use Rattle.npf_cells.specs.declared.layout.Layout.{Layout}
@@ -19,11 +19,11 @@ use Rattle.npf_cells.specs.declared.layout.Pool.{Pool}
 use Rattle.npf_cells.specs.declared.layout.Pool.TheVariants.{Slots, Nodes}
 use Rattle.npf_cells.specs.declared.views.CellView.{CellView}
 use Rattle.npf_cells.specs.declared.views.SeatSide.{SeatSide}
-use Rattle.npf_cells.specs.Cells.{seat_side, reader_view, IsCells, first_cell_view}
-use Rattle.npf_cells.specs.Epochs.{ReaderView, pin_place, FitsEpochs, Epochs}
+use Rattle.npf_cells.specs.Cells.{reader_view, IsCells, first_cell_view}
+use Rattle.npf_cells.specs.Epochs.{ReaderView, pin_place, FitsEpochs, all_raises}
 use Rattle.npf_cells.specs.Layout.{pools_at, pool_words, pool_places, pool_at, pool_bit, word_count, epoch_word, reader_word}
 use Rattle.npf_cells.specs.Opening.{with_past, opening_words}
-use Rattle.npf_cells.specs.Pools.{taken}
+use Rattle.npf_cells.specs.Pools.{taken, OwnsNothing}
 use Rattle.npf_cells.specs.Seats.{FitsSeats, Seats}
 use Rattle.npf_cells.specs.Sums.{occurs, numbers_below}
 use Rattle.npf_cells.proofs.EpochLemmas.{idle_holds}
@@ -172,6 +172,7 @@ module _ {S A R : Type 0} (layout : Layout) where
     epochs = record {
       from = omega (arith, epoch);
       most = omega (arith, epoch);
+      counted = (let none : all_raises (reader_view view ∷ []) ≡ 0 = sum_by-cons (λ (u : ReaderView). u.side.raises) (reader_view view) [] in omega (arith, epoch, none));
       each = each;
       scans = λ i j r q e d c. absurd (nobody i r e (pin_place q.places) c);
     };
@@ -179,10 +180,12 @@ module _ {S A R : Type 0} (layout : Layout) where
       reach = (let a = count layout in omega (arith, a));
       bits = λ pool p h. clear layout pool p h ∙ sym (untaken view refl pool p);
       past = past layout;
+      beyond = λ p h. untaken view refl Nodes p;
     };
     trie = record { reach = (let a = count layout in omega (arith, a)) };
     connections = record { reach = count layout; legal = tt; building = λ j v e id c. absurd (unbuilt j v e id c) };
     nodes = record { reach = (let a = count layout in omega (arith, a)) };
+    spent = λ j v e none. nothing j v e;
   })
     where
       epoch : epoch_word (opening_words layout) ≡ 2
@@ -191,6 +194,7 @@ module _ {S A R : Type 0} (layout : Layout) where
       first_reads : FitsEpochs (epoch_word (opening_words layout)) (reader_word (opening_words layout)) (reader_view view)
       first_reads = record {
         loaded = omega arith;
+        greatest = omega arith;
         known = omega arith;
         guards = tt;
         kept = λ place owns. before layout (1 + place) (let low = within place owns in omega (arith, low)) ∙ (start_zero layout (1 + place) (omega arith) ∙ sym (idle_holds (reader_view view) refl place));
@@ -207,6 +211,10 @@ module _ {S A R : Type 0} (layout : Layout) where
       nobody : (j : ℕ) (r : ReaderView) → get_elem? (reader_view view ∷ []) j ≡ some r → (place : ℕ) → Contains r.side.scanned place → ⊥
       nobody zero r e place c = none_listed place (subst (λ (u : ReaderView). Contains u.side.scanned place) (sym (some-injective _ _ e)) c)
       nobody (suc j) r e place c = absurd (some-ne-none r (sym e))
+
+      nothing : (j : ℕ) (v : CellView S A R) → get_elem? (view ∷ []) j ≡ some v → OwnsNothing v.pools
+      nothing zero v e = subst (λ (u : CellView S A R). OwnsNothing u.pools) (some-injective _ _ e) (record { nodes = refl; builds = refl })
+      nothing (suc j) v e = absurd (some-ne-none v (sym e))
 
       unbuilt : (j : ℕ) (v : CellView S A R) → get_elem? (view ∷ []) j ≡ some v → (id : ConnId) → Contains v.pools.builds id → ⊥
       unbuilt zero v e id c = none_listed id (subst (λ (u : CellView S A R). Contains u.pools.builds id) (sym (some-injective _ _ e)) c)

@@ -1,7 +1,8 @@
 -- Kinds 7 to 9 keep the rule: each by its part and the frame of a step on a pool's word.
-use Rattle.std.proofs.Common.{◌≡◌, ◌≢◌, ◌⊎◌, ℕ, zero, suc, ◌+◌, ◌-◌, ◌*◌, ◌/◌, ◌%◌, ◌^◌, ◌<◌, ◌≤◌, Bool, true, false, cond, eqb, eq-eqb, ne_eqb, List, [], ◌∷◌, set, length, slice_index, slice_index_or, refl, sym, ap, ◌∙◌, subst, arith, length-set, bit_and, bit_or}
+use Rattle.std.proofs.Common.{◌≡◌, ◌≢◌, ℕ, zero, suc, ◌+◌, ◌*◌, ◌%◌, ◌^◌, ◌<◌, ◌≤◌, Bool, true, false, cond, eqb, eq-eqb, ne_eqb, List, [], ◌∷◌, set, length, slice_index, slice_index_or, refl, sym, ap, ◌∙◌, subst, ⊎_elim, arith, length-set, bit_and, bit_or}
 use Rattle.std.specs.Int.{bit_at, bit_not, w64}
 use Rattle.std.specs.List.{Contains}
+use Rattle.std.proofs.lemmas.Bool.{cases_eq}
 use Rattle.std.proofs.lemmas.Bool.Decides.{Decides-eqb, not_from_Decides}
 use Rattle.std.proofs.lemmas.List.{get_or-set_other, set-get_or}
 use Rattle.std.proofs.lemmas.Nat.Bits.{bit_at-lt, bit_at_set_same, bit_at_set_other, bit_at_clear_same, bit_at_clear_other}
@@ -9,6 +10,7 @@ use mathlib.Core.Option.{some}
 use lib.ListN.{get_elem?}
 use Rattle.atomic_table.specs.Seated.{TableId}
 use Rattle.atomic_table.specs.Table.{State, Me, Step, Allows, stepped, keeps}
+use Rattle.atomic_table.proofs.Lists.{at_map}
 use Rattle.npf_core.specs.History.{state_of}
 use Rattle.npf_core.specs.Machine.{Machine}
 use Rattle.npf_core.specs.Meaning.{Meaning}
@@ -17,15 +19,17 @@ use Rattle.npf_cells.specs.declared.layout.Pool.{Pool}
 use Rattle.npf_cells.specs.declared.layout.Pool.TheVariants.{Slots, Nodes}
 use Rattle.npf_cells.specs.declared.views.CellView.{CellView}
 use Rattle.npf_cells.specs.declared.views.PoolSide.{PoolSide}
-use Rattle.npf_cells.specs.Cells.{IsCells}
-use Rattle.npf_cells.specs.Layout.{pools_at, pool_at, pool_words, place_word, pool_bit}
+use Rattle.npf_cells.specs.Cells.{seat_side, IsCells}
+use Rattle.npf_cells.specs.Layout.{pool_at, pool_words, place_word, pool_bit}
 use Rattle.npf_cells.specs.Passes.{IsPassOf}
-use Rattle.npf_cells.specs.PoolKinds.{with_pools, sweeping, claiming_node, others_than, giving_back, Sweeps, ClaimsNode, GivesNodeBack}
-use Rattle.npf_cells.specs.Pools.{node_owners, taken, Pools}
+use Rattle.npf_cells.specs.PoolKinds.{with_pools, sweeping, claiming_node, others_than, giving_back, Sweeps, ClaimsNode, GivesNodeBack, StoodSo}
+use Rattle.npf_cells.specs.Pools.{node_owners, taken}
 use Rattle.npf_cells.specs.Sums.{occurs}
+use Rattle.npf_cells.specs.TableLaw.{OwnsAlone}
 use Rattle.npf_cells.proofs.Frames.{pools_step}
 use Rattle.npf_cells.proofs.PoolLemmas.{word_within, places_within, pools-same, pools-set, one_where, occurs-cons, taken-set}
-use Rattle.npf_cells.proofs.SumLemmas.{sum-set}
+use Rattle.npf_cells.proofs.SeatLemmas.{cases_lt}
+use Rattle.npf_cells.proofs.SumLemmas.{sum-set, one_of_sum, two_of_sum}
 
 sweeping-same : (pool : Pool) (count word : ℕ) (side : PoolSide) (found : ℕ) → ((sweeping pool count word side found).nodes ≡ side.nodes) × ((sweeping pool count word side found).builds ≡ side.builds)
 sweeping-same Slots count word side found = (refl, refl)
@@ -71,28 +75,34 @@ module _ {S A R F : Type 0} (m : Meaning S A R) (layout : Layout) where
     trie = kept.trie;
     connections = kept.connections;
     nodes = kept.nodes;
+    spent = kept.spent;
   }
 
-  pub may_sweep : (st : Step F) (id n : ℕ) (pool : Pool) (word i : ℕ) (me : Me F (CellView S A R)) → i ≡ pool_at layout pool + word →
+  -- what a step finds, in the state that it meets
+  stood_so : (s : State F (CellView S A R)) (id : ℕ) (v : CellView S A R) (word i : ℕ) → IsCells m layout s → get_elem? s.views id ≡ some v → v.seats.lives ≡ true → i ≡ word →
+      StoodSo m layout v word (slice_index s.words i)
+  stood_so s id v word i kept at lives there =
+      let number = ((kept.seats.each id v.seats (at_map seat_side s.views id v at)).lives lives).number in
+      record {
+        state = record { words = s.words; homes = []; views = s.views };
+        rule = unhomed s kept;
+        seated = subst (λ n. get_elem? s.views n ≡ some v) (sym number) at;
+        there = ap (slice_index s.words) (sym there);
+      }
+
+  pub may_sweep : (st : Step F) (id n : ℕ) (pool : Pool) (word i : ℕ) (me : Me F (CellView S A R)) → me.0.seats.lives ≡ true → i ≡ pool_at layout pool + word →
       Allows (IsCells m layout) n id me i (λ k. k) (Sweeps m layout pool word st me)
-  may_sweep st id n pool word i me there s kept homes at bound =
+  may_sweep st id n pool word i me lives there s kept homes at bound =
       let w : CellView S A R = record me.0 { pools = sweeping pool (pool_words layout.nodes) word me.0.pools (slice_index s.words i) } in
       let same = sweeping-same pool (pool_words layout.nodes) word me.0.pools (slice_index s.words i) in
       let words = set-get_or s.words i 0 in (
         w,
         keeps,
         tt,
-        pools_step m layout s i (slice_index s.words i) id me.1 me.0 w kept at refl refl same.1 (λ j h. ap (λ ws. slice_index ws j) words)
+        pools_step m layout s i (slice_index s.words i) id me.1 me.0 w kept at refl refl same.1 (λ none. let nothing = kept.spent id me.0 at none in record { nodes = same.0 ∙ nothing.nodes; builds = same.1 ∙ nothing.builds }) (λ j h. ap (λ ws. slice_index ws j) words)
             (pools-same layout (taken (state_of m kept.log) s.views) (taken (state_of m kept.log) (set s.views id w)) s.words (set s.words i (slice_index s.words i)) kept.pools
             (length-set s.words i (slice_index s.words i)) (λ j h. ap (λ ws. slice_index ws j) words) (taken-set (state_of m kept.log) s.views id me.0 w at same.0)),
-        record {
-          is = refl;
-          stood = record {
-            state = record { words = s.words; homes = []; views = s.views };
-            rule = unhomed s kept;
-            there = ap (slice_index s.words) (sym there);
-          };
-        },
+        record { is = refl; stood = stood_so s id me.0 (pool_at layout pool + word) i kept at lives there },
       )
 
   -- a node's bit changes, and with it who owns the node
@@ -116,31 +126,31 @@ module _ {S A R F : Type 0} (m : Meaning S A R) (layout : Layout) where
     pub owners_after : (nodes : List ℕ) (p : ℕ) → node_owners (set s.views id (with_nodes nodes)) p + occurs p me.0.pools.nodes ≡ node_owners s.views p + occurs p nodes
     owners_after nodes p = sum-set (λ (u : CellView S A R). occurs p u.pools.nodes) s.views id me.0 (with_nodes nodes) at
 
-    pub node_step : (n : ℕ) (nodes : List ℕ) → bit_at n (node % 64) ≡ node_owners (set s.views id (with_nodes nodes)) node →
+    pub node_step : (n : ℕ) (nodes : List ℕ) → 1 ≤ length me.0.seats.readers → bit_at n (node % 64) ≡ node_owners (set s.views id (with_nodes nodes)) node →
         ((i : ℕ) → i < 64 → i ≢ node % 64 → bit_at n i ≡ bit_at found i) → ((p : ℕ) → p ≢ node → occurs p nodes ≡ occurs p me.0.pools.nodes) →
         IsCells m layout (stepped s word n id me.1 (with_nodes nodes) keeps)
-    node_step n nodes here bits others =
+    node_step n nodes place here bits others =
         let low = (word_within layout Nodes node (places_within layout Nodes node within)).0 in
-        pools_step m layout s word n id me.1 me.0 (with_nodes nodes) kept at refl refl refl (λ j h. get_or-set_other s.words word j n 0 (λ e. absurd (omega (arith, e, h, low))))
+        pools_step m layout s word n id me.1 me.0 (with_nodes nodes) kept at refl refl refl (λ none. absurd (omega (arith, none, place))) (λ j h. get_or-set_other s.words word j n 0 (λ e. absurd (omega (arith, e, h, low))))
         (pools-set layout (taken k s.views) (taken k (set s.views id (with_nodes nodes))) s.words Nodes node n kept.pools within here bits rest)
       where
         rest : (other : Pool) (p : ℕ) → (other ≡ Nodes → p ≢ node) → taken k (set s.views id (with_nodes nodes)) other p ≡ taken k s.views other p
         rest Slots p two = refl
         rest Nodes p two = let sums = owners_after nodes p in let same = others p (two refl) in omega (arith, sums, same)
 
-  pub may_claim_node : (st : Step F) (id n node mask : ℕ) (me : Me F (CellView S A R)) → node < layout.nodes → mask ≡ 1 * 2 ^ (node % 64) % 2 ^ 64 →
-      Allows (IsCells m layout) n id me (place_word layout Nodes node) (λ k. bit_or k mask) (ClaimsNode node st me)
-  may_claim_node st id n node mask me within is s kept homes at bound = rw is (
+  pub may_claim_node : (st : Step F) (id n node mask : ℕ) (me : Me F (CellView S A R)) → me.0.seats.lives ≡ true → 1 ≤ length me.0.seats.readers → node < layout.nodes → mask ≡ 1 * 2 ^ (node % 64) % 2 ^ 64 →
+      Allows (IsCells m layout) n id me (place_word layout Nodes node) (λ k. bit_or k mask) (ClaimsNode m layout node st me)
+  may_claim_node st id n node mask me lives place within is s kept homes at bound = rw is (
     record me.0 { pools = claiming_node node me.0.pools (found s id me kept at node within) },
     keeps,
     tt,
     by_bit (eqb (bit_at (found s id me kept at node within) (node % 64)) 0) refl,
-    record { is = refl },
+    record { is = refl; stood = stood_so s id me.0 (place_word layout Nodes node) (place_word layout Nodes node) kept at lives refl },
   )
     where
       by_bit : (b : Bool) → eqb (bit_at (found s id me kept at node within) (node % 64)) 0 ≡ b → IsCells m layout (stepped s (place_word layout Nodes node) (bit_or (found s id me kept at node within) (1 * 2 ^ (node % 64) % 2 ^ 64)) id me.1
           (with_nodes s id me kept at node within (cond b (node ∷ me.0.pools.nodes) me.0.pools.nodes)) keeps)
-      by_bit b e = node_step s id me kept at node within (bit_or (found s id me kept at node within) (1 * 2 ^ (node % 64) % 2 ^ 64)) (cond b (node ∷ me.0.pools.nodes) me.0.pools.nodes)
+      by_bit b e = node_step s id me kept at node within (bit_or (found s id me kept at node within) (1 * 2 ^ (node % 64) % 2 ^ 64)) (cond b (node ∷ me.0.pools.nodes) me.0.pools.nodes) place
           (bit_at_set_same w64 (found s id me kept at node within) (node % 64) (omega arith) ∙ sym (one b e)) (λ i h ne. bit_at_set_other w64 (found s id me kept at node within) (node % 64) (omega arith) i ne) (others b)
         where
           one : (b : Bool) → eqb (bit_at (found s id me kept at node within) (node % 64)) 0 ≡ b → node_owners (set s.views id (with_nodes s id me kept at node within (cond b (node ∷ me.0.pools.nodes) me.0.pools.nodes))) node ≡ 1
@@ -165,15 +175,15 @@ module _ {S A R F : Type 0} (m : Meaning S A R) (layout : Layout) where
               omega (arith, more, none)
           others false p ne = refl
 
-  pub may_return_node : (st : Step F) (id n node mask : ℕ) (me : Me F (CellView S A R)) → node < layout.nodes → Contains me.0.pools.nodes node → mask ≡ bit_not w64 (1 * 2 ^ (node % 64) % 2 ^ 64) →
-      Allows (IsCells m layout) n id me (place_word layout Nodes node) (λ k. bit_and k mask) (GivesNodeBack node st me)
-  may_return_node st id n node mask me within owns is s kept homes at bound = rw is (
+  pub may_return_node : (st : Step F) (id n node mask : ℕ) (me : Me F (CellView S A R)) → me.0.seats.lives ≡ true → 1 ≤ length me.0.seats.readers → node < layout.nodes → Contains me.0.pools.nodes node → mask ≡ bit_not w64 (1 * 2 ^ (node % 64) % 2 ^ 64) →
+      Allows (IsCells m layout) n id me (place_word layout Nodes node) (λ k. bit_and k mask) (GivesNodeBack m layout node st me)
+  may_return_node st id n node mask me lives place within owns is s kept homes at bound = rw is (
     record me.0 { pools = giving_back node me.0.pools (found s id me kept at node within) },
     keeps,
     tt,
-    node_step s id me kept at node within (bit_and (found s id me kept at node within) (bit_not w64 (1 * 2 ^ (node % 64) % 2 ^ 64))) (others_than node me.0.pools.nodes)
+    node_step s id me kept at node within (bit_and (found s id me kept at node within) (bit_not w64 (1 * 2 ^ (node % 64) % 2 ^ 64))) (others_than node me.0.pools.nodes) place
         (bit_at_clear_same w64 (found s id me kept at node within) (node % 64) (omega arith) ∙ sym none) (λ i h ne. bit_at_clear_other w64 (found s id me kept at node within) (node % 64) (omega arith) i h ne) (λ p ne. left_others node p me.0.pools.nodes ne),
-    record { is = refl },
+    record { is = refl; stood = stood_so s id me.0 (place_word layout Nodes node) (place_word layout Nodes node) kept at lives refl },
   )
     where
       none : node_owners (set s.views id (with_nodes s id me kept at node within (others_than node me.0.pools.nodes))) node ≡ 0
@@ -184,6 +194,38 @@ module _ {S A R F : Type 0} (m : Meaning S A R) (layout : Layout) where
           let left = left_same node me.0.pools.nodes in
           let one = stands_once node me.0.pools.nodes owns in
           omega (arith, below, bit, sums, left, one)
+
+-- a node whose bit was clear is none that the seat owns
+pub not_owned : {S A R : Type 0} (m : Meaning S A R) (layout : Layout) (v : CellView S A R) (node found : ℕ) → node < layout.nodes →
+    StoodSo m layout v (place_word layout Nodes node) found → bit_at found (node % 64) ≡ 0 → Contains v.pools.nodes node → ⊥
+not_owned {S} {A} {R} m layout v node found within stood clear owns =
+    let bit = stood.rule.pools.bits Nodes node within in
+    let none : pool_bit layout Nodes stood.state.words node ≡ 0 = ap (λ n. bit_at n (node % 64)) stood.there ∙ clear in
+    let mine = one_of_sum (λ (u : CellView S A R). occurs node u.pools.nodes) stood.state.views v.seats.number v stood.seated in
+    let one = stands_once node v.pools.nodes owns in
+    omega (arith, bit, none, mine, one)
+
+-- the bit of a node counts its owners
+few_owners : {S A R : Type 0} (m : Meaning S A R) (layout : Layout) (s : State ℕ (CellView S A R)) (node : ℕ) → IsCells m layout s → node_owners s.views node ≤ 1
+few_owners m layout s node kept = ⊎_elim
+    (λ (h : node < layout.nodes).
+    let bit = kept.pools.bits Nodes node h in
+    let below = bit_at-lt (slice_index s.words (place_word layout Nodes node)) (node % 64) in
+    omega (arith, bit, below))
+    (λ (h : layout.nodes ≤ node). let none = kept.pools.beyond node h in omega (arith, none))
+    (cases_lt node layout.nodes)
+
+-- so two seats that own it are one
+pub owns_alone : {S A R : Type 0} (m : Meaning S A R) (layout : Layout) → OwnsAlone m layout
+owns_alone {S} {A} {R} m layout s i j node v w kept at there mine theirs = ⊎_elim
+    (λ e. e)
+    (λ (ne : i ≢ j).
+    let few = few_owners m layout s node kept in
+    let both = two_of_sum (λ (u : CellView S A R). occurs node u.pools.nodes) s.views i j v w at there ne in
+    let one = stands_once node v.pools.nodes mine in
+    let another = stands_once node w.pools.nodes theirs in
+    absurd (omega (arith, few, both, one, another)))
+    (cases_eq i j)
 
 -- a pass of the table stays one through a step that changes what it knows and has of the pools
 pub pools_on : {S A R F : Type 0} (layout : Layout) (table seat seat' : TableId) (readers : List ℕ) (me next : Me F (CellView S A R)) (side : PoolSide) →

@@ -1,7 +1,6 @@
 -- The part on pools stays through a step that leaves its words, and through one that changes the bit of a place.
-use Rattle.std.proofs.Common.{◌≡◌, ◌≢◌, ◌⊎◌, ℕ, zero, suc, ◌+◌, ◌*◌, ◌/◌, ◌%◌, ◌<◌, ◌≤◌, Bool, true, false, cond, eqb, eq-eqb, ne_eqb, List, [], ◌∷◌, ◌++◌, set, length, slice_index, sum_by, refl, sym, ap, ◌∙◌, subst, ⊎_elim, inl, inr, arith, length-set}
+use Rattle.std.proofs.Common.{◌≡◌, ◌≢◌, ◌⊎◌, ℕ, ◌+◌, ◌*◌, ◌/◌, ◌%◌, ◌<◌, ◌≤◌, Bool, cond, eqb, List, [], ◌∷◌, ◌++◌, set, length, slice_index, refl, sym, ap, ◌∙◌, subst, ⊎_elim, inl, inr, arith, length-set}
 use Rattle.std.specs.Int.{bit_at}
-use Rattle.std.specs.List.{filter}
 use Rattle.std.proofs.lemmas.Bool.{cases_eq}
 use Rattle.std.proofs.lemmas.List.{get_or-set_same, get_or-set_other}
 use Rattle.std.proofs.lemmas.List.Sums.{sum_by-cons, sum_by_push}
@@ -13,7 +12,7 @@ use Rattle.npf_cells.specs.declared.layout.Pool.{Pool}
 use Rattle.npf_cells.specs.declared.layout.Pool.TheVariants.{Slots, Nodes}
 use Rattle.npf_cells.specs.declared.views.CellView.{CellView}
 use Rattle.npf_cells.specs.Layout.{pool_places, pool_words, pools_at, pool_at, place_word, pool_bit, root_at, word_count}
-use Rattle.npf_cells.specs.Pools.{node_owners, taken, Pools}
+use Rattle.npf_cells.specs.Pools.{taken, Pools}
 use Rattle.npf_cells.specs.Sums.{occurs}
 use Rattle.npf_cells.proofs.SumLemmas.{sum-set}
 
@@ -48,6 +47,7 @@ module _ (layout : Layout) where
     reach = (let a = kept.reach in omega (arith, a, count));
     bits = λ pool p h. bit pool p (places_within pool p h) ∙ (kept.bits pool p h ∙ sym (taken' pool p));
     past = λ pool p h k. bit pool p k ∙ kept.past pool p h k;
+    beyond = λ p h. taken' Nodes p ∙ kept.beyond p h;
   }
     where
       bit : (pool : Pool) (p : ℕ) → p < 64 * pool_words (pool_places layout pool) → pool_bit layout pool words' p ≡ pool_bit layout pool words p
@@ -65,6 +65,7 @@ module _ (layout : Layout) where
         (λ (two : other ≡ pool → p ≢ place). elsewhere other p (places_within other p h) two ∙ (kept.bits other p h ∙ sym (others other p two)))
         (one_place other pool p place);
     past = λ other p h k. elsewhere other p k (λ e. λ same. absurd (not_past other p e same h)) ∙ kept.past other p h k;
+    beyond = λ p h. others Nodes p (λ e same. absurd (not_past Nodes p e same h)) ∙ kept.beyond p h;
   }
     where
       there : place_word layout pool place < length words

@@ -1,4 +1,4 @@
--- The rule of the table without locks: six parts, each over its own words and its own side of the views.
+-- The rule of the table without locks: six parts, each over its own words and its own side of the views, and that a spent seat owns nothing.
 use Rattle.std.specs.Prelude.{◌≡◌, ℕ, ◌≤◌, true, List, [], Contains, map, length}
 use mathlib.Core.Option.{some}
 use lib.ListN.{get_elem?}
@@ -17,8 +17,8 @@ use Rattle.npf_cells.specs.declared.views.Pin.TheVariants.{Idle}
 use Rattle.npf_cells.specs.declared.views.PoolSide.{PoolSide}
 use Rattle.npf_cells.specs.declared.views.SeatSide.{SeatSide}
 use Rattle.npf_cells.specs.Epochs.{ReaderView, Epochs}
-use Rattle.npf_cells.specs.Layout.{root_at, nodes_at, connections_at, word_count, epoch_word, reader_word}
-use Rattle.npf_cells.specs.Pools.{taken, Pools}
+use Rattle.npf_cells.specs.Layout.{nodes_at, connections_at, word_count, epoch_word, reader_word}
+use Rattle.npf_cells.specs.Pools.{taken, OwnsNothing, Pools}
 use Rattle.npf_cells.specs.Seats.{Seats}
 use Rattle.npf_cells.specs.Sums.{numbers_below}
 
@@ -46,6 +46,10 @@ pub record Conns {S A R : Type 0} (m : Meaning S A R) (layout : Layout) (log : L
   pub legal : Legal m layout.slots log
   pub building : (j : ℕ) (v : CellView S A R) → get_elem? views j ≡ some v → (id : ConnId) → Contains v.pools.builds id → stage_of (state_of m log) id ≡ Building j
 
+-- a spent seat, which owns no reader place, owns no node and builds nothing
+abbrev pub SpentOwnNothing : {S A R : Type 0} → List (CellView S A R) → Type 0
+SpentOwnNothing {S} {A} {R} views = (j : ℕ) (v : CellView S A R) → get_elem? views j ≡ some v → length v.seats.readers ≡ 0 → OwnsNothing v.pools
+
 -- the rule
 pub record IsCells {S A R F : Type 0} (m : Meaning S A R) (layout : Layout) (s : State F (CellView S A R)) : Type 0 where
   pub log : List (Entry S A R)
@@ -55,10 +59,11 @@ pub record IsCells {S A R F : Type 0} (m : Meaning S A R) (layout : Layout) (s :
   pub trie : Trie layout s.words
   pub connections : Conns m layout log s.words s.views
   pub nodes : Nodes layout s.words
+  pub spent : SpentOwnNothing s.views
 
 -- a pass that knows nothing of the epoch
 abbrev pub idle_side : EpochSide
-idle_side = record { pin = Idle; loaded = 0; scanned = []; behind = []; met = 0; known = 0 }
+idle_side = record { pin = Idle; loaded = 0; scanned = []; behind = []; met = 0; greatest = 0; known = 0; raises = 0 }
 
 -- a pass that owns nothing
 abbrev pub empty_handed : PoolSide

@@ -1,5 +1,5 @@
 -- The part of the rule on epochs: what a protected pass keeps the epoch from, and what a scan of the readers shows.
-use Rattle.std.specs.Prelude.{◌≡◌, ℕ, ◌+◌, ◌^◌, ◌≤◌, ◌<◌, ◌==◌, List, length, Contains, slice_index, if◌then◌else◌}
+use Rattle.std.specs.Prelude.{◌≡◌, ℕ, ◌+◌, ◌^◌, ◌≤◌, ◌<◌, ◌==◌, List, length, Contains, slice_index, sum_by, if◌then◌else◌}
 use mathlib.Core.Option.{some}
 use lib.ListN.{get_elem?}
 use Rattle.npf_connections.specs.Pass.{all_places}
@@ -46,6 +46,7 @@ HasScannedAll side = (reader : ℕ) → reader < all_places → Contains side.sc
 -- what the part says of one seat
 pub record FitsEpochs (now : ℕ) (reader : ℕ → ℕ) (r : ReaderView) : Type 0 where
   pub loaded : r.side.loaded ≤ now
+  pub greatest : r.side.greatest ≤ now
   pub known : r.side.known ≤ now
   pub guards : PinAllows r.side.pin now
   -- each of its reader words is as it left it
@@ -53,10 +54,15 @@ pub record FitsEpochs (now : ℕ) (reader : ℕ → ℕ) (r : ReaderView) : Type
   -- only who owns a reader place is pinned
   pub pinned : length r.places ≡ 0 → r.side.pin ≡ Idle
 
--- the last epoch is 2^62; no seat that a scan passed by is protected from before the epoch that was loaded for it
+-- how often the passes raised the epoch in all
+abbrev pub all_raises : List ReaderView → ℕ
+all_raises readings = sum_by (λ r. r.side.raises) readings
+
+-- the first epoch is 2 and the last is 2^62, and each time that it was raised is counted by some seat; no seat that a scan passed by is protected from before the epoch that was loaded for it
 pub record Epochs (now : ℕ) (reader : ℕ → ℕ) (readings : List ReaderView) : Type 0 where
   pub from : 2 ≤ now
   pub most : now ≤ 2 ^ 62
+  pub counted : now ≡ 2 + all_raises readings
   pub each : (j : ℕ) (r : ReaderView) → get_elem? readings j ≡ some r → FitsEpochs now reader r
   pub scans : (i j : ℕ) (r q : ReaderView) → get_elem? readings i ≡ some r → get_elem? readings j ≡ some q →
       Contains r.side.scanned (pin_place q.places) → NotProtectedBefore r.side.loaded q.side.pin

@@ -13,7 +13,14 @@ with_epochs me side = (record me.0 { epochs = side }, me.1)
 
 -- a load of the epoch begins a new scan
 abbrev pub loading : EpochSide → ℕ → EpochSide
-loading side found = record side { loaded = found; scanned = []; behind = []; met = found; known = max side.known found }
+loading side found = record side {
+  loaded = found;
+  scanned = [];
+  behind = [];
+  met = found;
+  greatest = max side.greatest found;
+  known = max side.known found;
+}
 
 abbrev pub pinning : EpochSide → ℕ → EpochSide
 pinning side epoch = record side { pin = Pinned epoch }
@@ -26,7 +33,12 @@ pinned_epoch (Protected pinned epoch) = pinned
 
 -- the second load fixes what is protected
 abbrev pub protecting : EpochSide → ℕ → EpochSide
-protecting side found = record side { pin = Protected (pinned_epoch side.pin) found; met = found; known = max side.known found }
+protecting side found = record side {
+  pin = Protected (pinned_epoch side.pin) found;
+  met = found;
+  greatest = max side.greatest found;
+  known = max side.known found;
+}
 
 abbrev pub unpinning : EpochSide → EpochSide
 unpinning side = record side { pin = Idle }
@@ -41,9 +53,14 @@ scanning side reader found = record side {
   behind = if passes_by side found then side.behind else reader ∷ side.behind;
 }
 
--- the epoch is raised where it is still the one that was loaded
+-- the epoch is raised where it is still the one that was loaded, and the pass counts that it raised it
 abbrev pub advancing : EpochSide → ℕ → EpochSide
-advancing side found = record side { met = found; known = max side.known (if found == side.loaded then found + 1 else found) }
+advancing side found = record side {
+  met = found;
+  greatest = max side.greatest found;
+  known = max side.known (if found == side.loaded then found + 1 else found);
+  raises = side.raises + (if found == side.loaded then 1 else 0);
+}
 
 -- the pass loaded this epoch last
 pub record HasLoaded (side : EpochSide) (epoch : ℕ) : Type 0 where
@@ -56,6 +73,7 @@ pub record IsMet (side : EpochSide) (found : ℕ) : Type 0 where
   pub from : 2 ≤ found
   pub most : found ≤ 2 ^ 62
   pub loaded : side.loaded ≤ found
+  pub greatest : side.greatest ≤ found
   pub known : side.known ≤ found
   pub guarded : PinAllows side.pin found
 

@@ -9,3 +9,4 @@ pub mod PoolKinds
 pub mod Pools
 pub mod Seats
 pub mod Sums
+pub mod TableLaw

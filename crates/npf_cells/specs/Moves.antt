@@ -6,6 +6,8 @@ use Rattle.npf_core.specs.History.{Legal, IsPrefix, by}
 use Rattle.npf_core.specs.Meaning.{Meaning}
 use Rattle.npf_connections.specs.Pass.{IsOwn, all_places}
 use Rattle.npf_cells.specs.declared.views.CellView.{CellView}
+use Rattle.npf_cells.specs.declared.views.EpochSide.{EpochSide}
+use Rattle.npf_cells.specs.declared.views.PoolSide.{PoolSide}
 use Rattle.npf_cells.specs.declared.views.SeatSide.{SeatSide}
 use Rattle.npf_cells.specs.Cells.{idle_side, empty_handed}
 use Rattle.npf_cells.specs.Epochs.{pin_place}
@@ -52,11 +54,22 @@ spent_seat = record {
   others = [];
 }
 
+-- it knows the later of the two epochs, and its counts are the sums of both; what else it knows and owns stays
+abbrev pub joined_epochs : EpochSide → EpochSide → EpochSide
+joined_epochs mine theirs = record mine {
+  greatest = max mine.greatest theirs.greatest;
+  known = max mine.known theirs.known;
+  raises = mine.raises + theirs.raises;
+}
+
+abbrev pub joined_pools : PoolSide → PoolSide → PoolSide
+joined_pools mine theirs = record mine { sweeps = mine.sweeps + theirs.sweeps }
+
 abbrev pub takes_in : {S A R : Type 0} → CellView S A R → CellView S A R → CellView S A R
 takes_in v w = record {
   seats = taking_seat v.seats w.seats;
-  epochs = record v.epochs { known = max v.epochs.known w.epochs.known };
-  pools = record v.pools { sweeps = v.pools.sweeps + w.pools.sweeps };
+  epochs = joined_epochs v.epochs w.epochs;
+  pools = joined_pools v.pools w.pools;
 }
 
 abbrev pub nothing_left : {S A R : Type 0} → CellView S A R

@@ -36,7 +36,7 @@ cell_pass v = record {
   places = length v.seats.readers;
   joined = v.seats.joined;
   sweeps = v.pools.sweeps;
-  epoch = v.epochs.known;
+  epoch = v.epochs.greatest;
 }
 
 -- a pass of this table, between two calls: it has its number and all that it was told, and knows which reader places it owns

@@ -1,6 +1,8 @@
 -- What the steps on the pools change in the pass's own view, and what each tells.
-use Rattle.std.specs.Prelude.{◌≡◌, ℕ, ◌+◌, ◌-◌, ◌^◌, ◌%◌, ◌==◌, Bool, true, false, List, ◌∷◌, filter, slice_index, if◌then◌else◌}
+use Rattle.std.specs.Prelude.{◌≡◌, ℕ, ◌+◌, ◌-◌, ◌^◌, ◌%◌, ◌==◌, true, false, List, ◌∷◌, filter, slice_index, if◌then◌else◌}
 use Rattle.std.specs.Int.{bit_at}
+use mathlib.Core.Option.{some}
+use lib.ListN.{get_elem?}
 use Rattle.atomic_table.specs.Table.{Me, State, Step}
 use Rattle.npf_core.specs.Meaning.{Meaning}
 use Rattle.npf_cells.specs.declared.layout.Layout.{Layout}
@@ -9,7 +11,7 @@ use Rattle.npf_cells.specs.declared.layout.Pool.TheVariants.{Slots, Nodes}
 use Rattle.npf_cells.specs.declared.views.CellView.{CellView}
 use Rattle.npf_cells.specs.declared.views.PoolSide.{PoolSide}
 use Rattle.npf_cells.specs.Cells.{IsCells}
-use Rattle.npf_cells.specs.Layout.{pool_at, pool_words}
+use Rattle.npf_cells.specs.Layout.{pool_at, pool_words, place_word}
 
 -- a pass owns no more nodes than there are levels of the trie
 abbrev pub most_nodes : ℕ
@@ -44,19 +46,22 @@ others_than node = filter (λ x. if x == node then false else true)
 abbrev pub giving_back : ℕ → PoolSide → ℕ → PoolSide
 giving_back node side found = record side { found = found; nodes = others_than node side.nodes }
 
--- the word was this number in a state of the table
-pub record StoodSo {S A R : Type 0} (m : Meaning S A R) (layout : Layout) (word n : ℕ) : Type 0 where
+-- the word was this number in a state of the table in which the seat knew and had this
+pub record StoodSo {S A R : Type 0} (m : Meaning S A R) (layout : Layout) (view : CellView S A R) (word n : ℕ) : Type 0 where
   pub state : State ℕ (CellView S A R)
   pub rule : IsCells m layout state
+  pub seated : get_elem? state.views view.seats.number ≡ some view
   pub there : slice_index state.words word ≡ n
 
 -- the kinds, as what they tell
 pub record Sweeps {S A R F : Type 0} (m : Meaning S A R) (layout : Layout) (pool : Pool) (word : ℕ) (step : Step F) (me : Me F (CellView S A R)) (found : ℕ) (next : Me F (CellView S A R)) : Type 0 where
   pub is : next ≡ with_pools me (sweeping pool (pool_words layout.nodes) word me.0.pools found)
-  pub stood : StoodSo m layout (pool_at layout pool + word) found
+  pub stood : StoodSo m layout me.0 (pool_at layout pool + word) found
 
-pub record ClaimsNode {S A R F : Type 0} (node : ℕ) (step : Step F) (me : Me F (CellView S A R)) (found : ℕ) (next : Me F (CellView S A R)) : Type 0 where
+pub record ClaimsNode {S A R F : Type 0} (m : Meaning S A R) (layout : Layout) (node : ℕ) (step : Step F) (me : Me F (CellView S A R)) (found : ℕ) (next : Me F (CellView S A R)) : Type 0 where
   pub is : next ≡ with_pools me (claiming_node node me.0.pools found)
+  pub stood : StoodSo m layout me.0 (place_word layout Nodes node) found
 
-pub record GivesNodeBack {S A R F : Type 0} (node : ℕ) (step : Step F) (me : Me F (CellView S A R)) (found : ℕ) (next : Me F (CellView S A R)) : Type 0 where
+pub record GivesNodeBack {S A R F : Type 0} (m : Meaning S A R) (layout : Layout) (node : ℕ) (step : Step F) (me : Me F (CellView S A R)) (found : ℕ) (next : Me F (CellView S A R)) : Type 0 where
   pub is : next ≡ with_pools me (giving_back node me.0.pools found)
+  pub stood : StoodSo m layout me.0 (place_word layout Nodes node) found

@@ -1,5 +1,5 @@
 -- The part of the rule on pools: a bit for each place, which says whether it is taken.
-use Rattle.std.specs.Prelude.{◌≡◌, ℕ, ◌+◌, ◌*◌, ◌≤◌, ◌<◌, List, length, sum_by}
+use Rattle.std.specs.Prelude.{◌≡◌, ℕ, ◌*◌, ◌≤◌, ◌<◌, List, [], length, sum_by}
 use Rattle.npf_core.specs.declared.stage.Stage.{Stage}
 use Rattle.npf_core.specs.declared.stage.Stage.TheVariants.{Vacant, Building, Live, Dead}
 use Rattle.npf_core.specs.Machine.{Machine}
@@ -7,6 +7,7 @@ use Rattle.npf_cells.specs.declared.layout.Layout.{Layout}
 use Rattle.npf_cells.specs.declared.layout.Pool.{Pool}
 use Rattle.npf_cells.specs.declared.layout.Pool.TheVariants.{Slots, Nodes}
 use Rattle.npf_cells.specs.declared.views.CellView.{CellView}
+use Rattle.npf_cells.specs.declared.views.PoolSide.{PoolSide}
 use Rattle.npf_cells.specs.Layout.{pool_places, pool_words, pool_bit, root_at}
 use Rattle.npf_cells.specs.Sums.{occurs}
 
@@ -26,8 +27,14 @@ abbrev pub taken : {S A R : Type 0} → Machine S → List (CellView S A R) → 
 taken k views Slots place = claim_bit (k.slot place).stage
 taken k views Nodes place = node_owners views place
 
--- the bit of each place says whether it is taken, and the bits past the last place are set
+-- a seat that owns no node and builds nothing
+pub record OwnsNothing (side : PoolSide) : Type 0 where
+  pub nodes : side.nodes ≡ []
+  pub builds : side.builds ≡ []
+
+-- the bit of each place says whether it is taken, the bits past the last place are set, and no pass owns a node past the last
 pub record Pools (layout : Layout) (takes : Pool → ℕ → ℕ) (words : List ℕ) : Type 0 where
   pub reach : root_at layout ≤ length words
   pub bits : (pool : Pool) (place : ℕ) → place < pool_places layout pool → pool_bit layout pool words place ≡ takes pool place
   pub past : (pool : Pool) (place : ℕ) → pool_places layout pool ≤ place → place < 64 * pool_words (pool_places layout pool) → pool_bit layout pool words place ≡ 1
+  pub beyond : (node : ℕ) → layout.nodes ≤ node → takes Nodes node ≡ 0

@@ -43,14 +43,15 @@ pub struct CellPass<L: Law> {
 }
 
 impl<L: Law, H: KeyHash> Cells<L, H> {
-    ghost use Rattle.std.specs.Prelude.{◌≡◌, ◌≤◌, ◌<◌, ◌^◌, ◌↔◌, ℕ, true, [], IfOk};
+    ghost use Rattle.std.specs.Prelude.{◌≡◌, ◌≤◌, ◌<◌, ◌+◌, ◌^◌, ◌↔◌, ℕ, true, [], IfOk, if◌then◌else◌};
     ghost use Rattle.npf_connections.specs.Joining.{IsSplit, IsJoined};
     ghost use Rattle.npf_connections.specs.Pass.{IsPass, IsFirstPass, all_places};
     ghost use Rattle.npf_connections.specs.Worn.{last_epoch};
     ghost use Rattle.npf_cells.specs.declared.views.Pin.TheVariants.{Idle, Pinned};
-    ghost use Rattle.npf_cells.specs.Cells.{empty_handed};
+    ghost use Rattle.npf_cells.specs.Cells.{idle_side, empty_handed};
     ghost use Rattle.npf_cells.specs.Epochs.{HasScannedAll};
     ghost use Rattle.npf_cells.specs.Kinds.{HasLoaded, IsMet, with_epochs, loading, pinning, protecting, unpinning, scanning, advancing};
+    ghost use Rattle.npf_cells.specs.Moves.{joined_epochs, joined_pools};
     ghost use Rattle.npf_cells.specs.Passes.{IsPassOf, cell_pass};
 
     /// A table of so many slots and nodes, and its first pass. All the memory that it ever has is taken here.
@@ -59,6 +60,7 @@ impl<L: Law, H: KeyHash> Cells<L, H> {
         slots: u32,
         nodes: u32,
     ) -> Result<(Cells<L, H>, CellPass<L>), NoMemory>
+        ensures layout { IfOk result (λ made. made.0.table.shared.key ≡ record { slots = slots; nodes = nodes }) }
         ensures own { IfOk result (λ made. IsPassOf made.0.table.shared.key made.0.table.shared.table_id made.1.seat.table_id made.1.readers.items made.1.seat.me) }
         ensures first { IfOk result (λ made. IsFirstPass slots (cell_pass made.1.seat.me.0)) }
         ensures legal { IfOk result (λ made. IsPass L.meaning (cell_pass made.1.seat.me.0)) }
@@ -82,7 +84,7 @@ impl<L: Law, H: KeyHash> Cells<L, H> {
         }
     }
 
-    /// A pass gives up one of its reader places to a new one, which has seen what it has.
+    /// A pass gives up one of its reader places to a new one, which has seen what it has. All else that it knows and owns stays its own.
     pub fn split(&self, pass: &mut CellPass<L>) -> CellPass<L>
         requires own { IsPassOf self.now.table.shared.key self.now.table.shared.table_id pass.old.seat.table_id pass.old.readers.items pass.old.seat.me }
         requires out { pass.old.seat.me.0.epochs.pin ≡ Idle }
@@ -91,8 +93,11 @@ impl<L: Law, H: KeyHash> Cells<L, H> {
         ensures given { IsPassOf self.now.table.shared.key self.now.table.shared.table_id result.seat.table_id result.readers.items result.seat.me }
         ensures splits { IsSplit (cell_pass pass.old.seat.me.0) (cell_pass pass.new.seat.me.0) (cell_pass result.seat.me.0) }
         ensures given_idle { result.seat.me.0.epochs.pin ≡ Idle }
+        ensures given_unread { result.seat.me.0.epochs ≡ idle_side }
         ensures given_empty { result.seat.me.0.pools ≡ empty_handed }
         ensures idle { pass.new.seat.me.0.epochs.pin ≡ Idle }
+        ensures pools { pass.new.seat.me.0.pools ≡ pass.old.seat.me.0.pools }
+        ensures epochs { pass.new.seat.me.0.epochs ≡ pass.old.seat.me.0.epochs }
         ensures given_legal { IsPass L.meaning (cell_pass result.seat.me.0) }
     {
         let readers = give_last(&mut pass.readers);
@@ -101,7 +106,7 @@ impl<L: Law, H: KeyHash> Cells<L, H> {
         CellPass { seat, readers }
     }
 
-    /// A pass takes another in, with its reader places, and sees what either has seen.
+    /// A pass takes another in, with its reader places, and sees what either has seen. Its counts become the sums of both.
     pub fn join(&self, pass: &mut CellPass<L>, other: CellPass<L>)
         requires own { IsPassOf self.now.table.shared.key self.now.table.shared.table_id pass.old.seat.table_id pass.old.readers.items pass.old.seat.me }
         requires other_own { IsPassOf self.now.table.shared.key self.now.table.shared.table_id other.seat.table_id other.readers.items other.seat.me }
@@ -112,6 +117,8 @@ impl<L: Law, H: KeyHash> Cells<L, H> {
         requires other_nodes { other.seat.me.0.pools.nodes ≡ [] }
         ensures own { IsPassOf self.now.table.shared.key self.now.table.shared.table_id pass.new.seat.table_id pass.new.readers.items pass.new.seat.me }
         ensures idle { pass.new.seat.me.0.epochs.pin ≡ Idle }
+        ensures pools { pass.new.seat.me.0.pools ≡ joined_pools pass.old.seat.me.0.pools other.seat.me.0.pools }
+        ensures epochs { pass.new.seat.me.0.epochs ≡ joined_epochs pass.old.seat.me.0.epochs other.seat.me.0.epochs }
         ensures joins { IsJoined (cell_pass pass.old.seat.me.0) (cell_pass other.seat.me.0) (cell_pass pass.new.seat.me.0) }
         ensures legal { IsPass L.meaning (cell_pass pass.new.seat.me.0) }
     {
@@ -192,6 +199,7 @@ impl<L: Law, H: KeyHash> Cells<L, H> {
         ensures own { IsPassOf self.now.table.shared.key self.now.table.shared.table_id pass.new.seat.table_id pass.new.readers.items pass.new.seat.me }
         ensures met { IsMet pass.old.seat.me.0.epochs pass.new.seat.me.0.epochs.met }
         ensures next { pass.new.seat.me ≡ with_epochs pass.old.seat.me (advancing pass.old.seat.me.0.epochs pass.new.seat.me.0.epochs.met) }
+        ensures raises { pass.new.seat.me.0.epochs.raises ≡ pass.old.seat.me.0.epochs.raises + (if result then 1 else 0) }
         ensures moved { (result ≡ true) ↔ (pass.new.seat.me.0.epochs.met ≡ epoch) }
     {
         let found = self

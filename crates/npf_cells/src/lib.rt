@@ -6,12 +6,15 @@
 // second load of crossbeam-epoch: what a pin protects is fixed by an epoch that is loaded after it.
 //
 // The one contract: the rule of specs/Cells.antt, the conjunction of six parts (seats, epochs, pools, trie, connections, nodes),
-// each over its own words, its own side of the views, and named facts of the others. A kind of step proves its own part.
+// each over its own words, its own side of the views, and named facts of the others, and that a spent seat owns nothing. A kind of
+// step proves its own part. What the rule says of seats stands in laws.rt: a node has one owner at most, a protected pass holds the
+// epoch back, and no pass raises it without counting it.
 #![tactic(auto)]
 
 mod cells;
 mod hash;
 mod kinds;
+mod laws;
 mod layout;
 mod passing;
 mod pools;
@@ -20,6 +23,7 @@ mod views;
 
 pub use cells::{CellPass, Cells};
 pub use hash::KeyHash;
+pub use laws::{claim_law, count_law, protection_law};
 pub use layout::{LAST_EPOCH, Layout, Pool, READERS};
 pub use rule::CellsRule;
 pub use views::{CellView, EpochSide, Pin, PoolSide, SeatSide};

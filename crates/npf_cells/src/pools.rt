@@ -36,11 +36,16 @@ impl SweepAim for Brand {
 // What a step on a node's bit is told.
 pub(crate) trait NodeAim {
     ghost use Rattle.std.specs.Prelude.{ℕ};
+    ghost use Rattle.npf_cells.specs.declared.layout.Layout.{Layout};
+
+    ghost layout: { Layout };
 
     ghost node: { ℕ };
 }
 
 impl NodeAim for Brand {
+    ghost layout = { record { slots = 0; nodes = 0 } };
+
     ghost node = { 0 };
 }
 
@@ -56,31 +61,35 @@ impl<L: Law, W: SweepAim> Play<Running<L::State>, CellView<L::State, L::Arg, L::
     ghost then = { Sweeps L.meaning W.layout W.pool W.word };
 }
 
-pub(crate) struct TakesNode<W> {
+pub(crate) struct TakesNode<L: Law, W> {
+    law: PhantomData<L>,
     aim: PhantomData<W>,
 }
 
-impl<F, S, A, R, W: NodeAim> Play<F, CellView<S, A, R>> for TakesNode<W> {
+impl<L: Law, W: NodeAim> Play<Running<L::State>, CellView<L::State, L::Arg, L::Reply>>
+    for TakesNode<L, W> {
     ghost use Rattle.npf_cells.specs.PoolKinds.{ClaimsNode};
 
-    ghost then = { ClaimsNode W.node };
+    ghost then = { ClaimsNode L.meaning W.layout W.node };
 }
 
-pub(crate) struct ReturnsNode<W> {
+pub(crate) struct ReturnsNode<L: Law, W> {
+    law: PhantomData<L>,
     aim: PhantomData<W>,
 }
 
-impl<F, S, A, R, W: NodeAim> Play<F, CellView<S, A, R>> for ReturnsNode<W> {
+impl<L: Law, W: NodeAim> Play<Running<L::State>, CellView<L::State, L::Arg, L::Reply>>
+    for ReturnsNode<L, W> {
     ghost use Rattle.npf_cells.specs.PoolKinds.{GivesNodeBack};
 
-    ghost then = { GivesNodeBack W.node };
+    ghost then = { GivesNodeBack L.meaning W.layout W.node };
 }
 
 impl<L: Law, H: KeyHash> Cells<L, H> {
     ghost use Rattle.std.specs.Prelude.{◌≡◌, ◌<◌, ◌↔◌, ◌==◌, ◌+◌, ◌%◌, true, ℕ, length, Contains};
     ghost use Rattle.std.specs.Int.{bit_at};
     ghost use Rattle.npf_cells.specs.declared.layout.Pool.TheVariants.{Slots, Nodes};
-    ghost use Rattle.npf_cells.specs.Layout.{pool_at, pool_places, pool_words};
+    ghost use Rattle.npf_cells.specs.Layout.{pool_at, pool_places, pool_words, place_word};
     ghost use Rattle.npf_cells.specs.Passes.{IsPassOf, IsProtected};
     ghost use Rattle.npf_cells.specs.PoolKinds.{StoodSo, most_nodes, with_pools, sweeping, claiming_node, giving_back};
 
@@ -90,7 +99,7 @@ impl<L: Law, H: KeyHash> Cells<L, H> {
         requires word { word < pool_words (pool_places self.now.table.shared.key pool) }
         ensures own { IsPassOf self.now.table.shared.key self.now.table.shared.table_id pass.new.seat.table_id pass.new.readers.items pass.new.seat.me }
         ensures next { pass.new.seat.me ≡ with_pools pass.old.seat.me (sweeping pool (pool_words self.now.table.shared.key.nodes) word pass.old.seat.me.0.pools result) }
-        ensures stood { StoodSo L.meaning self.now.table.shared.key (pool_at self.now.table.shared.key pool + word) result }
+        ensures stood { StoodSo L.meaning self.now.table.shared.key pass.old.seat.me.0 (pool_at self.now.table.shared.key pool + word) result }
     {
         self.load_pool_as::<Brand>(pass, pool, word)
     }
@@ -101,7 +110,7 @@ impl<L: Law, H: KeyHash> Cells<L, H> {
         requires aim { (W.layout ≡ self.now.table.shared.key) × (W.pool ≡ pool) × (W.word ≡ word) }
         ensures own { IsPassOf self.now.table.shared.key self.now.table.shared.table_id pass.new.seat.table_id pass.new.readers.items pass.new.seat.me }
         ensures next { pass.new.seat.me ≡ with_pools pass.old.seat.me (sweeping pool (pool_words self.now.table.shared.key.nodes) word pass.old.seat.me.0.pools result) }
-        ensures stood { StoodSo L.meaning self.now.table.shared.key (pool_at self.now.table.shared.key pool + word) result }
+        ensures stood { StoodSo L.meaning self.now.table.shared.key pass.old.seat.me.0 (pool_at self.now.table.shared.key pool + word) result }
     {
         let place = self.layout.pool_place(pool, word);
         self.table
@@ -109,7 +118,7 @@ impl<L: Law, H: KeyHash> Cells<L, H> {
             .load::<SweepsPool<L, W>>(&mut pass.seat, place)
     }
 
-    /// Takes a node, unless it is taken. Answers whether it did.
+    /// Takes a node, unless it is taken. Answers whether it did; the pass didn't own the node then.
     pub fn claim_node(&self, pass: &mut CellPass<L>, node: u32) -> bool
         requires own { IsPassOf self.now.table.shared.key self.now.table.shared.table_id pass.old.seat.table_id pass.old.readers.items pass.old.seat.me }
         requires node { node < self.now.table.shared.key.nodes }
@@ -117,6 +126,8 @@ impl<L: Law, H: KeyHash> Cells<L, H> {
         requires few { length pass.old.seat.me.0.pools.nodes < most_nodes }
         ensures own { IsPassOf self.now.table.shared.key self.now.table.shared.table_id pass.new.seat.table_id pass.new.readers.items pass.new.seat.me }
         ensures next { pass.new.seat.me ≡ with_pools pass.old.seat.me (claiming_node node pass.old.seat.me.0.pools pass.new.seat.me.0.pools.found) }
+        ensures stood { StoodSo L.meaning self.now.table.shared.key pass.old.seat.me.0 (place_word self.now.table.shared.key Nodes node) pass.new.seat.me.0.pools.found }
+        ensures unowned { result ≡ true → ¬ (Contains pass.old.seat.me.0.pools.nodes node) }
         ensures answers { (result ≡ true) ↔ (bit_at pass.new.seat.me.0.pools.found (node % 64) ≡ 0) }
     {
         self.claim_node_as::<Brand>(pass, node)
@@ -125,16 +136,18 @@ impl<L: Law, H: KeyHash> Cells<L, H> {
     fn claim_node_as<W: NodeAim>(&self, pass: &mut CellPass<L>, node: u32) -> bool
         requires own { IsPassOf self.now.table.shared.key self.now.table.shared.table_id pass.old.seat.table_id pass.old.readers.items pass.old.seat.me }
         requires node { node < self.now.table.shared.key.nodes }
-        requires aim { W.node ≡ node }
+        requires aim { (W.layout ≡ self.now.table.shared.key) × (W.node ≡ node) }
         ensures own { IsPassOf self.now.table.shared.key self.now.table.shared.table_id pass.new.seat.table_id pass.new.readers.items pass.new.seat.me }
         ensures next { pass.new.seat.me ≡ with_pools pass.old.seat.me (claiming_node node pass.old.seat.me.0.pools pass.new.seat.me.0.pools.found) }
+        ensures stood { StoodSo L.meaning self.now.table.shared.key pass.old.seat.me.0 (place_word self.now.table.shared.key Nodes node) pass.new.seat.me.0.pools.found }
+        ensures unowned { result ≡ true → ¬ (Contains pass.old.seat.me.0.pools.nodes node) }
         ensures answers { (result ≡ true) ↔ (bit_at pass.new.seat.me.0.pools.found (node % 64) ≡ 0) }
     {
         let place = self.layout.pool_place(Pool::Nodes, node / 64);
         let found = self
             .table
             .shared
-            .fetch_or::<TakesNode<W>>(&mut pass.seat, place, place_bit(node));
+            .fetch_or::<TakesNode<L, W>>(&mut pass.seat, place, place_bit(node));
         is_clear(found, node)
     }
 
@@ -146,6 +159,7 @@ impl<L: Law, H: KeyHash> Cells<L, H> {
         requires owned { Contains pass.old.seat.me.0.pools.nodes place }
         ensures own { IsPassOf self.now.table.shared.key self.now.table.shared.table_id pass.new.seat.table_id pass.new.readers.items pass.new.seat.me }
         ensures next { pass.new.seat.me ≡ with_pools pass.old.seat.me (giving_back place pass.old.seat.me.0.pools pass.new.seat.me.0.pools.found) }
+        ensures stood { StoodSo L.meaning self.now.table.shared.key pass.old.seat.me.0 (place_word self.now.table.shared.key Nodes place) pass.new.seat.me.0.pools.found }
     {
         self.give_back_as::<Brand>(pass, pool, place);
     }
@@ -155,14 +169,15 @@ impl<L: Law, H: KeyHash> Cells<L, H> {
         requires pool { pool ≡ Nodes }
         requires place { place < self.now.table.shared.key.nodes }
         requires owned { Contains pass.old.seat.me.0.pools.nodes place }
-        requires aim { W.node ≡ place }
+        requires aim { (W.layout ≡ self.now.table.shared.key) × (W.node ≡ place) }
         ensures own { IsPassOf self.now.table.shared.key self.now.table.shared.table_id pass.new.seat.table_id pass.new.readers.items pass.new.seat.me }
         ensures next { pass.new.seat.me ≡ with_pools pass.old.seat.me (giving_back place pass.old.seat.me.0.pools pass.new.seat.me.0.pools.found) }
+        ensures stood { StoodSo L.meaning self.now.table.shared.key pass.old.seat.me.0 (place_word self.now.table.shared.key Nodes place) pass.new.seat.me.0.pools.found }
     {
         let word = self.layout.pool_place(pool, place / 64);
         self.table
             .shared
-            .fetch_and::<ReturnsNode<W>>(&mut pass.seat, word, !place_bit(place));
+            .fetch_and::<ReturnsNode<L, W>>(&mut pass.seat, word, !place_bit(place));
     }
 }
 

@@ -37,8 +37,12 @@ pub struct EpochSide {
     pub behind: LinkedList<u32>,
     /// The epoch that its last step on that word found.
     pub met: u64,
-    /// The greatest epoch that it knows of.
+    /// The greatest epoch that its steps found.
+    pub greatest: u64,
+    /// The greatest epoch that it knows of: it is one more where it raised the epoch itself.
     pub known: u64,
+    /// How often it raised the epoch.
+    pub raises: u64,
 }
 
 /// What a pass knows of the pools, and what it has of them.

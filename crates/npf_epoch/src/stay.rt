@@ -1,7 +1,7 @@
 ghost use Rattle.std.specs.Prelude.{◌≡◌};
 ghost use Rattle.npf_cells.specs.declared.views.Pin.TheVariants.{Idle};
 ghost use Rattle.npf_cells.specs.Kinds.{with_epochs, unpinning};
-ghost use Rattle.npf_cells.specs.Passes.{IsPassOf};
+ghost use Rattle.npf_cells.specs.Passes.{IsPassOf, IsProtected};
 ghost use Rattle.npf_epoch.specs.Stays.{HasEntered};
 
 use npf_cells::{CellPass, Cells, KeyHash};
@@ -13,6 +13,8 @@ pub fn enter<L: Law, H: KeyHash>(cells: &Cells<L, H>, pass: &mut CellPass<L>)
     requires idle { pass.old.seat.me.0.epochs.pin ≡ Idle }
     ensures own { IsPassOf cells.now.table.shared.key cells.now.table.shared.table_id pass.new.seat.table_id pass.new.readers.items pass.new.seat.me }
     ensures enters { HasEntered pass.old.seat.me.0.epochs pass.new.seat.me.0.epochs }
+    ensures protected { IsProtected pass.new.seat.me.0.epochs.pin }
+    ensures unmoved { pass.new.seat.me.0.epochs.raises ≡ pass.old.seat.me.0.epochs.raises }
     ensures same { pass.new.seat.me ≡ with_epochs pass.old.seat.me pass.new.seat.me.0.epochs }
 {
     let epoch = cells.load_epoch(pass);
@@ -25,6 +27,7 @@ pub fn leave<L: Law, H: KeyHash>(cells: &Cells<L, H>, pass: &mut CellPass<L>)
     requires own { IsPassOf cells.now.table.shared.key cells.now.table.shared.table_id pass.old.seat.table_id pass.old.readers.items pass.old.seat.me }
     requires pinned { ¬ (pass.old.seat.me.0.epochs.pin ≡ Idle) }
     ensures own { IsPassOf cells.now.table.shared.key cells.now.table.shared.table_id pass.new.seat.table_id pass.new.readers.items pass.new.seat.me }
+    ensures unmoved { pass.new.seat.me.0.epochs.raises ≡ pass.old.seat.me.0.epochs.raises }
     ensures next { pass.new.seat.me ≡ with_epochs pass.old.seat.me (unpinning pass.old.seat.me.0.epochs) }
 {
     cells.unpin(pass);

@@ -1,4 +1,4 @@
-ghost use Rattle.std.specs.Prelude.{◌≡◌, ◌↔◌, ◌+◌, ◌≤◌, ◌<◌, ◌==◌, ◌||◌, true, false, []};
+ghost use Rattle.std.specs.Prelude.{◌≡◌, ◌↔◌, ◌+◌, ◌≤◌, ◌<◌, ◌==◌, ◌||◌, true, false, [], if◌then◌else◌};
 ghost use Rattle.npf_cells.specs.Epochs.{HasScannedAll};
 ghost use Rattle.npf_cells.specs.Kinds.{with_epochs};
 ghost use Rattle.npf_cells.specs.Passes.{IsPassOf};
@@ -14,6 +14,7 @@ pub fn try_advance<L: Law, H: KeyHash>(cells: &Cells<L, H>, pass: &mut CellPass<
     ensures own { IsPassOf cells.now.table.shared.key cells.now.table.shared.table_id pass.new.seat.table_id pass.new.readers.items pass.new.seat.me }
     ensures same { pass.new.seat.me ≡ with_epochs pass.old.seat.me pass.new.seat.me.0.epochs }
     ensures pin { pass.new.seat.me.0.epochs.pin ≡ pass.old.seat.me.0.epochs.pin }
+    ensures moved { pass.new.seat.me.0.epochs.raises ≡ pass.old.seat.me.0.epochs.raises + (if result then 1 else 0) }
     ensures answers { (result ≡ true) ↔ CanRaise pass.new.seat.me.0.epochs }
     ensures scanned { result ≡ true → HasScannedAll pass.new.seat.me.0.epochs }
     ensures raised { result ≡ true → pass.new.seat.me.0.epochs.loaded + 1 ≤ pass.new.seat.me.0.epochs.known }

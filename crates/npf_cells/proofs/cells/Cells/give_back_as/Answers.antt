@@ -1,7 +1,8 @@
-use Rattle.std.proofs.Common.{◌≡◌, ◌∙◌, ◌+◌, ◌/◌, sym, ap, refl, arith}
+use Rattle.std.proofs.Common.{◌≡◌, ℕ, ◌∙◌, ◌+◌, ◌/◌, sym, ap, subst, refl, arith}
+use Rattle.npf_cells.specs.declared.layout.Layout.{Layout}
 use Rattle.npf_cells.specs.declared.layout.Pool.TheVariants.{Nodes}
 use Rattle.npf_cells.specs.Layout.{pool_at, place_word}
-use Rattle.npf_cells.specs.PoolKinds.{with_pools, giving_back}
+use Rattle.npf_cells.specs.PoolKinds.{with_pools, giving_back, StoodSo}
 use Rattle.npf_cells.proofs.PoolKeepLemmas.{may_return_node, pools_on}
 use Rattle.npf_cells.proofs.cells.Cells.give_back_as.Goals as goal
 
@@ -11,8 +12,8 @@ fetch_and-requires g c =
     let word : c.pool_place-word.result ≡ place_word c.args.self.now.table.shared.key Nodes c.args.place
     = c.pool_place-word.ensures
     ∙ (ap (λ l. pool_at l c.args.pool + c.args.place / 64) (sym c.args.self.now.laid) ∙ ap (λ p. pool_at c.args.self.now.table.shared.key p + c.args.place / 64) c.requires.pool) in
-    rw (c.requires.aim, word, c.place_bit.ensures)
-    (own.same, omega (arith, own.words, c.requires.place), may_return_node g.L.Law.meaning c.args.self.now.table.shared.key _ _ _ c.args.place _ c.args.pass.now.seat.me c.requires.place c.requires.owned refl)
+    rw (c.requires.aim.0, c.requires.aim.1, word, c.place_bit.ensures)
+    (own.same, omega (arith, own.words, c.requires.place), may_return_node g.L.Law.meaning c.args.self.now.table.shared.key _ _ _ c.args.place _ c.args.pass.now.seat.me own.lives own.place c.requires.place c.requires.owned refl)
 
 pub returns-clause-own : goal.returns-clause-own
 returns-clause-own g c = pools_on c.args.self.now.table.shared.key _ _ _ _ _ _ _ c.requires.own c.fetch_and.ensures.0 c.fetch_and.ensures.2.is
@@ -21,4 +22,10 @@ pub returns-clause-next : goal.returns-clause-next
 returns-clause-next g c =
     let is = c.fetch_and.ensures.2.is in
     let found = sym (ap (λ y. y.0.pools.found) is) in
-    is ∙ (λ i. with_pools c.args.pass.now.seat.me (giving_back (c.requires.aim i) c.args.pass.now.seat.me.0.pools (found i)))
+    is ∙ (λ i. with_pools c.args.pass.now.seat.me (giving_back (c.requires.aim.1 i) c.args.pass.now.seat.me.0.pools (found i)))
+
+pub returns-clause-stood : goal.returns-clause-stood
+returns-clause-stood g c =
+    let aim = c.requires.aim in
+    let found = sym (ap (λ y. y.0.pools.found) c.fetch_and.ensures.2.is) in
+    subst (λ (y : Layout × ℕ × ℕ). StoodSo g.L.Law.meaning y.0 c.args.pass.now.seat.me.0 (place_word y.0 Nodes y.1) y.2) (λ i. (aim.0 i, aim.1 i, found i)) c.fetch_and.ensures.2.stood

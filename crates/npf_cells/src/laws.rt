@@ -1,0 +1,20 @@
+// What holds of every table between any two steps. The functions do nothing: each is a theorem.
+ghost use Rattle.npf_cells.specs.declared.layout.Layout.{Layout};
+ghost use Rattle.npf_cells.specs.TableLaw.{OwnsAlone, HoldsBack, CountsRaises};
+
+use npf_core::Law;
+
+/// The claim law: a node has one owner at most.
+pub fn claim_law<L: Law>()
+    ensures alone { (layout : Layout) → OwnsAlone L.meaning layout }
+{}
+
+/// The protection law: while a pass is protected with the epoch that it loaded after its pin, the table's epoch is at most one more.
+pub fn protection_law<L: Law>()
+    ensures within { (layout : Layout) → HoldsBack L.meaning layout }
+{}
+
+/// The count law: no pass raises the epoch without counting it.
+pub fn count_law<L: Law>()
+    ensures counted { (layout : Layout) → CountsRaises L.meaning layout }
+{}
