@@ -84,6 +84,13 @@ impl<L: Law, H: KeyHash> Cells<L, H> {
         }
     }
 
+    /// How many slots and nodes the table has.
+    pub fn layout(&self) -> Layout
+        ensures { result ≡ self.now.table.shared.key }
+    {
+        self.layout
+    }
+
     /// A pass gives up one of its reader places to a new one, which has seen what it has. All else that it knows and owns stays its own.
     pub fn split(&self, pass: &mut CellPass<L>) -> CellPass<L>
         requires own { IsPassOf self.now.table.shared.key self.now.table.shared.table_id pass.old.seat.table_id pass.old.readers.items pass.old.seat.me }
