@@ -4,6 +4,7 @@ ghost use Rattle.npf_bpf.specs.Validity.{DividesByNonzero, IsAllowed, IsFirstFau
 
 use crate::insn::Insn;
 use crate::operation::{Arithmetic, MEMORY_WORDS, Operand, Operation, decode};
+use std::alloc::{AllocError, Global};
 use std::marker::Model;
 
 /// How many instructions a program has at most.
@@ -34,6 +35,15 @@ impl Program {
         ensures valid { IsValid self.now }
     {
         &self.code
+    }
+
+    /// An equal program. It isn't validated anew.
+    pub fn copy(&self, alloc: Global) -> Result<Program, AllocError>
+        ensures { IfOk result (λ copy. copy ≡ self.now) }
+    {
+        Ok(Program {
+            code: self.code.to_vec(alloc)?,
+        })
     }
 }
 

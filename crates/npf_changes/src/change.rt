@@ -33,9 +33,8 @@ pub(crate) fn changed_model(
     requires { All (λ group. All (HasNumbersLeft change) group.items) model.now.groups }
     ensures { IfOk result (λ next. next ≡ model_with_ruleset name.now (ruleset_change change.entry) model.now) }
 {
-    let mut next = model.copy(alloc)?;
-    next.groups = changed_groups(alloc, model.groups.as_slice(), name, change)?;
-    Ok(next)
+    let groups = changed_groups(alloc, model.groups.as_slice(), name, change)?;
+    model.with_groups(alloc, groups)
 }
 
 fn changed_groups(

@@ -9,7 +9,7 @@ use crate::change::Change;
 use crate::finding::is_name;
 use npf_bpf::Program;
 use npf_model::{Group, Item, Rule};
-use npf_ruleset::{FlatRule, copy_program};
+use npf_ruleset::FlatRule;
 use npf_types::{Name, NoMemory};
 use std::alloc::Global;
 
@@ -98,7 +98,7 @@ fn add_changed(
     match change {
         Change::Added { program, .. } => {
             add(programs, alloc, here)?;
-            Ok(programs.push(copy_program(alloc, program)?)?)
+            Ok(programs.push(program.copy(alloc)?)?)
         }
         Change::Removed(id) => add_others(programs, alloc, rules, here, id),
         Change::Flushed => Ok(()),
@@ -109,7 +109,7 @@ fn add(programs: &mut Vec<Program>, alloc: Global, flats: &[FlatRule]) -> Result
     ensures { OnOk result (programs.new.items ≡ programs.old.items ++ programs_of flats.now) }
 {
     for flat in flats {
-        programs.push(copy_program(alloc, flat.program())?)?;
+        programs.push(flat.program().copy(alloc)?)?;
     }
     Ok(())
 }
@@ -127,7 +127,7 @@ fn add_others(
 {
     for (at, flat) in flats.iter().enumerate() {
         if rules[at].0 != id {
-            programs.push(copy_program(alloc, flat.program())?)?;
+            programs.push(flat.program().copy(alloc)?)?;
         }
     }
     Ok(())

@@ -18,6 +18,18 @@ impl Model {
     {
         self.duplicate(alloc)
     }
+
+    /// A model with these groups, and with lists of its own that are equal to the others.
+    pub fn with_groups(&self, alloc: Global, groups: List<Group>) -> Result<Model, NoMemory>
+        ensures { IfOk result (λ copy. copy ≡ record self.now { groups = groups }) }
+    {
+        Ok(Model {
+            groups,
+            tables: self.tables.duplicate(alloc)?,
+            maps: self.maps.duplicate(alloc)?,
+            procedures: self.procedures.duplicate(alloc)?,
+        })
+    }
 }
 
 impl Rule {

@@ -29,10 +29,15 @@ impl ConfReader {
     ghost use Rattle.npf_publish.specs.Told.{told_number};
 
     /// A number that was published, in the publisher's range and no less than what this reader read before or was told; it then
-    /// counts as read. The reader waits only for a number that it was told, and for ever once its publisher is closed.
+    /// counts as read. Once it has read the last number it reads that one. Before that it waits only for a number that it was told, and
+    /// for ever once its publisher is closed.
     pub fn read<R: Wait>(&mut self, rt: &R) -> u64
         ensures { Reads self.old self.new result }
     {
+        // No number comes behind the last one, so what is shown need not be read.
+        if self.seen == self.range.last {
+            return self.seen;
+        }
         replace_with(self, rt, |reader, rt| reader.read_next(rt))
     }
 

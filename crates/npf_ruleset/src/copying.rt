@@ -3,21 +3,10 @@ ghost use Rattle.std.specs.Prelude.{◌≡◌, IfOk};
 
 use crate::config::Config;
 use crate::flat::FlatRule;
-use npf_bpf::{Program, validate};
 use npf_table::Table;
 use npf_types::{List, NoMemory};
 use std::alloc::Global;
 use std::sync::Arc;
-
-/// An equal program.
-pub fn copy_program(alloc: Global, program: &Program) -> Result<Program, NoMemory>
-    ensures { IfOk result (λ copy. copy ≡ program.now) }
-{
-    match validate(program.insns().to_vec(alloc)?) {
-        Ok(copy) => Ok(copy),
-        Err(_) => unreachable!(),
-    }
-}
 
 fn copy_rule(alloc: Global, rule: &FlatRule) -> Result<FlatRule, NoMemory>
     ensures { IfOk result (λ copy. copy ≡ rule.now) }
@@ -26,7 +15,7 @@ fn copy_rule(alloc: Global, rule: &FlatRule) -> Result<FlatRule, NoMemory>
         binding: rule.binding,
         last: rule.last,
         row: rule.row,
-        program: copy_program(alloc, &rule.program)?,
+        program: rule.program.copy(alloc)?,
         place: rule.place,
     })
 }

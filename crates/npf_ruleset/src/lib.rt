@@ -38,7 +38,6 @@ mod walking;
 
 pub use building::{assemble, build, instructions};
 pub use config::Config;
-pub use copying::copy_program;
 pub use fault::BuildFault;
 pub use flat::FlatRule;
 pub use map_choice::map_for;
