@@ -1,4 +1,4 @@
-// The tests of the engine over a small table under one turn: packets with their lines, as docs/FORMATS.md has them, and, where they
+// The tests of the engine over a small table under one turn: packets with their lines, as docs/npfctl.8 has them, and, where they
 // pass, the bytes that are sent. The packets before and after a translation are those of rewrite_tests, or were summed by hand.
 #![tactic(auto)]
 

@@ -1,4 +1,4 @@
--- The status and the line of each fault (docs/FORMATS.md, "Statuses").
+-- The status and the line of each fault (docs/npfctl.8, "EXIT STATUS").
 use Rattle.std.specs.Prelude.{ℕ, Option, Some, None, List, [], ◌++◌, codes}
 use Rattle.std.specs.Fmt.{decimal}
 use Rattle.npf_types.specs.declared.limits.TheConstants.{MAX_BYTES_OF_CAPTURES, MAX_CAPTURES, MAX_CHANGES, MAX_INSTRUCTIONS, MAX_INTERFACES, MAX_LIST_ELEMENTS, MAX_MAPS, MAX_PACKETS, MAX_PHASES, MAX_PROCEDURES, MAX_RULES, MAX_RULE_WEIGHT, MAX_TABLES, MAX_TABLE_ENTRIES}

@@ -1,4 +1,4 @@
--- The report of a run (docs/FORMATS.md, "The report"): a line for each packet, in order, and then the total.
+-- The report of a run (docs/npfctl.8, "The report"): a line for each packet, in order, and then the total.
 use Rattle.std.specs.Prelude.{ℕ, ◌+◌, ◌-◌, Option, Some, None, List, [], ◌∷◌, ◌++◌, slice_get}
 use Rattle.npf_types.specs.declared.interface.IfId.{IfId}
 use Rattle.npf_types.specs.Name.{name_bytes}

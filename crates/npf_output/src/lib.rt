@@ -1,4 +1,4 @@
-// What a run puts out: its report on the standard output, line by line (docs/FORMATS.md, "The report"), and the capture of
+// What a run puts out: its report on the standard output, line by line (docs/npfctl.8, "The report"), and the capture of
 // the packets that it let pass.
 //
 // A run writes over the bytes of its packets, so `ip_extents` notes before it where each record has its IP packet, and

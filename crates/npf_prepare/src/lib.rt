@@ -1,6 +1,6 @@
 // All that a run is prepared from, from the names of its files to what is played, in the order of the work: the file of interfaces, the
-// configuration, the script or a capture alone, its limits, its captures, and the changes of the configuration (docs/FORMATS.md, "The
-// script"). The first fault that is met ends it.
+// configuration, the script or a capture alone, its limits, its captures, and the changes of the configuration (docs/npfctl.8, "The
+// order of work"). The first fault that is met ends it.
 //
 // `prepare` is the whole work, and `orders` reads what the run is to do; `limits` tests how much of it there is, `captures` gathers the
 // packets, `making` makes the configurations, and `numbering` gives the first one the numbers of the run's interfaces.

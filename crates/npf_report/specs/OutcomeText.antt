@@ -1,4 +1,4 @@
--- What a line says of its packet's outcome, a case for each row of the report's table (docs/FORMATS.md, "The report").
+-- What a line says of its packet's outcome, a case for each row of the report's list (docs/npfctl.8, "The report").
 use Rattle.std.specs.Prelude.{ℕ, ◌+◌, Bool, true, false, Option, Some, None, List, [], ◌++◌, codes}
 use Rattle.std.specs.Fmt.{decimal}
 use Rattle.npf_types.specs.declared.decision.Decision.{Decision}

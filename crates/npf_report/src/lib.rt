@@ -1,4 +1,4 @@
-// The report of a run: a line for each packet, and the total line (docs/FORMATS.md, "The report").
+// The report of a run: a line for each packet, and the total line (docs/npfctl.8, "The report").
 //
 // `lines` writes the line of a packet, `outcomes` what it says of the packet's outcome, `totals` the last line, and `writing`
 // texts and numbers.

@@ -1,5 +1,5 @@
 // What a script asks of a run: how much of each thing that a run may have only so many of, the interfaces that its captures name, and its
-// phases with their packets and commands (docs/FORMATS.md, "The script").
+// phases with their packets and commands (docs/npfctl.8, "Scripts").
 //
 // `count` counts lines, `interfaces` and `schedule` read them; `part` reads the lines of one phase. `laws`: all packets of a run are in its
 // phases, and its publications come in the order of its configurations, so that a schedule may be played.

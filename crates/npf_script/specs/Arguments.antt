@@ -1,4 +1,4 @@
--- What follows the command of a line, a case for each form of the script's grammar (docs/FORMATS.md, "The script").
+-- What follows the command of a line, a case for each form of the script's grammar (docs/npfctl.8, "Scripts").
 use Rattle.std.specs.Prelude.{◌≡◌, ◌==◌, ◌-◌, ◌^◌, ◌≤◌, ℕ, Bool, IsTrue, Option, Some, None, List, [], take, drop, length, position, slice_index, codes}
 use Rattle.std.specs.Str.{IsUtf8}
 use Rattle.npf_types.specs.declared.direction.Dir.{Dir}

@@ -1,4 +1,4 @@
-// The script of a run (docs/FORMATS.md, "The script"): a command on each line, which names a capture, begins a phase, or stands
+// The script of a run (docs/npfctl.8, "Scripts"): a command on each line, which names a capture, begins a phase, or stands
 // in one.
 //
 // `words` parts a line into words; `command`, `verb`, `direction`, `number`, `seconds` and `file_name` say what one of them is,

@@ -1,5 +1,5 @@
 // The canonical text of a model: npf.conf(5) with variables and words replaced, lists spliced and functions evaluated, a statement a
-// line, in one form for each meaning. docs/FORMATS.md has the form, under "The canonical text".
+// line, in one form for each meaning. docs/npf.conf.5 has the form, under "The canonical text".
 //
 // A text is made of pieces: words, strings in quotes, numbers, addresses and signs, which spaces part. Each line of the language
 // is one definition in specs/, a list of pieces, and one `impl Shown`, which writes them behind what stands there already.

@@ -1,5 +1,5 @@
 // The words of the command line: five commands, each read by `clap` as one simple command without
-// subcommands (docs/FORMATS.md, "The command line", has them).
+// subcommands (docs/npfctl.8, "The command line", has them).
 //
 // The contract: words are refused exactly where the first is missing or names no command, byte for
 // byte, where `clap`'s definition of that command refuses the words behind it, or where a run's

@@ -1,4 +1,4 @@
-// What no clause says of the canonical text: that the definitions give the form of docs/FORMATS.md, and that a text that was shown means
+// What no clause says of the canonical text: that the definitions give the form of docs/npf.conf.5, and that a text that was shown means
 // what was shown. The texts of lines are written by hand; models are compared but for the places in the text.
 #![tactic(auto)]
 
