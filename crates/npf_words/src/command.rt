@@ -5,7 +5,7 @@
 pub enum Spread {
     /// In turn, one packet to each.
     Rr,
-    /// By flow, so that all packets of a connection go to one worker.
+    /// By addresses, ports and protocol, so that both ways of a flow that isn't translated go to one worker.
     Flow,
 }
 
