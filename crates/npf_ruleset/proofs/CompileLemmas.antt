@@ -1,5 +1,5 @@
 -- Rules that are compiled one after another, and what is laid out of them.
-use Rattle.std.proofs.Common.{◌≡◌, ◌<◌, ◌≤◌, ℕ, suc, ◌+◌, List, [], ◌∷◌, ◌++◌, Some, Result, Ok, Err, IfErr, IsErrAnd, All, length, get_or, take, drop, slice_get, refl, sym, subst, ap, ◌∙◌, inl, inr, is_ok, true≢false, arith}
+use Rattle.std.proofs.Common.{◌≡◌, ◌<◌, ◌≤◌, ℕ, suc, ◌+◌, List, [], ◌∷◌, ◌++◌, Some, Result, Ok, Err, IfErr, IsErrAnd, All, length, take, drop, slice_get, refl, sym, subst, ap, ◌∙◌, inl, inr, arith}
 use Rattle.std.proofs.lemmas.Bool.Decides.{leb_tells}
 use Rattle.std.proofs.lemmas.List.{append_assoc, length-append, length-map, map-append}
 use Rattle.std.proofs.lemmas.List.Elements.{All-push}
@@ -17,7 +17,7 @@ use Rattle.npf_ruleset.specs.Layout.{ArePlacesOf, StandsAt, fault_there}
 use Rattle.npf_ruleset.specs.Place.{IsPlaceOfRule, placed_at}
 use Rattle.npf_ruleset.specs.Refusal.{AreProgramsOf, IsLight, RefusesAllRules}
 use Rattle.npf_ruleset.proofs.LayoutLemmas.{around, up_to}
-use Rattle.npf_ruleset.proofs.PairLemmas.{AreRelated, drop_here, pairs_of, related_append, related_of}
+use Rattle.npf_ruleset.proofs.PairLemmas.{drop_here, pairs_of, related_append, related_of}
 
 -- a fault that is handed on
 pub passed : {T E : Type 0} (result : Result T E) (fault : E) (P : E → Type 0) → IsErrAnd result (λ e. e ≡ fault) → P fault → IfErr result P

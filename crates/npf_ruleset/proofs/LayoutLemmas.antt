@@ -1,5 +1,5 @@
 -- Places that are laid out part after part.
-use Rattle.std.proofs.Common.{◌≡◌, ◌<◌, ◌≤◌, ℕ, zero, suc, ◌+◌, List, [], ◌∷◌, ◌++◌, Some, length, take, drop, slice_get, flat_map, option_and_then, refl, sym, subst, ap, ◌∙◌, arith}
+use Rattle.std.proofs.Common.{◌≡◌, ◌≤◌, ℕ, zero, suc, ◌+◌, List, [], ◌∷◌, ◌++◌, Some, length, take, drop, slice_get, flat_map, option_and_then, refl, sym, subst, ap, ◌∙◌, arith}
 use Rattle.std.specs.Prelude.{unwrap_or}
 use Rattle.std.proofs.Math.Seq.{take-length, take-suc}
 use Rattle.std.proofs.lemmas.List.{append_assoc, append-nil, length-append, take-append-drop}
@@ -10,7 +10,7 @@ use Rattle.npf_model.specs.declared.group.Item.{Item}
 use Rattle.npf_model.specs.Verdict.{PlacedRule, rules_at}
 use Rattle.npf_ruleset.specs.declared.flat.FlatGroup.{FlatGroup}
 use Rattle.npf_ruleset.specs.declared.place.Place.{Place}
-use Rattle.npf_ruleset.specs.Flat.{IsFlatGroup, IsPairwise}
+use Rattle.npf_ruleset.specs.Flat.{IsFlatGroup}
 use Rattle.npf_ruleset.specs.Layout.{AddsPlaces, StandsAt, places_from, rules_in_group}
 use Rattle.npf_ruleset.specs.Place.{rules_in, standing_rules}
 use Rattle.npf_ruleset.proofs.PairLemmas.{AreRelated, drop_here, pairs_of, related_append, related_of}

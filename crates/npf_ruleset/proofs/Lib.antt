@@ -2,6 +2,7 @@ mod BindingLemmas
 mod CompileLemmas
 mod ConfigLemmas
 mod DescribesLemmas
+mod FinalLemmas
 mod LayoutLemmas
 mod MatchLemmas
 mod NumberLemmas

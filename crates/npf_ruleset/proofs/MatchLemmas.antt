@@ -24,10 +24,10 @@ use Rattle.npf_ruleset.proofs.PlaceLemmas.{first_from, last_from}
 -- the exact tests of the binding and the program decide, since the row holds where the rule describes
 combined : (d1 o1 d2 o2 bound row described : Bool) (value : ℕ)
     → bound ≡ (d1 && o1 && d2 && o2) → (described ≡ true → row ≡ true) → value ≡ (if described then 4294967295 else 0)
-    → (bound && row && value == 4294967295) ≡ (d1 && o1 && (d2 && o2 && described))
+    → (row && bound && value == 4294967295) ≡ (d1 && o1 && (d2 && o2 && described))
 combined d1 o1 d2 o2 bound row true value is holds gives = rw is (rw (holds refl) (rw gives (bools d1 o1 d2 o2)))
   where
-    bools : (a b c d : Bool) → ((a && b && c && d) && true && true) ≡ (a && b && (c && d && true))
+    bools : (a b c d : Bool) → (true && (a && b && c && d) && true) ≡ (a && b && (c && d && true))
     bools true true true true = refl
     bools true true true false = refl
     bools true true false d = refl
@@ -35,13 +35,17 @@ combined d1 o1 d2 o2 bound row true value is holds gives = rw is (rw (holds refl
     bools false b c d = refl
 combined d1 o1 d2 o2 bound row false value is holds gives = rw is (rw gives (bools d1 o1 d2 o2 row))
   where
-    bools : (a b c d r : Bool) → ((a && b && c && d) && r && false) ≡ (a && b && (c && d && false))
+    bools : (a b c d r : Bool) → (r && (a && b && c && d) && false) ≡ (a && b && (c && d && false))
     bools true true true true true = refl
     bools true true true true false = refl
-    bools true true true false r = refl
-    bools true true false d r = refl
-    bools true false c d r = refl
-    bools false b c d r = refl
+    bools true true true false true = refl
+    bools true true true false false = refl
+    bools true true false d true = refl
+    bools true true false d false = refl
+    bools true false c d true = refl
+    bools true false c d false = refl
+    bools false b c d true = refl
+    bools false b c d false = refl
 
 module _ (packet : Packet) (bytes : AreBytes packet.ip.now) (seen : IsPacketOf packet.ip.now packet.facts.now) where
   told : IsSeen packet.ip.now (coprocessor packet) (entries packet.tables.now) packet.facts.now

@@ -1,5 +1,6 @@
 -- The flat rules of a configuration whose interfaces' numbers are set anew.
-use Rattle.std.proofs.Common.{◌≡◌, ℕ, List, [], ◌∷◌, ◌++◌, Option, Some, None, length, map, flat_map, option_and_then, slice_get, refl, sym, subst, ap, ◌∙◌}
+use Rattle.std.proofs.Common.{◌≡◌, ℕ, ◌||◌, List, [], ◌∷◌, ◌++◌, Option, Some, None, length, map, flat_map, option_and_then, slice_get, refl, sym, subst, ap, ◌∙◌}
+use Rattle.std.specs.List.{list_any}
 use Rattle.std.specs.Option.{option_map}
 use Rattle.std.proofs.lemmas.List.{length-map, map-append}
 use Rattle.std.proofs.lemmas.List.Concat.{flat_map-cons}
@@ -16,7 +17,7 @@ use Rattle.npf_model.specs.Verdict.{PlacedRule, all_rules, rules_at, rules_of}
 use Rattle.npf_ruleset.specs.declared.flat.FlatGroup.{FlatGroup}
 use Rattle.npf_ruleset.specs.declared.flat.FlatRule.{FlatRule}
 use Rattle.npf_ruleset.specs.declared.place.Place.{Place}
-use Rattle.npf_ruleset.specs.Flat.{IsFlat, IsFlatGroup, IsFlatRule, programs_of}
+use Rattle.npf_ruleset.specs.Flat.{IsFlat, IsFlatGroup, IsFlatRule, item_has_final, programs_of}
 use Rattle.npf_ruleset.specs.Numbered.{numbered_flat_group, numbered_flat_rule}
 use Rattle.npf_ruleset.specs.Place.{placed_at, rules_in}
 use Rattle.npf_ruleset.proofs.PairLemmas.{AreRelated, pairs_of, related_of}
@@ -92,6 +93,18 @@ module _ (ifaces : List Iface) where
     rules_numbered [] (f ∷ fs) all = absurd all
     rules_numbered (p ∷ ps) [] all = absurd all
 
+  in_ruleset_final : (rules : List (ℕ × Rule)) → list_any (λ numbered. numbered.1.last) (map (numbered_entry ifaces) rules) ≡ list_any (λ numbered. numbered.1.last) rules
+  in_ruleset_final [] = refl
+  in_ruleset_final (rule ∷ rules) = ap (λ b. rule.1.last || b) (in_ruleset_final rules)
+
+  item_final : (item : Item) → item_has_final (numbered_item ifaces item) ≡ item_has_final item
+  item_final (One rule) = refl
+  item_final (Dynamic name dir on next_id rules) = in_ruleset_final rules
+
+  same_finals : (items : List Item) → list_any item_has_final (map (numbered_item ifaces) items) ≡ list_any item_has_final items
+  same_finals [] = refl
+  same_finals (item ∷ items) = rw (item_final item) (ap (λ b. item_has_final item || b) (same_finals items))
+
   groups_numbered : (groups : List Group) (flats : List FlatGroup) → AreRelated IsFlatGroup groups flats → AreRelated IsFlatGroup (map (numbered_group ifaces) groups) (map (numbered_flat_group ifaces) flats)
   groups_numbered [] [] all = tt
   groups_numbered (g ∷ gs) (f ∷ fs) all = (
@@ -103,6 +116,7 @@ module _ (ifaces : List Iface) where
         own = ap (option_map (numbered_on ifaces)) all.0.binding.own;
       };
       count = all.0.count ∙ sym (ap length (in_group g) ∙ length-map (rules_of g) (numbered_placed ifaces));
+      finals = all.0.finals ∙ sym (same_finals g.items);
     },
     groups_numbered gs fs all.1,
   )

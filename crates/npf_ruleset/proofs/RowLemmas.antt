@@ -4,7 +4,7 @@ use Rattle.std.specs.Int.{bit_at}
 use Rattle.std.specs.List.{list_any}
 use Rattle.std.specs.Cmp.Derive.{both_true}
 use Rattle.std.proofs.Math.Nat.{div-lt_iff_lt-mul, div-mul-le_self, lt-div-mul-add, max-eq_left, max-eq_right, mod-eq_of_lt}
-use Rattle.std.proofs.Math.Pow.{pow-lt}
+use Rattle.std.proofs.Math.Pow.{pow-lt, shr_mono}
 use Rattle.std.proofs.lemmas.Bool.{and_parts, eq-eqb, eqb-true, le-leb}
 use Rattle.std.proofs.lemmas.List.Folds.{list_any_more}
 use Rattle.std.proofs.lemmas.Nat.{pow-add, pow_pos}
@@ -15,14 +15,12 @@ use Rattle.npf_types.specs.Address.{shares_first}
 use Rattle.npf_types.specs.declared.prefix.Prefix.{Prefix}
 use Rattle.npf_model.specs.declared.ends.AddrItem.{AddrItem}
 use Rattle.npf_model.specs.declared.ends.AddrItem.TheVariants.{Net}
-use Rattle.npf_model.specs.declared.ends.Ends.{Ends}
 use Rattle.npf_model.specs.declared.rule.Rule.{Rule}
 use Rattle.npf_model.specs.Describes.{destination_of, fits_addrs, fits_ends, fits_family, fits_flags, fits_icmp, fits_ports, fits_protocol, in_range, item_has, source_of}
 use Rattle.npf_model.specs.MapOf.{fits_side_port}
 use Rattle.npf_ruleset.specs.declared.addr_hull.AddrHull.{AddrHull}
-use Rattle.npf_ruleset.specs.declared.row.EndRow.{EndRow}
 use Rattle.npf_ruleset.specs.declared.row.Row.{Row}
-use Rattle.npf_ruleset.specs.Row.{HasProtocols, IsEndRowOf, IsHullOfAddrs, IsHullOfBits, IsHullOfPorts, IsRowOf, IsWithin, IsWithinRange, in_hull, number_of_addr}
+use Rattle.npf_ruleset.specs.Row.{HasProtocols, IsEndRowOf, IsHullOfAddrs, IsHullOfBits, IsHullOfPorts, IsRowOf, IsWithin, IsWithinRange, hull_number, in_hull}
 
 -- what follows of the elements so far and of the next one follows of all up to it
 pub more : {X : Type 0} (test : X → Bool) (xs : List X) (n : ℕ) (d : X) (P : Type 0) → n < length xs
@@ -49,10 +47,10 @@ more_items items n prefix hull block wider lt d is so_far of_block old next = λ
     more (item_has tables addr) items n d (in_hull (Some wider) addr ≡ true) lt (λ h. old addr (so_far tables addr h))
     (λ h. next addr (of_block addr (ap (item_has tables addr) is ∙ h))) any
 
--- the addresses of a block of IPv6 addresses begin at the block's own and are as many as its host bits count
+-- the addresses of a block of IPv6 addresses begin at the block's own and are as many as its host bits count, and so do their upper halves
 pub block_v6 : (first len : ℕ) (addr : Addr) → first < 2 ^ 128 → len ≤ 128 → first ≡ first / 2 ^ (128 - len) * 2 ^ (128 - len)
     → shares_first len (V6 first) addr ≡ true
-    → (nat_le first (number_of_addr addr) && nat_le (number_of_addr addr) (min (first + (2 ^ (128 - len) - 1)) (2 ^ 128 - 1))) ≡ true
+    → (nat_le (first / 2 ^ 64) (hull_number addr) && nat_le (hull_number addr) (min (first + (2 ^ (128 - len) - 1)) (2 ^ 128 - 1) / 2 ^ 64)) ≡ true
 block_v6 first len (V4 n) fits short zeroed same = absurd (true≢false (sym same))
 block_v6 first len (V6 n) fits short zeroed same =
     let size : ℕ = 2 ^ (128 - len) in
@@ -65,7 +63,10 @@ block_v6 first len (V6 n) fits short zeroed same =
     let whole : 2 ^ 128 ≡ 2 ^ len * size = sym (ap (λ k. 2 ^ k) bits) ∙ pow-add 2 len (128 - len) in
     let small : n / size < 2 ^ len = subst (λ q. q < 2 ^ len) quotient ((div-lt_iff_lt-mul positive).1 (subst (λ w. first < w) whole fits)) in
     let n_fits : n < 2 ^ 128 = subst (λ w. n < w) (sym whole) ((div-lt_iff_lt-mul positive).0 small) in
-    both_true (le-leb first n (omega arith)) (le-leb n (min (first + (size - 1)) (2 ^ 128 - 1)) (omega arith))
+    let last : ℕ = min (first + (size - 1)) (2 ^ 128 - 1) in
+    let from : first ≤ n = omega arith in
+    let up_to : n ≤ last = omega arith in
+    both_true (le-leb (first / 2 ^ 64) (n / 2 ^ 64) (shr_mono 64 from)) (le-leb (n / 2 ^ 64) (last / 2 ^ 64) (shr_mono 64 up_to))
 
 -- a protocol's bit is set
 set_bit : (proto : ℕ) → 1 * 2 ^ (proto % 64) % 18446744073709551616 ≡ 2 ^ (proto % 64)
@@ -91,11 +92,6 @@ kept_bit bits more other set =
 pub all_bits : (proto : ℕ) → (bit_at 18446744073709551615 (proto % 64) == 1) ≡ true
 all_bits proto = let small : proto % 64 < 64 = omega arith in eq-eqb _ 1 (bit_at_ones 64 (proto % 64) small)
 
-pub end_row : (ends : Ends) (row : EndRow) → IsHullOfPorts ends.ports row.ports → IsHullOfAddrs ends.addrs row.addrs → IsEndRowOf ends row
-end_row ends row ports addrs = λ tables addr port fits.
-    let parts = and_parts (fits_addrs ends.addrs tables addr) (fits_ports ends.ports port) fits in
-    both_true (ports port parts.1) (addrs tables addr parts.0)
-
 pub row_of : (rule : Rule) (row : Row) → HasProtocols rule.protos row.protocols → row.v6 ≡ rule.v6 → IsEndRowOf rule.from row.from → IsEndRowOf rule.to row.to → IsRowOf rule row
 row_of rule row protocols v6 from to = λ tables facts describes.
     let f = fits_family rule.v6 facts.src in let p = fits_protocol rule.protos facts.proto in
@@ -106,5 +102,7 @@ row_of rule row protocols v6 from to = λ tables facts describes.
     let icmp_parts = and_parts (f && p && g) i from_parts.0 in
     let flag_parts = and_parts (f && p) g icmp_parts.0 in
     let parts = and_parts f p flag_parts.0 in
-    both_true (both_true (both_true (protocols facts.proto parts.1) (ap (λ v. fits_family v facts.src) v6 ∙ parts.0))
-    (from tables facts.src (source_of facts.l4) from_parts.1)) (to tables facts.dst (destination_of facts.l4) to_parts.1)
+    let source = and_parts (fits_addrs rule.from.addrs tables facts.src) (fits_ports rule.from.ports (source_of facts.l4)) from_parts.1 in
+    let destination = and_parts (fits_addrs rule.to.addrs tables facts.dst) (fits_ports rule.to.ports (destination_of facts.l4)) to_parts.1 in
+    both_true (both_true (both_true (both_true (both_true (from.addrs tables facts.src source.0) (to.addrs tables facts.dst destination.0)) (protocols facts.proto parts.1))
+    (from.ports (source_of facts.l4) source.1)) (to.ports (destination_of facts.l4) destination.1)) (ap (λ v. fits_family v facts.src) v6 ∙ parts.0)

@@ -1,5 +1,5 @@
 -- A walk over the flat rules gives the configuration's verdict.
-use Rattle.std.proofs.Common.{◌≡◌, ◌≤◌, ℕ, ◌+◌, Bool, true, false, List, [], ◌∷◌, ◌++◌, Option, Some, None, length, take, drop, refl, sym, subst, ap, ◌∙◌, arith, suc, slice_get, drop_of_length-le}
+use Rattle.std.proofs.Common.{◌≡◌, ◌≤◌, ℕ, ◌+◌, Bool, true, false, List, [], ◌∷◌, ◌++◌, All, Option, Some, None, length, take, drop, refl, sym, subst, ap, ◌∙◌, arith, suc, slice_get, drop_of_length-le}
 use Rattle.std.proofs.lemmas.List.{length-append, length-drop}
 use Rattle.std.proofs.lemmas.Option.{slice_get_within}
 use Rattle.std.specs.Prelude.{if◌then◌else◌}
@@ -19,6 +19,7 @@ use Rattle.npf_ruleset.specs.Flat.{IsFlatGroup, IsFlatRule}
 use Rattle.npf_ruleset.specs.Packet.{answer_in, flat_answer}
 use Rattle.npf_ruleset.specs.Tables.{entries}
 use Rattle.npf_ruleset.proofs.BindingLemmas.{bound_group}
+use Rattle.npf_ruleset.proofs.FinalLemmas.{none_final}
 use Rattle.npf_ruleset.proofs.PairLemmas.{AreRelated, drop_here, related_behind, related_front, related_len, related_of}
 use Rattle.npf_ruleset.proofs.MatchLemmas.{answer_alike}
 
@@ -64,6 +65,9 @@ module _ (config : Config) (packet : Packet) where
     inside : AreRelated (IsFlatRule config.model.groups) (rules_of here.0) (take flat.count rules)
     inside = subst (λ k. AreRelated (IsFlatRule config.model.groups) (rules_of here.0) (take k rules)) (sym stands.count)
         (related_front (IsFlatRule config.model.groups) (rules_of here.0) (all_rules (drop (suc index) config.model.groups)) rules parts)
+
+    pub no_finals : flat.finals ≡ false → All (λ (rule : FlatRule). rule.last ≡ false) (take flat.count rules)
+    no_finals none = none_final config.model.groups here.0 (take flat.count rules) inside (sym stands.finals ∙ none)
 
     behind : AreRelated (IsFlatRule config.model.groups) (all_rules (drop (suc index) config.model.groups)) (drop flat.count rules)
     behind = subst (λ k. AreRelated (IsFlatRule config.model.groups) (all_rules (drop (suc index) config.model.groups)) (drop k rules)) (sym stands.count)

@@ -1,7 +1,9 @@
 -- Groups and rules laid out flat: what a flat rule and a flat group have of those that they stand for.
-use Rattle.std.specs.Prelude.{◌≡◌, ℕ, ◌≤◌, List, length, map, slice_get, Some}
-use Rattle.std.specs.List.{sum_by}
+use Rattle.std.specs.Prelude.{◌≡◌, ℕ, ◌≤◌, Bool, List, length, map, slice_get, Some}
+use Rattle.std.specs.List.{list_any, sum_by}
 use Rattle.npf_model.specs.declared.group.Group.{Group}
+use Rattle.npf_model.specs.declared.group.Item.{Item}
+use Rattle.npf_model.specs.declared.group.Item.TheVariants.{One, Dynamic}
 use Rattle.npf_model.specs.declared.rule.Rule.{Rule}
 use Rattle.npf_model.specs.Verdict.{PlacedRule, all_rules, rules_of}
 use Rattle.npf_bpf.specs.declared.insn.Insn.{Insn}
@@ -27,9 +29,21 @@ pub record IsFlatRule (groups : List Group) (placed : PlacedRule) (flat : FlatRu
   pub program : IsCompiled placed.rule flat.program
   pub weight : weight_of placed.rule ≤ 4096
 
+-- whether a rule of a ruleset, at an item's place, or of a group is `final`
+abbrev pub rules_have_final : List (ℕ × Rule) → Bool
+rules_have_final rules = list_any (λ numbered. numbered.1.last) rules
+
+abbrev pub item_has_final : Item → Bool
+item_has_final (One rule) = rule.last
+item_has_final (Dynamic name dir on next_id rules) = rules_have_final rules
+
+abbrev pub has_final : Group → Bool
+has_final group = list_any item_has_final group.items
+
 pub record IsFlatGroup (group : Group) (flat : FlatGroup) : Type 0 where
   pub binding : IsBoundTo group.dir group.on flat.binding
   pub count : flat.count ≡ length (rules_of group)
+  pub finals : flat.finals ≡ has_final group
 
 -- as many of the one as of the other, and each is related to what has its place
 pub record IsPairwise {X Y : Type 0} (Rel : X → Y → Type 0) (xs : List X) (ys : List Y) : Type 0 where

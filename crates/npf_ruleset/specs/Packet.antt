@@ -22,11 +22,11 @@ has_end packet table false = table_has (entries packet.tables.now) table packet.
 abbrev pub coprocessor : Packet → Coprocessor
 coprocessor packet = record { header = header_words packet.facts.now; member = has_end packet }
 
--- a flat rule isn't bound elsewhere, its row admits the packet, and its program describes it
+-- a flat rule's row admits the packet, it isn't bound elsewhere, and its program describes it
 abbrev pub flat_matches : Packet → FlatRule → Bool
 flat_matches packet rule =
-    is_bound rule.binding packet.ifid packet.dir
-    && meets_row rule.row packet.facts.now
+    meets_row rule.row packet.facts.now
+    && is_bound rule.binding packet.ifid packet.dir
     && program_value rule.program packet.ip.now (coprocessor packet) == 4294967295
 
 abbrev pub flat_decides : Packet → FlatRule → Bool

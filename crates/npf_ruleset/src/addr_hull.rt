@@ -1,17 +1,33 @@
 // The hull of a list of addresses.
-ghost use Rattle.std.specs.Prelude.{◌≡◌, ◌≤◌, ◌-◌, ◌^◌, Some};
+ghost use Rattle.std.specs.Prelude.{◌≡◌, ◌≤◌, ◌-◌, ◌/◌, ◌^◌, Some};
 ghost use Rattle.npf_types.specs.Address.{kept_bits};
-ghost use Rattle.npf_ruleset.specs.Row.{IsHullOfAddrs, IsHullOfBits, IsWithin, in_hull};
+ghost use Rattle.npf_ruleset.specs.Row.{IsHullOfAddrs, IsHullOfBits, IsWithin, hull_number, is_within};
 ghost use Rattle.npf_types.specs.declared.address.Addr.TheVariants.{V6};
 
 use npf_model::AddrItem;
 use npf_types::{Addr, List, Prefix};
 
-/// The least and the greatest number of some addresses. An address of either family is its number.
+/// The least and the greatest number of some addresses, as `hull_number` has them.
 #[derive(Clone, Copy, Drop)]
 pub(crate) struct AddrHull {
-    pub(crate) first: u128,
-    pub(crate) last: u128,
+    pub(crate) first: u64,
+    pub(crate) last: u64,
+}
+
+/// The number by which hulls know an address: that of an IPv4 address, and of an IPv6 address its upper half.
+pub(crate) fn hull_number(addr: Addr) -> u64
+    ensures { result ≡ hull_number addr }
+{
+    match addr {
+        Addr::V4(number) => u64::from(number),
+        Addr::V6(number) => upper_half(number),
+    }
+}
+
+fn upper_half(number: u128) -> u64
+    ensures { result ≡ number / 2 ^ 64 }
+{
+    (number >> 64) as u64
 }
 
 /// The hull of all blocks that are listed. None where any address may be meant: without a list, or
@@ -29,7 +45,7 @@ fn items_hull(items: &[AddrItem]) -> Option<AddrHull>
     ensures { IsHullOfAddrs (Some items.now) result }
 {
     let mut hull = AddrHull {
-        first: u128::MAX,
+        first: u64::MAX,
         last: 0,
     };
     for item in items {
@@ -56,8 +72,8 @@ fn block_hull(prefix: &Prefix) -> AddrHull
 {
     match prefix.addr {
         Addr::V4(first) => AddrHull {
-            first: u128::from(first),
-            last: u128::from(first) + ((1 << (32 - prefix.len)) - 1),
+            first: u64::from(first),
+            last: u64::from(first) + ((1 << (32 - prefix.len)) - 1),
         },
         Addr::V6(first) => block_hull_v6(first, prefix.len),
     }
@@ -69,8 +85,8 @@ fn block_hull_v6(first: u128, len: u8) -> AddrHull
     ensures { IsHullOfBits len (V6 first) result }
 {
     AddrHull {
-        first,
-        last: first.saturating_add(host_bits(len)),
+        first: upper_half(first),
+        last: upper_half(first.saturating_add(host_bits(len))),
     }
 }
 
@@ -86,14 +102,10 @@ fn host_bits(len: u8) -> u128
     }
 }
 
-/// Whether the address lies in the hull; without one any address does.
-pub(crate) fn in_hull(hull: Option<AddrHull>, addr: Addr) -> bool
-    ensures { result ≡ in_hull hull addr }
+/// Whether an address of this number lies in the hull; without one any address does.
+pub(crate) fn is_within(hull: Option<AddrHull>, number: u64) -> bool
+    ensures { result ≡ is_within hull number }
 {
-    let number = match addr {
-        Addr::V4(number) => u128::from(number),
-        Addr::V6(number) => number,
-    };
     match hull {
         Some(hull) => hull.first <= number && number <= hull.last,
         None => true,

@@ -6,13 +6,13 @@ use crate::place::Place;
 use crate::row::Row;
 use npf_bpf::Program;
 
-/// A rule: what it is bound to, whether it is `final`, what each packet meets that it describes, its
+/// A rule: what each packet meets that it describes, whether it is `final`, what it is bound to, its
 /// program, and where it stands in the model.
 #[derive(Drop)]
 pub struct FlatRule {
-    pub(crate) binding: Binding,
-    pub(crate) last: bool,
     pub(crate) row: Row,
+    pub(crate) last: bool,
+    pub(crate) binding: Binding,
     pub(crate) program: Program,
     pub(crate) place: Place,
 }
@@ -26,9 +26,10 @@ impl FlatRule {
     }
 }
 
-/// A group: what it is bound to, and how many rules it has, with those of its rulesets.
+/// A group: what it is bound to, how many rules it has, with those of its rulesets, and whether one of them is `final`.
 #[derive(Clone, Copy, Drop)]
 pub(crate) struct FlatGroup {
     pub(crate) binding: Binding,
     pub(crate) count: usize,
+    pub(crate) finals: bool,
 }

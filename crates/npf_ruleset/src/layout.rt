@@ -1,12 +1,12 @@
 // The places of a model's rules, one after another in the order of inspection.
 ghost use Rattle.std.specs.Prelude.{◌≡◌, ◌<◌, ◌++◌, IfOk, OnOk, length, slice_get};
-ghost use Rattle.npf_ruleset.specs.Flat.{IsFlatGroup, IsPairwise};
+ghost use Rattle.npf_ruleset.specs.Flat.{IsFlatGroup, IsPairwise, has_final, item_has_final, rules_have_final};
 ghost use Rattle.npf_ruleset.specs.Layout.{AddsPlaces, ArePlacesOf, places_from, rules_in_group};
 
 use crate::binding::Binding;
 use crate::flat::FlatGroup;
 use crate::place::{Place, count_of};
-use npf_model::Group;
+use npf_model::{Group, Item, Rule};
 use npf_types::NoMemory;
 use std::alloc::Global;
 
@@ -32,10 +32,37 @@ impl Layout {
             layout.groups.push(FlatGroup {
                 binding: Binding::of_group(group),
                 count: layout.places.len() - before,
+                finals: has_final(group),
             })?;
         }
         Ok(layout)
     }
+}
+
+/// Whether a rule of the group is `final`.
+fn has_final(group: &Group) -> bool
+    ensures { result ≡ has_final group.now }
+{
+    group
+        .items
+        .as_slice()
+        .iter()
+        .any(|item| item_has_final(item))
+}
+
+fn item_has_final(item: &Item) -> bool
+    ensures { result ≡ item_has_final item.now }
+{
+    match item {
+        Item::One(rule) => rule.last,
+        Item::Dynamic { rules, .. } => rules_have_final(rules.as_slice()),
+    }
+}
+
+fn rules_have_final(rules: &[(u32, Rule)]) -> bool
+    ensures { result ≡ rules_have_final rules.now }
+{
+    rules.iter().any(|numbered| numbered.1.last)
 }
 
 fn add_group(places: &mut Vec<Place>, groups: &[Group], number: usize) -> Result<(), NoMemory>

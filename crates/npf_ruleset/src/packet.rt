@@ -1,16 +1,18 @@
 // A packet, as a walk sees it and as a program asks of it.
 ghost use Rattle.std.specs.Prelude.{◌≡◌};
 ghost use Rattle.npf_bpfgen.specs.Premise.{ip_version};
-ghost use Rattle.npf_ruleset.specs.Packet.{coprocessor, flat_matches};
+ghost use Rattle.npf_ruleset.specs.Row.{destination_end, source_end};
 
 use crate::flat::FlatRule;
+use crate::row::PacketEnd;
 use crate::tables::table_has;
 use npf_bpfvm::{Cop, run};
 use npf_table::Table;
 use npf_types::{Addr, Dir, Facts, IfId};
 use std::sync::Arc;
 
-/// A packet's facts and bytes, where it passes, and the tables that its addresses are looked up in.
+/// A packet's facts and bytes, where it passes, and the tables that its addresses are looked up in. What rows ask of its ends stands
+/// beside the facts, so that it isn't found anew for each rule.
 #[derive(Clone, Copy, Drop)]
 pub(crate) struct Packet<'a> {
     pub(crate) facts: &'a Facts,
@@ -18,24 +20,32 @@ pub(crate) struct Packet<'a> {
     pub(crate) ifid: IfId,
     pub(crate) dir: Dir,
     pub(crate) tables: &'a [Arc<Table>],
+    pub(crate) source: PacketEnd,
+    pub(crate) destination: PacketEnd,
+    pub ghost from: { source ≡ source_end facts.now },
+    pub ghost to: { destination ≡ destination_end facts.now },
 }
 
 /// What a program returns on the packets that its rule describes.
 const DESCRIBED: u32 = u32::MAX;
 
 impl Packet<'_> {
-    /// Whether the rule matches: it isn't bound to elsewhere, its row admits the packet, and its
+    ghost use Rattle.npf_ruleset.specs.Packet.{flat_matches};
+
+    /// Whether the rule matches: its row admits the packet, it isn't bound to elsewhere, and its
     /// program describes it.
     pub(crate) fn meets(&self, rule: &FlatRule) -> bool
         ensures { result ≡ flat_matches self.now rule.now }
     {
-        rule.binding.leaves(self.ifid, self.dir)
-            && rule.row.admits(self.facts)
+        rule.row.admits(self)
+            && rule.binding.leaves(self.ifid, self.dir)
             && run(&rule.program, self.ip, self) == DESCRIBED
     }
 }
 
 impl Cop for Packet<'_> {
+    ghost use Rattle.npf_ruleset.specs.Packet.{coprocessor};
+
     ghost tells = { coprocessor };
 
     fn header(&self) -> (u32, u32, u32) {

@@ -27,11 +27,11 @@ loop-number-preserved c =
     let count = adds_len groups (rules_of c.index-groups-number.result) c.loop-number.layout.places.items c.add_group.new.places.items added in
     let before : c.len-before.result ≡ length c.loop-number.layout.places.items = c.len-before.ensures ∙ c.loop-number.layout.places.ok.0 in
     let after : c.len.result ≡ length c.add_group.new.places.items = c.len.ensures ∙ c.add_group.new.places.ok.0 in
-    let flat : FlatGroup = record { binding = c.of_group.result; count = c.len.result - c.len-before.result } in (
+    let flat : FlatGroup = record { binding = c.of_group.result; count = c.len.result - c.len-before.result; finals = c.has_final.result } in (
       subst (λ rules. AddsPlaces groups rules [] c.add_group.new.places.items) (sym (next_part rules_of groups n c.index-groups-number.result group))
           (adds_both groups (all_rules (take n groups)) (rules_of c.index-groups-number.result) [] c.loop-number.layout.places.items c.add_group.new.places.items c.loop-number.invariant.0 added),
       group_related groups n c.index-groups-number.result flat c.loop-number.layout.groups.items c.push.new.self.items group c.loop-number.invariant.1
-          (record { binding = c.of_group.ensures; count = omega arith }) c.in_ok-push.ensures.items,
+          (record { binding = c.of_group.ensures; count = omega arith; finals = c.has_final.ensures }) c.in_ok-push.ensures.items,
     )
 
 pub returns-clause-groups : goal.returns-clause-groups

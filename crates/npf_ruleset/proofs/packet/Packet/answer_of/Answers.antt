@@ -7,6 +7,6 @@ use Rattle.npf_ruleset.proofs.packet.Packet.answer_of.Goals as goal
 
 pub returns-in-None-clause-value : goal.returns-in-None-clause-value
 returns-in-None-clause-value c =
-    let none = sym c.first_final.ensures.value ∙ c.in-None.is in
+    let none = sym c.first_decider.ensures.value ∙ c.in-None.is in
     c.last_other.ensures.value ∙ last_of_others c.args.self.now 0 0 c.args.rules.now none
     ∙ sym (ap (λ o. option_or o (last_where (flat_matches c.args.self.now) 0 c.args.rules.now)) none)
