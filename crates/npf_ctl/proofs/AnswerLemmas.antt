@@ -6,10 +6,10 @@ use Rattle.npf_messages.specs.declared.fault.CommandFault.{CommandFault}
 use Rattle.npf_messages.specs.declared.fault.CommandFault.TheVariants.{Usage, Configuration, Unread, Long, Capture, Line, Many, Unwritten, OutputUnwritten, NoMemory}
 use Rattle.npf_messages.specs.Message.{status_of_fault}
 use Rattle.npf_words.specs.CommandLine.{is_command_line}
-use Rattle.npf_ctl.specs.Ends.{IsAnswered, SaysFault}
+use Rattle.npf_ctl.specs.Ends.{AnswersWords, SaysFault}
 use Rattle.npf_ctl.specs.Faults.{IsFaulted, IsUntouched, MeetsFault, PutsFront, PutsNothing}
 use Rattle.npf_ctl.specs.Running.{Moment}
-use Rattle.npf_ctl.specs.Top.{Answers, DoesWords, IsQuiet}
+use Rattle.npf_ctl.specs.Top.{HasStatus, DoesWords, IsQuiet}
 use Rattle.npf_ctl.proofs.EndLemmas.{reported_front}
 
 -- no fault has the status of work that was done
@@ -49,32 +49,32 @@ module _ (words : List (List ℕ)) (before after : Moment) where
 
   module _ (old new : SinkMoment) (status : ℕ) where
     -- what was said of a fault with its cause is an answer
-    pub said_fault : (fault : CommandFault) → MeetsFault words before after fault → SaysFault old new fault status → IsAnswered words before after old new status
-    said_fault fault cause (SaysFault.told is line) = IsAnswered.refused (record { fault = fault; status_is = is; cause = cause; line = line })
-    said_fault fault cause (SaysFault.untold is nothing) = IsAnswered.refused (record {
+    pub said_fault : (fault : CommandFault) → MeetsFault words before after fault → SaysFault old new fault status → AnswersWords words before after old new status
+    said_fault fault cause (SaysFault.told is line) = AnswersWords.refused (record { fault = fault; status_is = is; cause = cause; line = line })
+    said_fault fault cause (SaysFault.untold is nothing) = AnswersWords.refused (record {
       fault = NoMemory;
       status_is = is;
       cause = MeetsFault.in_memory (put_before fault cause);
       line = inr (inr (is, nothing));
     })
 
-    pub was_done : IsAnswered words before after old new status → status ≡ 0 → DoesWords words before after × (after.out.waiting ≡ 0) × Appends old.held new.held []
-    was_done (IsAnswered.done zero does flushed silent) is = (does, flushed, silent)
-    was_done (IsAnswered.refused faulted) is = absurd (never_zero faulted.fault (sym faulted.status_is ∙ is))
+    pub was_done : AnswersWords words before after old new status → status ≡ 0 → DoesWords words before after × (after.out.waiting ≡ 0) × Appends old.held new.held []
+    was_done (AnswersWords.done zero does flushed silent) is = (does, flushed, silent)
+    was_done (AnswersWords.refused faulted) is = absurd (never_zero faulted.fault (sym faulted.status_is ∙ is))
 
-    pub was_refused : IsAnswered words before after old new status → status ≢ 0 → IsFaulted words before after old new status
-    was_refused (IsAnswered.done zero does flushed silent) not = absurd (not zero)
-    was_refused (IsAnswered.refused faulted) not = faulted
+    pub was_refused : AnswersWords words before after old new status → status ≢ 0 → IsFaulted words before after old new status
+    was_refused (AnswersWords.done zero does flushed silent) not = absurd (not zero)
+    was_refused (AnswersWords.refused faulted) not = faulted
 
-    pub was_quiet : IsAnswered words before after old new status → IsQuiet status → IsUntouched before after
-    was_quiet (IsAnswered.done zero does flushed silent) quiet = absurd (quiet.0 zero)
-    was_quiet (IsAnswered.refused faulted) quiet = untouched_by faulted.fault faulted.cause (subst IsQuiet faulted.status_is quiet)
+    pub was_quiet : AnswersWords words before after old new status → IsQuiet status → IsUntouched before after
+    was_quiet (AnswersWords.done zero does flushed silent) quiet = absurd (quiet.0 zero)
+    was_quiet (AnswersWords.refused faulted) quiet = untouched_by faulted.fault faulted.cause (subst IsQuiet faulted.status_is quiet)
 
     -- words that are no command line are refused
-    pub refuses_usage : is_command_line words ≡ false → IsAnswered words before after old new status → Answers 2 status
-    refuses_usage not (IsAnswered.done zero does flushed silent) = absurd (false≢true (sym not ∙ does.said.taken))
-    refuses_usage not (IsAnswered.refused faulted) = by faulted.fault faulted.cause faulted.status_is where
-      by : (fault : CommandFault) → MeetsFault words before after fault → status ≡ status_of_fault fault → Answers 2 status
+    pub refuses_usage : is_command_line words ≡ false → AnswersWords words before after old new status → HasStatus 2 status
+    refuses_usage not (AnswersWords.done zero does flushed silent) = absurd (false≢true (sym not ∙ does.said.taken))
+    refuses_usage not (AnswersWords.refused faulted) = by faulted.fault faulted.cause faulted.status_is where
+      by : (fault : CommandFault) → MeetsFault words before after fault → status ≡ status_of_fault fault → HasStatus 2 status
       by _ (MeetsFault.in_words not_either untouched) is = inl is
       by _ (MeetsFault.in_run said comes untouched) is = absurd (false≢true (sym not ∙ said.taken))
       by _ (MeetsFault.in_loading said loaded comes untouched) is = absurd (false≢true (sym not ∙ said.taken))

@@ -20,11 +20,11 @@ use Rattle.npf_words.specs.CommandLine.{SaysCommand, given_text, is_command_line
 use Rattle.npf_words.specs.Laws.{IsSameCommand, IsSameLoad, IsSameRun, OneCommand}
 use Rattle.npf_ctl.specs.Commands.{loaded_by, names_of_run}
 use Rattle.npf_ctl.specs.Generated.{HoldsWorkload, PreparesOf}
-use Rattle.npf_ctl.specs.Ends.{IsAnswered}
+use Rattle.npf_ctl.specs.Ends.{AnswersWords}
 use Rattle.npf_ctl.specs.Faults.{MeetsFault, PutsFront}
 use Rattle.npf_ctl.specs.Running.{Moment}
 use Rattle.npf_ctl.specs.Texts.{TextOf}
-use Rattle.npf_ctl.specs.Top.{Answers, CanDo, DoesCommand, DoesWords, IsOk, MustRefuse}
+use Rattle.npf_ctl.specs.Top.{HasStatus, CanDo, DoesCommand, DoesWords, IsOk, MustRefuse}
 use Rattle.npf_ctl.proofs.EndLemmas.{reported_front}
 
 -- a fault of files is told by what they come to
@@ -41,17 +41,17 @@ module _ (words : List (List ℕ)) (before after : Moment) (A : Type 0) (ComesTo
 
   module _ (is : IsToldBy) (old new : SinkMoment) (status : ℕ) where
     -- one fault alone can be told
-    only : (fault : CommandFault) → ((result : Result A CommandFault) → ComesTo result → result ≡ Err fault) → IsAnswered words before after old new status →
-        Answers (status_of_fault fault) status
-    only fault must (IsAnswered.done zero does flushed silent) = let ok = is.does does in let e = must (Ok ok.0) ok.1 in cc
-    only fault must (IsAnswered.refused faulted) = by faulted.fault faulted.cause faulted.status_is where
+    only : (fault : CommandFault) → ((result : Result A CommandFault) → ComesTo result → result ≡ Err fault) → AnswersWords words before after old new status →
+        HasStatus (status_of_fault fault) status
+    only fault must (AnswersWords.done zero does flushed silent) = let ok = is.does does in let e = must (Ok ok.0) ok.1 in cc
+    only fault must (AnswersWords.refused faulted) = by faulted.fault faulted.cause faulted.status_is where
       never : {X : Type 0} → (a : A) × ComesTo (Ok a) → X
       never ok = let e = must (Ok ok.0) ok.1 in cc
 
-      same : (other : CommandFault) → ComesTo (Err other) → status ≡ status_of_fault other → Answers (status_of_fault fault) status
+      same : (other : CommandFault) → ComesTo (Err other) → status ≡ status_of_fault other → HasStatus (status_of_fault fault) status
       same other comes at = let e : other ≡ fault = (let e = must (Err other) comes in cc) in inl (at ∙ ap status_of_fault e)
 
-      by : (other : CommandFault) → MeetsFault words before after other → status ≡ status_of_fault other → Answers (status_of_fault fault) status
+      by : (other : CommandFault) → MeetsFault words before after other → status ≡ status_of_fault other → HasStatus (status_of_fault fault) status
       by _ (MeetsFault.in_words not untouched) at = absurd (false≢true (sym not ∙ is.taken))
       by other (MeetsFault.in_run said comes untouched) at = same other (is.runs said comes) at
       by other (MeetsFault.in_loading said loaded comes untouched) at = same other (is.loads said loaded comes) at
@@ -63,10 +63,10 @@ module _ (words : List (List ℕ)) (before after : Moment) (A : Type 0) (ComesTo
 
     -- no fault can be told
     none : ((result : Result A CommandFault) → ComesTo result → IsOk result) → StoodStill before.out.faults after.out.faults →
-        StoodStill before.files.write_faults after.files.write_faults → IsAnswered words before after old new status → Answers 0 status
-    none can puts writes (IsAnswered.done zero does flushed silent) = inl zero
-    none can puts writes (IsAnswered.refused faulted) = by faulted.fault faulted.cause faulted.status_is where
-      by : (other : CommandFault) → MeetsFault words before after other → status ≡ status_of_fault other → Answers 0 status
+        StoodStill before.files.write_faults after.files.write_faults → AnswersWords words before after old new status → HasStatus 0 status
+    none can puts writes (AnswersWords.done zero does flushed silent) = inl zero
+    none can puts writes (AnswersWords.refused faulted) = by faulted.fault faulted.cause faulted.status_is where
+      by : (other : CommandFault) → MeetsFault words before after other → status ≡ status_of_fault other → HasStatus 0 status
       by _ (MeetsFault.in_words not untouched) at = absurd (false≢true (sym not ∙ is.taken))
       by other (MeetsFault.in_run said comes untouched) at = absurd (can (Err other) (is.runs said comes))
       by other (MeetsFault.in_loading said loaded comes untouched) at = absurd (can (Err other) (is.loads said loaded comes))
@@ -220,14 +220,14 @@ module _ (words : List (List ℕ)) (before after : Moment) (tree : Tree) (told :
     }
 
   module _ (of_runs : RunsAreOfContents) (of_loads : LoadsAreOfContents) (old new : SinkMoment) (status : ℕ) where
-    pub refuses_fault : (fault : CommandFault) → MustRefuse words tree fault → IsAnswered words before after old new status → Answers (status_of_fault fault) status
+    pub refuses_fault : (fault : CommandFault) → MustRefuse words tree fault → AnswersWords words before after old new status → HasStatus (status_of_fault fault) status
     refuses_fault fault (MustRefuse.run {words_of = run} said must) =
         only words before after RunPlan (OfRun of_runs run said) (run_told of_runs run said) old new status fault must
     refuses_fault fault (MustRefuse.load {command = command} {load_of = load} said loaded must) =
         only words before after Configuration (OfLoad of_loads command load said loaded) (load_told of_loads command load said loaded) old new status fault must
 
     pub does_all : CanDo words tree → StoodStill before.out.faults after.out.faults → StoodStill before.files.write_faults after.files.write_faults →
-        IsAnswered words before after old new status → Answers 0 status
+        AnswersWords words before after old new status → HasStatus 0 status
     does_all (CanDo.run {words_of = run} said can) =
         none words before after RunPlan (OfRun of_runs run said) (run_told of_runs run said) old new status can
     does_all (CanDo.load {command = command} {load_of = load} said loaded can) =

@@ -32,7 +32,7 @@ pub record IsFresh (pass : Pass FlowEntry) : Type 0 where
   pub first : pass.history ≡ []
 
 -- what is left of it: its history, its sweeps and its epoch went on
-pub record GoesOn (old new : Pass FlowEntry) : Type 0 where
+pub record IsLaterPass (old new : Pass FlowEntry) : Type 0 where
   pub legal : IsPass flow_law new
   pub out : new.entered ≡ false
   pub places : new.places ≡ all_places
@@ -76,6 +76,6 @@ pub data SaysFault (old new : SinkMoment) (fault : CommandFault) (status : ℕ) 
   untold : status ≡ 1 → Appends old.held new.held [] → SaysFault old new fault status
 
 -- the words were answered with this status
-pub data IsAnswered (words : List (List ℕ)) (before after : Moment) (old new : SinkMoment) (status : ℕ) : Type 0 where
-  done : status ≡ 0 → DoesWords words before after → after.out.waiting ≡ 0 → Appends old.held new.held [] → IsAnswered words before after old new status
-  refused : IsFaulted words before after old new status → IsAnswered words before after old new status
+pub data AnswersWords (words : List (List ℕ)) (before after : Moment) (old new : SinkMoment) (status : ℕ) : Type 0 where
+  done : status ≡ 0 → DoesWords words before after → after.out.waiting ≡ 0 → Appends old.held new.held [] → AnswersWords words before after old new status
+  refused : IsFaulted words before after old new status → AnswersWords words before after old new status

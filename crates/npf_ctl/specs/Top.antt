@@ -51,8 +51,8 @@ abbrev pub IsQuiet : ℕ → Type 0
 IsQuiet status = (status ≢ 0) × (status ≢ 1) × (status ≢ 5)
 
 -- this status, or want of memory
-abbrev pub Answers : ℕ → ℕ → Type 0
-Answers wanted status = (status ≡ wanted) ⊎ (status ≡ 1)
+abbrev pub HasStatus : ℕ → ℕ → Type 0
+HasStatus wanted status = (status ≡ wanted) ⊎ (status ≡ 1)
 
 -- something is answered, and no fault
 abbrev pub IsOk : {A F : Type 0} → Result A F → Type 0

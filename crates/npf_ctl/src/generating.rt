@@ -4,7 +4,7 @@ ghost use Rattle.npf_outside.specs.Files.{FilesMoment};
 ghost use Rattle.npf_prepare.specs.Playable.{IsPlayable};
 ghost use Rattle.npf_words.specs.declared.command.Command.{Command as CommandType};
 ghost use Rattle.npf_words.specs.CommandLine.{SaysCommand};
-ghost use Rattle.npf_ctl.specs.Ends.{EndsIn, GoesOn, IsFresh, PreparesGenerated};
+ghost use Rattle.npf_ctl.specs.Ends.{EndsIn, IsLaterPass, IsFresh, PreparesGenerated};
 ghost use Rattle.npf_ctl.specs.Running.{moment};
 
 use crate::generated_files::GeneratedFiles;
@@ -35,7 +35,7 @@ pub(crate) fn run_generated<R: Threads + Wait + Sync, O: Sink, C: Connections<Fl
     ensures ends { (texts : List (List ℕ)) (files : FilesMoment) → SaysCommand texts (CommandType.Gen number) → EndsIn texts
         (moment files (O.moment out.old) (C.view pass.old)) (moment files (O.moment out.new) (C.view pass.new)) result }
     ensures own { C.fits conns.now pass.new }
-    ensures goes_on { GoesOn (C.view pass.old) (C.view pass.new) }
+    ensures goes_on { IsLaterPass (C.view pass.old) (C.view pass.new) }
 {
     let prepared = prepare_generated(alloc, number)?;
     let Prepared {

@@ -15,7 +15,7 @@ ghost use Rattle.npf_words.specs.declared.command.Command.{Command as CommandTyp
 ghost use Rattle.npf_words.specs.CommandLine.{SaysCommand};
 ghost use Rattle.npf_messages.specs.declared.fault.CommandFault.{CommandFault as FaultType};
 ghost use Rattle.npf_ctl.specs.Commands.{spread_said};
-ghost use Rattle.npf_ctl.specs.Ends.{EndsIn, FailsReport, GoesOn, HasReadOn, IsFresh, IsUnwritten};
+ghost use Rattle.npf_ctl.specs.Ends.{EndsIn, FailsReport, IsLaterPass, HasReadOn, IsFresh, IsUnwritten};
 ghost use Rattle.npf_ctl.specs.Running.{IsWrittenTo, moment};
 ghost use Rattle.npf_ctl.specs.Top.{KeepsOtherFiles};
 
@@ -52,7 +52,7 @@ pub(crate) fn run<R: Threads + Wait + Sync, F: Files, O: Sink, C: Connections<Fl
     ensures files { (texts : List (List ℕ)) → SaysCommand texts (CommandType.Run words.entry)
         → KeepsOtherFiles texts (F.moment files.old).contents (F.moment files.new).contents }
     ensures own { C.fits conns.now pass.new }
-    ensures goes_on { GoesOn (C.view pass.old) (C.view pass.new) }
+    ensures goes_on { IsLaterPass (C.view pass.old) (C.view pass.new) }
 {
     let names = RunFiles {
         conf: words.conf,
@@ -97,7 +97,7 @@ fn report_run<R: Threads + Wait + Sync, O: Sink, C: Connections<FlowLaw>, G: Gat
     ensures fails { IfErr result (FailsReport (run_plan_of prepared) words.entry.workers (spread_said words.entry.spread)
         (C.view pass.old) (C.view pass.new) (O.moment out.old) (O.moment out.new)) }
     ensures own { C.fits conns.now pass.new }
-    ensures goes_on { GoesOn (C.view pass.old) (C.view pass.new) }
+    ensures goes_on { IsLaterPass (C.view pass.old) (C.view pass.new) }
 {
     let Prepared {
         ifaces,

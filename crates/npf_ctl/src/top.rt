@@ -9,10 +9,10 @@ ghost use Rattle.npf_outside.specs.Files.{SameFiles, Tree};
 ghost use Rattle.npf_outside.specs.Sink.{Appends};
 ghost use Rattle.npf_words.specs.CommandLine.{is_command_line, word_texts};
 ghost use Rattle.npf_input.specs.File.{ReadsWell};
-ghost use Rattle.npf_ctl.specs.Ends.{EndsIn, GoesOn, IsAnswered, IsFresh, SaysFault};
+ghost use Rattle.npf_ctl.specs.Ends.{EndsIn, IsLaterPass, AnswersWords, IsFresh, SaysFault};
 ghost use Rattle.npf_ctl.specs.Faults.{IsFaulted};
 ghost use Rattle.npf_ctl.specs.Running.{moment};
-ghost use Rattle.npf_ctl.specs.Top.{Answers, CanDo, DoesWords, IsQuiet, KeepsOtherFiles, MustRefuse};
+ghost use Rattle.npf_ctl.specs.Top.{HasStatus, CanDo, DoesWords, IsQuiet, KeepsOtherFiles, MustRefuse};
 
 use crate::generating::run_generated;
 use crate::looking::{Look, look_at};
@@ -76,13 +76,13 @@ pub fn npfctl_top<
         (E.moment err.old) (E.moment err.new) result }
 
     // What must be refused is, for the fault that it comes to, and what can be done is, but for want of memory.
-    ensures refuses_words { is_command_line (word_texts words.now) ≡ false → Answers 2 result }
+    ensures refuses_words { is_command_line (word_texts words.now) ≡ false → HasStatus 2 result }
     ensures refuses { (tree : Tree) (fault : FaultType) → (F.moment files.old).contents ≡ Some tree → MustRefuse (word_texts words.now) tree fault
-        → ReadsWell (F.moment files.old) (F.moment files.new) → Answers (status_of_fault fault) result }
+        → ReadsWell (F.moment files.old) (F.moment files.new) → HasStatus (status_of_fault fault) result }
     ensures complete { (tree : Tree) → (F.moment files.old).contents ≡ Some tree → CanDo (word_texts words.now) tree
         → ReadsWell (F.moment files.old) (F.moment files.new)
         → StoodStill (O.moment out.old).faults (O.moment out.new).faults
-        → StoodStill (F.moment files.old).write_faults (F.moment files.new).write_faults → Answers 0 result }
+        → StoodStill (F.moment files.old).write_faults (F.moment files.new).write_faults → HasStatus 0 result }
 
     // With 2, 3, 4, 7, 8 and 9 nothing is put on the output, no file changes, and the table of connections is asked nothing; with any status
     // no file changes but the one that is to be written.
@@ -121,12 +121,12 @@ fn answer<R: Threads + Wait + Sync, F: Files, O: Sink, E: Sink, C: Connections<F
 ) -> Status
     requires own { C.fits conns.now pass.old }
     requires fresh { IsFresh (C.view pass.old) }
-    ensures answered { IsAnswered (word_texts words.now)
+    ensures answered { AnswersWords (word_texts words.now)
         (moment (F.moment files.old) (O.moment out.old) (C.view pass.old)) (moment (F.moment files.new) (O.moment out.new) (C.view pass.new))
         (E.moment err.old) (E.moment err.new) result }
     ensures files { KeepsOtherFiles (word_texts words.now) (F.moment files.old).contents (F.moment files.new).contents }
     ensures own { C.fits conns.now pass.new }
-    ensures goes_on { GoesOn (C.view pass.old) (C.view pass.new) }
+    ensures goes_on { IsLaterPass (C.view pass.old) (C.view pass.new) }
 {
     match do_words(rt, alloc, words, files, out, conns, pass, gate) {
         Ok(()) => 0,
@@ -151,7 +151,7 @@ fn do_words<R: Threads + Wait + Sync, F: Files, O: Sink, C: Connections<FlowLaw>
         (moment (F.moment files.old) (O.moment out.old) (C.view pass.old)) (moment (F.moment files.new) (O.moment out.new) (C.view pass.new)) result }
     ensures files { KeepsOtherFiles (word_texts words.now) (F.moment files.old).contents (F.moment files.new).contents }
     ensures own { C.fits conns.now pass.new }
-    ensures goes_on { GoesOn (C.view pass.old) (C.view pass.new) }
+    ensures goes_on { IsLaterPass (C.view pass.old) (C.view pass.new) }
 {
     let command = match read_words(alloc, words) {
         Ok(command) => command,

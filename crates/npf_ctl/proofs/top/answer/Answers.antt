@@ -1,13 +1,13 @@
 use Rattle.std.proofs.Common.{refl}
 use Rattle.npf_words.specs.CommandLine.{word_texts}
-use Rattle.npf_ctl.specs.Ends.{IsAnswered}
+use Rattle.npf_ctl.specs.Ends.{AnswersWords}
 use Rattle.npf_ctl.specs.Running.{moment}
 use Rattle.npf_ctl.proofs.AnswerLemmas.{said_fault}
 use Rattle.npf_ctl.proofs.FileLemmas.{nothing_put}
 use Rattle.npf_ctl.proofs.top.answer.Goals as goal
 
 pub returns-in-Ok-clause-answered : goal.returns-in-Ok-clause-answered
-returns-in-Ok-clause-answered g c = IsAnswered.done refl c.in-Ok.ensures.ends.0 c.in-Ok.ensures.ends.1 (nothing_put (g.E.Sink.moment c.args.err.now))
+returns-in-Ok-clause-answered g c = AnswersWords.done refl c.in-Ok.ensures.ends.0 c.in-Ok.ensures.ends.1 (nothing_put (g.E.Sink.moment c.args.err.now))
 
 pub returns-in-Err-clause-answered : goal.returns-in-Err-clause-answered
 returns-in-Err-clause-answered g c =
