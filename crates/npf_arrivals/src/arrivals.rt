@@ -4,7 +4,7 @@ ghost use Rattle.npf_arrivals.specs.Arrivals.{AreByTime, GathersCapture, none_ga
 ghost use Rattle.npf_arrivals.specs.Gathering.{gathered_so_far};
 ghost use Rattle.npf_arrivals.specs.Within.{CrossesOneOf, HasCaptureTime, IsInterfaceNumber, IsWithinRun};
 
-use crate::capture::{packets_of, read_named};
+use crate::capture::{append_packets, read_named};
 use crate::limit::within_run;
 use npf_messages::CommandFault;
 use npf_runner::Packet;
@@ -51,11 +51,18 @@ impl Arrivals {
         ensures crosses { (count : ℕ) → All (CrossesOneOf count) (gathered_so_far self.old).packets → IsInterfaceNumber count ifid → All (CrossesOneOf count) (gathered_so_far self.new).packets }
     {
         let capture = read_named(alloc, file, bytes)?;
-        let records = capture.records.into_vec();
+        let extents = capture.extents.as_slice();
         let read = self.bytes + bytes.len() as u64;
-        within_run(read, self.packets.len() as u64 + records.len() as u64)?;
-        let mut packets = packets_of(alloc, capture.link, ifid, dir, records)?;
-        self.packets.append(&mut packets)?;
+        within_run(read, self.packets.len() as u64 + extents.len() as u64)?;
+        append_packets(
+            alloc,
+            &mut self.packets,
+            bytes,
+            extents,
+            capture.link,
+            ifid,
+            dir,
+        )?;
         self.bytes = read;
         Ok(())
     }
