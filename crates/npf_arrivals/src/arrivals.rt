@@ -6,6 +6,7 @@ ghost use Rattle.npf_arrivals.specs.Within.{CrossesOneOf, HasCaptureTime, IsInte
 
 use crate::capture::{append_packets, read_named};
 use crate::limit::within_run;
+use crate::order::are_in_order;
 use npf_messages::CommandFault;
 use npf_runner::Packet;
 use npf_types::limits::{MAX_CAPTURE_BYTES, MAX_PACKETS};
@@ -67,7 +68,8 @@ impl Arrivals {
         Ok(())
     }
 
-    /// The packets by time, and those of one time as they were gathered. They may be played and written.
+    /// The packets by time, and those of one time as they were gathered. They may be played and written. Those that stand so already are
+    /// left as they are, with no memory taken.
     pub fn by_time(self) -> Result<Vec<Packet>, NoMemory>
         requires { IsWithinRun (gathered_so_far self) }
         ensures sorted { IfOk result (λ packets. AreByTime (gathered_so_far self).packets packets.items) }
@@ -80,6 +82,9 @@ impl Arrivals {
             bytes: _,
             mut packets,
         } = self;
+        if are_in_order(packets.as_slice()) {
+            return Ok(packets);
+        }
         match packets.sort_by_key(|packet| packet.time) {
             Ok(()) => Ok(packets),
             Err(_) => Err(NoMemory),
