@@ -1,2 +1,2 @@
-mod FitLemmas
 mod GatherLemmas
+mod PacketLemmas

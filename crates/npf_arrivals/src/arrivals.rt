@@ -4,8 +4,9 @@ ghost use Rattle.npf_arrivals.specs.Arrivals.{AreByTime, GathersCapture, none_ga
 ghost use Rattle.npf_arrivals.specs.Gathering.{gathered_so_far};
 ghost use Rattle.npf_arrivals.specs.Within.{CrossesOneOf, HasCaptureTime, IsInterfaceNumber, IsWithinRun};
 
-use crate::capture::{packets_of, read_named};
+use crate::capture::{append_packets, read_named};
 use crate::limit::within_run;
+use crate::order::are_in_order;
 use npf_messages::CommandFault;
 use npf_runner::Packet;
 use npf_types::limits::{MAX_CAPTURE_BYTES, MAX_PACKETS};
@@ -51,16 +52,24 @@ impl Arrivals {
         ensures crosses { (count : ℕ) → All (CrossesOneOf count) (gathered_so_far self.old).packets → IsInterfaceNumber count ifid → All (CrossesOneOf count) (gathered_so_far self.new).packets }
     {
         let capture = read_named(alloc, file, bytes)?;
-        let records = capture.records.into_vec();
+        let extents = capture.extents.as_slice();
         let read = self.bytes + bytes.len() as u64;
-        within_run(read, self.packets.len() as u64 + records.len() as u64)?;
-        let mut packets = packets_of(alloc, capture.link, ifid, dir, records)?;
-        self.packets.append(&mut packets)?;
+        within_run(read, self.packets.len() as u64 + extents.len() as u64)?;
+        append_packets(
+            alloc,
+            &mut self.packets,
+            bytes,
+            extents,
+            capture.link,
+            ifid,
+            dir,
+        )?;
         self.bytes = read;
         Ok(())
     }
 
-    /// The packets by time, and those of one time as they were gathered. They may be played and written.
+    /// The packets by time, and those of one time as they were gathered. They may be played and written. Those that stand so already are
+    /// left as they are, with no memory taken.
     pub fn by_time(self) -> Result<Vec<Packet>, NoMemory>
         requires { IsWithinRun (gathered_so_far self) }
         ensures sorted { IfOk result (λ packets. AreByTime (gathered_so_far self).packets packets.items) }
@@ -73,6 +82,9 @@ impl Arrivals {
             bytes: _,
             mut packets,
         } = self;
+        if are_in_order(packets.as_slice()) {
+            return Ok(packets);
+        }
         match packets.sort_by_key(|packet| packet.time) {
             Ok(()) => Ok(packets),
             Err(_) => Err(NoMemory),

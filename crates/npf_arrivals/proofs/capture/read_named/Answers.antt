@@ -1,14 +1,10 @@
-use Rattle.std.proofs.Common.{Err, sym, subst, arith}
+use Rattle.std.proofs.Common.{Err, sym, subst}
 use Rattle.npf_messages.specs.declared.fault.CommandFault.{CommandFault}
 use Rattle.npf_arrivals.specs.Arrivals.{ReadsCapture, spelled, refused}
-use Rattle.npf_arrivals.proofs.FitLemmas.{capture_fits}
 use Rattle.npf_arrivals.proofs.capture.read_named.Goals as goal
 
 pub returns-in-Ok-clause-read : goal.returns-in-Ok-clause-read
 returns-in-Ok-clause-read c = spelled c.in-Ok.ensures.read
-
-pub returns-in-Ok-clause-fits : goal.returns-in-Ok-clause-fits
-returns-in-Ok-clause-fits c = capture_fits c.args.bytes.now c.in-Ok.capture.link c.in-Ok.capture.records (λ k. omega (arith, c.type_inv.bytes k)) c.in-Ok.ensures.read
 
 pub returns-in-Err-clause-refused : goal.returns-in-Err-clause-refused
 returns-in-Err-clause-refused c = λ known.
