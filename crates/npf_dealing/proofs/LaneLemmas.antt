@@ -81,3 +81,22 @@ module _ {X : Type 0} where
           by_test : (test : Bool) → (v == w) ≡ test → get_or (set lanes v left) w d ≡ of_lane w o xs
           by_test true is = subst (λ k. get_or (set lanes v left) k d ≡ of_lane k o xs) ((Decides-eqb v w).0 is) (get_or-set_same lanes v left d low ∙ ap (drop 1) items)
           by_test false is = get_or-set_other lanes v w left d (not_equal v w is) ∙ (h.each w d (rw size at less) ∙ of_lane-no v w o x xs is)
+
+  -- where all go to the first lane, it has them all
+  of_lane-all : (order : List ℕ) (xs : List X) → length xs ≡ length order → All (λ lane. lane < 1) order → of_lane 0 order xs ≡ xs
+  of_lane-all [] [] n fits = refl
+  of_lane-all [] (x ∷ xs) n fits = absurd (omega (arith, n))
+  of_lane-all (v ∷ o) [] n fits = refl
+  of_lane-all (v ∷ o) (x ∷ xs) n fits =
+      let first : v ≡ 0 = let low = All-head (λ lane. lane < 1) v o fits in omega (arith, low) in
+      of_lane-yes v 0 o x xs ((Decides-eqb v 0).1 first) ∙ ap (λ ys. x ∷ ys) (of_lane-all o xs (omega (arith, n)) (All-tail (λ lane. lane < 1) v o fits))
+
+  pub dealt_to_one : (order : List ℕ) (xs : List X) → length xs ≡ length order → All (λ lane. lane < 1) order → IsDealt order xs (xs ∷ [])
+  dealt_to_one order xs n fits = record { count = n; fits = fits; each = each }
+    where
+      each : (w : ℕ) (d : List X) → w < 1 → get_or (xs ∷ []) w d ≡ of_lane w order xs
+      each zero d low = sym (of_lane-all order xs n fits)
+      each (suc w) d low = absurd (omega (arith, low))
+
+  pub one_has_all : (order : List ℕ) (xs lane : List X) → IsDealt order xs (lane ∷ []) → lane ≡ xs
+  one_has_all order xs lane h = h.each 0 [] (omega arith) ∙ of_lane-all order xs h.count h.fits

@@ -16,12 +16,27 @@ pub fn deal<T: Drop>(
     ensures count { IfOk result (λ dealt. vec_len dealt ≡ lanes) }
     ensures dealt { IfOk result (λ dealt. IsDealt order.now items.items (map vec_items dealt.items)) }
 {
+    if lanes == 1 {
+        return one_lane(alloc, items, order);
+    }
     let mut dealt = empty_lanes(alloc, lanes)?;
     let mut place = 0;
     for item in items {
         dealt[order[place] as usize].push(item)?;
         place += 1;
     }
+    Ok(dealt)
+}
+
+// All items in one lane, as they stand.
+fn one_lane<T: Drop>(alloc: Global, items: Vec<T>, order: &[u32]) -> Result<Vec<Vec<T>>, NoMemory>
+    requires count { vec_len items ≡ length order.now }
+    requires lanes { All (λ lane. lane < 1) order.now }
+    ensures count { IfOk result (λ dealt. vec_len dealt ≡ 1) }
+    ensures dealt { IfOk result (λ dealt. IsDealt order.now items.items (map vec_items dealt.items)) }
+{
+    let mut dealt = Vec::with_capacity(alloc, 1)?;
+    dealt.push_reserved(items);
     Ok(dealt)
 }
 

@@ -1,7 +1,7 @@
--- The steps of the loops over packets and commands.
+-- The steps of the loops over packets, commands and workers.
 use Rattle.std.proofs.Common.{◌≡◌, ℕ, ◌+◌, ◌-◌, ◌≤◌, ◌<◌, List, [], ◌∷◌, ◌++◌, All, map, length, take, drop, get_or, refl, ap, sym, subst, ◌∙◌, arith, suc}
 use Rattle.std.specs.List.{AllZip}
-use Rattle.std.proofs.lemmas.List.{take_more}
+use Rattle.std.proofs.lemmas.List.{append_assoc, drop_more, map-append, take_more}
 use Rattle.std.proofs.lemmas.List.Sums.{sum_by-cons}
 use Rattle.std.proofs.lemmas.List.Elements.{All-nil, All-cons, All-head, All-tail}
 use Rattle.npf_publish.specs.declared.conf_reader.ConfReader.{ConfReader}
@@ -12,7 +12,7 @@ use Rattle.npf_runner.specs.declared.phase.Command.{Command}
 use Rattle.npf_runner.specs.declared.phase.Command.TheVariants.{Publish, Expire}
 use Rattle.npf_runner.specs.declared.phase.Phase.{Phase}
 use Rattle.npf_runner.specs.Job.{IsJob, numbered_from}
-use Rattle.npf_runner.specs.Plays.{IsShortPacket, PublishFrom, packets_in, published_by}
+use Rattle.npf_runner.specs.Plays.{IsShortPacket, PhasesPublishFrom, PublishFrom, packets_in, published_by}
 use Rattle.std.specs.Prelude.{Option, Some, None}
 
 pub numbered_more : (first count place : ℕ) (packet : Packet) (rest : List Packet) → place < count →
@@ -53,6 +53,18 @@ published_below count last (Publish place ∷ commands) p low =
     let rest = published_below count (last + 1) commands p.2 (let e = p.0 in let f = p.1 in omega (arith, e, f)) in omega (arith, rest)
 published_below count last (Expire time ∷ commands) p low = published_below count last commands p low
 
+pub phases_from : (phases : List Phase) (i : ℕ) (phase : Phase) → i < length phases → phase ≡ get_or phases i phase → drop i phases ≡ phase ∷ drop (i + 1) phases
+phases_from phases i phase low at = drop_more phases i phase low ∙ ap (λ p. p ∷ drop (i + 1) phases) (sym at)
+
+-- what is left has a phase's packets
+pub phase_fits : (phases : List Phase) (i : ℕ) (phase : Phase) (left : ℕ) → i < length phases → phase ≡ get_or phases i phase → packets_in (drop i phases) ≡ left → phase.packets ≤ left
+phase_fits phases i phase left low at all =
+    let sums = ap packets_in (phases_from phases i phase low at) ∙ packets_first phase (drop (i + 1) phases) in omega (arith, sums, all)
+
+pub phase_ordered : (count last : ℕ) (phases : List Phase) (i : ℕ) (phase : Phase) → i < length phases → phase ≡ get_or phases i phase → PhasesPublishFrom count last (drop i phases) →
+    PublishFrom count last phase.commands × PhasesPublishFrom count (last + published_by phase.commands) (drop (i + 1) phases)
+phase_ordered count last phases i phase low at ordered = subst (λ ps. PhasesPublishFrom count last ps) (phases_from phases i phase low at) ordered
+
 zip_push : {X Y : Type 0} (R : X → Y → Type 0) (xs : List X) (ys : List Y) (x : X) (y : Y) → AllZip R xs ys → R x y → AllZip R (xs ++ x ∷ []) (ys ++ y ∷ [])
 zip_push R [] [] x y z r = (r, tt)
 zip_push R [] (b ∷ ys) x y z r = absurd z
@@ -63,3 +75,11 @@ pub zip_more : {X Y : Type 0} (R : X → Y → Type 0) (xs : List X) (ys : List 
     AllZip R (take (i + 1) xs) (ys ++ y ∷ [])
 zip_more R xs ys i x y low at z r =
     subst (λ us. AllZip R us (ys ++ y ∷ [])) (sym (take_more xs i x low)) (subst (λ v. AllZip R (take i xs ++ v ∷ []) (ys ++ y ∷ [])) at (zip_push R (take i xs) ys x y z r))
+
+-- one item goes over into what is made, which keeps this part of it
+pub mapped_more : {X Y Z : Type 0} (f : X → Z) (g : Y → Z) (made new : List Y) (before after : List X) (x : X) (y : Y) → before ≡ x ∷ after → g y ≡ f x → new ≡ made ++ y ∷ [] →
+    map g made ++ map f before ≡ map g new ++ map f after
+mapped_more f g made new before after x y items same pushed =
+    ap (λ xs. map g made ++ map f xs) items
+    ∙ (sym (append_assoc (map g made) (f x ∷ []) (map f after))
+    ∙ ap (λ zs. zs ++ map f after) (ap (λ z. map g made ++ z ∷ []) (sym same) ∙ sym (ap (map g) pushed ∙ map-append g made (y ∷ []))))

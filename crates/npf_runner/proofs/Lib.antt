@@ -8,6 +8,7 @@ pub mod LaneLemmas
 pub mod NumberingLemmas
 pub mod PairLemmas
 pub mod PhaseLemmas
+pub mod PlayedLemmas
 pub mod RegatherLemmas
 pub mod RestLemmas
 pub mod RunLemmas

@@ -7,15 +7,17 @@ use Rattle.std.proofs.lemmas.List.Elements.{All-nil, All-cons, All-head, All-tai
 use Rattle.npf_connections.specs.Pass.{Pass}
 use Rattle.npf_model.specs.Configuration.{Configuration}
 use Rattle.npf_publish.specs.declared.conf_reader.ConfReader.{ConfReader}
-use Rattle.npf_dealing.specs.Dealing.{of_lane, IsDealt}
+use Rattle.npf_dealing.specs.Dealing.{of_lane, queue_items, IsDealt}
 use Rattle.npf_dealing.proofs.LaneLemmas.{of_lane-no, get_or-map}
 use Rattle.npf_engine.specs.Histories.{FlowEntry}
+use Rattle.npf_runner.specs.declared.crew.Queues.{Queues}
 use Rattle.npf_runner.specs.declared.job.Handled.{Handled}
 use Rattle.npf_runner.specs.declared.job.Job.{Job}
 use Rattle.npf_runner.specs.declared.phase.Command.{Command}
 use Rattle.npf_runner.specs.declared.worker.Worker.{Worker}
-use Rattle.npf_runner.specs.Crew.{jobs_of, worker_of_lane, jobs_of_lane, done_of_lane}
+use Rattle.npf_runner.specs.Crew.{AreQueuesOf, jobs_of, worker_of_lane, jobs_of_lane, done_of_lane}
 use Rattle.npf_runner.specs.Lanes.{HasWorked}
+use Rattle.npf_runner.specs.Played.{outcomes_of, outputs_of}
 use Rattle.npf_runner.specs.Running.{RunsCrew}
 use Rattle.npf_runner.specs.Works.{WorksThrough}
 use Rattle.npf_runner.proofs.LaneLemmas.{Zips, merges}
@@ -70,6 +72,29 @@ works_length configs old reader [] new next (done ∷ dones) w = absurd w
 works_length configs old reader (job ∷ jobs) new next [] w = absurd w
 works_length configs old reader (job ∷ jobs) new next (done ∷ dones) w = ap suc (works_length configs w.0 w.1 jobs new next dones w.3)
 
+of_lane-map : {X Y : Type 0} (f : X → Y) (w : ℕ) (order : List ℕ) (xs : List X) → of_lane w order (map f xs) ≡ map f (of_lane w order xs)
+of_lane-map f w [] xs = refl
+of_lane-map f w (v ∷ order) [] = refl
+of_lane-map f w (v ∷ order) (x ∷ xs) = by_test (v == w) (of_lane-map f w order xs)
+  where
+    by_test : (test : Bool) → of_lane w order (map f xs) ≡ map f (of_lane w order xs) →
+        cond test (f x ∷ of_lane w order (map f xs)) (of_lane w order (map f xs)) ≡ map f (cond test (x ∷ of_lane w order xs) (of_lane w order xs))
+    by_test true e = ap (λ ys. f x ∷ ys) e
+    by_test false e = e
+
+-- a part of each item is dealt as the items are
+pub dealt-map : {X Y : Type 0} (f : X → Y) (order : List ℕ) (xs : List X) (lanes : List (List X)) → IsDealt order xs lanes → IsDealt order (map f xs) (map (map f) lanes)
+dealt-map {X} {Y} f order xs lanes dealt = record {
+  count = length-map xs f ∙ dealt.count;
+  fits = subst (λ n. All (λ lane. lane < n) order) (sym (length-map lanes (map f))) dealt.fits;
+  each = each;
+}
+  where
+    each : (w : ℕ) (d : List Y) → w < length (map (map f) lanes) → get_or (map (map f) lanes) w d ≡ of_lane w order (map f xs)
+    each w d low =
+        let low' : w < length lanes = subst (λ n. w < n) (length-map lanes (map f)) low in
+        get_or-map (map f) lanes w [] d low' ∙ (ap (map f) (dealt.each w [] low') ∙ sym (of_lane-map f w order xs))
+
 abbrev Any : {X Y Z : Type 0} → X → Y → Z → Type 0
 Any x y z = Unit {0}
 
@@ -90,6 +115,13 @@ zips_length R [] (y ∷ ys) (u ∷ zs) z = absurd z
 zips_length R (x ∷ xs) [] [] z = absurd z
 zips_length R (x ∷ xs) [] (u ∷ zs) z = absurd z
 zips_length R (x ∷ xs) (y ∷ ys) [] z = absurd z
+
+-- what was done was dealt to these lanes, and in this order, which is the same, its outcomes and its packets to these queues
+pub record Regathers (order same : List ℕ) (lanes : List (List Handled)) (queues : Queues) : Type 0 where
+  pub dones : List Handled
+  pub dealt : IsDealt order dones lanes
+  pub outcomes : IsDealt same (outcomes_of dones) (map queue_items queues.outcomes.items)
+  pub packets : IsDealt same (outputs_of dones) (map queue_items queues.packets.items)
 
 module _ {P : Type 0} (view : P → Pass FlowEntry) (configs : List Configuration) (old new : Pass FlowEntry) (commands : List Command) (order : List ℕ) (jobs : List Job) (crew : List Worker)
     (lanes : List (List Handled)) (dealt : IsDealt order jobs (map jobs_of crew)) (r : RunsCrew view configs old new commands crew lanes) where
@@ -123,8 +155,8 @@ module _ {P : Type 0} (view : P → Pass FlowEntry) (configs : List Configuratio
           let h = at_zip (HasWorked view configs) r.begun r.ended w b e r.worked p.at in
           ap length got ∙ (works_length configs (view b.pass) b.worker.reader (jobs_of_lane b) (view e.pass) e.worker.reader (done_of_lane e) h.works ∙ ap length given)
 
-  pub regathers : (dones : List Handled) × IsDealt order dones lanes
-  regathers =
+  regathers_lanes : (dones : List Handled) × IsDealt order dones lanes
+  regathers_lanes =
       let m = merges (Any {X = Job} {Y = Handled} {Z = Job}) order jobs jobs (λ w. get_or lanes w []) dealt.count dealt.count (λ w. zips_any (of_lane w order jobs) (get_or lanes w []) (of_lane w order jobs) (lane_length w) refl) in (
         m.ys,
         record {
@@ -133,3 +165,15 @@ module _ {P : Type 0} (view : P → Pass FlowEntry) (configs : List Configuratio
           each = λ w d low. get_or_default lanes w d [] low ∙ sym (m.each w);
         },
       )
+
+  pub regathers : (queues : Queues) (same : List ℕ) → AreQueuesOf lanes queues → same ≡ order → Regathers order same lanes queues
+  regathers queues same are is =
+      let again = regathers_lanes in
+      record {
+        dones = again.0;
+        dealt = again.1;
+        outcomes = subst (λ o. IsDealt o (outcomes_of again.0) (map queue_items queues.outcomes.items)) (sym is)
+            (subst (λ ls. IsDealt order (outcomes_of again.0) ls) (sym are.outcomes) (dealt-map (λ (done : Handled). done.outcome) order again.0 lanes again.1));
+        packets = subst (λ o. IsDealt o (outputs_of again.0) (map queue_items queues.packets.items)) (sym is)
+            (subst (λ ls. IsDealt order (outputs_of again.0) ls) (sym are.packets) (dealt-map (λ (done : Handled). done.packet) order again.0 lanes again.1));
+      }

@@ -20,7 +20,7 @@ use Rattle.npf_runner.specs.declared.job.Job.{Job}
 use Rattle.npf_runner.specs.declared.worker.Lane.{Lane}
 use Rattle.npf_runner.specs.declared.worker.Worker.{Worker}
 use Rattle.npf_runner.specs.Commands.{Collects}
-use Rattle.npf_runner.specs.Crew.{IsEquipped, worker_of_lane, pass_of_lane}
+use Rattle.npf_runner.specs.Crew.{IsEquipped, done_of_lane, worker_of_lane, pass_of_lane}
 use Rattle.npf_runner.specs.Job.{IsJob}
 use Rattle.npf_runner.specs.Lanes.{CanWork, HasWorked}
 use Rattle.npf_runner.specs.Running.{IsBack}
@@ -76,8 +76,7 @@ can_work view old configs lanes legal given ready jobs readers k d low =
       place = omega (arith, one);
       jobs = jobs k d low;
       numbers = readers k d low;
-      empty = (ready k d low).empty;
-      room = (ready k d low).room;
+      ready = ready k d low;
     }
 
 -- a pass that is ready to be taken in
@@ -107,7 +106,7 @@ pub lanes_come_back : {P : Type 0} (view : P → Pass FlowEntry) (configs : List
 lanes_come_back {P} view configs old begun ended z given =
     zip_right (HasWorked view configs) (λ (lane : Lane P). IsGiven old (view lane.pass)) (λ (lane : Lane P). ComesBack (view lane.pass))
     (λ b e h g. comes_back old (view b.pass) (view e.pass) g
-    (works_same configs (view b.pass) b.worker.reader b.worker.jobs.items (view e.pass) e.worker.reader e.worker.done.items h.works) h.legal)
+    (works_same configs (view b.pass) b.worker.reader b.worker.jobs.items (view e.pass) e.worker.reader (done_of_lane e) h.works) h.legal)
     begun ended z given
 
 -- all that come back: the workers' passes, and the control task's
@@ -115,6 +114,10 @@ pub All-others : {P : Type 0} (Q : P → Type 0) (others : List P) (ended : List
     All (λ (lane : Lane P). Q lane.pass) ended → Q own → All Q others
 All-others {P} Q others ended own is all last =
     subst (λ ps. All Q ps) (sym is) (All-append Q (map pass_of_lane ended) (own ∷ []) (All-map Q pass_of_lane ended all) (All-cons Q own [] last (All-nil Q)))
+
+pub same_others : {P : Type 0} (others back room : List P) (ended : List (Lane P)) (own : P) → others ≡ back ++ own ∷ [] → back ≡ room ++ map pass_of_lane ended → room ≡ [] →
+    others ≡ map pass_of_lane ended ++ own ∷ []
+same_others others back room ended own pushed apart empty = pushed ∙ ap (λ ps. ps ++ own ∷ []) (apart ∙ ap (λ ps. ps ++ map pass_of_lane ended) empty)
 
 pub views_of : {P : Type 0} (view : P → Pass FlowEntry) (ended : List (Lane P)) (own : P) →
     map view (map pass_of_lane ended ++ own ∷ []) ≡ map (λ (lane : Lane P). view lane.pass) ended ++ view own ∷ []

@@ -12,7 +12,7 @@ use Rattle.npf_runner.specs.declared.job.Handled.{Handled}
 use Rattle.npf_runner.specs.declared.phase.Command.{Command}
 use Rattle.npf_runner.specs.declared.worker.Lane.{Lane}
 use Rattle.npf_runner.specs.declared.worker.Worker.{Worker}
-use Rattle.npf_runner.specs.Crew.{jobs_of_lane}
+use Rattle.npf_runner.specs.Crew.{done_of_lane, jobs_of_lane}
 use Rattle.npf_runner.specs.Lanes.{HasWorked}
 use Rattle.npf_runner.specs.Running.{RunsCrew}
 use Rattle.npf_runner.proofs.CarryLemmas.{in_filter}
@@ -63,7 +63,7 @@ module _ {P : Type 0} (view : P → Pass FlowEntry) where
     pub lane_went : (i : ℕ) (b e : Lane P) → At r.begun r.ended i b e → WentOn (shown b) (shown e) (numbers_of (jobs_of_lane b))
     lane_went i b e at =
         let h = at_zip (HasWorked view configs) r.begun r.ended i b e r.worked at in
-        went_on says configs (shown b) b.worker.reader (jobs_of_lane b) (shown e) e.worker.reader e.worker.done.items h.works
+        went_on says configs (shown b) b.worker.reader (jobs_of_lane b) (shown e) e.worker.reader (done_of_lane e) h.works
 
     pub control_grew : Grew r.control r.controlled (OfCommands commands)
     control_grew = commands_grew commands r.control r.controlled r.runs

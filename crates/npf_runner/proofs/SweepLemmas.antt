@@ -81,7 +81,7 @@ module _ {P : Type 0} (view : P → Pass FlowEntry) (configs : List Configuratio
   lanes_sweeps (b ∷ begun) [] last z = absurd z
   lanes_sweeps (b ∷ begun) (e ∷ ended) last z =
       let rest = lanes_sweeps begun ended last z.1 in
-      let here = works_sweeps (view b.pass) b.worker.reader b.worker.jobs.items (view e.pass) e.worker.reader e.worker.done.items z.0.works in
+      let here = works_sweeps (view b.pass) b.worker.reader b.worker.jobs.items (view e.pass) e.worker.reader (done_of_lane e) z.0.works in
       let left = sum_by-cons lacking (done_of_lane e) (map done_of_lane ended) in
       let right = sum_by-cons (λ n. n) (view e.pass).sweeps (sweep_counts (map (λ (lane : Lane P). view lane.pass) ended ++ last ∷ [])) in
       omega (arith, rest, here, left, right)

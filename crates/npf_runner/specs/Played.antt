@@ -1,5 +1,5 @@
--- What became of packets, taken apart.
-use Rattle.std.specs.Prelude.{List, map}
+-- What became of packets, taken apart and put together.
+use Rattle.std.specs.Prelude.{List, [], ◌∷◌, map}
 use Rattle.npf_engine.specs.declared.outcome.Outcome.{Outcome}
 use Rattle.npf_runner.specs.declared.job.Handled.{Handled}
 use Rattle.npf_runner.specs.declared.packet.Packet.{Packet}
@@ -9,3 +9,7 @@ outcomes_of = map (λ (done : Handled). done.outcome)
 
 abbrev pub outputs_of : List Handled → List Packet
 outputs_of = map (λ (done : Handled). done.packet)
+
+abbrev pub handled : List Outcome → List Packet → List Handled
+handled (outcome ∷ outcomes) (packet ∷ packets) = record { outcome = outcome; packet = packet } ∷ handled outcomes packets
+handled _ _ = []

@@ -1,10 +1,12 @@
 // What a phase needs, made before it begins.
 ghost use Rattle.std.specs.Prelude.{◌≡◌, ◌≤◌, ◌+◌, ◌++◌, [], All, IfOk, map, vec_len, vec_capacity, Contains};
 ghost use Rattle.npf_dealing.specs.Dealing.{vec_items, queue_items};
-ghost use Rattle.npf_runner.specs.Crew.{HasRoomFor, IsEquipped, jobs_of, worker_of_lane, pass_of_lane, done_of_lane};
+ghost use Rattle.npf_runner.specs.Crew.{HasRoomFor, IsEquipped, jobs_of, worker_of_lane, pass_of_lane, outcomes_of_lane, packets_of_lane};
 
-use crate::job::{Handled, Job};
+use crate::job::Job;
+use crate::packet::Packet;
 use crate::worker::{Lane, Worker};
+use npf_engine::Outcome;
 use npf_publish::ConfReader;
 use npf_types::NoMemory;
 use std::alloc::Global;
@@ -15,7 +17,14 @@ use std::collections::VecDeque;
 pub struct Room<P: Drop> {
     pub lanes: Vec<Lane<P>>,
     pub others: Vec<P>,
-    pub queues: Vec<VecDeque<Handled>>,
+    pub queues: Queues,
+}
+
+/// What became of each worker's packets: their outcomes, and the packets as they then stand.
+#[derive(Drop)]
+pub struct Queues {
+    pub outcomes: Vec<VecDeque<Outcome>>,
+    pub packets: Vec<VecDeque<Packet>>,
 }
 
 impl<P: Drop> Room<P> {
@@ -27,7 +36,10 @@ impl<P: Drop> Room<P> {
         Ok(Room {
             lanes: Vec::with_capacity(alloc, workers as usize)?,
             others: Vec::with_capacity(alloc, workers as usize + 1)?,
-            queues: Vec::with_capacity(alloc, workers as usize)?,
+            queues: Queues {
+                outcomes: Vec::with_capacity(alloc, workers as usize)?,
+                packets: Vec::with_capacity(alloc, workers as usize)?,
+            },
         })
     }
 }
@@ -49,13 +61,15 @@ pub fn workers_with(
     for jobs in dealt {
         let number = workers.len() as u32;
         let reader = readers.pop().unwrap();
-        let done = Vec::with_capacity(alloc, jobs.len())?;
+        let outcomes = Vec::with_capacity(alloc, jobs.len())?;
+        let packets = Vec::with_capacity(alloc, jobs.len())?;
         let jobs = VecDeque::from(jobs);
         workers.push_reserved(Worker {
             number,
             reader,
             jobs,
-            done,
+            outcomes,
+            packets,
         });
     }
     Ok(workers)
@@ -82,17 +96,16 @@ pub fn lanes_with<P: Drop>(
 }
 
 /// The passes, and what became of each worker's packets. It takes no memory.
-pub fn apart<P: Drop>(
-    lanes: Vec<Lane<P>>,
-    passes: &mut Vec<P>,
-    mut queues: Vec<VecDeque<Handled>>,
-) -> Vec<VecDeque<Handled>>
-    requires empty { queues.items ≡ [] }
-    requires room { vec_len lanes ≤ vec_capacity queues }
+pub fn apart<P: Drop>(lanes: Vec<Lane<P>>, passes: &mut Vec<P>, mut queues: Queues) -> Queues
+    requires no_outcomes { queues.outcomes.items ≡ [] }
+    requires no_packets { queues.packets.items ≡ [] }
+    requires for_outcomes { vec_len lanes ≤ vec_capacity queues.outcomes }
+    requires for_packets { vec_len lanes ≤ vec_capacity queues.packets }
     requires places { vec_len passes.old + vec_len lanes ≤ vec_capacity passes.old }
     ensures passes { passes.new.items ≡ passes.old.items ++ map pass_of_lane lanes.items }
     ensures capacity { vec_capacity passes.new ≡ vec_capacity passes.old }
-    ensures queues { map queue_items result.items ≡ map done_of_lane lanes.items }
+    ensures outcomes { map queue_items result.outcomes.items ≡ map outcomes_of_lane lanes.items }
+    ensures packets { map queue_items result.packets.items ≡ map packets_of_lane lanes.items }
 {
     for lane in lanes {
         let Lane { pass, worker } = lane;
@@ -100,10 +113,12 @@ pub fn apart<P: Drop>(
             number: _,
             reader: _,
             jobs: _,
-            done,
+            outcomes,
+            packets,
         } = worker;
         passes.push_reserved(pass);
-        queues.push_reserved(VecDeque::from(done));
+        queues.outcomes.push_reserved(VecDeque::from(outcomes));
+        queues.packets.push_reserved(VecDeque::from(packets));
     }
     queues
 }

@@ -9,12 +9,12 @@ use crate::gate::Gate;
 use crate::job::next_jobs;
 use crate::packet::Packet;
 use crate::phase::{Phase, Spread};
-use crate::played::Played;
+use crate::played::{Answers, Played};
 use crate::running::{Task, count_published, run_phase};
 use npf_connections::Connections;
 use npf_flow::FlowLaw;
 use npf_ruleset::Config;
-use npf_types::NoMemory;
+use npf_types::{List, NoMemory};
 use std::alloc::Global;
 use std::collections::VecDeque;
 use std::sync::Wait;
@@ -61,7 +61,10 @@ pub fn play<R: Threads + Wait + Sync, C: Connections<FlowLaw>, G: Gate>(
     ensures epoch { (C.view pass.old).epoch ≤ (C.view pass.new).epoch }
     ensures plays { IfOk result (λ played. PlaysPhases (configurations configs.now) workers spread (C.view pass.old) (C.view pass.new) phases.now packets.items played.packets played.outcomes) }
 {
-    let mut all = Vec::with_capacity(alloc, packets.len())?;
+    let mut all = Answers {
+        outcomes: Vec::with_capacity(alloc, packets.len())?,
+        packets: Vec::with_capacity(alloc, packets.len())?,
+    };
     let mut rest = VecDeque::from(packets);
     let mut first = 1;
     let mut last = 0;
@@ -78,6 +81,8 @@ pub fn play<R: Threads + Wait + Sync, C: Connections<FlowLaw>, G: Gate>(
         first += phase.packets;
         last += count_published(commands);
     }
-    let played = Played::of(alloc, all)?;
-    Ok(played)
+    Ok(Played {
+        outcomes: List::of_vec(all.outcomes),
+        packets: List::of_vec(all.packets),
+    })
 }

@@ -2,21 +2,23 @@
 ghost use Rattle.std.specs.Prelude.{◌≡◌, ◌≤◌, ◌<◌, ◌+◌, ◌^◌, ◌++◌, false, List, All, IfOk, length, map, vec_len, vec_capacity};
 ghost use Rattle.std.specs.List.{AllZip};
 ghost use Rattle.npf_connections.specs.Pass.{IsPass, all_places};
-ghost use Rattle.npf_dealing.specs.Dealing.{IsDealt, queue_items};
+ghost use Rattle.npf_dealing.specs.Dealing.{IsDealt};
 ghost use Rattle.npf_flow.specs.Flows.{flow_law};
 ghost use Rattle.npf_publish.specs.ConfReader.{IsNewReader, reader_range};
 ghost use Rattle.npf_publish.specs.Publisher.{published_number, publisher_range};
 ghost use Rattle.npf_engine.specs.Handles.{configurations};
-ghost use Rattle.npf_runner.specs.Crew.{HasRoomFor, IsEquipped, jobs_of};
+ghost use Rattle.npf_runner.specs.Crew.{AreQueuesOf, HasRoomFor, IsEquipped, jobs_of};
 ghost use Rattle.npf_runner.specs.Dealing.{IsWorkerOf};
 ghost use Rattle.npf_runner.specs.Job.{IsJob, job_arrival};
+ghost use Rattle.npf_runner.specs.Played.{outcomes_of, outputs_of};
 ghost use Rattle.npf_runner.specs.Plays.{published_by};
 ghost use Rattle.npf_runner.specs.Running.{IsBack, RunsCrew, RunsPhase};
 
-use crate::crew::{Room, apart, lanes_with, workers_with};
+use crate::crew::{Queues, Room, apart, lanes_with, workers_with};
 use crate::gate::Gate;
-use crate::job::{Handled, Job};
+use crate::job::Job;
 use crate::phase::{Command, Spread};
+use crate::played::Answers;
 use crate::side_by_side::side_by_side;
 use crate::spread::workers_of;
 use crate::worker::Worker;
@@ -28,7 +30,6 @@ use npf_publish::Publisher;
 use npf_ruleset::Config;
 use npf_types::NoMemory;
 use std::alloc::Global;
-use std::collections::VecDeque;
 use std::sync::Wait;
 use std::thread::Threads;
 
@@ -58,8 +59,8 @@ pub fn run_phase<R: Threads + Wait + Sync, C: Connections<FlowLaw>, G: Gate>(
     pass: &mut C::Pass,
     task: Task,
     commands: &[Command],
-    all: Vec<Handled>,
-) -> Result<Vec<Handled>, NoMemory>
+    all: Answers,
+) -> Result<Answers, NoMemory>
     requires own { C.fits conns.now pass.old }
     requires legal { IsPass flow_law (C.view pass.old) }
     requires out { (C.view pass.old).entered ≡ false }
@@ -67,12 +68,14 @@ pub fn run_phase<R: Threads + Wait + Sync, C: Connections<FlowLaw>, G: Gate>(
     requires workers { (1 ≤ task.workers) × (task.workers ≤ 64) }
     requires jobs { All IsJob task.jobs.items }
     requires numbers { task.last + published_by commands.now < length configs.now }
-    requires room { vec_len all + vec_len task.jobs ≤ vec_capacity all }
+    requires for_outcomes { vec_len all.outcomes + vec_len task.jobs ≤ vec_capacity all.outcomes }
+    requires for_packets { vec_len all.packets + vec_len task.jobs ≤ vec_capacity all.packets }
     ensures own { C.fits conns.now pass.new }
     ensures legal { IsPass flow_law (C.view pass.new) }
     ensures back { IsBack (C.view pass.old) (C.view pass.new) }
-    ensures runs { IfOk result (λ done. (dones : List _) × (done.items ≡ all.items ++ dones) × RunsPhase C.view (configurations configs.now) task.workers task.spread (C.view pass.old) (C.view pass.new) task.last commands.now task.jobs.items dones) }
-    ensures capacity { IfOk result (λ done. vec_capacity done ≡ vec_capacity all) }
+    ensures runs { IfOk result (λ done. (dones : List _) × (done.outcomes.items ≡ all.outcomes.items ++ outcomes_of dones) × (done.packets.items ≡ all.packets.items ++ outputs_of dones) × RunsPhase C.view (configurations configs.now) task.workers task.spread (C.view pass.old) (C.view pass.new) task.last commands.now task.jobs.items dones) }
+    ensures outcomes_capacity { IfOk result (λ done. vec_capacity all.outcomes ≤ vec_capacity done.outcomes) }
+    ensures packets_capacity { IfOk result (λ done. vec_capacity all.packets ≤ vec_capacity done.packets) }
 {
     let room = Room::for_workers(alloc, task.workers)?;
     let Prepared {
@@ -93,7 +96,12 @@ pub fn run_phase<R: Threads + Wait + Sync, C: Connections<FlowLaw>, G: Gate>(
         &mut publisher,
     );
     publisher.close(rt);
-    Ok(gather(order.as_slice(), ran?, all))
+    let queues = ran?;
+    let order = order.as_slice();
+    Ok(Answers {
+        outcomes: gather(order, queues.outcomes, all.outcomes),
+        packets: gather(order, queues.packets, all.packets),
+    })
 }
 
 /// What a phase needs that publishes so many configurations.
@@ -144,7 +152,7 @@ fn run_crew<R: Threads + Wait + Sync, C: Connections<FlowLaw>, G: Gate>(
     room: Room<C::Pass>,
     commands: &[Command],
     publisher: &mut Publisher,
-) -> Result<Vec<VecDeque<Handled>>, NoMemory>
+) -> Result<Queues, NoMemory>
     requires own { C.fits conns.now pass.old }
     requires legal { IsPass flow_law (C.view pass.old) }
     requires out { (C.view pass.old).entered ≡ false }
@@ -158,7 +166,7 @@ fn run_crew<R: Threads + Wait + Sync, C: Connections<FlowLaw>, G: Gate>(
     ensures own { C.fits conns.now pass.new }
     ensures legal { IsPass flow_law (C.view pass.new) }
     ensures back { IsBack (C.view pass.old) (C.view pass.new) }
-    ensures runs { IfOk result (λ queues. RunsCrew C.view (configurations configs.now) (C.view pass.old) (C.view pass.new) commands.now crew.items (map queue_items queues.items)) }
+    ensures runs { IfOk result (λ queues. (dones : List (List _)) × AreQueuesOf dones queues × RunsCrew C.view (configurations configs.now) (C.view pass.old) (C.view pass.new) commands.now crew.items dones) }
 {
     let mut passes = split_off(rt, alloc, conns, pass, crew.len() as u32 + 1)?;
     let own = passes.pop().unwrap();

@@ -11,6 +11,7 @@ use crate::gate::Gate;
 use crate::job::{Handled, Job};
 use crate::packet::Packet;
 use npf_connections::Connections;
+use npf_engine::Outcome;
 use npf_flow::FlowLaw;
 use npf_publish::ConfReader;
 use npf_ruleset::Config;
@@ -23,7 +24,8 @@ pub struct Worker {
     pub number: u32,
     pub reader: ConfReader,
     pub jobs: VecDeque<Job>,
-    pub done: Vec<Handled>,
+    pub outcomes: Vec<Outcome>,
+    pub packets: Vec<Packet>,
 }
 
 /// A worker with its pass.
@@ -51,15 +53,17 @@ pub fn work<R: Wait, C: Connections<FlowLaw>, G: Gate>(
         number,
         reader,
         jobs,
-        done,
+        outcomes,
+        packets,
     } = worker;
     for _ in 0..jobs.len() {
         let job = jobs.pop_front().unwrap();
         let n = job.number;
         gate.before(*number, n);
-        let handled = handle(rt, conns, configs, pass, reader, job);
+        let Handled { outcome, packet } = handle(rt, conns, configs, pass, reader, job);
         gate.after(*number, n);
-        done.push_reserved(handled);
+        outcomes.push_reserved(outcome);
+        packets.push_reserved(packet);
     }
 }
 

@@ -1,8 +1,9 @@
 use Rattle.std.proofs.Common.{rules, ◌≡◌, ◌+◌, [], ◌∷◌, ◌++◌, map, length, ap, sym, ◌∙◌, arith}
 use Rattle.std.specs.Vec.Iter.{into_iter_items}
-use Rattle.std.proofs.lemmas.List.{append_assoc, map-append}
+use Rattle.std.proofs.lemmas.List.{append_assoc}
 use Rattle.npf_dealing.specs.Dealing.{queue_items}
-use Rattle.npf_runner.specs.Crew.{pass_of_lane, done_of_lane}
+use Rattle.npf_runner.specs.Crew.{pass_of_lane, outcomes_of_lane, packets_of_lane}
+use Rattle.npf_runner.proofs.JobLemmas.{mapped_more}
 use Rattle.npf_runner.proofs.crew.apart.Goals as goal
 
 pub loop-lane-preserved : goal.loop-lane-preserved
@@ -12,20 +13,20 @@ loop-lane-preserved g c =
     let after = into_iter_items c.next.new.self in
     let inv = c.loop-lane.invariant in
     let passes = c.loop-lane.passes.items in
-    let queues = c.loop-lane.queues.items in
-    let queue = c.from.result in
+    let outcomes = c.loop-lane.queues.outcomes.items in
+    let packets = c.loop-lane.queues.packets.items in
     let items : before ≡ lane ∷ after = c.in-Some.ensures.steps.0 in
     let fewer : length before ≡ length after + 1 = ap length items ∙ omega arith in
     let kept : c.push_reserved.new.self.items ≡ passes ++ lane.pass ∷ [] = search rules in
-    let queued : c.push_reserved-in-loop-lane.new.self.items ≡ queues ++ queue ∷ [] = search rules in
-    let same : queue.items ≡ lane.worker.done.items = search rules in (
+    let come : c.push_reserved-in-loop-lane.new.self.items ≡ outcomes ++ c.from.result ∷ [] = search rules in
+    let sent : c.push_reserved-in-loop-lane-2.new.self.items ≡ packets ++ c.from-in-loop-lane.result ∷ [] = search rules in (
       tt,
       tt,
       search rules,
       search rules,
       search rules,
-      inv.5 ∙ (ap (λ z. passes ++ map pass_of_lane z) items ∙ (sym (append_assoc passes (lane.pass ∷ []) (map pass_of_lane after)) ∙ ap (λ z. z ++ map pass_of_lane after) (sym kept))),
-      inv.6 ∙ (ap (λ z. map queue_items queues ++ map done_of_lane z) items
-          ∙ (sym (append_assoc (map queue_items queues) (lane.worker.done.items ∷ []) (map done_of_lane after))
-          ∙ ap (λ z. z ++ map done_of_lane after) (ap (λ z. map queue_items queues ++ z ∷ []) (sym same) ∙ sym (ap (map queue_items) queued ∙ map-append queue_items queues (queue ∷ []))))),
+      search rules,
+      inv.6 ∙ (ap (λ z. passes ++ map pass_of_lane z) items ∙ (sym (append_assoc passes (lane.pass ∷ []) (map pass_of_lane after)) ∙ ap (λ z. z ++ map pass_of_lane after) (sym kept))),
+      inv.7 ∙ mapped_more outcomes_of_lane queue_items outcomes c.push_reserved-in-loop-lane.new.self.items before after lane c.from.result items (search rules) come,
+      inv.8 ∙ mapped_more packets_of_lane queue_items packets c.push_reserved-in-loop-lane-2.new.self.items before after lane c.from-in-loop-lane.result items (search rules) sent,
     )

@@ -1,12 +1,12 @@
 use Rattle.std.proofs.Common.{rules, ◌≡◌, ◌+◌, [], ◌∷◌, ◌++◌, All, map, length, ap, sym, subst, ◌∙◌, arith, Some}
 use Rattle.std.specs.List.{Contains}
 use Rattle.std.specs.Vec.Iter.{into_iter_items}
-use Rattle.std.proofs.lemmas.List.{append_assoc, map-append}
 use Rattle.std.proofs.lemmas.List.Elements.{All-push, All-pop, All-contains_itself, All-nil}
 use Rattle.npf_dealing.specs.Dealing.{vec_items}
 use Rattle.npf_publish.specs.declared.conf_reader.ConfReader.{ConfReader}
 use Rattle.npf_runner.specs.declared.worker.Worker.{Worker}
 use Rattle.npf_runner.specs.Crew.{IsEquipped, jobs_of}
+use Rattle.npf_runner.proofs.JobLemmas.{mapped_more}
 use Rattle.npf_runner.proofs.crew.workers_with.Goals as goal
 
 pub loop-jobs-init : goal.loop-jobs-init
@@ -32,13 +32,13 @@ loop-jobs-preserved c =
     let after = into_iter_items c.next.new.self in
     let inv = c.loop-jobs.invariant in
     let workers = c.loop-jobs.workers.items in
-    let worker : Worker = record { number = c.len-number.result; reader = reader; jobs = c.from-jobs.result; done = c.in_ok-done.done } in
+    let worker : Worker = record { number = c.len-number.result; reader = reader; jobs = c.from-jobs.result; outcomes = c.in_ok-outcomes.outcomes; packets = c.in_ok-packets.packets } in
     let items : before ≡ dealt ∷ after = c.in-Some.ensures.steps.0 in
     let fewer : length before ≡ length after + 1 = ap length items ∙ omega arith in
     let popped : c.loop-jobs.readers.items ≡ c.pop.new.self.items ++ reader ∷ [] = search rules in
     let pushed : c.push_reserved.new.self.items ≡ workers ++ worker ∷ [] = search rules in
     let same : jobs_of worker ≡ vec_items dealt = search rules in
-    let ready : IsEquipped worker = record { empty = search rules; room = search rules } in
+    let ready : IsEquipped worker = record { no_outcomes = search rules; no_packets = search rules; for_outcomes = search rules; for_packets = search rules } in
     let P : ConfReader → Type 0 = λ reader. Contains c.args.readers.items reader in
     let both = All-pop P c.loop-jobs.readers.items c.pop.new.self.items (Some reader) popped inv.6 in (
       tt,
@@ -46,9 +46,7 @@ loop-jobs-preserved c =
       search rules,
       search rules,
       search rules,
-      inv.5 ∙ (ap (λ z. map jobs_of workers ++ map vec_items z) items
-          ∙ (sym (append_assoc (map jobs_of workers) (vec_items dealt ∷ []) (map vec_items after))
-          ∙ ap (λ z. z ++ map vec_items after) (ap (λ z. map jobs_of workers ++ z ∷ []) (sym same) ∙ sym (ap (map jobs_of) pushed ∙ map-append jobs_of workers (worker ∷ []))))),
+      inv.5 ∙ mapped_more vec_items jobs_of workers c.push_reserved.new.self.items before after dealt worker items same pushed,
       both.0,
       subst (λ z. All IsEquipped z) (sym pushed) (All-push IsEquipped workers worker inv.7 ready),
       subst (λ z. All (λ worker. P worker.reader) z) (sym pushed) (All-push (λ worker. P worker.reader) workers worker inv.8 both.1),

@@ -2,6 +2,7 @@ use Rattle.std.proofs.Common.{◌≡◌, ◌≤◌, ◌<◌, ◌+◌, ◌++◌, 
 use Rattle.npf_connections.specs.Pass.{IsPass, all_places}
 use Rattle.npf_flow.specs.Flows.{flow_law}
 use Rattle.npf_engine.specs.Handles.{configurations}
+use Rattle.npf_runner.specs.Played.{handled}
 use Rattle.npf_runner.specs.Plays.{IsShortPacket, PhasesPublishFrom, packets_in}
 use Rattle.npf_runner.specs.Running.{IsBack, RunsPhases}
 use Rattle.npf_runner.proofs.playing.play.Given as goal
@@ -19,7 +20,9 @@ invariant-loop-phase g l =
     × (l.last < length l.configs)
     × PhasesPublishFrom (length l.configs) l.last (drop l.phase-index l.phases)
     × All IsShortPacket l.rest.items
-    × (vec_len l.all + length l.rest.items ≤ vec_capacity l.all)
+    × (vec_len l.all.outcomes ≡ vec_len l.all.packets)
+    × (vec_len l.all.outcomes + length l.rest.items ≤ vec_capacity l.all.outcomes)
+    × (vec_len l.all.packets + length l.rest.items ≤ vec_capacity l.all.packets)
     × ((new : _) (dones : List _) →
     RunsPhases g.C.Connections.view (configurations l.configs) l.workers l.spread (g.C.Connections.view l.pass) new l.first l.last (drop l.phase-index l.phases) l.rest.items dones →
-    RunsPhases g.C.Connections.view (configurations l.configs) l.workers l.spread (g.C.Connections.view l.initial.pass) new 1 0 l.phases l.fn.packets.items (l.all.items ++ dones))
+    RunsPhases g.C.Connections.view (configurations l.configs) l.workers l.spread (g.C.Connections.view l.initial.pass) new 1 0 l.phases l.fn.packets.items (handled l.all.outcomes.items l.all.packets.items ++ dones))

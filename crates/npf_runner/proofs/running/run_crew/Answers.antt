@@ -1,4 +1,4 @@
-use Rattle.std.proofs.Common.{rules, ◌≡◌, ◌<◌, ◌+◌, false, [], ◌∷◌, ◌++◌, All, map, length, sym, ap, ◌∙◌, Some}
+use Rattle.std.proofs.Common.{rules, ◌≡◌, ◌<◌, ◌+◌, false, [], ◌∷◌, ◌++◌, All, map, length, refl, ap, ◌∙◌, Some}
 use Rattle.std.proofs.lemmas.List.{length-append, length-map}
 use Rattle.std.proofs.lemmas.List.Elements.{All-pop, All-weaker}
 use Rattle.npf_connections.specs.Pass.{Pass, IsPass}
@@ -10,10 +10,11 @@ use Rattle.npf_engine.specs.Histories.{FlowEntry}
 use Rattle.npf_runner.specs.declared.worker.Lane.{Lane}
 use Rattle.npf_runner.specs.declared.worker.Worker.{Worker}
 use Rattle.npf_runner.specs.Commands.{Collects}
-use Rattle.npf_runner.specs.Crew.{IsEquipped, pass_of_lane}
+use Rattle.npf_runner.specs.Crew.{IsEquipped, done_of_lane, pass_of_lane}
 use Rattle.npf_runner.specs.Job.{IsJob}
 use Rattle.npf_runner.specs.Lanes.{HasWorked}
-use Rattle.npf_runner.proofs.RunningLemmas.{IsCrew, zip_places, All-unmap, All-passes, All-workers, All-others, ComesBack, can_work, all_back, begun_given, begun_legal, control_given, crew_whole, is_back}
+use Rattle.npf_runner.proofs.PlayedLemmas.{are_queues_of}
+use Rattle.npf_runner.proofs.RunningLemmas.{IsCrew, same_others, zip_places, All-unmap, All-passes, All-workers, All-others, ComesBack, can_work, all_back, begun_given, begun_legal, control_given, crew_whole, is_back}
 use Rattle.npf_runner.proofs.running.run_crew.Goals as goal
 
 pub side_by_side-own-requires-clause-out : goal.side_by_side-own-requires-clause-out
@@ -51,30 +52,10 @@ side_by_side-own-requires-clause-can g c lifetimes outlives =
 
 pub take_in-requires-clause-others : goal.take_in-requires-clause-others
 take_in-requires-clause-others g c lifetimes outlives =
-    let V = g.C.Connections.view in
-    let old = V c.args.pass.now in
-    let configs = configurations c.args.configs.now in
-    let passes = c.in_ok-passes.passes.items in
-    let left = c.pop.new.self.items in
-    let begun = c.lanes_with-lanes.result.items in
     let ended = c.side_by_side-own.result.1.items in
-    let control = c.unwrap-own.result in
     let controlled = c.side_by_side-own.result.0.0 in
     let others = c.push_reserved.new.self.items in
-    let popped : passes ≡ left ++ control ∷ [] = search rules in
-    let count : length ended ≡ length begun = search rules in
-    let is : IsCrew V configs old passes left c.args.crew.items begun ended control controlled = record {
-      popped = popped;
-      given = c.in_ok-passes.ensures.spreads.each;
-      legal = c.in_ok-passes.ensures.given_legal;
-      from = c.lanes_with-lanes.ensures.passes;
-      worked = zip_places (HasWorked V configs) begun ended count (λ i d low. c.side_by_side-own.ensures.worked i d (search rules));
-      rested = c.side_by_side-own.ensures.rested;
-    } in
-    let pushed : others ≡ c.apart-queues.new.passes.items ++ controlled ∷ [] = search rules in
-    let same : others ≡ map pass_of_lane ended ++ controlled ∷ [] =
-    pushed ∙ ap (λ z. z ++ controlled ∷ []) (c.apart-queues.ensures.passes ∙ ap (λ z. z ++ map pass_of_lane ended) c.requires.room.others) in
-    let back = all_back V configs old passes left c.args.crew.items begun ended control controlled is others same in
+    let same = same_others others c.apart-queues.new.passes.items c.args.room.others.items ended controlled (search rules) c.apart-queues.ensures.passes c.requires.room.others in
     All-others (λ pass. g.C.Connections.fits c.args.conns.now pass) others ended controlled same c.side_by_side-own.ensures.lanes c.side_by_side-own.ensures.own
 
 pub take_in-requires-clause-others_legal : goal.take_in-requires-clause-others_legal
@@ -89,21 +70,13 @@ take_in-requires-clause-others_legal g c lifetimes outlives =
     let control = c.unwrap-own.result in
     let controlled = c.side_by_side-own.result.0.0 in
     let others = c.push_reserved.new.self.items in
-    let popped : passes ≡ left ++ control ∷ [] = search rules in
     let count : length ended ≡ length begun = search rules in
-    let is : IsCrew V configs old passes left c.args.crew.items begun ended control controlled = record {
-      popped = popped;
-      given = c.in_ok-passes.ensures.spreads.each;
-      legal = c.in_ok-passes.ensures.given_legal;
-      from = c.lanes_with-lanes.ensures.passes;
-      worked = zip_places (HasWorked V configs) begun ended count (λ i d low. c.side_by_side-own.ensures.worked i d (search rules));
-      rested = c.side_by_side-own.ensures.rested;
-    } in
-    let pushed : others ≡ c.apart-queues.new.passes.items ++ controlled ∷ [] = search rules in
-    let same : others ≡ map pass_of_lane ended ++ controlled ∷ [] =
-    pushed ∙ ap (λ z. z ++ controlled ∷ []) (c.apart-queues.ensures.passes ∙ ap (λ z. z ++ map pass_of_lane ended) c.requires.room.others) in
-    let back = all_back V configs old passes left c.args.crew.items begun ended control controlled is others same in
-    All-weaker (λ pass. ComesBack (V pass)) (λ pass. IsPass flow_law (V pass)) (λ pass b. b.legal) others back
+    let worked = zip_places (HasWorked V configs) begun ended count (λ i d low. c.side_by_side-own.ensures.worked i d (search rules)) in
+    let is : IsCrew V configs old passes left c.args.crew.items begun ended control controlled =
+    record { popped = search rules; given = c.in_ok-passes.ensures.spreads.each; legal = c.in_ok-passes.ensures.given_legal; from = c.lanes_with-lanes.ensures.passes; worked = worked; rested = c.side_by_side-own.ensures.rested } in
+    let same = same_others others c.apart-queues.new.passes.items c.args.room.others.items ended controlled (search rules) c.apart-queues.ensures.passes c.requires.room.others in
+    All-weaker (λ pass. ComesBack (V pass)) (λ pass. IsPass flow_law (V pass)) (λ pass b. b.legal) others
+    (all_back V configs old passes left c.args.crew.items begun ended control controlled is others same)
 
 pub take_in-requires-clause-others_out : goal.take_in-requires-clause-others_out
 take_in-requires-clause-others_out g c lifetimes outlives =
@@ -117,21 +90,13 @@ take_in-requires-clause-others_out g c lifetimes outlives =
     let control = c.unwrap-own.result in
     let controlled = c.side_by_side-own.result.0.0 in
     let others = c.push_reserved.new.self.items in
-    let popped : passes ≡ left ++ control ∷ [] = search rules in
     let count : length ended ≡ length begun = search rules in
-    let is : IsCrew V configs old passes left c.args.crew.items begun ended control controlled = record {
-      popped = popped;
-      given = c.in_ok-passes.ensures.spreads.each;
-      legal = c.in_ok-passes.ensures.given_legal;
-      from = c.lanes_with-lanes.ensures.passes;
-      worked = zip_places (HasWorked V configs) begun ended count (λ i d low. c.side_by_side-own.ensures.worked i d (search rules));
-      rested = c.side_by_side-own.ensures.rested;
-    } in
-    let pushed : others ≡ c.apart-queues.new.passes.items ++ controlled ∷ [] = search rules in
-    let same : others ≡ map pass_of_lane ended ++ controlled ∷ [] =
-    pushed ∙ ap (λ z. z ++ controlled ∷ []) (c.apart-queues.ensures.passes ∙ ap (λ z. z ++ map pass_of_lane ended) c.requires.room.others) in
-    let back = all_back V configs old passes left c.args.crew.items begun ended control controlled is others same in
-    All-weaker (λ pass. ComesBack (V pass)) (λ pass. (V pass).entered ≡ false) (λ pass b. b.out) others back
+    let worked = zip_places (HasWorked V configs) begun ended count (λ i d low. c.side_by_side-own.ensures.worked i d (search rules)) in
+    let is : IsCrew V configs old passes left c.args.crew.items begun ended control controlled =
+    record { popped = search rules; given = c.in_ok-passes.ensures.spreads.each; legal = c.in_ok-passes.ensures.given_legal; from = c.lanes_with-lanes.ensures.passes; worked = worked; rested = c.side_by_side-own.ensures.rested } in
+    let same = same_others others c.apart-queues.new.passes.items c.args.room.others.items ended controlled (search rules) c.apart-queues.ensures.passes c.requires.room.others in
+    All-weaker (λ pass. ComesBack (V pass)) (λ pass. (V pass).entered ≡ false) (λ pass b. b.out) others
+    (all_back V configs old passes left c.args.crew.items begun ended control controlled is others same)
 
 pub take_in-requires-clause-unjoined : goal.take_in-requires-clause-unjoined
 take_in-requires-clause-unjoined g c lifetimes outlives =
@@ -145,21 +110,13 @@ take_in-requires-clause-unjoined g c lifetimes outlives =
     let control = c.unwrap-own.result in
     let controlled = c.side_by_side-own.result.0.0 in
     let others = c.push_reserved.new.self.items in
-    let popped : passes ≡ left ++ control ∷ [] = search rules in
     let count : length ended ≡ length begun = search rules in
-    let is : IsCrew V configs old passes left c.args.crew.items begun ended control controlled = record {
-      popped = popped;
-      given = c.in_ok-passes.ensures.spreads.each;
-      legal = c.in_ok-passes.ensures.given_legal;
-      from = c.lanes_with-lanes.ensures.passes;
-      worked = zip_places (HasWorked V configs) begun ended count (λ i d low. c.side_by_side-own.ensures.worked i d (search rules));
-      rested = c.side_by_side-own.ensures.rested;
-    } in
-    let pushed : others ≡ c.apart-queues.new.passes.items ++ controlled ∷ [] = search rules in
-    let same : others ≡ map pass_of_lane ended ++ controlled ∷ [] =
-    pushed ∙ ap (λ z. z ++ controlled ∷ []) (c.apart-queues.ensures.passes ∙ ap (λ z. z ++ map pass_of_lane ended) c.requires.room.others) in
-    let back = all_back V configs old passes left c.args.crew.items begun ended control controlled is others same in
-    All-weaker (λ pass. ComesBack (V pass)) (λ pass. (V pass).joined ≡ []) (λ pass b. b.unjoined) others back
+    let worked = zip_places (HasWorked V configs) begun ended count (λ i d low. c.side_by_side-own.ensures.worked i d (search rules)) in
+    let is : IsCrew V configs old passes left c.args.crew.items begun ended control controlled =
+    record { popped = search rules; given = c.in_ok-passes.ensures.spreads.each; legal = c.in_ok-passes.ensures.given_legal; from = c.lanes_with-lanes.ensures.passes; worked = worked; rested = c.side_by_side-own.ensures.rested } in
+    let same = same_others others c.apart-queues.new.passes.items c.args.room.others.items ended controlled (search rules) c.apart-queues.ensures.passes c.requires.room.others in
+    All-weaker (λ pass. ComesBack (V pass)) (λ pass. (V pass).joined ≡ []) (λ pass b. b.unjoined) others
+    (all_back V configs old passes left c.args.crew.items begun ended control controlled is others same)
 
 pub returns-in_err-published-clause-back : goal.returns-in_err-published-clause-back
 returns-in_err-published-clause-back g c =
@@ -173,28 +130,19 @@ returns-in_err-published-clause-back g c =
     let control = c.unwrap-own.result in
     let controlled = c.side_by_side-own.result.0.0 in
     let others = c.push_reserved.new.self.items in
-    let popped : passes ≡ left ++ control ∷ [] = search rules in
     let count : length ended ≡ length begun = search rules in
-    let is : IsCrew V configs old passes left c.args.crew.items begun ended control controlled = record {
-      popped = popped;
-      given = c.in_ok-passes.ensures.spreads.each;
-      legal = c.in_ok-passes.ensures.given_legal;
-      from = c.lanes_with-lanes.ensures.passes;
-      worked = zip_places (HasWorked V configs) begun ended count (λ i d low. c.side_by_side-own.ensures.worked i d (search rules));
-      rested = c.side_by_side-own.ensures.rested;
-    } in
-    let pushed : others ≡ c.apart-queues.new.passes.items ++ controlled ∷ [] = search rules in
-    let same : others ≡ map pass_of_lane ended ++ controlled ∷ [] =
-    pushed ∙ ap (λ z. z ++ controlled ∷ []) (c.apart-queues.ensures.passes ∙ ap (λ z. z ++ map pass_of_lane ended) c.requires.room.others) in
-    let back = all_back V configs old passes left c.args.crew.items begun ended control controlled is others same in
+    let worked = zip_places (HasWorked V configs) begun ended count (λ i d low. c.side_by_side-own.ensures.worked i d (search rules)) in
+    let is : IsCrew V configs old passes left c.args.crew.items begun ended control controlled =
+    record { popped = search rules; given = c.in_ok-passes.ensures.spreads.each; legal = c.in_ok-passes.ensures.given_legal; from = c.lanes_with-lanes.ensures.passes; worked = worked; rested = c.side_by_side-own.ensures.rested } in
+    let same = same_others others c.apart-queues.new.passes.items c.args.room.others.items ended controlled (search rules) c.apart-queues.ensures.passes c.requires.room.others in
     let counted : length others ≡ length passes = ap length same ∙ (length-append (map pass_of_lane ended) (controlled ∷ []) ∙ (ap (λ n. n + 1) (length-map ended pass_of_lane) ∙ (ap (λ n. n + 1) count ∙ search rules))) in
     let whole = crew_whole V configs old passes left c.args.crew.items begun ended control controlled is (V c.split_off.new.pass) (V c.take_in.new.pass) others
     c.in_ok-passes.ensures.spreads c.take_in.ensures.gathers same counted c.requires.places c.take_in.ensures.legal in
     let collects : Collects (V c.take_in.new.pass) (V c.collect.new.pass) = record { frees = c.collect.ensures.adds; clean = c.collect.ensures.clean; view = c.collect.ensures.view; epoch = c.collect.ensures.epoch } in
     is_back old (V c.take_in.new.pass) (V c.collect.new.pass) (map (λ (lane : Lane _). V lane.pass) ended ++ V controlled ∷ []) whole collects
 
-pub returns-clause-back : goal.returns-clause-back
-returns-clause-back g c =
+pub returns : goal.returns
+returns g c =
     let V = g.C.Connections.view in
     let old = V c.args.pass.now in
     let configs = configurations c.args.configs.now in
@@ -205,70 +153,38 @@ returns-clause-back g c =
     let control = c.unwrap-own.result in
     let controlled = c.side_by_side-own.result.0.0 in
     let others = c.push_reserved.new.self.items in
-    let popped : passes ≡ left ++ control ∷ [] = search rules in
     let count : length ended ≡ length begun = search rules in
-    let is : IsCrew V configs old passes left c.args.crew.items begun ended control controlled = record {
-      popped = popped;
-      given = c.in_ok-passes.ensures.spreads.each;
-      legal = c.in_ok-passes.ensures.given_legal;
-      from = c.lanes_with-lanes.ensures.passes;
-      worked = zip_places (HasWorked V configs) begun ended count (λ i d low. c.side_by_side-own.ensures.worked i d (search rules));
-      rested = c.side_by_side-own.ensures.rested;
-    } in
-    let pushed : others ≡ c.apart-queues.new.passes.items ++ controlled ∷ [] = search rules in
-    let same : others ≡ map pass_of_lane ended ++ controlled ∷ [] =
-    pushed ∙ ap (λ z. z ++ controlled ∷ []) (c.apart-queues.ensures.passes ∙ ap (λ z. z ++ map pass_of_lane ended) c.requires.room.others) in
-    let back = all_back V configs old passes left c.args.crew.items begun ended control controlled is others same in
-    let counted : length others ≡ length passes = ap length same ∙ (length-append (map pass_of_lane ended) (controlled ∷ []) ∙ (ap (λ n. n + 1) (length-map ended pass_of_lane) ∙ (ap (λ n. n + 1) count ∙ search rules))) in
-    let whole = crew_whole V configs old passes left c.args.crew.items begun ended control controlled is (V c.split_off.new.pass) (V c.take_in.new.pass) others
-    c.in_ok-passes.ensures.spreads c.take_in.ensures.gathers same counted c.requires.places c.take_in.ensures.legal in
-    let collects : Collects (V c.take_in.new.pass) (V c.collect.new.pass) = record { frees = c.collect.ensures.adds; clean = c.collect.ensures.clean; view = c.collect.ensures.view; epoch = c.collect.ensures.epoch } in
-    is_back old (V c.take_in.new.pass) (V c.collect.new.pass) (map (λ (lane : Lane _). V lane.pass) ended ++ V controlled ∷ []) whole collects
-
-pub returns-clause-runs : goal.returns-clause-runs
-returns-clause-runs g c =
-    let V = g.C.Connections.view in
-    let old = V c.args.pass.now in
-    let configs = configurations c.args.configs.now in
-    let passes = c.in_ok-passes.passes.items in
-    let left = c.pop.new.self.items in
-    let begun = c.lanes_with-lanes.result.items in
-    let ended = c.side_by_side-own.result.1.items in
-    let control = c.unwrap-own.result in
-    let controlled = c.side_by_side-own.result.0.0 in
-    let others = c.push_reserved.new.self.items in
-    let popped : passes ≡ left ++ control ∷ [] = search rules in
-    let count : length ended ≡ length begun = search rules in
-    let is : IsCrew V configs old passes left c.args.crew.items begun ended control controlled = record {
-      popped = popped;
-      given = c.in_ok-passes.ensures.spreads.each;
-      legal = c.in_ok-passes.ensures.given_legal;
-      from = c.lanes_with-lanes.ensures.passes;
-      worked = zip_places (HasWorked V configs) begun ended count (λ i d low. c.side_by_side-own.ensures.worked i d (search rules));
-      rested = c.side_by_side-own.ensures.rested;
-    } in
-    let pushed : others ≡ c.apart-queues.new.passes.items ++ controlled ∷ [] = search rules in
-    let same : others ≡ map pass_of_lane ended ++ controlled ∷ [] =
-    pushed ∙ ap (λ z. z ++ controlled ∷ []) (c.apart-queues.ensures.passes ∙ ap (λ z. z ++ map pass_of_lane ended) c.requires.room.others) in
-    let back = all_back V configs old passes left c.args.crew.items begun ended control controlled is others same in
+    let worked = zip_places (HasWorked V configs) begun ended count (λ i d low. c.side_by_side-own.ensures.worked i d (search rules)) in
+    let is : IsCrew V configs old passes left c.args.crew.items begun ended control controlled =
+    record { popped = search rules; given = c.in_ok-passes.ensures.spreads.each; legal = c.in_ok-passes.ensures.given_legal; from = c.lanes_with-lanes.ensures.passes; worked = worked; rested = c.side_by_side-own.ensures.rested } in
+    let same = same_others others c.apart-queues.new.passes.items c.args.room.others.items ended controlled (search rules) c.apart-queues.ensures.passes c.requires.room.others in
     let counted : length others ≡ length passes = ap length same ∙ (length-append (map pass_of_lane ended) (controlled ∷ []) ∙ (ap (λ n. n + 1) (length-map ended pass_of_lane) ∙ (ap (λ n. n + 1) count ∙ search rules))) in
     let whole = crew_whole V configs old passes left c.args.crew.items begun ended control controlled is (V c.split_off.new.pass) (V c.take_in.new.pass) others
     c.in_ok-passes.ensures.spreads c.take_in.ensures.gathers same counted c.requires.places c.take_in.ensures.legal in
     let collects : Collects (V c.take_in.new.pass) (V c.collect.new.pass) = record { frees = c.collect.ensures.adds; clean = c.collect.ensures.clean; view = c.collect.ensures.view; epoch = c.collect.ensures.epoch } in
     record {
-      begun = begun;
-      ended = ended;
-      workers = c.lanes_with-lanes.ensures.workers;
-      done = sym c.apart-queues.ensures.queues;
-      given = begun_given V configs old passes left c.args.crew.items begun ended control controlled is;
-      legal = begun_legal V configs old passes left c.args.crew.items begun ended control controlled is;
-      worked = is.worked;
-      control = V control;
-      controlled = V controlled;
-      control_given = control_given V configs old passes left c.args.crew.items begun ended control controlled is;
-      rested = c.side_by_side-own.ensures.rested;
-      runs = search rules;
-      whole = V c.take_in.new.pass;
-      is_whole = whole;
-      collects = collects;
+      own = search rules;
+      legal = search rules;
+      back = is_back old (V c.take_in.new.pass) (V c.collect.new.pass) (map (λ (lane : Lane _). V lane.pass) ended ++ V controlled ∷ []) whole collects;
+      runs = (
+        map done_of_lane ended,
+        are_queues_of V configs begun ended c.apart-queues.result is.worked c.apart-queues.ensures.outcomes c.apart-queues.ensures.packets,
+        record {
+          begun = begun;
+          ended = ended;
+          workers = c.lanes_with-lanes.ensures.workers;
+          done = refl;
+          given = begun_given V configs old passes left c.args.crew.items begun ended control controlled is;
+          legal = begun_legal V configs old passes left c.args.crew.items begun ended control controlled is;
+          worked = is.worked;
+          control = V control;
+          controlled = V controlled;
+          control_given = control_given V configs old passes left c.args.crew.items begun ended control controlled is;
+          rested = c.side_by_side-own.ensures.rested;
+          runs = search rules;
+          whole = V c.take_in.new.pass;
+          is_whole = whole;
+          collects = collects;
+        },
+      );
     }

@@ -1,6 +1,6 @@
 use Rattle.std.proofs.Common.{◌≡◌, ◌≤◌, ◌+◌, ◌++◌, List, map, length, drop, vec_len, vec_capacity}
 use Rattle.npf_dealing.specs.Dealing.{IsDealt, queue_items}
-use Rattle.npf_dealing.proofs.gathering.gather.Given as goal
+use Rattle.npf_dealing.proofs.gathering.in_order.Given as goal
 
 abbrev pub invariant-loop-lane : goal.invariant-loop-lane
 invariant-loop-lane g l =
