@@ -4,6 +4,8 @@
 #[cfg(test)]
 mod flat;
 #[cfg(test)]
+mod hands;
+#[cfg(test)]
 mod pools;
 #[cfg(test)]
 mod stays;
