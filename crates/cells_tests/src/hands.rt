@@ -9,7 +9,7 @@ use crate::flat::Flat;
 use npf_cells::{CellPass, Cells, Pool};
 use npf_epoch::{enter, leave};
 use npf_flow::FlowLaw;
-use npf_pool::take_node;
+use npf_pool::take;
 use std::alloc::{AllocError, Global};
 use std::sync::Wait;
 use std::sync::atomic::{AtomicBool, Ordering};
@@ -59,7 +59,7 @@ fn hold(
     if count == 0 {
         return false;
     }
-    let Some(node) = take_node(rt, cells, pass) else {
+    let Some(node) = take(rt, cells, pass, Pool::Nodes, 0) else {
         return false;
     };
     let held = mark(marks, node, true);

@@ -8,4 +8,6 @@ mod hands;
 #[cfg(test)]
 mod pools;
 #[cfg(test)]
+mod slots;
+#[cfg(test)]
 mod stays;

@@ -1,5 +1,5 @@
 -- The rule from its parts: those that a step leaves alone stay.
-use Rattle.std.proofs.Common.{◌≡◌, ◌≢◌, ℕ, ◌+◌, ◌<◌, ◌≤◌, List, [], ◌∷◌, ◌++◌, map, length, set, slice_index, sym, ap, ◌∙◌, subst, length-set, ⊎_elim, arith}
+use Rattle.std.proofs.Common.{◌≡◌, ◌≢◌, ℕ, ◌+◌, ◌<◌, ◌≤◌, true, List, [], ◌∷◌, ◌++◌, map, length, set, slice_index, sym, ap, ◌∙◌, subst, length-set, ⊎_elim, arith}
 use Rattle.std.proofs.lemmas.List.{map-set, map-append, set-get_or}
 use Rattle.std.specs.List.{Contains}
 use mathlib.Core.Option.{some}
@@ -7,10 +7,12 @@ use lib.ListN.{get_elem?}
 use Rattle.atomic_table.specs.Table.{State, stepped, keeps}
 use Rattle.atomic_table.proofs.Lists.{at_map, at_set, at_snoc}
 use Rattle.npf_core.specs.declared.conn_id.ConnId.{ConnId}
+use Rattle.npf_core.specs.declared.entry.Entry.{Entry}
 use Rattle.npf_core.specs.declared.stage.Stage.TheVariants.{Building}
-use Rattle.npf_core.specs.History.{state_of}
+use Rattle.npf_core.specs.History.{MayFollow, Legal, after, state_of}
 use Rattle.npf_core.specs.Machine.{Machine, stage_of}
 use Rattle.npf_core.specs.Meaning.{Meaning}
+use Rattle.npf_core.proofs.HistoryLemmas.{state_of-append, Legal-append}
 use Rattle.npf_cells.specs.declared.layout.Layout.{Layout}
 use Rattle.npf_cells.specs.declared.views.CellView.{CellView}
 use Rattle.npf_cells.specs.Cells.{seat_side, reader_view, SpentOwnNothing, IsCells}
@@ -22,7 +24,7 @@ use Rattle.npf_cells.specs.Sums.{occurs}
 use Rattle.npf_cells.proofs.EpochLemmas.{epochs-words}
 use Rattle.npf_cells.proofs.PoolLemmas.{pools-same, taken-set}
 use Rattle.npf_cells.proofs.PrefixLemmas.{none_listed}
-use Rattle.npf_cells.proofs.SeatLemmas.{owned_within}
+use Rattle.npf_cells.proofs.SeatLemmas.{owned_within, seats-adds}
 use Rattle.npf_cells.proofs.SumLemmas.{from_map, side_same}
 
 pub pushed_side : {X Y : Type 0} (f : X → Y) (xs : List X) (i : ℕ) (x y : X) → map f (set xs i x ++ y ∷ []) ≡ set (map f xs) i (f x) ++ f y ∷ []
@@ -33,7 +35,7 @@ merged_side f xs i j x y = map-set f (set xs i x) j y ∙ ap (λ z. set z j (f y
 
 module _ {S A R : Type 0} where
   -- what passes are building is Building under their numbers
-  abbrev BuildsIn : Machine S → List (CellView S A R) → Type 0
+  abbrev pub BuildsIn : Machine S → List (CellView S A R) → Type 0
   BuildsIn k views = (j : ℕ) (v : CellView S A R) → get_elem? views j ≡ some v → (id : ConnId) → Contains v.pools.builds id → stage_of k id ≡ Building j
 
   pub building-set : (k : Machine S) (views : List (CellView S A R)) (i : ℕ) (v w : CellView S A R) → get_elem? views i ≡ some v → w.pools.builds ≡ v.pools.builds →
@@ -65,20 +67,26 @@ module _ {S A R : Type 0} where
       (at_snoc views w u j e)
 
 module _ {S A R F : Type 0} (m : Meaning S A R) (layout : Layout) where
-  -- a state of as many words, with the parts on seats, epochs and pools
-  pub framed : (s s' : State F (CellView S A R)) (kept : IsCells m layout s) → length s'.words ≡ length s.words →
-      Seats layout.slots kept.log (map seat_side s'.views) → Epochs (epoch_word s'.words) (reader_word s'.words) (map reader_view s'.views) →
-      Pools layout (taken (state_of m kept.log) s'.views) s'.words → BuildsIn (state_of m kept.log) s'.views → SpentOwnNothing s'.views → IsCells m layout s'
-  framed s s' kept count seats epochs pools building spent = record {
-    log = kept.log;
+  -- a state of as many words, with the parts on seats, epochs and pools, and a history that went on
+  pub grown : (s s' : State F (CellView S A R)) (kept : IsCells m layout s) (log : List (Entry S A R)) → length s'.words ≡ length s.words →
+      Seats layout.slots log (map seat_side s'.views) → Epochs (epoch_word s'.words) (reader_word s'.words) (map reader_view s'.views) →
+      Pools layout (taken (state_of m log) s'.views) s'.words → Legal m layout.slots log → BuildsIn (state_of m log) s'.views → SpentOwnNothing s'.views → IsCells m layout s'
+  grown s s' kept log count seats epochs pools legal building spent = record {
+    log = log;
     seats = seats;
     epochs = epochs;
     pools = pools;
     trie = record { reach = subst (λ n. nodes_at layout ≤ n) (sym count) kept.trie.reach };
-    connections = record { reach = count ∙ kept.connections.reach; legal = kept.connections.legal; building = building };
+    connections = record { reach = count ∙ kept.connections.reach; legal = legal; building = building };
     nodes = record { reach = subst (λ n. connections_at layout ≤ n) (sym count) kept.nodes.reach };
     spent = spent;
   }
+
+  -- the same over the history as it was
+  pub framed : (s s' : State F (CellView S A R)) (kept : IsCells m layout s) → length s'.words ≡ length s.words →
+      Seats layout.slots kept.log (map seat_side s'.views) → Epochs (epoch_word s'.words) (reader_word s'.words) (map reader_view s'.views) →
+      Pools layout (taken (state_of m kept.log) s'.views) s'.words → BuildsIn (state_of m kept.log) s'.views → SpentOwnNothing s'.views → IsCells m layout s'
+  framed s s' kept count seats epochs pools building spent = grown s s' kept kept.log count seats epochs pools kept.connections.legal building spent
 
   -- a step on a word of the part on epochs, that changes this side of one view alone
   pub epochs_step : (s : State F (CellView S A R)) (i n id : ℕ) (c : List (ℕ × F)) (v w : CellView S A R) → IsCells m layout s → get_elem? s.views id ≡ some v → w.seats ≡ v.seats → w.pools ≡ v.pools →
@@ -104,18 +112,14 @@ module _ {S A R F : Type 0} (m : Meaning S A R) (layout : Layout) where
       (building-set (state_of m kept.log) s.views id v w at (ap (λ p. p.builds) pools) kept.connections.building)
       (spent-set s.views id w (λ none. subst OwnsNothing (sym pools) (kept.spent id v at (ap (λ (r : ReaderView). length r.places) (sym same) ∙ none))) kept.spent)
 
-  -- a step on a word of the part on pools, that changes this side of one view alone
-  pub pools_step : (s : State F (CellView S A R)) (i n id : ℕ) (c : List (ℕ × F)) (v w : CellView S A R) (kept : IsCells m layout s) → get_elem? s.views id ≡ some v → w.seats ≡ v.seats → reader_view w ≡ reader_view v → w.pools.builds ≡ v.pools.builds →
-      (length w.seats.readers ≡ 0 → OwnsNothing w.pools) → ((j : ℕ) → j < pools_at → slice_index (set s.words i n) j ≡ slice_index s.words j) →
-      Pools layout (taken (state_of m kept.log) (set s.views id w)) (set s.words i n) → IsCells m layout (stepped s i n id c w keeps)
-  pools_step s i n id c v w kept at same reads builds spent words pools = framed s (stepped s i n id c w keeps) kept (length-set s.words i n)
-      (subst (λ sides. Seats layout.slots kept.log sides) (sym (side_same seat_side s.views id v w at same)) kept.seats)
-      (subst (λ rs. Epochs (epoch_word (set s.words i n)) (reader_word (set s.words i n)) rs) (sym (side_same reader_view s.views id v w at reads))
+  -- the part on epochs stays where the words before the pools' do, and what the seat knows of it
+  pub epochs_apart : (s : State F (CellView S A R)) (i n id : ℕ) (v w : CellView S A R) → IsCells m layout s → get_elem? s.views id ≡ some v → reader_view w ≡ reader_view v →
+      ((j : ℕ) → j < pools_at → slice_index (set s.words i n) j ≡ slice_index s.words j) →
+      Epochs (epoch_word (set s.words i n)) (reader_word (set s.words i n)) (map reader_view (set s.views id w))
+  epochs_apart s i n id v w kept at reads words =
+      subst (λ rs. Epochs (epoch_word (set s.words i n)) (reader_word (set s.words i n)) rs) (sym (side_same reader_view s.views id v w at reads))
       (subst (λ now. Epochs now (reader_word (set s.words i n)) (map reader_view s.views)) (sym (words 0 (omega arith)))
-      (epochs-words (epoch_word s.words) (reader_word s.words) (reader_word (set s.words i n)) (map reader_view s.views) kept.epochs owned)))
-      pools
-      (building-set (state_of m kept.log) s.views id v w at builds kept.connections.building)
-      (spent-set s.views id w spent kept.spent)
+      (epochs-words (epoch_word s.words) (reader_word s.words) (reader_word (set s.words i n)) (map reader_view s.views) kept.epochs owned))
     where
       owned : (j place : ℕ) (q : ReaderView) → get_elem? (map reader_view s.views) j ≡ some q → 1 ≤ occurs place q.places → reader_word (set s.words i n) place ≡ reader_word s.words place
       owned j place q e owns =
@@ -123,3 +127,31 @@ module _ {S A R F : Type 0} (m : Meaning S A R) (layout : Layout) where
           let same' : occurs place x.0.seats.readers ≡ occurs place q.places = ap (λ (u : ReaderView). occurs place u.places) x.2 in
           let below = owned_within layout.slots kept.log (map seat_side s.views) j place x.0.seats kept.seats (at_map seat_side s.views j x.0 x.1) (omega (arith, same', owns)) in
           words (1 + place) (omega (arith, below))
+
+  -- a step on a word of the part on pools, that changes this side of one view alone
+  pub pools_step : (s : State F (CellView S A R)) (i n id : ℕ) (c : List (ℕ × F)) (v w : CellView S A R) (kept : IsCells m layout s) → get_elem? s.views id ≡ some v → w.seats ≡ v.seats → reader_view w ≡ reader_view v → w.pools.builds ≡ v.pools.builds →
+      (length w.seats.readers ≡ 0 → OwnsNothing w.pools) → ((j : ℕ) → j < pools_at → slice_index (set s.words i n) j ≡ slice_index s.words j) →
+      Pools layout (taken (state_of m kept.log) (set s.views id w)) (set s.words i n) → IsCells m layout (stepped s i n id c w keeps)
+  pools_step s i n id c v w kept at same reads builds spent words pools = framed s (stepped s i n id c w keeps) kept (length-set s.words i n)
+      (subst (λ sides. Seats layout.slots kept.log sides) (sym (side_same seat_side s.views id v w at same)) kept.seats)
+      (epochs_apart s i n id v w kept at reads words)
+      pools
+      (building-set (state_of m kept.log) s.views id v w at builds kept.connections.building)
+      (spent-set s.views id w spent kept.spent)
+
+  -- the same, where the pass also adds an entry of its own to the history
+  pub entry_step : (s : State F (CellView S A R)) (i n id : ℕ) (c : List (ℕ × F)) (v w : CellView S A R) (kept : IsCells m layout s) → get_elem? s.views id ≡ some v → v.seats.lives ≡ true → 1 ≤ length v.seats.readers →
+      (entry : Entry S A R) → entry.seat ≡ id → MayFollow m layout.slots (state_of m kept.log) entry → w.seats ≡ record v.seats { history = kept.log ++ entry ∷ [] } → reader_view w ≡ reader_view v →
+      ((j : ℕ) → j < pools_at → slice_index (set s.words i n) j ≡ slice_index s.words j) →
+      Pools layout (taken (after m (state_of m kept.log) entry) (set s.views id w)) (set s.words i n) → BuildsIn (after m (state_of m kept.log) entry) (set s.views id w) → IsCells m layout (stepped s i n id c w keeps)
+  entry_step s i n id c v w kept at lives place entry mine follows seats reads words pools building =
+      let log = kept.log ++ entry ∷ [] in
+      let state = state_of-append m kept.log entry in
+      grown s (stepped s i n id c w keeps) kept log (length-set s.words i n)
+      (subst (λ sides. Seats layout.slots log sides) (sym (map-set seat_side s.views id w ∙ ap (λ side. set (map seat_side s.views) id side) seats))
+      (seats-adds layout.slots kept.log (map seat_side s.views) id v.seats kept.seats (at_map seat_side s.views id v at) lives place entry mine))
+      (epochs_apart s i n id v w kept at reads words)
+      (subst (λ k. Pools layout (taken k (set s.views id w)) (set s.words i n)) (sym state) pools)
+      (Legal-append m layout.slots kept.log entry kept.connections.legal follows)
+      (subst (λ k. BuildsIn k (set s.views id w)) (sym state) building)
+      (spent-set s.views id w (λ none. absurd (let same = ap (λ (r : ReaderView). length r.places) reads in omega (arith, same, none, place))) kept.spent)

@@ -8,4 +8,6 @@ mod PoolKeepLemmas
 mod PoolLemmas
 mod PrefixLemmas
 mod SeatLemmas
+mod SlotKeepLemmas
+mod SlotLemmas
 mod SumLemmas

@@ -79,7 +79,7 @@ module _ {S A R F : Type 0} (m : Meaning S A R) (layout : Layout) where
   }
 
   -- what a step finds, in the state that it meets
-  stood_so : (s : State F (CellView S A R)) (id : ℕ) (v : CellView S A R) (word i : ℕ) → IsCells m layout s → get_elem? s.views id ≡ some v → v.seats.lives ≡ true → i ≡ word →
+  pub stood_so : (s : State F (CellView S A R)) (id : ℕ) (v : CellView S A R) (word i : ℕ) → IsCells m layout s → get_elem? s.views id ≡ some v → v.seats.lives ≡ true → i ≡ word →
       StoodSo m layout v word (slice_index s.words i)
   stood_so s id v word i kept at lives there =
       let number = ((kept.seats.each id v.seats (at_map seat_side s.views id v at)).lives lives).number in

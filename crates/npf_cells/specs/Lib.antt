@@ -8,5 +8,6 @@ pub mod Passes
 pub mod PoolKinds
 pub mod Pools
 pub mod Seats
+pub mod SlotKinds
 pub mod Sums
 pub mod TableLaw

@@ -19,6 +19,7 @@ mod layout;
 mod passing;
 mod pools;
 mod rule;
+mod slots;
 mod views;
 
 pub use cells::{CellPass, Cells};
