@@ -1,12 +1,15 @@
+mod ConnLemmas
 mod EpochLemmas
 mod Frames
 mod KeepLemmas
 mod KindLemmas
+mod ListLemmas
 mod MoveLemmas
 mod OpenLemmas
 mod PoolKeepLemmas
 mod PoolLemmas
 mod PrefixLemmas
+mod PrivateKeepLemmas
 mod SeatLemmas
 mod SlotKeepLemmas
 mod SlotLemmas

@@ -2,7 +2,6 @@
 use Rattle.std.proofs.Common.{◌≡◌, ◌≢◌, ℕ, ◌*◌, ◌%◌, ◌^◌, ◌<◌, ◌≤◌, Bool, true, false, eqb, List, [], ◌∷◌, ◌++◌, map, set, length, slice_index, Some, refl, sym, ap, ◌∙◌, subst, arith, append_assoc, bit_or}
 use Rattle.std.specs.Int.{bit_at, w64}
 use Rattle.std.proofs.lemmas.Bool.Decides.{Decides-eqb, not_from_Decides}
-use Rattle.std.proofs.lemmas.List.{get_or-set_other}
 use Rattle.std.proofs.lemmas.Nat.Bits.{bit_at-lt, bit_at_set_same, bit_at_set_other}
 use mathlib.Core.Option.{some}
 use lib.ListN.{get_elem?}
@@ -22,17 +21,18 @@ use Rattle.npf_cells.specs.declared.layout.Layout.{Layout}
 use Rattle.npf_cells.specs.declared.layout.Pool.TheVariants.{Slots}
 use Rattle.npf_cells.specs.declared.views.CellView.{CellView}
 use Rattle.npf_cells.specs.Cells.{seat_side, IsCells}
-use Rattle.npf_cells.specs.Layout.{pools_at, place_word}
+use Rattle.npf_cells.specs.Conns.{inc_word}
+use Rattle.npf_cells.specs.Layout.{place_word}
 use Rattle.npf_cells.specs.Passes.{cell_pass, IsPassOf}
 use Rattle.npf_cells.specs.Pools.{taken}
 use Rattle.npf_cells.specs.Seats.{FitsSeats}
 use Rattle.npf_cells.specs.SlotKinds.{claiming_slot, HasClaimed, ClaimsSlot}
 use Rattle.npf_cells.proofs.Frames.{pools_step, entry_step}
-use Rattle.npf_cells.proofs.PoolKeepLemmas.{stood_so}
-use Rattle.npf_cells.proofs.PoolLemmas.{word_within, places_within, pools-set, taken-set}
+use Rattle.npf_cells.proofs.PoolKeepLemmas.{pool_step, stood_so}
+use Rattle.npf_cells.proofs.PoolLemmas.{pools-set, taken-set}
 use Rattle.npf_cells.proofs.PrefixLemmas.{not_of, one_of, rest_none, ends_alone}
 use Rattle.npf_cells.proofs.SeatLemmas.{unspent}
-use Rattle.npf_cells.proofs.SlotLemmas.{clear_vacant, claimed, now_taken, taken_else, builds_more}
+use Rattle.npf_cells.proofs.SlotLemmas.{clear_vacant, claimed, now_taken, taken_else, builds_more, incs_more}
 
 module _ {S A R F : Type 0} (m : Meaning S A R) (layout : Layout) where
   module _ (s : State F (CellView S A R)) (id : ℕ) (me : Me F (CellView S A R)) (kept : IsCells m layout s) (at : get_elem? s.views id ≡ some me.0)
@@ -55,9 +55,6 @@ module _ {S A R F : Type 0} (m : Meaning S A R) (layout : Layout) where
     fits : FitsSeats layout.slots (map seat_side s.views) kept.log id me.0.seats
     fits = kept.seats.each id me.0.seats (at_map seat_side s.views id me.0 at)
 
-    low : (n j : ℕ) → j < pools_at → slice_index (set s.words word n) j ≡ slice_index s.words j
-    low n j h = get_or-set_other s.words word j n 0 (λ e. absurd (let a = (word_within layout Slots slot (places_within layout Slots slot within)).0 in omega (arith, e, h, a)))
-
     -- where the bit is clear the slot is vacant, so the claim may follow
     follows : bit_at found (slot % 64) ≡ 0 → MayFollow m layout.slots k entry
     follows clear = record {
@@ -69,10 +66,11 @@ module _ {S A R F : Type 0} (m : Meaning S A R) (layout : Layout) where
         IsCells m layout (stepped s word n id me.1 winner keeps)
     wins n clear here bits =
         let may = follows clear in
-        entry_step m layout s word n id me.1 me.0 winner kept at lives place entry refl may refl refl (low n)
+        entry_step m layout s word n id me.1 me.0 winner kept at lives place entry refl may refl refl (pool_step layout s.words Slots slot n within)
         (pools-set layout (taken k s.views) (taken (claimed m k id packet slot) (set s.views id winner)) s.words Slots slot n kept.pools within (here ∙ sym (now_taken m k id packet slot)) bits
         (taken_else m k id packet slot s.views id me.0 winner at refl))
-        (builds_more m k id packet slot s.views id me.0 winner at refl may.allowed.unclaimed refl kept.connections.building)
+        (builds_more m k id packet slot s.views id me.0 winner at refl may.allowed.unclaimed kept.connections.each refl refl)
+        (λ p h. incs_more m k id packet slot s.views id me.0 winner at refl may.allowed.unclaimed kept.connections.each refl refl (inc_word layout s.words) p (kept.connections.incs p h))
 
     -- the claim ends what the pass has then seen
     pub has_claimed : bit_at found (slot % 64) ≡ 0 → HasClaimed m packet slot me (winner, me.1)
@@ -108,7 +106,7 @@ module _ {S A R F : Type 0} (m : Meaning S A R) (layout : Layout) where
         let bit = kept.pools.bits Slots slot within in
         let below = bit_at-lt found (slot % 64) in
         let one : bit_at found (slot % 64) ≡ 1 = omega (arith, some', below) in
-        pools_step m layout s word n id me.1 me.0 w kept at refl refl refl (λ none. absurd (omega (arith, none, place))) (low n)
+        pools_step m layout s word n id me.1 me.0 w kept at refl refl refl refl (λ none. absurd (omega (arith, none, place))) (pool_step layout s.words Slots slot n within)
         (pools-set layout (taken k s.views) (taken k (set s.views id w)) s.words Slots slot n kept.pools within (here ∙ (sym one ∙ (bit ∙ sym (taken' Slots slot)))) bits (λ other p two. taken' other p))
 
   pub may_claim_slot : (st : Step F) (id n packet slot mask : ℕ) (me : Me F (CellView S A R)) → me.0.seats.lives ≡ true → 1 ≤ length me.0.seats.readers → slot < layout.slots → mask ≡ 1 * 2 ^ (slot % 64) % 2 ^ 64 →

@@ -43,6 +43,29 @@ nodes_at layout = root_at layout + 128
 abbrev pub connections_at : Layout → ℕ
 connections_at layout = nodes_at layout + 18 * layout.nodes
 
+-- the words of a node, and those of a connection
+abbrev pub node_at : Layout → ℕ → ℕ
+node_at layout node = nodes_at layout + 18 * node
+
+abbrev pub connection_at : Layout → ℕ → ℕ
+connection_at layout slot = connections_at layout + 21 * slot
+
+-- a node's state follows its places, a connection's incarnation its turn
+abbrev pub state_field : ℕ
+state_field = 16
+
+abbrev pub inc_field : ℕ
+inc_field = 1
+
+-- the words of a place: a node has 18, a connection 21
+abbrev pub field_count : Pool → ℕ
+field_count Slots = 21
+field_count Nodes = 18
+
+abbrev pub field_at : Layout → Pool → ℕ → ℕ → ℕ
+field_at layout Slots slot field = connection_at layout slot + field
+field_at layout Nodes node field = node_at layout node + field
+
 abbrev pub word_count : Layout → ℕ
 word_count layout = connections_at layout + 21 * layout.slots
 

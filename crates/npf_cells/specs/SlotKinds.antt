@@ -15,11 +15,11 @@ use Rattle.npf_cells.specs.Layout.{place_word}
 use Rattle.npf_cells.specs.Passes.{cell_pass}
 use Rattle.npf_cells.specs.PoolKinds.{with_pools, StoodSo}
 
--- the pass after a claim that won: it has seen this history, and is building this connection
+-- the pass after a claim that won: it has seen this history, is building this connection, and still has to store its incarnation
 abbrev pub claiming_slot : {S A R : Type 0} → CellView S A R → ℕ → List (Entry S A R) → ConnId → CellView S A R
 claiming_slot v found history id = record v {
   seats = record v.seats { history = history };
-  pools = record v.pools { found = found; builds = id ∷ v.pools.builds };
+  pools = record v.pools { found = found; builds = id ∷ v.pools.builds; unstored = id.slot ∷ v.pools.unstored };
 }
 
 -- the pass claimed the slot for this packet: its claim ends its history, which is legal, so the connection is the slot's next one

@@ -18,6 +18,7 @@ mod laws;
 mod layout;
 mod passing;
 mod pools;
+mod private;
 mod rule;
 mod slots;
 mod views;
