@@ -23,6 +23,7 @@ use Rattle.npf_cells.specs.Conns.{FitsBuilds, inc_word, unstored_by, Conns}
 use Rattle.npf_cells.specs.Layout.{inc_field, field_at}
 use Rattle.npf_cells.specs.PoolKinds.{others_than}
 use Rattle.npf_cells.specs.Sums.{occurs}
+use Rattle.npf_cells.specs.TableLaw.{BuildsAlone}
 use Rattle.npf_cells.proofs.ListLemmas.{occurs_or, stands_once, left_same, left_others}
 use Rattle.npf_cells.proofs.PrefixLemmas.{none_listed}
 use Rattle.npf_cells.proofs.SumLemmas.{sum-set, sum_alone}
@@ -187,3 +188,11 @@ module _ {S A R : Type 0} (m : Meaning S A R) (layout : Layout) (log : List (Ent
               let left = left_others id.slot slot v.pools.unstored ne in
               let was = kept.incs slot h in
               omega (arith, word, sums, left, was)
+
+-- two seats that build in one slot are one
+pub builds_alone : {S A R : Type 0} (m : Meaning S A R) (layout : Layout) → BuildsAlone m layout
+builds_alone m layout s i j v w id other kept at there mine theirs same =
+    let k = state_of m kept.log in
+    let first = (building_at (k.slot id.slot) id.inc i ((kept.connections.each i v at).building id mine)).1 in
+    let second = (building_at (k.slot other.slot) other.inc j ((kept.connections.each j w there).building other theirs)).1 in
+    one_builder (k.slot other.slot) i j (subst (λ slot. (k.slot slot).stage ≡ Building i) same first) second

@@ -43,13 +43,6 @@ nodes_at layout = root_at layout + 128
 abbrev pub connections_at : Layout → ℕ
 connections_at layout = nodes_at layout + 18 * layout.nodes
 
--- the words of a node, and those of a connection
-abbrev pub node_at : Layout → ℕ → ℕ
-node_at layout node = nodes_at layout + 18 * node
-
-abbrev pub connection_at : Layout → ℕ → ℕ
-connection_at layout slot = connections_at layout + 21 * slot
-
 -- a node's state follows its places, a connection's incarnation its turn
 abbrev pub state_field : ℕ
 state_field = 16
@@ -63,8 +56,8 @@ field_count Slots = 21
 field_count Nodes = 18
 
 abbrev pub field_at : Layout → Pool → ℕ → ℕ → ℕ
-field_at layout Slots slot field = connection_at layout slot + field
-field_at layout Nodes node field = node_at layout node + field
+field_at layout Slots slot field = connections_at layout + 21 * slot + field
+field_at layout Nodes node field = nodes_at layout + 18 * node + field
 
 abbrev pub word_count : Layout → ℕ
 word_count layout = connections_at layout + 21 * layout.slots

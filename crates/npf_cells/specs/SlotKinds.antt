@@ -4,10 +4,10 @@ use Rattle.std.specs.Int.{bit_at}
 use Rattle.atomic_table.specs.Table.{Me, Step}
 use Rattle.npf_core.specs.declared.conn_id.ConnId.{ConnId}
 use Rattle.npf_core.specs.declared.entry.Entry.{Entry}
-use Rattle.npf_core.specs.History.{Legal}
 use Rattle.npf_core.specs.Meaning.{Meaning}
 use Rattle.npf_connections.specs.Adding.{AddsOwn}
 use Rattle.npf_connections.specs.Entries.{claim_entries}
+use Rattle.npf_connections.specs.Pass.{IsPass}
 use Rattle.npf_cells.specs.declared.layout.Layout.{Layout}
 use Rattle.npf_cells.specs.declared.layout.Pool.TheVariants.{Slots}
 use Rattle.npf_cells.specs.declared.views.CellView.{CellView}
@@ -22,12 +22,13 @@ claiming_slot v found history id = record v {
   pools = record v.pools { found = found; builds = id ∷ v.pools.builds; unstored = id.slot ∷ v.pools.unstored };
 }
 
--- the pass claimed the slot for this packet: its claim ends its history, which is legal, so the connection is the slot's next one
+-- the pass claimed the slot for this packet: its claim ends its history, so the connection is the slot's next one, and it is among
+-- those that the pass is building
 pub record HasClaimed {S A R F : Type 0} (m : Meaning S A R) (n slot : ℕ) (old now : Me F (CellView S A R)) : Type 0 where
   pub id : ConnId
   pub slot_is : id.slot ≡ slot
   pub adds : AddsOwn (cell_pass old.0) now.0.seats.history (claim_entries (cell_pass old.0) n (Some id))
-  pub legal : Legal m now.0.seats.slots now.0.seats.history
+  pub legal : IsPass m (cell_pass now.0)
   pub is : now ≡ (claiming_slot old.0 now.0.pools.found now.0.seats.history id, old.1)
 
 -- the kind, as what it tells

@@ -47,7 +47,7 @@ impl<L: Law, H: KeyHash> Cells<L, H> {
     ghost use Rattle.std.specs.Int.{bit_at};
     ghost use Rattle.npf_cells.specs.declared.layout.Pool.TheVariants.{Slots};
     ghost use Rattle.npf_cells.specs.Layout.{place_word};
-    ghost use Rattle.npf_cells.specs.Passes.{IsPassOf};
+    ghost use Rattle.npf_cells.specs.Passes.{IsPassOf, IsProtected};
     ghost use Rattle.npf_cells.specs.PoolKinds.{StoodSo, with_pools};
     ghost use Rattle.npf_cells.specs.SlotKinds.{HasClaimed};
 
@@ -55,6 +55,7 @@ impl<L: Law, H: KeyHash> Cells<L, H> {
     pub(crate) fn claim_slot(&self, pass: &mut CellPass<L>, slot: u32, n: u64) -> bool
         requires own { IsPassOf self.now.table.shared.key self.now.table.shared.table_id pass.old.seat.table_id pass.old.readers.items pass.old.seat.me }
         requires slot { slot < self.now.table.shared.key.slots }
+        requires protected { IsProtected pass.old.seat.me.0.epochs.pin }
         ensures own { IsPassOf self.now.table.shared.key self.now.table.shared.table_id pass.new.seat.table_id pass.new.readers.items pass.new.seat.me }
         ensures claims { result ≡ true → HasClaimed L.meaning n slot pass.old.seat.me pass.new.seat.me }
         ensures loses { result ≡ false → pass.new.seat.me ≡ with_pools pass.old.seat.me (record pass.old.seat.me.0.pools { found = pass.new.seat.me.0.pools.found }) }
@@ -67,6 +68,7 @@ impl<L: Law, H: KeyHash> Cells<L, H> {
     fn claim_slot_as<W: SlotAim>(&self, pass: &mut CellPass<L>, slot: u32, n: u64) -> bool
         requires own { IsPassOf self.now.table.shared.key self.now.table.shared.table_id pass.old.seat.table_id pass.old.readers.items pass.old.seat.me }
         requires slot { slot < self.now.table.shared.key.slots }
+        requires protected { IsProtected pass.old.seat.me.0.epochs.pin }
         requires aim { (W.layout ≡ self.now.table.shared.key) × (W.slot ≡ slot) × (W.packet ≡ n) }
         ensures own { IsPassOf self.now.table.shared.key self.now.table.shared.table_id pass.new.seat.table_id pass.new.readers.items pass.new.seat.me }
         ensures claims { result ≡ true → HasClaimed L.meaning n slot pass.old.seat.me pass.new.seat.me }
