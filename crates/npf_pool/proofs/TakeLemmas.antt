@@ -10,8 +10,7 @@ use Rattle.npf_cells.specs.declared.layout.Pool.TheVariants.{Slots, Nodes}
 use Rattle.npf_cells.specs.declared.views.CellView.{CellView}
 use Rattle.npf_cells.specs.Layout.{pool_at, pool_places, pool_words}
 use Rattle.npf_cells.specs.PoolKinds.{with_pools, row_after, sweeping, StoodSo}
-use Rattle.npf_cells.specs.SlotKinds.{HasClaimed}
-use Rattle.npf_pool.specs.Take.{searching, having_swept, CountsSweep, StoodFull}
+use Rattle.npf_pool.specs.Take.{searching, having_swept, StoodFull}
 
 -- a full word goes on with the row, any other breaks it off
 row_grows : (row word : ℕ) → (1 ≤ word → row ≡ word) → row_after row word (2 ^ 64 - 1) ≡ word + 1
@@ -47,10 +46,6 @@ free_within m layout pool view word found bit stood h low clear = ⊎_elim (λ w
 
 module _ {S A R F : Type 0} where
   -- searches that follow one another are one
-  pub unsearched : (pool : Pool) (me : Me F (CellView S A R)) → me ≡ with_pools me (searching pool me.0.pools me.0.pools)
-  unsearched Slots me = refl
-  unsearched Nodes me = refl
-
   pub searched_more : (pool : Pool) (old now next : Me F (CellView S A R)) → now ≡ with_pools old (searching pool old.0.pools now.0.pools) →
       next ≡ with_pools now (searching pool now.0.pools next.0.pools) → next ≡ with_pools old (searching pool old.0.pools next.0.pools)
   searched_more Slots old now next is more = more ∙ ap (λ (y : Me F (CellView S A R)). with_pools y (record y.0.pools { found = next.0.pools.found })) is
@@ -62,22 +57,6 @@ module _ {S A R F : Type 0} where
   swept_more Nodes old now next is more =
       more ∙ ap (λ (y : Me F (CellView S A R)). with_pools y (record y.0.pools { found = next.0.pools.found; row = next.0.pools.row; sweeps = next.0.pools.sweeps })) is
 
-  -- a claim that lost changes no more than a search
-  pub lost_more : (pool : Pool) (old now next : Me F (CellView S A R)) → now ≡ with_pools old (searching pool old.0.pools now.0.pools) →
-      next ≡ with_pools now (record now.0.pools { found = next.0.pools.found }) → next ≡ with_pools old (searching pool old.0.pools next.0.pools)
-  lost_more Slots old now next is more = more ∙ ap (λ (y : Me F (CellView S A R)). with_pools y (record y.0.pools { found = next.0.pools.found })) is
-  lost_more Nodes old now next is more =
-      let row : next.0.pools.row ≡ now.0.pools.row = ap (λ (y : Me F (CellView S A R)). y.0.pools.row) more in
-      more ∙ (ap (λ (y : Me F (CellView S A R)). with_pools y (record y.0.pools { found = next.0.pools.found })) is
-      ∙ ap (λ n. with_pools old (record old.0.pools { found = next.0.pools.found; row = n })) (sym row))
-
-  -- a claim of a slot after a search is one of the pass as it was before
-  pub claimed_more : (m : Meaning S A R) (n slot : ℕ) (old now next : Me F (CellView S A R)) → now ≡ with_pools old (searching Slots old.0.pools now.0.pools) →
-      HasClaimed m n slot now next → HasClaimed m n slot old next
-  claimed_more m n slot old now next is has =
-      let known : HasClaimed m n slot (with_pools old (record old.0.pools { found = now.0.pools.found })) next = subst (λ (y : Me F (CellView S A R)). HasClaimed m n slot y next) is has in
-      record { id = known.id; slot_is = known.slot_is; adds = known.adds; legal = known.legal; is = known.is }
-
 module _ {S A R F : Type 0} (m : Meaning S A R) (layout : Layout) where
   -- the pass found the words below this one full
   pub record FullBelow (pool : Pool) (old : Me F (CellView S A R)) (word : ℕ) (now : Me F (CellView S A R)) : Type 0 where
@@ -86,10 +65,6 @@ module _ {S A R F : Type 0} (m : Meaning S A R) (layout : Layout) where
     pub before : word < pool_words (pool_places layout pool) → now ≡ with_pools old (searching pool old.0.pools now.0.pools)
     pub whole : pool ≡ Nodes → word ≡ pool_words layout.nodes → now.0.pools.sweeps ≡ old.0.pools.sweeps + min word 1
     pub full : (k : ℕ) → k < word → StoodFull m layout pool old.0 k
-
-  pub none_loaded : (pool : Pool) (me : Me F (CellView S A R)) → FullBelow pool me 0 me
-  none_loaded Slots me = record { is = refl; row = λ e h. absurd (omega (arith, h)); before = λ _. refl; whole = λ e. absurd cc; full = λ k h. absurd (omega (arith, h)) }
-  none_loaded Nodes me = record { is = refl; row = λ e h. absurd (omega (arith, h)); before = λ _. refl; whole = λ _ _. omega arith; full = λ k h. absurd (omega (arith, h)) }
 
   -- one word more was full
   full_more : (pool : Pool) (old now : Me F (CellView S A R)) (word found : ℕ) → FullBelow pool old word now → word < pool_words (pool_places layout pool) → found ≡ 2 ^ 64 - 1 →
@@ -135,20 +110,6 @@ module _ {S A R F : Type 0} (m : Meaning S A R) (layout : Layout) where
         whole = λ _ e'. one ∙ ap (λ b. cond b (old.0.pools.sweeps + 1) old.0.pools.sweeps) (eq-eqb (word + 1) (pool_words layout.nodes) e') ∙ omega arith;
         full = full_more Nodes old now word found so h e stood;
       }
-
-  pub broken_off : (pool : Pool) (old now next : Me F (CellView S A R)) (word found : ℕ) → FullBelow pool old word now → word < pool_words (pool_places layout pool) → found ≢ 2 ^ 64 - 1 →
-      next ≡ with_pools now (sweeping pool (pool_words layout.nodes) word now.0.pools found) → next ≡ with_pools old (searching pool old.0.pools next.0.pools)
-  broken_off Slots old now next word found so h ne is =
-      searched_more Slots old now next (so.before h) (subst (λ y. y ≡ with_pools now (searching Slots now.0.pools y.0.pools)) (sym is) refl)
-  broken_off Nodes old now next word found so h ne is =
-      uncounted old now next word found 0 so h is (row_breaks now.0.pools.row word found ne) (λ e. omega (arith, e, h))
-
-  -- a sweep of the nodes counts
-  pub counts_sweep : (old now : Me F (CellView S A R)) (word : ℕ) → FullBelow Nodes old word now → word ≡ pool_words layout.nodes → CountsSweep (pool_words layout.nodes) old.0.pools now.0.pools
-  counts_sweep old now word so end = record {
-    row = λ h. so.row refl (subst (λ n. 1 ≤ n) (sym end) h) ∙ end;
-    sweeps = so.whole refl end ∙ ap (λ n. old.0.pools.sweeps + min n 1) end;
-  }
 
   -- what was found after a search stands for what was known before it
   pub before_search : (pool : Pool) (old me : Me F (CellView S A R)) (word : ℕ) → me ≡ with_pools old (searching pool old.0.pools me.0.pools) → StoodFull m layout pool me.0 word → StoodFull m layout pool old.0 word
