@@ -1,4 +1,5 @@
 mod ConnLemmas
+mod EntryLemmas
 mod EpochLemmas
 mod Frames
 mod KeepLemmas

@@ -1,25 +1,22 @@
 -- Kind 8 for slots keeps the rule, and makes the claim.
-use Rattle.std.proofs.Common.{◌≡◌, ◌≢◌, ℕ, ◌*◌, ◌%◌, ◌^◌, ◌<◌, ◌≤◌, Bool, true, false, true≢false, eqb, List, [], ◌∷◌, ◌++◌, map, set, length, slice_index, Some, refl, sym, ap, ◌∙◌, subst, ⊎_elim, inl, inr, arith, append_assoc, bit_or}
+use Rattle.std.proofs.Common.{◌≡◌, ◌≢◌, ℕ, ◌*◌, ◌%◌, ◌^◌, ◌<◌, ◌≤◌, Bool, true, false, true≢false, eqb, [], ◌∷◌, ◌++◌, map, set, length, slice_index, refl, sym, ap, ◌∙◌, subst, arith, bit_or}
 use Rattle.std.specs.Int.{bit_at, w64}
-use Rattle.std.specs.List.{Contains}
 use Rattle.std.proofs.lemmas.Bool.Decides.{Decides-eqb, not_from_Decides}
 use Rattle.std.proofs.lemmas.Nat.Bits.{bit_at-lt, bit_at_set_same, bit_at_set_other}
 use mathlib.Core.Option.{some}
 use lib.ListN.{get_elem?}
-use Rattle.atomic_table.specs.Seated.{TableId}
 use Rattle.atomic_table.specs.Table.{State, Me, Step, Allows, Act, Valid, carried_after, stepped, keeps}
 use Rattle.atomic_table.proofs.Lists.{at_map}
 use Rattle.npf_core.specs.declared.act.Act.TheVariants.{Claim}
 use Rattle.npf_core.specs.declared.entry.Entry.{Entry}
 use Rattle.npf_core.specs.declared.reply.Reply.TheVariants.{ToClaim}
 use Rattle.npf_core.specs.declared.stage.Stage.TheVariants.{Building}
-use Rattle.npf_core.specs.History.{MayFollow, Legal, state_of, by}
+use Rattle.npf_core.specs.History.{MayFollow, Legal, state_of}
 use Rattle.npf_core.specs.Machine.{Machine, stage_of}
 use Rattle.npf_core.specs.Meaning.{Meaning}
 use Rattle.npf_core.specs.Replies.{claimed_id}
-use Rattle.npf_core.proofs.HistoryLemmas.{state_of-append, by-append, Legal-append}
-use Rattle.npf_connections.specs.Entries.{claim_entries}
-use Rattle.npf_connections.specs.Pass.{IsOwn}
+use Rattle.npf_core.proofs.HistoryLemmas.{state_of-append, Legal-append}
+use Rattle.npf_connections.specs.Adding.{AddsOwn}
 use Rattle.npf_cells.specs.declared.layout.Layout.{Layout}
 use Rattle.npf_cells.specs.declared.layout.Pool.TheVariants.{Slots}
 use Rattle.npf_cells.specs.declared.views.CellView.{CellView}
@@ -28,16 +25,16 @@ use Rattle.npf_cells.specs.declared.views.Pin.TheVariants.{Idle, Pinned, Protect
 use Rattle.npf_cells.specs.Cells.{seat_side, IsCells}
 use Rattle.npf_cells.specs.Conns.{inc_word}
 use Rattle.npf_cells.specs.Layout.{place_word}
-use Rattle.npf_cells.specs.Passes.{is_pinned, IsProtected, cell_pass, IsPassOf}
+use Rattle.npf_cells.specs.Passes.{is_pinned, IsProtected, cell_pass}
 use Rattle.npf_cells.specs.Pools.{taken}
-use Rattle.npf_cells.specs.Seats.{FitsSeats, AnswersFor, Seats}
+use Rattle.npf_cells.specs.Seats.{FitsSeats}
 use Rattle.npf_cells.specs.SlotKinds.{claiming_slot, HasClaimed, ClaimsSlot}
 use Rattle.npf_cells.proofs.ConnLemmas.{BuildsIn}
+use Rattle.npf_cells.proofs.EntryLemmas.{adds_entry, sole_entries}
 use Rattle.npf_cells.proofs.Frames.{pools_step, entry_step}
 use Rattle.npf_cells.proofs.PoolKeepLemmas.{pool_step, stood_so}
 use Rattle.npf_cells.proofs.PoolLemmas.{pools-set, taken-set}
-use Rattle.npf_cells.proofs.PrefixLemmas.{none_listed, not_of, one_of, rest_none, ends_alone, seen_entry}
-use Rattle.npf_cells.proofs.SeatLemmas.{unspent, seats-adds, only_seat}
+use Rattle.npf_cells.proofs.PrefixLemmas.{none_listed}
 use Rattle.npf_cells.proofs.SlotLemmas.{clear_vacant, claimed, now_taken, taken_else, builds_more, incs_more}
 use Rattle.npf_cells.proofs.SumLemmas.{set_there}
 
@@ -65,8 +62,11 @@ module _ {S A R F : Type 0} (m : Meaning S A R) (layout : Layout) where
     abbrev winner : CellView S A R
     winner = claiming_slot me.0 found (kept.log ++ entry ∷ []) (claimed_id k slot)
 
+    there : get_elem? (map seat_side s.views) id ≡ some me.0.seats
+    there = at_map seat_side s.views id me.0 at
+
     fits : FitsSeats layout.slots (map seat_side s.views) kept.log id me.0.seats
-    fits = kept.seats.each id me.0.seats (at_map seat_side s.views id me.0 at)
+    fits = kept.seats.each id me.0.seats there
 
     -- where the bit is clear the slot is vacant, so the claim may follow
     follows : bit_at found (slot % 64) ≡ 0 → MayFollow m layout.slots k entry
@@ -93,41 +93,20 @@ module _ {S A R F : Type 0} (m : Meaning S A R) (layout : Layout) where
     has_claimed clear = record {
       id = claimed_id k slot;
       slot_is = refl;
-      adds = record {
-        adds = record {
-          rest = fits.seen.rest ++ entry ∷ [];
-          goes_on = ap (λ xs. xs ++ entry ∷ []) fits.seen.goes_on ∙ append_assoc me.0.seats.history fits.seen.rest (entry ∷ []);
-          own = ap (λ n. by n (fits.seen.rest ++ entry ∷ [])) number ∙ (by-append id fits.seen.rest (entry ∷ []) ∙ (λ i. rest_none id me.0.seats.history kept.log fits.seen (fits.lives lives).own i ++ one_of id entry refl i) ∙ same_entry);
-          listed = λ n c. by-append n fits.seen.rest (entry ∷ [])
-              ∙ (λ i. rest_none n me.0.seats.history kept.log fits.seen (fits.joined n c).same i ++ not_of n entry (λ e. unspent layout.slots kept.log (map seat_side s.views) id n me.0.seats (at_map seat_side s.views id me.0 at) place (fits.joined n c).spent (sym e)) i);
-        };
-        ends = λ init last e. (kept.log, ap (λ x. kept.log ++ x ∷ []) (ends_alone entry last init (same_entry ∙ e)));
-      };
+      adds = subst (AddsOwn (cell_pass me.0) (kept.log ++ entry ∷ [])) (ap (λ n. record entry { seat = n } ∷ []) (sym number)) (adds_entry layout.slots kept.log (map seat_side s.views) id me.0 kept.seats there lives place entry refl);
       legal = record {
         legal = subst (λ slots. Legal m slots (kept.log ++ entry ∷ [])) (sym (fits.sized place)) (Legal-append m layout.slots kept.log entry kept.connections.legal (follows clear));
         stays = λ i c. absurd (none_listed i c);
         building = λ i c. ap (λ n. stage_of n i) (state_of-append m kept.log entry) ∙ ((builds clear id winner (set_there s.views id me.0 winner at)).building i c ∙ ap (λ n. Building n) (sym number));
         unanswered = λ _. refl;
         idle = λ out. absurd (true≢false (sym (pinned_in me.0.epochs.pin stays) ∙ out));
-        alone = λ all e c. ⊎_elim (λ none. absurd (seen_entry (kept.log ++ entry ∷ []) e none c)) (λ has. own e (only_seat layout.slots (kept.log ++ entry ∷ []) (set (map seat_side s.views) id winner.seats) id winner.seats seats (set_there (map seat_side s.views) id me.0.seats winner.seats there) lives all e.seat has)) (seats.known e.seat);
+        alone = sole_entries layout.slots kept.log (map seat_side s.views) id me.0 kept.seats there lives place entry refl settled;
       };
       is = refl;
     }
       where
         number : me.0.seats.number ≡ id
         number = (fits.lives lives).number
-
-        there : get_elem? (map seat_side s.views) id ≡ some me.0.seats
-        there = at_map seat_side s.views id me.0 at
-
-        seats : Seats layout.slots (kept.log ++ entry ∷ []) (set (map seat_side s.views) id winner.seats)
-        seats = seats-adds layout.slots kept.log (map seat_side s.views) id me.0.seats kept.seats there lives place entry refl
-
-        own : (e : Entry S A R) → AnswersFor id winner.seats e.seat → IsOwn (cell_pass winner) e.seat
-        own e answers = ⊎_elim (λ same. inl (same ∙ sym number)) (λ (c : Contains (me.0.seats.theirs ++ me.0.seats.joined) e.seat). inr (subst (λ xs. Contains (xs ++ me.0.seats.joined) e.seat) settled c)) answers
-
-        same_entry : entry ∷ [] ≡ claim_entries (cell_pass me.0) packet (Some (claimed_id k slot))
-        same_entry = ap (λ n. record entry { seat = n } ∷ []) (sym number)
 
     -- where it is set nothing changes but what the pass found
     pub loses : (n : ℕ) → bit_at found (slot % 64) ≢ 0 → bit_at n (slot % 64) ≡ 1 → ((i : ℕ) → i < 64 → i ≢ slot % 64 → bit_at n i ≡ bit_at found i) →
@@ -188,20 +167,3 @@ module _ {S A R F : Type 0} (m : Meaning S A R) (layout : Layout) where
               lost = λ _. refl;
             },
           )
-
--- a pass of the table stays one through a claim of a slot
-pub claimed_on : {S A R F : Type 0} (m : Meaning S A R) (layout : Layout) (packet slot : ℕ) (table seat seat' : TableId) (readers : List ℕ) (me next : Me F (CellView S A R)) →
-    IsPassOf layout table seat readers me → seat' ≡ seat → HasClaimed m packet slot me next → IsPassOf layout table seat' readers next
-claimed_on m layout packet slot table seat seat' readers me next own same has = rw has.is (record {
-  same = same ∙ own.same;
-  words = own.words;
-  free = own.free;
-  sized = own.sized;
-  lives = own.lives;
-  theirs = own.theirs;
-  owns = own.owns;
-  place = own.place;
-  most = own.most;
-  reader = own.reader;
-  epoch = own.epoch;
-})

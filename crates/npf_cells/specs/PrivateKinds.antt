@@ -43,7 +43,7 @@ pub record MayStoreInSlot {S A R : Type 0} (m : Meaning S A R) (v : CellView S A
   pub inc : field ≡ inc_field → value ≡ id.inc
   pub keyless : (way : Way) → key_field way ≤ field → field < key_field way + 5 → HoldsNone (state_of m v.seats.history) id way
 
--- both
+-- in a place of either pool
 abbrev pub MayStore : {S A R : Type 0} → Meaning S A R → CellView S A R → Pool → ℕ → ℕ → ℕ → Type 0
 MayStore m v Slots slot field value = MayStoreInSlot m v slot field value
 MayStore m v Nodes node field value = MayStoreInNode v.pools node field
