@@ -4,6 +4,10 @@
 #[cfg(test)]
 mod flat;
 #[cfg(test)]
+mod hands;
+#[cfg(test)]
 mod pools;
+#[cfg(test)]
+mod slots;
 #[cfg(test)]
 mod stays;

@@ -7,7 +7,7 @@ use crate::flat::Flat;
 use npf_cells::{CellPass, Cells, Pool};
 use npf_epoch::{enter, leave};
 use npf_flow::FlowLaw;
-use npf_pool::take_node;
+use npf_pool::take;
 use std::sync::Wait;
 use std::test::Fail;
 
@@ -21,12 +21,12 @@ fn node_is_claimed_once_until_it_is_given_back(rt: HostRuntime) -> Result<(), Fa
         cells.load_pool(&mut pass, Pool::Nodes, 1),
         0xFFFF_FFFF_FFFF_FFC0
     );
-    assert_eq!(rt; cells.claim_node(&mut pass, 69), true);
+    assert_eq!(rt; cells.claim(&mut pass, Pool::Nodes, 69, 0), true);
     assert_eq!(rt;
         cells.load_pool(&mut pass, Pool::Nodes, 1),
         0xFFFF_FFFF_FFFF_FFE0
     );
-    assert_eq!(rt; cells.claim_node(&mut pass, 69), false);
+    assert_eq!(rt; cells.claim(&mut pass, Pool::Nodes, 69, 0), false);
     cells.give_back(&mut pass, Pool::Nodes, 69);
     assert_eq!(rt;
         cells.load_pool(&mut pass, Pool::Nodes, 1),
@@ -51,7 +51,7 @@ fn takes_in_order(
     ensures few { length pass.new.seat.me.0.pools.nodes ≤ length pass.old.seat.me.0.pools.nodes + count }
 {
     for node in 0..count {
-        if take_node(rt, cells, pass) != Some(node) {
+        if take(rt, cells, pass, Pool::Nodes, 0) != Some(node) {
             return false;
         }
     }
@@ -71,12 +71,12 @@ fn last_is_taken_again(
     ensures own { IsPassOf cells.now.table.shared.key cells.now.table.shared.table_id pass.new.seat.table_id pass.new.readers.items pass.new.seat.me }
     ensures protected { IsProtected pass.new.seat.me.0.epochs.pin }
 {
-    let node = take_node(rt, cells, pass)?;
-    match take_node(rt, cells, pass) {
+    let node = take(rt, cells, pass, Pool::Nodes, 0)?;
+    match take(rt, cells, pass, Pool::Nodes, 0) {
         Some(_) => None,
         None => {
             cells.give_back(pass, Pool::Nodes, node);
-            Some((node, take_node(rt, cells, pass)?))
+            Some((node, take(rt, cells, pass, Pool::Nodes, 0)?))
         }
     }
 }

@@ -1,11 +1,17 @@
+mod ConnLemmas
+mod EntryLemmas
 mod EpochLemmas
 mod Frames
 mod KeepLemmas
 mod KindLemmas
+mod ListLemmas
 mod MoveLemmas
 mod OpenLemmas
 mod PoolKeepLemmas
 mod PoolLemmas
 mod PrefixLemmas
+mod PrivateKeepLemmas
 mod SeatLemmas
+mod SlotKeepLemmas
+mod SlotLemmas
 mod SumLemmas

@@ -24,7 +24,8 @@ use Rattle.npf_cells.specs.Passes.{cell_pass, IsPassOf}
 use Rattle.npf_cells.specs.Pools.{taken, OwnsNothing}
 use Rattle.npf_cells.specs.Seats.{Seats}
 use Rattle.npf_cells.proofs.EpochLemmas.{epochs-split, epochs-join}
-use Rattle.npf_cells.proofs.Frames.{pushed_side, merged_side, building-set, building-push, framed, seats_step, spent-set, spent-push}
+use Rattle.npf_cells.proofs.ConnLemmas.{fits_nothing, owes_nothing, builds-set, builds-kept, builds-push, unstored-set, unstored-push, conns-same}
+use Rattle.npf_cells.proofs.Frames.{pushed_side, merged_side, framed, seats_step, spent-set, spent-push}
 use Rattle.npf_cells.proofs.PoolLemmas.{pools-same, taken-set, taken-push}
 use Rattle.npf_cells.proofs.PrefixLemmas.{none_listed, none_in_prefix, seen_entry}
 use Rattle.npf_cells.proofs.SeatLemmas.{unspent, seats-split, none_seen, seats-born, seats-join, long, mine_seen, told_seen, seats-read, only_seat, most_places, owned_within}
@@ -35,14 +36,16 @@ module _ {S A R F : Type 0} (m : Meaning S A R) (layout : Layout) where
   pub splits : (id : ℕ) (v : CellView S A R) → v.seats.lives ≡ true → v.epochs.pin ≡ Idle → 2 ≤ length v.seats.readers →
       Splits (IsCells {F = F} m layout) id v (gives_reader v) (given_view v)
   splits id v lives idle places s kept at =
-      framed m layout s (record { words = s.words; homes = s.homes; views = set s.views id (gives_reader v) ++ given_view v ∷ [] }) kept refl
+      framed m layout s (record { words = s.words; homes = s.homes; views = set s.views id (gives_reader v) ++ given_view v ∷ [] }) kept kept.log refl
       (subst (λ sides. Seats layout.slots kept.log sides) (sym (pushed_side seat_side s.views id (gives_reader v) (given_view v)))
       (seats-split layout.slots kept.log (map seat_side s.views) id v.seats kept.seats (at_map seat_side s.views id v at) lives places))
       (subst (λ rs. Epochs (epoch_word s.words) (reader_word s.words) rs) (sym (pushed_side reader_view s.views id (gives_reader v) (given_view v)))
       (epochs-split (epoch_word s.words) (reader_word s.words) (map reader_view s.views) kept.epochs id (length v.seats.readers - 1) (reader_view v) (at_map reader_view s.views id v at) idle))
       (pools-same layout (taken (state_of m kept.log) s.views) (taken (state_of m kept.log) (set s.views id (gives_reader v) ++ given_view v ∷ [])) s.words s.words kept.pools refl (λ j h. refl)
       (λ pool p. taken-push (state_of m kept.log) (set s.views id (gives_reader v)) (given_view v) refl pool p ∙ taken-set (state_of m kept.log) s.views id v (gives_reader v) at refl pool p))
-      (building-push (state_of m kept.log) (set s.views id (gives_reader v)) (given_view v) refl (building-set (state_of m kept.log) s.views id v (gives_reader v) at refl kept.connections.building))
+      (conns-same m layout kept.log s.words s.words s.views (set s.views id (gives_reader v) ++ given_view v ∷ []) kept.connections refl (λ slot h. refl)
+      (builds-push (state_of m kept.log) (set s.views id (gives_reader v)) (given_view v) refl refl (builds-kept (state_of m kept.log) s.views id v (gives_reader v) at refl refl kept.connections.each))
+      (λ slot. unstored-push (set s.views id (gives_reader v)) (given_view v) refl slot ∙ unstored-set s.views id v (gives_reader v) at refl slot))
       (spent-push (set s.views id (gives_reader v)) (given_view v) (record { nodes = refl; builds = refl }) (spent-set s.views id (gives_reader v) some_left kept.spent))
     where
       some_left : length (gives_reader v).seats.readers ≡ 0 → OwnsNothing v.pools
@@ -53,7 +56,7 @@ module _ {S A R F : Type 0} (m : Meaning S A R) (layout : Layout) where
       w.seats.lives ≡ true → w.seats.theirs ≡ [] → w.epochs.pin ≡ Idle → w.pools.nodes ≡ [] → w.pools.builds ≡ [] → Joins (IsCells {F = F} m layout) id v other w (takes_in v w) nothing_left
   joins id v other w lives theirs idle place w-lives w-theirs w-idle w-nodes w-builds s kept at apart there =
       let was : get_elem? s.views other ≡ some w = sym (set_else s.views id other (takes_in v w) apart) ∙ there in
-      framed m layout s (record { words = s.words; homes = s.homes; views = set (set s.views id (takes_in v w)) other nothing_left }) kept refl
+      framed m layout s (record { words = s.words; homes = s.homes; views = set (set s.views id (takes_in v w)) other nothing_left }) kept kept.log refl
       (subst (λ sides. Seats layout.slots kept.log sides) (sym (merged_side seat_side s.views id other (takes_in v w) nothing_left))
       (seats-join layout.slots kept.log (map seat_side s.views) id v.seats other w.seats kept.seats (at_map seat_side s.views id v at) apart (at_map seat_side s.views other w was)
       lives theirs place w-lives w-theirs))
@@ -62,7 +65,10 @@ module _ {S A R F : Type 0} (m : Meaning S A R) (layout : Layout) where
       (at_map reader_view s.views id v at) (at_map reader_view s.views other w was) idle w-idle))
       (pools-same layout (taken (state_of m kept.log) s.views) (taken (state_of m kept.log) (set (set s.views id (takes_in v w)) other nothing_left)) s.words s.words kept.pools refl (λ j h. refl)
       (λ pool p. taken-set (state_of m kept.log) (set s.views id (takes_in v w)) other w nothing_left there (sym w-nodes) pool p ∙ taken-set (state_of m kept.log) s.views id v (takes_in v w) at refl pool p))
-      (building-set (state_of m kept.log) (set s.views id (takes_in v w)) other w nothing_left there (sym w-builds) (building-set (state_of m kept.log) s.views id v (takes_in v w) at refl kept.connections.building))
+      (conns-same m layout kept.log s.words s.words s.views (set (set s.views id (takes_in v w)) other nothing_left) kept.connections refl (λ slot h. refl)
+      (builds-set (state_of m kept.log) (set s.views id (takes_in v w)) other nothing_left (fits_nothing (state_of m kept.log) other) (builds-kept (state_of m kept.log) s.views id v (takes_in v w) at refl refl kept.connections.each))
+      (λ slot. unstored-set (set s.views id (takes_in v w)) other w nothing_left there (sym (owes_nothing (state_of m kept.log) other w.pools.builds w.pools.unstored (kept.connections.each other w was) w-builds)) slot
+      ∙ unstored-set s.views id v (takes_in v w) at refl slot))
       (spent-set (set s.views id (takes_in v w)) other nothing_left (λ _. record { nodes = refl; builds = refl }) (spent-set s.views id (takes_in v w) some_left kept.spent))
     where
       some_left : length (v.seats.readers ++ w.seats.readers) ≡ 0 → OwnsNothing (takes_in v w).pools

@@ -10,7 +10,6 @@ use Rattle.std.proofs.lemmas.Nat.Bits.{bit_at-zero, bit_at_mask_inside, bit_at_m
 use mathlib.Core.Option.{some, some-injective, some-ne-none}
 use lib.ListN.{get_elem?}
 use Rattle.atomic_table.specs.Table.{opening as table_opening}
-use Rattle.npf_core.specs.declared.conn_id.ConnId.{ConnId}
 use Rattle.npf_core.specs.Machine.{opening}
 use Rattle.npf_core.specs.Meaning.{Meaning}
 use Rattle.npf_connections.specs.Pass.{all_places}
@@ -20,12 +19,14 @@ use Rattle.npf_cells.specs.declared.layout.Pool.TheVariants.{Slots, Nodes}
 use Rattle.npf_cells.specs.declared.views.CellView.{CellView}
 use Rattle.npf_cells.specs.declared.views.SeatSide.{SeatSide}
 use Rattle.npf_cells.specs.Cells.{reader_view, IsCells, first_cell_view}
+use Rattle.npf_cells.specs.Conns.{FitsBuilds, inc_word, unstored_by}
 use Rattle.npf_cells.specs.Epochs.{ReaderView, pin_place, FitsEpochs, all_raises}
-use Rattle.npf_cells.specs.Layout.{pools_at, pool_words, pool_places, pool_at, pool_bit, word_count, epoch_word, reader_word}
+use Rattle.npf_cells.specs.Layout.{pools_at, pool_words, pool_places, pool_at, pool_bit, root_at, inc_field, field_at, word_count, epoch_word, reader_word}
 use Rattle.npf_cells.specs.Opening.{with_past, opening_words}
 use Rattle.npf_cells.specs.Pools.{taken, OwnsNothing}
 use Rattle.npf_cells.specs.Seats.{FitsSeats, Seats}
 use Rattle.npf_cells.specs.Sums.{occurs, numbers_below}
+use Rattle.npf_cells.proofs.ConnLemmas.{fits_nothing}
 use Rattle.npf_cells.proofs.EpochLemmas.{idle_holds}
 use Rattle.npf_cells.proofs.PrefixLemmas.{none_listed, prefix_of_none}
 use Rattle.npf_cells.proofs.SeatLemmas.{cases_lt}
@@ -115,6 +116,10 @@ module _ (layout : Layout) where
   middle_zero : (i : ℕ) → pool_at layout Nodes ≤ i → slice_index middle i ≡ 0
   middle_zero i h = past_else (pool_at layout Slots) layout.slots start slots_reach i (inr h) ∙ start_zero i (omega (arith, h))
 
+  -- and those behind them are 0
+  behind : (i : ℕ) → root_at layout ≤ i → slice_index (opening_words layout) i ≡ 0
+  behind i h = past_else (pool_at layout Nodes) layout.nodes middle nodes_reach i (inr (omega (arith, h))) ∙ middle_zero i (omega (arith, h))
+
   clear : (pool : Pool) (p : ℕ) → p < pool_places layout pool → pool_bit layout pool (opening_words layout) p ≡ 0
   clear Slots p h =
       ap (λ n. bit_at n (p % 64)) (past_else (pool_at layout Nodes) layout.nodes middle nodes_reach (pools_at + p / 64) (inl (omega (arith, h))))
@@ -183,7 +188,7 @@ module _ {S A R : Type 0} (layout : Layout) where
       beyond = λ p h. untaken view refl Nodes p;
     };
     trie = record { reach = (let a = count layout in omega (arith, a)) };
-    connections = record { reach = count layout; legal = tt; building = λ j v e id c. absurd (unbuilt j v e id c) };
+    connections = record { reach = count layout; legal = tt; each = builds_none; incs = no_incs };
     nodes = record { reach = (let a = count layout in omega (arith, a)) };
     spent = λ j v e none. nothing j v e;
   })
@@ -216,6 +221,12 @@ module _ {S A R : Type 0} (layout : Layout) where
       nothing zero v e = subst (λ (u : CellView S A R). OwnsNothing u.pools) (some-injective _ _ e) (record { nodes = refl; builds = refl })
       nothing (suc j) v e = absurd (some-ne-none v (sym e))
 
-      unbuilt : (j : ℕ) (v : CellView S A R) → get_elem? (view ∷ []) j ≡ some v → (id : ConnId) → Contains v.pools.builds id → ⊥
-      unbuilt zero v e id c = none_listed id (subst (λ (u : CellView S A R). Contains u.pools.builds id) (sym (some-injective _ _ e)) c)
-      unbuilt (suc j) v e id c = absurd (some-ne-none v (sym e))
+      builds_none : (j : ℕ) (v : CellView S A R) → get_elem? (view ∷ []) j ≡ some v → FitsBuilds {S = S} opening j v.pools.builds v.pools.unstored
+      builds_none zero v e = subst (λ (u : CellView S A R). FitsBuilds {S = S} opening 0 u.pools.builds u.pools.unstored) (some-injective _ _ e) (fits_nothing opening 0)
+      builds_none (suc j) v e = absurd (some-ne-none v (sym e))
+
+      no_incs : (slot : ℕ) → slot < layout.slots → inc_word layout (opening_words layout) slot + unstored_by (view ∷ []) slot ≡ 0
+      no_incs slot h =
+          let word = behind layout (field_at layout Slots slot inc_field) (omega arith) in
+          let sum = sum_by-cons (λ (u : CellView S A R). occurs slot u.pools.unstored) view [] in
+          omega (arith, word, sum)

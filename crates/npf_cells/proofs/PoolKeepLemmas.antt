@@ -1,5 +1,5 @@
 -- Kinds 7 to 9 keep the rule: each by its part and the frame of a step on a pool's word.
-use Rattle.std.proofs.Common.{◌≡◌, ◌≢◌, ℕ, zero, suc, ◌+◌, ◌*◌, ◌%◌, ◌^◌, ◌<◌, ◌≤◌, Bool, true, false, cond, eqb, eq-eqb, ne_eqb, List, [], ◌∷◌, set, length, slice_index, slice_index_or, refl, sym, ap, ◌∙◌, subst, ⊎_elim, arith, length-set, bit_and, bit_or}
+use Rattle.std.proofs.Common.{◌≡◌, ◌≢◌, ℕ, ◌+◌, ◌*◌, ◌%◌, ◌^◌, ◌<◌, ◌≤◌, Bool, true, false, cond, eqb, eq-eqb, ne_eqb, List, [], ◌∷◌, set, length, slice_index, refl, sym, ap, ◌∙◌, subst, ⊎_elim, arith, length-set, bit_and, bit_or}
 use Rattle.std.specs.Int.{bit_at, bit_not, w64}
 use Rattle.std.specs.List.{Contains}
 use Rattle.std.proofs.lemmas.Bool.{cases_eq}
@@ -20,53 +20,34 @@ use Rattle.npf_cells.specs.declared.layout.Pool.TheVariants.{Slots, Nodes}
 use Rattle.npf_cells.specs.declared.views.CellView.{CellView}
 use Rattle.npf_cells.specs.declared.views.PoolSide.{PoolSide}
 use Rattle.npf_cells.specs.Cells.{seat_side, IsCells}
-use Rattle.npf_cells.specs.Layout.{pool_at, pool_words, place_word, pool_bit}
+use Rattle.npf_cells.specs.Layout.{pool_at, pool_words, pool_places, place_word, pool_bit}
 use Rattle.npf_cells.specs.Passes.{IsPassOf}
 use Rattle.npf_cells.specs.PoolKinds.{with_pools, sweeping, claiming_node, others_than, giving_back, Sweeps, ClaimsNode, GivesNodeBack, StoodSo}
 use Rattle.npf_cells.specs.Pools.{node_owners, taken}
 use Rattle.npf_cells.specs.Sums.{occurs}
 use Rattle.npf_cells.specs.TableLaw.{OwnsAlone}
-use Rattle.npf_cells.proofs.Frames.{pools_step}
-use Rattle.npf_cells.proofs.PoolLemmas.{word_within, places_within, pools-same, pools-set, one_where, occurs-cons, taken-set}
+use Rattle.npf_cells.proofs.Frames.{IsPoolStep, pools_step}
+use Rattle.npf_cells.proofs.ListLemmas.{one_where, occurs-cons, left_same, left_others, stands_once}
+use Rattle.npf_cells.proofs.PoolLemmas.{word_within, places_within, pools-same, pools-set, taken-set}
 use Rattle.npf_cells.proofs.SeatLemmas.{cases_lt}
 use Rattle.npf_cells.proofs.SumLemmas.{sum-set, one_of_sum, two_of_sum}
 
-sweeping-same : (pool : Pool) (count word : ℕ) (side : PoolSide) (found : ℕ) → ((sweeping pool count word side found).nodes ≡ side.nodes) × ((sweeping pool count word side found).builds ≡ side.builds)
-sweeping-same Slots count word side found = (refl, refl)
-sweeping-same Nodes count word side found = (refl, refl)
+sweeping-same : (pool : Pool) (count word : ℕ) (side : PoolSide) (found : ℕ) →
+    ((sweeping pool count word side found).nodes ≡ side.nodes) × ((sweeping pool count word side found).builds ≡ side.builds) × ((sweeping pool count word side found).unstored ≡ side.unstored)
+sweeping-same Slots count word side found = (refl, refl, refl)
+sweeping-same Nodes count word side found = (refl, refl, refl)
 
--- what is left of a list without one of its numbers
-left_same : (n : ℕ) (xs : List ℕ) → occurs n (others_than n xs) ≡ 0
-left_same n [] = refl
-left_same n (x ∷ xs) = by_test (left_same n xs) (eqb x n) refl
-  where
-    by_test : occurs n (others_than n xs) ≡ 0 → (b : Bool) → eqb x n ≡ b → occurs n (cond (cond b false true) (x ∷ others_than n xs) (others_than n xs)) ≡ 0
-    by_test rest true e = rest
-    by_test rest false e = let more = occurs-cons n x (others_than n xs) in let none : one_where (eqb x n) ≡ 0 = ap one_where e in omega (arith, more, none, rest)
-
-left_others : (n p : ℕ) (xs : List ℕ) → p ≢ n → occurs p (others_than n xs) ≡ occurs p xs
-left_others n p [] ne = refl
-left_others n p (x ∷ xs) ne = by_test (left_others n p xs ne) (eqb x n) refl
-  where
-    by_test : occurs p (others_than n xs) ≡ occurs p xs → (b : Bool) → eqb x n ≡ b → occurs p (cond (cond b false true) (x ∷ others_than n xs) (others_than n xs)) ≡ occurs p (x ∷ xs)
-    by_test rest true e =
-        let same : x ≡ n = (Decides-eqb x n).0 e in
-        let none : one_where (eqb x p) ≡ 0 = ap one_where (ne_eqb x p (λ d. ne (sym d ∙ same))) in
-        let more = occurs-cons p x xs in
-        omega (arith, more, none, rest)
-    by_test rest false e = let more = occurs-cons p x xs in let left = occurs-cons p x (others_than n xs) in omega (arith, more, left, rest)
-
-stands_once : (n : ℕ) (xs : List ℕ) → Contains xs n → 1 ≤ occurs n xs
-stands_once n [] c = absurd (let below = c.1 in omega (arith, below))
-stands_once n (x ∷ xs) c = at_index (λ d. stands_once n xs d) c.0 c.1 c.2
-  where
-    at_index : (Contains xs n → 1 ≤ occurs n xs) → (i : ℕ) → i < length (x ∷ xs) → slice_index_or (x ∷ xs) i n ≡ n → 1 ≤ occurs n (x ∷ xs)
-    at_index rest zero h e = let more = occurs-cons n x xs in let one : one_where (eqb x n) ≡ 1 = ap one_where (eq-eqb x n e) in omega (arith, more, one)
-    at_index rest (suc i) h e = let more = occurs-cons n x xs in let later = rest (i, omega (arith, h), e) in omega (arith, more, later)
+-- a step on the word of a place is one on the pools' words
+pub pool_step : (layout : Layout) (words : List ℕ) (pool : Pool) (place n : ℕ) → place < pool_places layout pool → IsPoolStep layout words (place_word layout pool place) n
+pool_step layout words pool place n within =
+    let lies = word_within layout pool place (places_within layout pool place within) in record {
+      before = λ j h. get_or-set_other words (place_word layout pool place) j n 0 (λ e. absurd (let low = lies.0 in omega (arith, e, h, low)));
+      behind = λ j h. get_or-set_other words (place_word layout pool place) j n 0 (λ e. absurd (let high = lies.1 in omega (arith, e, h, high)));
+    }
 
 module _ {S A R F : Type 0} (m : Meaning S A R) (layout : Layout) where
   -- the rule doesn't speak of the slots' values
-  unhomed : (s : State F (CellView S A R)) → IsCells m layout s → IsCells {F = ℕ} m layout (record { words = s.words; homes = []; views = s.views })
+  pub unhomed : (s : State F (CellView S A R)) → IsCells m layout s → IsCells {F = ℕ} m layout (record { words = s.words; homes = []; views = s.views })
   unhomed s kept = record {
     log = kept.log;
     seats = kept.seats;
@@ -79,7 +60,7 @@ module _ {S A R F : Type 0} (m : Meaning S A R) (layout : Layout) where
   }
 
   -- what a step finds, in the state that it meets
-  stood_so : (s : State F (CellView S A R)) (id : ℕ) (v : CellView S A R) (word i : ℕ) → IsCells m layout s → get_elem? s.views id ≡ some v → v.seats.lives ≡ true → i ≡ word →
+  pub stood_so : (s : State F (CellView S A R)) (id : ℕ) (v : CellView S A R) (word i : ℕ) → IsCells m layout s → get_elem? s.views id ≡ some v → v.seats.lives ≡ true → i ≡ word →
       StoodSo m layout v word (slice_index s.words i)
   stood_so s id v word i kept at lives there =
       let number = ((kept.seats.each id v.seats (at_map seat_side s.views id v at)).lives lives).number in
@@ -99,7 +80,8 @@ module _ {S A R F : Type 0} (m : Meaning S A R) (layout : Layout) where
         w,
         keeps,
         tt,
-        pools_step m layout s i (slice_index s.words i) id me.1 me.0 w kept at refl refl same.1 (λ none. let nothing = kept.spent id me.0 at none in record { nodes = same.0 ∙ nothing.nodes; builds = same.1 ∙ nothing.builds }) (λ j h. ap (λ ws. slice_index ws j) words)
+        pools_step m layout s i (slice_index s.words i) id me.1 me.0 w kept at refl refl same.1 same.2 (λ none. let nothing = kept.spent id me.0 at none in record { nodes = same.0 ∙ nothing.nodes; builds = same.1 ∙ nothing.builds })
+            (record { before = λ j h. ap (λ ws. slice_index ws j) words; behind = λ j h. ap (λ ws. slice_index ws j) words })
             (pools-same layout (taken (state_of m kept.log) s.views) (taken (state_of m kept.log) (set s.views id w)) s.words (set s.words i (slice_index s.words i)) kept.pools
             (length-set s.words i (slice_index s.words i)) (λ j h. ap (λ ws. slice_index ws j) words) (taken-set (state_of m kept.log) s.views id me.0 w at same.0)),
         record { is = refl; stood = stood_so s id me.0 (pool_at layout pool + word) i kept at lives there },
@@ -130,8 +112,7 @@ module _ {S A R F : Type 0} (m : Meaning S A R) (layout : Layout) where
         ((i : ℕ) → i < 64 → i ≢ node % 64 → bit_at n i ≡ bit_at found i) → ((p : ℕ) → p ≢ node → occurs p nodes ≡ occurs p me.0.pools.nodes) →
         IsCells m layout (stepped s word n id me.1 (with_nodes nodes) keeps)
     node_step n nodes place here bits others =
-        let low = (word_within layout Nodes node (places_within layout Nodes node within)).0 in
-        pools_step m layout s word n id me.1 me.0 (with_nodes nodes) kept at refl refl refl (λ none. absurd (omega (arith, none, place))) (λ j h. get_or-set_other s.words word j n 0 (λ e. absurd (omega (arith, e, h, low))))
+        pools_step m layout s word n id me.1 me.0 (with_nodes nodes) kept at refl refl refl refl (λ none. absurd (omega (arith, none, place))) (pool_step layout s.words Nodes node n within)
         (pools-set layout (taken k s.views) (taken k (set s.views id (with_nodes nodes))) s.words Nodes node n kept.pools within here bits rest)
       where
         rest : (other : Pool) (p : ℕ) → (other ≡ Nodes → p ≢ node) → taken k (set s.views id (with_nodes nodes)) other p ≡ taken k s.views other p

@@ -1,9 +1,9 @@
 -- The part on pools stays through a step that leaves its words, and through one that changes the bit of a place.
-use Rattle.std.proofs.Common.{◌≡◌, ◌≢◌, ◌⊎◌, ℕ, ◌+◌, ◌*◌, ◌/◌, ◌%◌, ◌<◌, ◌≤◌, Bool, cond, eqb, List, [], ◌∷◌, ◌++◌, set, length, slice_index, refl, sym, ap, ◌∙◌, subst, ⊎_elim, inl, inr, arith, length-set}
+use Rattle.std.proofs.Common.{◌≡◌, ◌≢◌, ◌⊎◌, ℕ, ◌+◌, ◌*◌, ◌/◌, ◌%◌, ◌<◌, ◌≤◌, List, [], ◌∷◌, ◌++◌, set, length, slice_index, refl, sym, ap, ◌∙◌, subst, ⊎_elim, inl, inr, arith, length-set}
 use Rattle.std.specs.Int.{bit_at}
 use Rattle.std.proofs.lemmas.Bool.{cases_eq}
 use Rattle.std.proofs.lemmas.List.{get_or-set_same, get_or-set_other}
-use Rattle.std.proofs.lemmas.List.Sums.{sum_by-cons, sum_by_push}
+use Rattle.std.proofs.lemmas.List.Sums.{sum_by_push}
 use mathlib.Core.Option.{some}
 use lib.ListN.{get_elem?}
 use Rattle.npf_core.specs.Machine.{Machine}
@@ -41,9 +41,9 @@ module _ (layout : Layout) where
   places_within Nodes p h = omega (arith, h)
 
   -- the words of pools and what is taken are the same
-  pub pools-same : (takes takes' : Pool → ℕ → ℕ) (words words' : List ℕ) → Pools layout takes words → length words' ≡ length words →
-      ((i : ℕ) → pools_at ≤ i → slice_index words' i ≡ slice_index words i) → ((pool : Pool) (p : ℕ) → takes' pool p ≡ takes pool p) → Pools layout takes' words'
-  pools-same takes takes' words words' kept count same taken' = record {
+  pools-so : (takes takes' : Pool → ℕ → ℕ) (words words' : List ℕ) → Pools layout takes words → length words' ≡ length words →
+      ((i : ℕ) → pools_at ≤ i → i < root_at layout → slice_index words' i ≡ slice_index words i) → ((pool : Pool) (p : ℕ) → takes' pool p ≡ takes pool p) → Pools layout takes' words'
+  pools-so takes takes' words words' kept count same taken' = record {
     reach = (let a = kept.reach in omega (arith, a, count));
     bits = λ pool p h. bit pool p (places_within pool p h) ∙ (kept.bits pool p h ∙ sym (taken' pool p));
     past = λ pool p h k. bit pool p k ∙ kept.past pool p h k;
@@ -51,7 +51,15 @@ module _ (layout : Layout) where
   }
     where
       bit : (pool : Pool) (p : ℕ) → p < 64 * pool_words (pool_places layout pool) → pool_bit layout pool words' p ≡ pool_bit layout pool words p
-      bit pool p h = ap (λ n. bit_at n (p % 64)) (same (place_word layout pool p) (word_within pool p h).0)
+      bit pool p h = ap (λ n. bit_at n (p % 64)) (same (place_word layout pool p) (word_within pool p h).0 (word_within pool p h).1)
+
+  pub pools-kept : (takes takes' : Pool → ℕ → ℕ) (words words' : List ℕ) → Pools layout takes words → length words' ≡ length words →
+      ((i : ℕ) → i < root_at layout → slice_index words' i ≡ slice_index words i) → ((pool : Pool) (p : ℕ) → takes' pool p ≡ takes pool p) → Pools layout takes' words'
+  pools-kept takes takes' words words' kept count same taken' = pools-so takes takes' words words' kept count (λ i low high. same i high) taken'
+
+  pub pools-same : (takes takes' : Pool → ℕ → ℕ) (words words' : List ℕ) → Pools layout takes words → length words' ≡ length words →
+      ((i : ℕ) → pools_at ≤ i → slice_index words' i ≡ slice_index words i) → ((pool : Pool) (p : ℕ) → takes' pool p ≡ takes pool p) → Pools layout takes' words'
+  pools-same takes takes' words words' kept count same taken' = pools-so takes takes' words words' kept count (λ i low high. same i low) taken'
 
   -- the word of a place changes, and of its bits that of the place alone
   pub pools-set : (takes takes' : Pool → ℕ → ℕ) (words : List ℕ) (pool : Pool) (place n : ℕ) → Pools layout takes words → place < pool_places layout pool →
@@ -90,12 +98,6 @@ module _ (layout : Layout) where
           (λ (ne : place_word layout other p ≢ place_word layout pool place).
           ap (λ k. bit_at k (p % 64)) (get_or-set_other words (place_word layout pool place) (place_word layout other p) n 0 ne))
           (cases_eq (place_word layout other p) (place_word layout pool place))
-
-abbrev pub one_where : Bool → ℕ
-one_where b = cond b 1 0
-
-pub occurs-cons : (n x : ℕ) (xs : List ℕ) → occurs n (x ∷ xs) ≡ one_where (eqb x n) + occurs n xs
-occurs-cons n x xs = sum_by-cons (λ (y : ℕ). one_where (eqb y n)) x xs
 
 -- what is taken, where passes change what they own
 module _ {S A R : Type 0} (k : Machine S) (views : List (CellView S A R)) where

@@ -1,5 +1,5 @@
 -- Histories that begin with one another.
-use Rattle.std.proofs.Common.{◌≡◌, ◌⊎◌, ℕ, Bool, true, false, cond, arith, ◌==◌, List, [], ◌∷◌, ◌++◌, refl, sym, ap, ◌∙◌, ⊎_elim, inl, inr, append_assoc, append-nil}
+use Rattle.std.proofs.Common.{◌≡◌, ◌⊎◌, ℕ, Bool, true, false, cond, eq-eqb, ne_eqb, arith, ◌==◌, List, [], ◌∷◌, ◌++◌, refl, sym, ap, ◌∙◌, ⊎_elim, inl, inr, append_assoc, append-nil}
 use Rattle.std.specs.List.{Contains}
 use Rattle.std.proofs.lemmas.Bool.Decides.{Decides-eqb}
 use Rattle.std.proofs.lemmas.List.{append_cancel_left}
@@ -84,3 +84,21 @@ seen_entry {S} {A} {R} (x ∷ xs) e none c = by_test (λ n d. seen_entry xs e n 
         (λ (same : x ≡ e). let one : (x.seat == e.seat) ≡ true = (Decides-eqb x.seat e.seat).1 (ap (λ (y : Entry S A R). y.seat) same) in cc)
         (λ (d : Contains xs e). rest none d)
         (cons_cases x e xs c)
+
+-- an entry of another number
+pub not_of : {S A R : Type 0} (n : ℕ) (entry : Entry S A R) → ¬ (entry.seat ≡ n) → by n (entry ∷ []) ≡ []
+not_of n entry ne = ap (λ b. cond b (entry ∷ []) []) (ne_eqb entry.seat n ne)
+
+pub one_of : {S A R : Type 0} (n : ℕ) (entry : Entry S A R) → entry.seat ≡ n → by n (entry ∷ []) ≡ entry ∷ []
+one_of n entry e = ap (λ b. cond b (entry ∷ []) []) (eq-eqb entry.seat n e)
+
+-- a number of which all was seen has none in the rest
+pub rest_none : {S A R : Type 0} (n : ℕ) (xs ys : List (Entry S A R)) (p : IsPrefix xs ys) → by n ys ≡ by n xs → by n p.rest ≡ []
+rest_none n xs ys p same =
+    append_cancel_left (by n xs) (by n p.rest) [] (sym (by-append n xs p.rest) ∙ (ap (by n) (sym p.goes_on) ∙ (same ∙ sym (append-nil (by n xs)))))
+
+-- a list of one item ends with it
+pub ends_alone : {E : Type 0} (x last : E) (init : List E) → x ∷ [] ≡ init ++ last ∷ [] → x ≡ last
+ends_alone x last [] e = cc
+ends_alone x last (y ∷ []) e = absurd cc
+ends_alone x last (y ∷ z ∷ zs) e = absurd cc

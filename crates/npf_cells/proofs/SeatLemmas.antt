@@ -1,5 +1,5 @@
 -- The part on seats stays through the base's moves.
-use Rattle.std.proofs.Common.{◌≡◌, ◌≢◌, ◌⊎◌, ℕ, zero, suc, ◌+◌, ◌-◌, ◌<◌, ◌≤◌, true, false, true≢false, List, [], ◌∷◌, ◌++◌, set, length, sum_by, refl, sym, ap, ◌∙◌, subst, ⊎_elim, inl, inr, arith, length-set, length-append}
+use Rattle.std.proofs.Common.{◌≡◌, ◌≢◌, ◌⊎◌, ℕ, zero, suc, ◌+◌, ◌-◌, ◌<◌, ◌≤◌, true, false, true≢false, List, [], ◌∷◌, ◌++◌, set, length, sum_by, refl, sym, ap, ◌∙◌, subst, ⊎_elim, inl, inr, arith, append-nil, length-set, length-append}
 use Rattle.std.specs.List.{Contains}
 use Rattle.std.proofs.lemmas.Bool.{cases_eq}
 use Rattle.std.proofs.lemmas.List.{length-drop, length-take-le}
@@ -9,13 +9,14 @@ use mathlib.Core.Option.{some}
 use lib.ListN.{get_elem?}
 use Rattle.atomic_table.proofs.Lists.{at_set, set_else, at_longer}
 use Rattle.npf_core.specs.declared.entry.Entry.{Entry}
-use Rattle.npf_core.specs.History.{by}
+use Rattle.npf_core.specs.History.{IsPrefix, by}
+use Rattle.npf_core.proofs.HistoryLemmas.{IsPrefix-self, IsPrefix-append, IsPrefix-trans, by-append}
 use Rattle.npf_connections.specs.Pass.{all_places}
 use Rattle.npf_cells.specs.declared.views.SeatSide.{SeatSide}
 use Rattle.npf_cells.specs.Moves.{givers_seat, given_seat, taking_seat, spent_seat}
 use Rattle.npf_cells.specs.Seats.{IsSpentSeat, IsWhollySeen, FitsSeats, AnswersFor, HasSeat, Seats, owners, places_owned}
 use Rattle.npf_cells.specs.Sums.{occurs}
-use Rattle.npf_cells.proofs.PrefixLemmas.{none_listed, cons_cases, prefix_of_none, none_in_prefix, between_same, Longer, longer_of}
+use Rattle.npf_cells.proofs.PrefixLemmas.{none_listed, cons_cases, prefix_of_none, none_in_prefix, not_of, between_same, Longer, longer_of}
 use Rattle.npf_cells.proofs.SumLemmas.{sum-set, one_of_sum, two_of_sum, set_there, one_there, there_within, there_pushed}
 
 pub cases_lt : (a b : ℕ) → (a < b) ⊎ (b ≤ a)
@@ -429,6 +430,72 @@ module _ {S A R : Type 0} (slots : ℕ) (log : List (Entry S A R)) where
 
     pub most_places : length v.readers ≤ all_places
     most_places = let one = one_of_sum (λ (u : SeatSide S A R). length u.readers) sides id v at in omega (arith, one, kept.total)
+
+  -- a seat adds an entry of its own, and has then seen all
+  module _ (sides : List (SeatSide S A R)) (id : ℕ) (v : SeatSide S A R) (kept : Seats slots log sides) (at : get_elem? sides id ≡ some v)
+      (lives : v.lives ≡ true) (place : 1 ≤ length v.readers) (entry : Entry S A R) (mine : entry.seat ≡ id) where
+    abbrev longer : List (Entry S A R)
+    longer = log ++ entry ∷ []
+
+    abbrev adding : SeatSide S A R
+    adding = record v { history = longer }
+
+    its_fits : FitsSeats slots sides log id v
+    its_fits = kept.each id v at
+
+    -- no other number has more entries by it
+    pub others_none : (n : ℕ) → n ≢ id → by n longer ≡ by n log
+    others_none n ne = by-append n log (entry ∷ []) ∙ (ap (λ es. by n log ++ es) (not_of n entry (λ e. ne (sym e ∙ mine))) ∙ append-nil (by n log))
+
+    spent_yet : (n : ℕ) → IsSpentSeat sides n → IsSpentSeat (set sides id adding) n
+    spent_yet n = spent-set sides id n v adding at (λ none. none)
+
+    seen_yet : (seen : List (Entry S A R)) (n : ℕ) → IsWhollySeen sides log seen n → IsWhollySeen (set sides id adding) longer seen n
+    seen_yet seen n whole = record { same = others_none n (unspent sides id n v at place whole.spent) ∙ whole.same; spent = spent_yet n whole.spent }
+
+    goes_on : IsPrefix log longer
+    goes_on = IsPrefix-append log (entry ∷ [])
+
+    adding_fits : FitsSeats slots (set sides id adding) longer id adding
+    adding_fits = record {
+      sized = its_fits.sized;
+      others = its_fits.others;
+      seen = IsPrefix-self longer;
+      told = IsPrefix-trans v.told log longer its_fits.told goes_on;
+      unborn = λ no. absurd (true≢false (sym lives ∙ no));
+      lives = λ l. record { number = (its_fits.lives l).number; own = refl };
+      joined = λ n c. record { same = refl; spent = spent_yet n (its_fits.joined n c).spent };
+      theirs = λ n c. seen_yet v.told n (its_fits.theirs n c);
+    }
+
+    other_fits : (j : ℕ) (u : SeatSide S A R) → j ≢ id → FitsSeats slots sides log j u → FitsSeats slots (set sides id adding) longer j u
+    other_fits j u ne fits = record {
+      sized = fits.sized;
+      others = fits.others;
+      seen = IsPrefix-trans u.history log longer fits.seen goes_on;
+      told = IsPrefix-trans u.told log longer fits.told goes_on;
+      unborn = λ no owns. others_none j ne ∙ fits.unborn no owns;
+      lives = λ l. record { number = (fits.lives l).number; own = others_none j ne ∙ (fits.lives l).own };
+      joined = λ n c. seen_yet u.history n (fits.joined n c);
+      theirs = λ n c. seen_yet u.told n (fits.theirs n c);
+    }
+
+    pub seats-adds : Seats slots longer (set sides id adding)
+    seats-adds =
+        let own = own-set sides id v adding at refl in
+        record {
+          each = λ j u e. ⊎_elim
+              (λ (x : (j ≡ id) × (adding ≡ u)). subst (λ (y : ℕ × SeatSide S A R). FitsSeats slots (set sides id adding) longer y.0 y.1) (λ i. (sym x.0 i, x.1 i)) adding_fits)
+              (λ (x : (j ≢ id) × (get_elem? sides j ≡ some u)). other_fits j u x.0 (kept.each j u x.1))
+              (at_set sides id j adding u e);
+          owned = λ reader h. own.0 reader ∙ kept.owned reader h;
+          beyond = λ reader h. own.0 reader ∙ kept.beyond reader h;
+          total = own.1 ∙ kept.total;
+          known = λ n. ⊎_elim
+              (λ (e : n ≡ id). inr (record { seat = id; side = adding; there = set_there sides id v adding at; place = place; answers = inl e }))
+              (λ (ne : n ≢ id). ⊎_elim (λ none. inl (others_none n ne ∙ none)) (λ has. inr (seat-set sides id n v adding at (λ p. p) (λ o. o) has)) (kept.known n))
+              (cases_eq n id);
+        }
 
   -- a reader place has one owner at most, and it is one of the table's
   pub one_owner : (sides : List (SeatSide S A R)) (i j reader : ℕ) (v w : SeatSide S A R) → Seats slots log sides → get_elem? sides i ≡ some v → get_elem? sides j ≡ some w →

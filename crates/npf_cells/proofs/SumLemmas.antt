@@ -51,6 +51,28 @@ module _ {X : Type 0} where
       let a = sum_by-cons f z zs in
       omega (arith, more, a)
 
+  sum_none : (f : X → ℕ) (xs : List X) → ((i : ℕ) (y : X) → get_elem? xs i ≡ some y → f y ≡ 0) → sum_by f xs ≡ 0
+  sum_none f [] none = refl
+  sum_none f (z ∷ zs) none =
+      let here = none 0 z refl in
+      let more = sum_none f zs (λ i y e. none (suc i) y e) in
+      let a = sum_by-cons f z zs in
+      omega (arith, here, more, a)
+
+  -- where the others have none, one has the whole sum
+  pub sum_alone : (f : X → ℕ) (xs : List X) (j : ℕ) (x : X) → get_elem? xs j ≡ some x → ((i : ℕ) (y : X) → i ≢ j → get_elem? xs i ≡ some y → f y ≡ 0) → sum_by f xs ≡ f x
+  sum_alone f [] j x e others = absurd (some-ne-none x (sym e))
+  sum_alone f (z ∷ zs) zero x e others =
+      let same : f z ≡ f x = ap f (some-injective z x e) in
+      let more = sum_none f zs (λ i y d. others (suc i) y (λ h. omega (arith, h)) d) in
+      let a = sum_by-cons f z zs in
+      omega (arith, same, more, a)
+  sum_alone f (z ∷ zs) (suc j) x e others =
+      let here = others 0 z (λ h. omega (arith, h)) refl in
+      let more = sum_alone f zs j x e (λ i y ne d. others (suc i) y (λ h. ne (omega (arith, h))) d) in
+      let a = sum_by-cons f z zs in
+      omega (arith, here, more, a)
+
   pub set_there : (xs : List X) (j : ℕ) (x y : X) → get_elem? xs j ≡ some x → get_elem? (set xs j y) j ≡ some y
   set_there [] j x y e = absurd (some-ne-none x (sym e))
   set_there (z ∷ zs) zero x y e = refl

@@ -1,13 +1,10 @@
 -- The rule of the table without locks: six parts, each over its own words and its own side of the views, and that a spent seat owns nothing.
-use Rattle.std.specs.Prelude.{◌≡◌, ℕ, ◌≤◌, true, List, [], Contains, map, length}
+use Rattle.std.specs.Prelude.{◌≡◌, ℕ, ◌≤◌, true, List, [], map, length}
 use mathlib.Core.Option.{some}
 use lib.ListN.{get_elem?}
 use Rattle.atomic_table.specs.Table.{State}
-use Rattle.npf_core.specs.declared.conn_id.ConnId.{ConnId}
 use Rattle.npf_core.specs.declared.entry.Entry.{Entry}
-use Rattle.npf_core.specs.declared.stage.Stage.TheVariants.{Building}
-use Rattle.npf_core.specs.History.{Legal, state_of}
-use Rattle.npf_core.specs.Machine.{stage_of}
+use Rattle.npf_core.specs.History.{state_of}
 use Rattle.npf_core.specs.Meaning.{Meaning}
 use Rattle.npf_connections.specs.Pass.{all_places}
 use Rattle.npf_cells.specs.declared.layout.Layout.{Layout}
@@ -16,8 +13,9 @@ use Rattle.npf_cells.specs.declared.views.EpochSide.{EpochSide}
 use Rattle.npf_cells.specs.declared.views.Pin.TheVariants.{Idle}
 use Rattle.npf_cells.specs.declared.views.PoolSide.{PoolSide}
 use Rattle.npf_cells.specs.declared.views.SeatSide.{SeatSide}
+use Rattle.npf_cells.specs.Conns.{Conns}
 use Rattle.npf_cells.specs.Epochs.{ReaderView, Epochs}
-use Rattle.npf_cells.specs.Layout.{nodes_at, connections_at, word_count, epoch_word, reader_word}
+use Rattle.npf_cells.specs.Layout.{nodes_at, connections_at, epoch_word, reader_word}
 use Rattle.npf_cells.specs.Pools.{taken, OwnsNothing, Pools}
 use Rattle.npf_cells.specs.Seats.{Seats}
 use Rattle.npf_cells.specs.Sums.{numbers_below}
@@ -40,12 +38,6 @@ pub record Trie (layout : Layout) (words : List ℕ) : Type 0 where
 pub record Nodes (layout : Layout) (words : List ℕ) : Type 0 where
   pub reach : ReachTo (connections_at layout) words
 
--- the connections' words, and the history whose state they have: what a pass is building is Building under its number
-pub record Conns {S A R : Type 0} (m : Meaning S A R) (layout : Layout) (log : List (Entry S A R)) (words : List ℕ) (views : List (CellView S A R)) : Type 0 where
-  pub reach : length words ≡ word_count layout
-  pub legal : Legal m layout.slots log
-  pub building : (j : ℕ) (v : CellView S A R) → get_elem? views j ≡ some v → (id : ConnId) → Contains v.pools.builds id → stage_of (state_of m log) id ≡ Building j
-
 -- a spent seat, which owns no reader place, owns no node and builds nothing
 abbrev pub SpentOwnNothing : {S A R : Type 0} → List (CellView S A R) → Type 0
 SpentOwnNothing {S} {A} {R} views = (j : ℕ) (v : CellView S A R) → get_elem? views j ≡ some v → length v.seats.readers ≡ 0 → OwnsNothing v.pools
@@ -67,7 +59,7 @@ idle_side = record { pin = Idle; loaded = 0; scanned = []; behind = []; met = 0;
 
 -- a pass that owns nothing
 abbrev pub empty_handed : PoolSide
-empty_handed = record { sweeps = 0; row = 0; found = 0; nodes = []; builds = [] }
+empty_handed = record { sweeps = 0; row = 0; found = 0; nodes = []; builds = []; unstored = [] }
 
 -- the first pass, which owns all reader places
 abbrev pub first_cell_view : {S A R : Type 0} → Layout → CellView S A R

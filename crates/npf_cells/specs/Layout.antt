@@ -43,6 +43,22 @@ nodes_at layout = root_at layout + 128
 abbrev pub connections_at : Layout → ℕ
 connections_at layout = nodes_at layout + 18 * layout.nodes
 
+-- a node's state follows its places, a connection's incarnation its turn
+abbrev pub state_field : ℕ
+state_field = 16
+
+abbrev pub inc_field : ℕ
+inc_field = 1
+
+-- the words of a place: a node has 18, a connection 21
+abbrev pub field_count : Pool → ℕ
+field_count Slots = 21
+field_count Nodes = 18
+
+abbrev pub field_at : Layout → Pool → ℕ → ℕ → ℕ
+field_at layout Slots slot field = connections_at layout + 21 * slot + field
+field_at layout Nodes node field = nodes_at layout + 18 * node + field
+
 abbrev pub word_count : Layout → ℕ
 word_count layout = connections_at layout + 21 * layout.slots
 

@@ -1,4 +1,5 @@
 pub mod Cells
+pub mod Conns
 pub mod Epochs
 pub mod Kinds
 pub mod Layout
@@ -7,6 +8,8 @@ pub mod Opening
 pub mod Passes
 pub mod PoolKinds
 pub mod Pools
+pub mod PrivateKinds
 pub mod Seats
+pub mod SlotKinds
 pub mod Sums
 pub mod TableLaw

@@ -1,9 +1,10 @@
--- What the rule says of seats: of any two, who owns a node; of one that is protected, which epochs it may meet; of all, how often they
+-- What the rule says of seats: of any two, who owns a node and who builds in a slot; of one that is protected, which epochs it may meet; of all, how often they
 -- raised the epoch. It doesn't speak of the slots' values.
 use Rattle.std.specs.Prelude.{◌≡◌, ℕ, ◌+◌, ◌≤◌, Contains, map}
 use mathlib.Core.Option.{some}
 use lib.ListN.{get_elem?}
 use Rattle.atomic_table.specs.Table.{State}
+use Rattle.npf_core.specs.declared.conn_id.ConnId.{ConnId}
 use Rattle.npf_core.specs.Meaning.{Meaning}
 use Rattle.npf_cells.specs.declared.layout.Layout.{Layout}
 use Rattle.npf_cells.specs.declared.views.CellView.{CellView}
@@ -17,6 +18,12 @@ abbrev pub OwnsAlone : {S A R : Type 0} → Meaning S A R → Layout → Type 0
 OwnsAlone {S} {A} {R} m layout =
     (s : State ℕ (CellView S A R)) (i j node : ℕ) (v w : CellView S A R) → IsCells m layout s →
     get_elem? s.views i ≡ some v → get_elem? s.views j ≡ some w → Contains v.pools.nodes node → Contains w.pools.nodes node → i ≡ j
+
+-- two seats that are building connections in one slot are one seat
+abbrev pub BuildsAlone : {S A R : Type 0} → Meaning S A R → Layout → Type 0
+BuildsAlone {S} {A} {R} m layout =
+    (s : State ℕ (CellView S A R)) (i j : ℕ) (v w : CellView S A R) (id other : ConnId) → IsCells m layout s →
+    get_elem? s.views i ≡ some v → get_elem? s.views j ≡ some w → Contains v.pools.builds id → Contains w.pools.builds other → id.slot ≡ other.slot → i ≡ j
 
 -- where a seat is protected with this epoch, the table's epoch is this one or the next
 abbrev pub HoldsBack : {S A R : Type 0} → Meaning S A R → Layout → Type 0

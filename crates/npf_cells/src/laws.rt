@@ -1,12 +1,13 @@
 // What holds of every table between any two steps. The functions do nothing: each is a theorem.
 ghost use Rattle.npf_cells.specs.declared.layout.Layout.{Layout};
-ghost use Rattle.npf_cells.specs.TableLaw.{OwnsAlone, HoldsBack, CountsRaises};
+ghost use Rattle.npf_cells.specs.TableLaw.{OwnsAlone, BuildsAlone, HoldsBack, CountsRaises};
 
 use npf_core::Law;
 
-/// The claim law: a node has one owner at most.
+/// The claim law: a node has one owner at most, and one pass at most is building in a slot.
 pub fn claim_law<L: Law>()
     ensures alone { (layout : Layout) → OwnsAlone L.meaning layout }
+    ensures builder { (layout : Layout) → BuildsAlone L.meaning layout }
 {}
 
 /// The protection law: while a pass is protected with the epoch that it loaded after its pin, the table's epoch is at most one more.

@@ -1,5 +1,5 @@
 ghost use Rattle.std.specs.Prelude.{◌≡◌, ◌+◌, ◌<◌};
-ghost use Rattle.npf_cells.specs.Layout.{reader_at, pool_at, pool_places, pool_words, word_count};
+ghost use Rattle.npf_cells.specs.Layout.{reader_at, pool_at, pool_places, pool_words, field_at, field_count, word_count};
 
 /// How many slots and nodes a table has, which says where each of its words lies.
 #[derive(Clone, Copy)]
@@ -25,6 +25,9 @@ pub(crate) const FIRST_EPOCH: u64 = 2;
 
 /// A reader word that is idle.
 pub(crate) const IDLE: u64 = 0;
+
+/// The field of a connection's incarnation among its words.
+pub(crate) const INCARNATION: u32 = 1;
 
 /// How many reader places a table has.
 pub const READERS: u32 = 66;
@@ -56,6 +59,19 @@ impl Layout {
         ensures { result ≡ pool_words (pool_places self.now pool) }
     {
         words_of(self.places(pool))
+    }
+
+    /// The place of a word of a node or of a connection among the words.
+    pub(crate) fn field_place(&self, pool: Pool, place: u32, field: u32) -> usize
+        requires { field < field_count pool }
+        ensures { result ≡ field_at self.now pool place field }
+    {
+        let pools = words_of(self.slots) as usize + words_of(self.nodes) as usize;
+        let nodes = 67 + pools + 128;
+        match pool {
+            Pool::Slots => nodes + 18 * self.nodes as usize + 21 * place as usize + field as usize,
+            Pool::Nodes => nodes + 18 * place as usize + field as usize,
+        }
     }
 
     /// The place of a pool's word among the words.

@@ -7,8 +7,8 @@
 //
 // The one contract: the rule of specs/Cells.antt, the conjunction of six parts (seats, epochs, pools, trie, connections, nodes),
 // each over its own words, its own side of the views, and named facts of the others, and that a spent seat owns nothing. A kind of
-// step proves its own part. What the rule says of seats stands in laws.rt: a node has one owner at most, a protected pass holds the
-// epoch back, and no pass raises it without counting it.
+// step proves its own part. What the rule says of seats stands in laws.rt: a node has one owner at most and a slot one builder, a
+// protected pass holds the epoch back, and no pass raises it without counting it.
 #![tactic(auto)]
 
 mod cells;
@@ -18,7 +18,9 @@ mod laws;
 mod layout;
 mod passing;
 mod pools;
+mod private;
 mod rule;
+mod slots;
 mod views;
 
 pub use cells::{CellPass, Cells};

@@ -86,12 +86,13 @@ impl<L: Law, W: NodeAim> Play<Running<L::State>, CellView<L::State, L::Arg, L::R
 }
 
 impl<L: Law, H: KeyHash> Cells<L, H> {
-    ghost use Rattle.std.specs.Prelude.{◌≡◌, ◌<◌, ◌↔◌, ◌==◌, ◌+◌, ◌%◌, true, ℕ, length, Contains};
+    ghost use Rattle.std.specs.Prelude.{◌≡◌, ◌<◌, ◌↔◌, ◌==◌, ◌+◌, ◌%◌, true, false, ℕ, length, Contains};
     ghost use Rattle.std.specs.Int.{bit_at};
     ghost use Rattle.npf_cells.specs.declared.layout.Pool.TheVariants.{Slots, Nodes};
     ghost use Rattle.npf_cells.specs.Layout.{pool_at, pool_places, pool_words, place_word};
     ghost use Rattle.npf_cells.specs.Passes.{IsPassOf, IsProtected};
     ghost use Rattle.npf_cells.specs.PoolKinds.{StoodSo, most_nodes, with_pools, sweeping, claiming_node, giving_back};
+    ghost use Rattle.npf_cells.specs.SlotKinds.{HasClaimed};
 
     /// Loads a word of a pool: a bit for each of 64 places, set where it is taken or past the last place.
     pub fn load_pool(&self, pass: &mut CellPass<L>, pool: Pool, word: u32) -> u64
@@ -118,12 +119,31 @@ impl<L: Law, H: KeyHash> Cells<L, H> {
             .load::<SweepsPool<L, W>>(&mut pass.seat, place)
     }
 
-    /// Takes a node, unless it is taken. Answers whether it did; the pass didn't own the node then.
-    pub fn claim_node(&self, pass: &mut CellPass<L>, node: u32) -> bool
+    /// Claims a place, unless it is taken. Answers whether it did. A node is then the pass's own. In a slot the pass is then building
+    /// its next connection, for the packet n.
+    pub fn claim(&self, pass: &mut CellPass<L>, pool: Pool, place: u32, n: u64) -> bool
+        requires own { IsPassOf self.now.table.shared.key self.now.table.shared.table_id pass.old.seat.table_id pass.old.readers.items pass.old.seat.me }
+        requires place { place < pool_places self.now.table.shared.key pool }
+        requires protected { IsProtected pass.old.seat.me.0.epochs.pin }
+        requires few { pool ≡ Nodes → length pass.old.seat.me.0.pools.nodes < most_nodes }
+        ensures own { IsPassOf self.now.table.shared.key self.now.table.shared.table_id pass.new.seat.table_id pass.new.readers.items pass.new.seat.me }
+        ensures slot { pool ≡ Slots → result ≡ true → HasClaimed L.meaning n place pass.old.seat.me pass.new.seat.me }
+        ensures node { pool ≡ Nodes → pass.new.seat.me ≡ with_pools pass.old.seat.me (claiming_node place pass.old.seat.me.0.pools pass.new.seat.me.0.pools.found) }
+        ensures unowned { pool ≡ Nodes → result ≡ true → ¬ (Contains pass.old.seat.me.0.pools.nodes place) }
+        ensures loses { result ≡ false → pass.new.seat.me ≡ with_pools pass.old.seat.me (record pass.old.seat.me.0.pools { found = pass.new.seat.me.0.pools.found }) }
+        ensures stood { StoodSo L.meaning self.now.table.shared.key pass.old.seat.me.0 (place_word self.now.table.shared.key pool place) pass.new.seat.me.0.pools.found }
+        ensures answers { (result ≡ true) ↔ (bit_at pass.new.seat.me.0.pools.found (place % 64) ≡ 0) }
+    {
+        match pool {
+            Pool::Slots => self.claim_slot(pass, place, n),
+            Pool::Nodes => self.claim_node(pass, place),
+        }
+    }
+
+    // Takes a node, unless it is taken. Answers whether it did; the pass didn't own the node then.
+    fn claim_node(&self, pass: &mut CellPass<L>, node: u32) -> bool
         requires own { IsPassOf self.now.table.shared.key self.now.table.shared.table_id pass.old.seat.table_id pass.old.readers.items pass.old.seat.me }
         requires node { node < self.now.table.shared.key.nodes }
-        requires protected { IsProtected pass.old.seat.me.0.epochs.pin }
-        requires few { length pass.old.seat.me.0.pools.nodes < most_nodes }
         ensures own { IsPassOf self.now.table.shared.key self.now.table.shared.table_id pass.new.seat.table_id pass.new.readers.items pass.new.seat.me }
         ensures next { pass.new.seat.me ≡ with_pools pass.old.seat.me (claiming_node node pass.old.seat.me.0.pools pass.new.seat.me.0.pools.found) }
         ensures stood { StoodSo L.meaning self.now.table.shared.key pass.old.seat.me.0 (place_word self.now.table.shared.key Nodes node) pass.new.seat.me.0.pools.found }
@@ -182,14 +202,14 @@ impl<L: Law, H: KeyHash> Cells<L, H> {
 }
 
 // The bit of a place in its word.
-fn place_bit(place: u32) -> u64
+pub(crate) fn place_bit(place: u32) -> u64
     ensures { result ≡ 1 * 2 ^ (place % 64) % 2 ^ 64 }
 {
     1 << (place % 64)
 }
 
 // Whether the bit of a place is clear in its word.
-fn is_clear(word: u64, place: u32) -> bool
+pub(crate) fn is_clear(word: u64, place: u32) -> bool
     ensures { result ≡ (bit_at word (place % 64) == 0) }
 {
     (word >> (place % 64)) & 1 == 0

@@ -57,6 +57,8 @@ pub struct PoolSide {
     pub nodes: LinkedList<u32>,
     /// The connections that it is building.
     pub builds: LinkedList<ConnId>,
+    /// Those of their slots whose incarnation it hasn't stored yet.
+    pub unstored: LinkedList<u32>,
 }
 
 /// What a pass knows, a side for each part of the rule that has one. No value of it is made.

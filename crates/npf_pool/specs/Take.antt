@@ -1,32 +1,36 @@
--- What a pass that takes a node changes of its view, and what it found where there was none.
+-- What a pass that takes a place changes of its view, and what it found where there was none.
 use Rattle.std.specs.Prelude.{◌≡◌, ℕ, ◌+◌, ◌-◌, ◌^◌, ◌≤◌, ◌∷◌, min}
 use Rattle.npf_core.specs.Meaning.{Meaning}
 use Rattle.npf_cells.specs.declared.layout.Layout.{Layout}
-use Rattle.npf_cells.specs.declared.layout.Pool.TheVariants.{Nodes}
+use Rattle.npf_cells.specs.declared.layout.Pool.{Pool}
+use Rattle.npf_cells.specs.declared.layout.Pool.TheVariants.{Slots, Nodes}
 use Rattle.npf_cells.specs.declared.views.CellView.{CellView}
 use Rattle.npf_cells.specs.declared.views.PoolSide.{PoolSide}
 use Rattle.npf_cells.specs.Layout.{pool_at}
 use Rattle.npf_cells.specs.PoolKinds.{StoodSo}
 
--- loads of the nodes' words that completed no row
-abbrev pub searching : PoolSide → PoolSide → PoolSide
-searching old now = record old { found = now.found; row = now.row }
+-- loads of a pool's words that completed no row: those of the slots' words leave the row of the nodes as it is
+abbrev pub searching : Pool → PoolSide → PoolSide → PoolSide
+searching Slots old now = record old { found = now.found }
+searching Nodes old now = record old { found = now.found; row = now.row }
 
--- and then a claim that won
+-- loads of the nodes' words, and then a claim that won
 abbrev pub taking : ℕ → PoolSide → PoolSide → PoolSide
 taking node old now = record old { found = now.found; row = now.row; nodes = node ∷ old.nodes }
 
--- loads of the nodes' words, the last of which may have completed a row
-abbrev pub having_swept : PoolSide → PoolSide → PoolSide
-having_swept old now = record old { found = now.found; row = now.row; sweeps = now.sweeps }
+-- loads of a pool's words, the last of which may have completed a row of the nodes
+abbrev pub having_swept : Pool → PoolSide → PoolSide → PoolSide
+having_swept Slots old now = record old { found = now.found }
+having_swept Nodes old now = record old { found = now.found; row = now.row; sweeps = now.sweeps }
 
 -- where the nodes have so many words, the row has them all and counts as one sweep
 pub record CountsSweep (count : ℕ) (old now : PoolSide) : Type 0 where
   pub row : 1 ≤ count → now.row ≡ count
   pub sweeps : now.sweeps ≡ old.sweeps + min count 1
 
--- the word was full in a state of the table in which the pass had found those before it full, in a row, and nothing else was new to it
-pub record StoodFull {S A R : Type 0} (m : Meaning S A R) (layout : Layout) (view : CellView S A R) (word : ℕ) : Type 0 where
+-- the word was full in a state of the table in which the pass had found those before it full, the nodes' in a row, and nothing else
+-- was new to it
+pub record StoodFull {S A R : Type 0} (m : Meaning S A R) (layout : Layout) (pool : Pool) (view : CellView S A R) (word : ℕ) : Type 0 where
   pub side : PoolSide
-  pub row : 1 ≤ word → side.row ≡ word
-  pub stood : StoodSo m layout (record view { pools = searching view.pools side }) (pool_at layout Nodes + word) (2 ^ 64 - 1)
+  pub row : pool ≡ Nodes → 1 ≤ word → side.row ≡ word
+  pub stood : StoodSo m layout (record view { pools = searching pool view.pools side }) (pool_at layout pool + word) (2 ^ 64 - 1)

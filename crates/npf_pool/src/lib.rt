@@ -1,9 +1,9 @@
-// Nodes taken from the words of the table without locks.
+// Slots and nodes taken from the words of the table without locks.
 //
-// A pass that wants a node loads the words of the nodes from the first on, and claims the lowest bit that it finds clear. Where
+// A pass that wants a place loads the words of its pool from the first on, and claims the lowest bit that it finds clear. Where
 // another was faster it begins anew. It gives up only after a sweep: a row of loads, one for each word, that found all bits set.
 #![tactic(auto)]
 
-mod take;
+mod taking;
 
-pub use take::take_node;
+pub use taking::take;

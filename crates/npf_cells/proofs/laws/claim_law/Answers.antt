@@ -1,5 +1,9 @@
+use Rattle.npf_cells.proofs.ConnLemmas.{builds_alone}
 use Rattle.npf_cells.proofs.PoolKeepLemmas.{owns_alone}
 use Rattle.npf_cells.proofs.laws.claim_law.Goals as goal
 
-pub returns : goal.returns
-returns g c = record { alone = owns_alone g.L.Law.meaning }
+pub returns-clause-alone : goal.returns-clause-alone
+returns-clause-alone g c = owns_alone g.L.Law.meaning
+
+pub returns-clause-builder : goal.returns-clause-builder
+returns-clause-builder g c = builds_alone g.L.Law.meaning

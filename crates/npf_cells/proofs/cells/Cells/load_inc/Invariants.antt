@@ -1,0 +1,4 @@
+use Rattle.npf_cells.proofs.cells.Cells.load_inc.Given as goal
+
+abbrev pub ghosts-load_inc_as : goal.ghosts-load_inc_as
+ghosts-load_inc_as g a = record { slot = a.slot }

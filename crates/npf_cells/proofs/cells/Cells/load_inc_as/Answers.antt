@@ -1,0 +1,14 @@
+use Rattle.std.proofs.Common.{◌≡◌, ◌∙◌, sym, ap, arith}
+use Rattle.npf_cells.specs.declared.layout.Pool.TheVariants.{Slots}
+use Rattle.npf_cells.specs.Layout.{inc_field, field_at}
+use Rattle.npf_cells.proofs.PrivateKeepLemmas.{field_reach, may_load_inc}
+use Rattle.npf_cells.proofs.cells.Cells.load_inc_as.Goals as goal
+
+pub load-requires : goal.load-requires
+load-requires g c =
+    let own = c.requires.own in
+    let place : c.field_place-word.result ≡ field_at c.args.self.now.table.shared.key Slots c.args.slot inc_field
+    = c.field_place-word.ensures ∙ ap (λ l. field_at l Slots c.args.slot inc_field) (sym c.args.self.now.laid) in
+    let reach = field_reach c.args.self.now.table.shared.key Slots c.args.slot inc_field c.requires.slot (omega arith) in
+    rw (c.requires.aim, place)
+    (own.same, omega (arith, own.words, reach), may_load_inc g.L.Law.meaning c.args.self.now.table.shared.key _ _ _ c.args.slot c.args.pass.now.seat.me c.requires.slot)

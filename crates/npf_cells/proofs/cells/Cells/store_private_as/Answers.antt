@@ -1,0 +1,13 @@
+use Rattle.std.proofs.Common.{◌≡◌, ◌∙◌, sym, ap, arith}
+use Rattle.npf_cells.specs.Layout.{field_at}
+use Rattle.npf_cells.proofs.PrivateKeepLemmas.{field_reach, may_store}
+use Rattle.npf_cells.proofs.cells.Cells.store_private_as.Goals as goal
+
+pub store-requires : goal.store-requires
+store-requires g c =
+    let own = c.requires.own in
+    let place : c.field_place-word.result ≡ field_at c.args.self.now.table.shared.key c.args.pool c.args.place c.args.field
+    = c.field_place-word.ensures ∙ ap (λ l. field_at l c.args.pool c.args.place c.args.field) (sym c.args.self.now.laid) in
+    let reach = field_reach c.args.self.now.table.shared.key c.args.pool c.args.place c.args.field c.requires.place c.requires.field in
+    rw (c.requires.aim.0, c.requires.aim.1, c.requires.aim.2, c.requires.aim.3, place)
+    (own.same, omega (arith, own.words, reach), may_store g.L.Law.meaning c.args.self.now.table.shared.key _ _ _ c.args.pool c.args.place c.args.field c.args.value c.args.pass.now.seat.me own.lives c.requires.place c.requires.field c.requires.may)

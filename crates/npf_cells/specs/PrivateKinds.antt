@@ -1,0 +1,63 @@
+-- What loads and stores of a pass's own words change in its view, and what each tells.
+use Rattle.std.specs.Prelude.{◌≡◌, ◌≢◌, ℕ, ◌+◌, ◌-◌, ◌^◌, ◌≤◌, ◌<◌, ◌==◌, Contains, if◌then◌else◌}
+use Rattle.atomic_table.specs.Table.{Me, Step}
+use Rattle.npf_types.specs.declared.key.Way.{Way}
+use Rattle.npf_types.specs.declared.key.Way.TheVariants.{Forward, Backward, Port}
+use Rattle.npf_core.specs.declared.conn_id.ConnId.{ConnId}
+use Rattle.npf_core.specs.History.{state_of}
+use Rattle.npf_core.specs.Machine.{HoldsNone}
+use Rattle.npf_core.specs.Meaning.{Meaning}
+use Rattle.npf_cells.specs.declared.layout.Layout.{Layout}
+use Rattle.npf_cells.specs.declared.layout.Pool.{Pool}
+use Rattle.npf_cells.specs.declared.layout.Pool.TheVariants.{Slots, Nodes}
+use Rattle.npf_cells.specs.declared.views.CellView.{CellView}
+use Rattle.npf_cells.specs.declared.views.PoolSide.{PoolSide}
+use Rattle.npf_cells.specs.Layout.{state_field, inc_field, field_at}
+use Rattle.npf_cells.specs.PoolKinds.{with_pools, others_than, StoodSo}
+
+-- what the word of an incarnation shows who is building a connection in the slot: its incarnation, and the one before it where that
+-- isn't stored yet
+pub record ShowsInc (side : PoolSide) (slot found : ℕ) : Type 0 where
+  pub stored : (id : ConnId) → Contains side.builds id → id.slot ≡ slot → ¬ Contains side.unstored slot → found ≡ id.inc
+  pub before : (id : ConnId) → Contains side.builds id → id.slot ≡ slot → Contains side.unstored slot → found + 1 ≡ id.inc
+  pub most : (id : ConnId) → Contains side.builds id → id.slot ≡ slot → id.inc ≤ 2 ^ 64 - 1
+
+-- where the five words of the key of a way begin
+abbrev pub key_field : Way → ℕ
+key_field Forward = 3
+key_field Backward = 8
+key_field Port = 13
+
+-- in a node that it owns a pass may store in each word but the state, whose lock another pass may have
+pub record MayStoreInNode (side : PoolSide) (node field : ℕ) : Type 0 where
+  pub owned : Contains side.nodes node
+  pub stateless : field ≢ state_field
+
+-- in a connection that it is building a pass may store in each word but the turn: as incarnation the connection's, and a key word only
+-- where the connection holds no key of that way
+pub record MayStoreInSlot {S A R : Type 0} (m : Meaning S A R) (v : CellView S A R) (slot field value : ℕ) : Type 0 where
+  pub id : ConnId
+  pub built : Contains v.pools.builds id
+  pub there : id.slot ≡ slot
+  pub turnless : 1 ≤ field
+  pub inc : field ≡ inc_field → value ≡ id.inc
+  pub keyless : (way : Way) → key_field way ≤ field → field < key_field way + 5 → HoldsNone (state_of m v.seats.history) id way
+
+-- in a place of either pool
+abbrev pub MayStore : {S A R : Type 0} → Meaning S A R → CellView S A R → Pool → ℕ → ℕ → ℕ → Type 0
+MayStore m v Slots slot field value = MayStoreInSlot m v slot field value
+MayStore m v Nodes node field value = MayStoreInNode v.pools node field
+
+-- a store of an incarnation is one that the pass no longer owes
+abbrev pub storing : Pool → ℕ → ℕ → PoolSide → PoolSide
+storing Slots slot field side = if field == inc_field then record side { unstored = others_than slot side.unstored } else side
+storing Nodes node field side = side
+
+-- the kinds, as what they tell
+pub record LoadsInc {S A R F : Type 0} (slot : ℕ) (step : Step F) (me : Me F (CellView S A R)) (found : ℕ) (next : Me F (CellView S A R)) : Type 0 where
+  pub is : next ≡ me
+  pub shows : ShowsInc me.0.pools slot found
+
+pub record StoresPrivate {S A R F : Type 0} (m : Meaning S A R) (layout : Layout) (pool : Pool) (place field : ℕ) (step : Step F) (me : Me F (CellView S A R)) (value : ℕ) (next : Me F (CellView S A R)) : Type 0 where
+  pub is : next ≡ with_pools me (storing pool place field me.0.pools)
+  pub stands : StoodSo m layout next.0 (field_at layout pool place field) value

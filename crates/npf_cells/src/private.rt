@@ -1,0 +1,150 @@
+ghost use Rattle.std.specs.Prelude.{◌≡◌};
+
+use crate::cells::{CellPass, Cells};
+use crate::hash::KeyHash;
+use crate::layout::{INCARNATION, Pool};
+use crate::rule::Running;
+use crate::views::CellView;
+use atomic_table::Play;
+use npf_core::Law;
+use std::marker::{Brand, PhantomData};
+
+// What a load of an incarnation is told.
+pub(crate) trait IncAim {
+    ghost use Rattle.std.specs.Prelude.{ℕ};
+
+    ghost slot: { ℕ };
+}
+
+impl IncAim for Brand {
+    ghost slot = { 0 };
+}
+
+// What a store in an own word is told.
+pub(crate) trait StoreAim {
+    ghost use Rattle.std.specs.Prelude.{ℕ};
+    ghost use Rattle.npf_cells.specs.declared.layout.Layout.{Layout};
+    ghost use Rattle.npf_cells.specs.declared.layout.Pool.{Pool};
+
+    ghost layout: { Layout };
+
+    ghost pool: { Pool };
+
+    ghost place: { ℕ };
+
+    ghost field: { ℕ };
+}
+
+impl StoreAim for Brand {
+    ghost use Rattle.npf_cells.specs.declared.layout.Pool.TheVariants.{Slots};
+
+    ghost layout = { record { slots = 0; nodes = 0 } };
+
+    ghost pool = { Slots };
+
+    ghost place = { 0 };
+
+    ghost field = { 0 };
+}
+
+pub(crate) struct LoadsIncarnation<W> {
+    aim: PhantomData<W>,
+}
+
+impl<F, S, A, R, W: IncAim> Play<F, CellView<S, A, R>> for LoadsIncarnation<W> {
+    ghost use Rattle.npf_cells.specs.PrivateKinds.{LoadsInc};
+
+    ghost then = { LoadsInc W.slot };
+}
+
+pub(crate) struct StoresInOwn<L: Law, W> {
+    law: PhantomData<L>,
+    aim: PhantomData<W>,
+}
+
+impl<L: Law, W: StoreAim> Play<Running<L::State>, CellView<L::State, L::Arg, L::Reply>>
+    for StoresInOwn<L, W> {
+    ghost use Rattle.npf_cells.specs.PrivateKinds.{StoresPrivate};
+
+    ghost then = { StoresPrivate L.meaning W.layout W.pool W.place W.field };
+}
+
+impl<L: Law, H: KeyHash> Cells<L, H> {
+    ghost use Rattle.std.specs.Prelude.{◌≡◌, ◌<◌};
+    ghost use Rattle.npf_cells.specs.Conns.{IsBuiltIn};
+    ghost use Rattle.npf_cells.specs.Layout.{field_at, field_count, pool_places};
+    ghost use Rattle.npf_cells.specs.Passes.{IsPassOf};
+    ghost use Rattle.npf_cells.specs.PoolKinds.{StoodSo, with_pools};
+    ghost use Rattle.npf_cells.specs.PrivateKinds.{ShowsInc, MayStore, storing};
+
+    /// Loads the incarnation of a slot in which the pass is building a connection: that connection's, or the one before it where the
+    /// pass hasn't stored it yet.
+    pub fn load_inc(&self, pass: &mut CellPass<L>, slot: u32) -> u64
+        requires own { IsPassOf self.now.table.shared.key self.now.table.shared.table_id pass.old.seat.table_id pass.old.readers.items pass.old.seat.me }
+        requires slot { slot < self.now.table.shared.key.slots }
+        requires building { IsBuiltIn pass.old.seat.me.0.pools.builds slot }
+        ensures own { IsPassOf self.now.table.shared.key self.now.table.shared.table_id pass.new.seat.table_id pass.new.readers.items pass.new.seat.me }
+        ensures same { pass.new.seat.me ≡ pass.old.seat.me }
+        ensures shows { ShowsInc pass.old.seat.me.0.pools slot result }
+    {
+        self.load_inc_as::<Brand>(pass, slot)
+    }
+
+    fn load_inc_as<W: IncAim>(&self, pass: &mut CellPass<L>, slot: u32) -> u64
+        requires own { IsPassOf self.now.table.shared.key self.now.table.shared.table_id pass.old.seat.table_id pass.old.readers.items pass.old.seat.me }
+        requires slot { slot < self.now.table.shared.key.slots }
+        requires aim { W.slot ≡ slot }
+        ensures own { IsPassOf self.now.table.shared.key self.now.table.shared.table_id pass.new.seat.table_id pass.new.readers.items pass.new.seat.me }
+        ensures same { pass.new.seat.me ≡ pass.old.seat.me }
+        ensures shows { ShowsInc pass.old.seat.me.0.pools slot result }
+    {
+        let word = self.layout.field_place(Pool::Slots, slot, INCARNATION);
+        self.table
+            .shared
+            .load::<LoadsIncarnation<W>>(&mut pass.seat, word)
+    }
+
+    /// Stores in a word of a node that the pass owns, but never in its state; or in a word of a connection that it is building, but
+    /// never in its turn. The fields are those of docs/ARCHITECTURE.md, counted from 0.
+    pub fn store_private(
+        &self,
+        pass: &mut CellPass<L>,
+        pool: Pool,
+        place: u32,
+        field: u32,
+        value: u64,
+    )
+        requires own { IsPassOf self.now.table.shared.key self.now.table.shared.table_id pass.old.seat.table_id pass.old.readers.items pass.old.seat.me }
+        requires place { place < pool_places self.now.table.shared.key pool }
+        requires field { field < field_count pool }
+        requires may { MayStore L.meaning pass.old.seat.me.0 pool place field value }
+        ensures own { IsPassOf self.now.table.shared.key self.now.table.shared.table_id pass.new.seat.table_id pass.new.readers.items pass.new.seat.me }
+        ensures next { pass.new.seat.me ≡ with_pools pass.old.seat.me (storing pool place field pass.old.seat.me.0.pools) }
+        ensures stands { StoodSo L.meaning self.now.table.shared.key pass.new.seat.me.0 (field_at self.now.table.shared.key pool place field) value }
+    {
+        self.store_private_as::<Brand>(pass, pool, place, field, value);
+    }
+
+    fn store_private_as<W: StoreAim>(
+        &self,
+        pass: &mut CellPass<L>,
+        pool: Pool,
+        place: u32,
+        field: u32,
+        value: u64,
+    )
+        requires own { IsPassOf self.now.table.shared.key self.now.table.shared.table_id pass.old.seat.table_id pass.old.readers.items pass.old.seat.me }
+        requires place { place < pool_places self.now.table.shared.key pool }
+        requires field { field < field_count pool }
+        requires may { MayStore L.meaning pass.old.seat.me.0 pool place field value }
+        requires aim { (W.layout ≡ self.now.table.shared.key) × (W.pool ≡ pool) × (W.place ≡ place) × (W.field ≡ field) }
+        ensures own { IsPassOf self.now.table.shared.key self.now.table.shared.table_id pass.new.seat.table_id pass.new.readers.items pass.new.seat.me }
+        ensures next { pass.new.seat.me ≡ with_pools pass.old.seat.me (storing pool place field pass.old.seat.me.0.pools) }
+        ensures stands { StoodSo L.meaning self.now.table.shared.key pass.new.seat.me.0 (field_at self.now.table.shared.key pool place field) value }
+    {
+        let word = self.layout.field_place(pool, place, field);
+        self.table
+            .shared
+            .store::<StoresInOwn<L, W>>(&mut pass.seat, word, value);
+    }
+}

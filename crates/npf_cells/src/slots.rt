@@ -1,0 +1,86 @@
+ghost use Rattle.std.specs.Prelude.{◌≡◌};
+
+use crate::cells::{CellPass, Cells};
+use crate::hash::KeyHash;
+use crate::layout::Pool;
+use crate::pools::{is_clear, place_bit};
+use crate::rule::Running;
+use crate::views::CellView;
+use atomic_table::Play;
+use npf_core::Law;
+use std::marker::{Brand, PhantomData};
+
+// What a step on a slot's bit is told.
+pub(crate) trait SlotAim {
+    ghost use Rattle.std.specs.Prelude.{ℕ};
+    ghost use Rattle.npf_cells.specs.declared.layout.Layout.{Layout};
+
+    ghost layout: { Layout };
+
+    ghost slot: { ℕ };
+
+    ghost packet: { ℕ };
+}
+
+impl SlotAim for Brand {
+    ghost layout = { record { slots = 0; nodes = 0 } };
+
+    ghost slot = { 0 };
+
+    ghost packet = { 0 };
+}
+
+pub(crate) struct TakesSlot<L: Law, W> {
+    law: PhantomData<L>,
+    aim: PhantomData<W>,
+}
+
+impl<L: Law, W: SlotAim> Play<Running<L::State>, CellView<L::State, L::Arg, L::Reply>>
+    for TakesSlot<L, W> {
+    ghost use Rattle.npf_cells.specs.SlotKinds.{ClaimsSlot};
+
+    ghost then = { ClaimsSlot L.meaning W.layout W.packet W.slot };
+}
+
+impl<L: Law, H: KeyHash> Cells<L, H> {
+    ghost use Rattle.std.specs.Prelude.{◌≡◌, ◌<◌, ◌↔◌, ◌%◌, true, false};
+    ghost use Rattle.std.specs.Int.{bit_at};
+    ghost use Rattle.npf_cells.specs.declared.layout.Pool.TheVariants.{Slots};
+    ghost use Rattle.npf_cells.specs.Layout.{place_word};
+    ghost use Rattle.npf_cells.specs.Passes.{IsPassOf, IsProtected};
+    ghost use Rattle.npf_cells.specs.PoolKinds.{StoodSo, with_pools};
+    ghost use Rattle.npf_cells.specs.SlotKinds.{HasClaimed};
+
+    // Claims a slot for the packet n, unless it is claimed. Answers whether it did.
+    pub(crate) fn claim_slot(&self, pass: &mut CellPass<L>, slot: u32, n: u64) -> bool
+        requires own { IsPassOf self.now.table.shared.key self.now.table.shared.table_id pass.old.seat.table_id pass.old.readers.items pass.old.seat.me }
+        requires slot { slot < self.now.table.shared.key.slots }
+        requires protected { IsProtected pass.old.seat.me.0.epochs.pin }
+        ensures own { IsPassOf self.now.table.shared.key self.now.table.shared.table_id pass.new.seat.table_id pass.new.readers.items pass.new.seat.me }
+        ensures claims { result ≡ true → HasClaimed L.meaning n slot pass.old.seat.me pass.new.seat.me }
+        ensures loses { result ≡ false → pass.new.seat.me ≡ with_pools pass.old.seat.me (record pass.old.seat.me.0.pools { found = pass.new.seat.me.0.pools.found }) }
+        ensures stood { StoodSo L.meaning self.now.table.shared.key pass.old.seat.me.0 (place_word self.now.table.shared.key Slots slot) pass.new.seat.me.0.pools.found }
+        ensures answers { (result ≡ true) ↔ (bit_at pass.new.seat.me.0.pools.found (slot % 64) ≡ 0) }
+    {
+        self.claim_slot_as::<Brand>(pass, slot, n)
+    }
+
+    fn claim_slot_as<W: SlotAim>(&self, pass: &mut CellPass<L>, slot: u32, n: u64) -> bool
+        requires own { IsPassOf self.now.table.shared.key self.now.table.shared.table_id pass.old.seat.table_id pass.old.readers.items pass.old.seat.me }
+        requires slot { slot < self.now.table.shared.key.slots }
+        requires protected { IsProtected pass.old.seat.me.0.epochs.pin }
+        requires aim { (W.layout ≡ self.now.table.shared.key) × (W.slot ≡ slot) × (W.packet ≡ n) }
+        ensures own { IsPassOf self.now.table.shared.key self.now.table.shared.table_id pass.new.seat.table_id pass.new.readers.items pass.new.seat.me }
+        ensures claims { result ≡ true → HasClaimed L.meaning n slot pass.old.seat.me pass.new.seat.me }
+        ensures loses { result ≡ false → pass.new.seat.me ≡ with_pools pass.old.seat.me (record pass.old.seat.me.0.pools { found = pass.new.seat.me.0.pools.found }) }
+        ensures stood { StoodSo L.meaning self.now.table.shared.key pass.old.seat.me.0 (place_word self.now.table.shared.key Slots slot) pass.new.seat.me.0.pools.found }
+        ensures answers { (result ≡ true) ↔ (bit_at pass.new.seat.me.0.pools.found (slot % 64) ≡ 0) }
+    {
+        let place = self.layout.pool_place(Pool::Slots, slot / 64);
+        let found = self
+            .table
+            .shared
+            .fetch_or::<TakesSlot<L, W>>(&mut pass.seat, place, place_bit(slot));
+        is_clear(found, slot)
+    }
+}
