@@ -1,5 +1,5 @@
--- What the rule says of seats: of any two, who owns a node and who builds in a slot; of one that is protected, which epochs it may meet; of all, how often they
--- raised the epoch. It doesn't speak of the slots' values.
+-- What the rule says of seats: of any two, who owns a node and who builds in a slot; of one that is protected, which epochs it may meet; of
+-- all, how often they raised the epoch. It doesn't speak of the slots' values.
 use Rattle.std.specs.Prelude.{◌≡◌, ℕ, ◌+◌, ◌≤◌, Contains, map}
 use mathlib.Core.Option.{some}
 use lib.ListN.{get_elem?}
