@@ -6,6 +6,7 @@ ghost use Rattle.npf_ruleset.specs.Row.{destination_end, source_end};
 use crate::flat::FlatRule;
 use crate::row::PacketEnd;
 use crate::tables::table_has;
+use npf_bpf::Program;
 use npf_bpfvm::{Cop, run};
 use npf_table::Table;
 use npf_types::{Addr, Dir, Facts, IfId};
@@ -30,7 +31,9 @@ pub(crate) struct Packet<'a> {
 const DESCRIBED: u32 = u32::MAX;
 
 impl Packet<'_> {
-    ghost use Rattle.npf_ruleset.specs.Packet.{flat_matches};
+    ghost use Rattle.std.specs.Prelude.{◌==◌};
+    ghost use Rattle.npf_bpf.specs.Value.{program_value};
+    ghost use Rattle.npf_ruleset.specs.Packet.{coprocessor, flat_matches};
 
     /// Whether the rule matches: its row admits the packet, it isn't bound to elsewhere, and its
     /// program describes it.
@@ -39,7 +42,15 @@ impl Packet<'_> {
     {
         rule.row.admits(self)
             && rule.binding.leaves(self.ifid, self.dir)
-            && run(&rule.program, self.ip, self) == DESCRIBED
+            && self.is_described(&rule.program)
+    }
+
+    // Whether a rule's program describes it. Few rules come so far, so the machine is kept out of the loop over the others.
+    #[inline(never)]
+    fn is_described(&self, program: &Program) -> bool
+        ensures { result ≡ (program_value program.now self.now.ip.now (coprocessor self.now) == 4294967295) }
+    {
+        run(program, self.ip, self) == DESCRIBED
     }
 }
 
