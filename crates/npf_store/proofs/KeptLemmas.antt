@@ -106,6 +106,14 @@ module _ (buckets : ℕ) (xs : List (Option Holding)) (cells : List ℕ) (spille
           (λ (ne : q ≢ place). kept.named q h (is_old q h ne there))
           (cases_eq q place)
 
+  -- where no key has a holder, whatever cells and flags are
+  pub kept_unheld : (others : List ℕ) (flags : List Bool) → ((key : Key) → holder_among xs key ≡ None) → AreKept buckets xs others flags
+  kept_unheld others flags none = record {
+    home = kept.home;
+    once = kept.once;
+    named = λ q h there. absurd (let held = holder_here buckets xs cells spilled kept q h there in let no = none h.key in cc);
+  }
+
   -- a place more
   pub kept_added : AreKept buckets (xs ++ None ∷ []) cells spilled
   kept_added = record {

@@ -50,11 +50,11 @@ IsStale buckets holdings bucket place =
 abbrev pub IsUnnamed : List ℕ → ℕ → ℕ → Type 0
 IsUnnamed cells bucket place = (i : ℕ) → i < 16 → get_or cells (bucket * 16 + i) 0 ≢ place
 
--- each bucket has 16 cells and a flag
-pub record AreSized (buckets : ℕ) (cells : List ℕ) (spilled : List Bool) : Type 0 where
+-- each bucket has 16 cells and a flag, and none before the first key is given
+pub record AreSized (used : Bool) (buckets : ℕ) (cells : List ℕ) (spilled : List Bool) : Type 0 where
   pub some : 0 < buckets
-  pub celled : length cells ≡ buckets * 16
-  pub flagged : length spilled ≡ buckets
+  pub celled : length cells ≡ (if used then buckets * 16 else 0)
+  pub flagged : length spilled ≡ (if used then buckets else 0)
 
 -- what is held stands at its holder's place; a key stands at one place; and its bucket names that place, or is spilled
 pub record AreKept (buckets : ℕ) (holdings : List (Option Holding)) (cells : List ℕ) (spilled : List Bool) : Type 0 where

@@ -1,4 +1,4 @@
-ghost use Rattle.std.specs.Prelude.{◌≡◌, false, ◌≢◌, ℕ, ◌<◌, ◌≤◌, ◌*◌, ◌+◌, ◌↔◌, length, vec_len, vec_capacity, get_or, Option, Some, None, IfOk, IfSome, IfNone, IsTrue};
+ghost use Rattle.std.specs.Prelude.{◌≡◌, false, true, ◌≢◌, ℕ, ◌<◌, ◌≤◌, ◌*◌, ◌+◌, ◌↔◌, length, vec_len, vec_capacity, get_or, Option, Some, None, IfOk, IfSome, IfNone, IsTrue};
 ghost use Rattle.npf_core.specs.NextState.{is_found};
 ghost use Rattle.npf_types.specs.declared.key.Key.{Key};
 ghost use Rattle.npf_store.specs.Hash.{bucket_of};
@@ -16,16 +16,19 @@ const WIDTH: usize = 16;
 /// The keys that connections hold.
 #[derive(Drop)]
 pub(crate) struct Keys {
-    // Whether a key was ever given.
+    // Whether a key was ever given. Cells and flags are written from then on.
     used: bool,
     buckets: usize,
     // What each connection holds of each way, at 3 times its slot and the way's number. Only slots that were claimed have places.
     holdings: Vec<Option<Holding>>,
-    // The places that each bucket names. Its keys stand there, and others' may, too.
+    // The places that each bucket names. Its keys stand there, and others' may, too. Before the first key they have their room, but
+    // aren't written: a run without connections pays for none of it.
     cells: Vec<u32>,
-    // Of each bucket, whether it had once more keys than it can name. These may stand at any place.
+    // Of each bucket, whether it had once more keys than it can name. These may stand at any place. Written as the cells are.
     spilled: Vec<bool>,
-    pub ghost sized: { AreSized buckets cells.items spilled.items },
+    pub ghost sized: { AreSized used buckets cells.items spilled.items },
+    pub ghost room_cells: { buckets * 16 ≤ vec_capacity cells },
+    pub ghost room_flags: { buckets ≤ vec_capacity spilled },
     pub ghost kept: { AreKept buckets holdings.items cells.items spilled.items },
     pub ghost unused: { used ≡ false → (key : Key) → holder_among holdings.items key ≡ None },
 }
@@ -46,8 +49,8 @@ impl Keys {
             used: false,
             buckets,
             holdings: Vec::with_capacity(alloc, 3 * slots as usize)?,
-            cells: vec![in alloc; u32::MAX; WIDTH * buckets]?,
-            spilled: vec![in alloc; false; buckets]?,
+            cells: Vec::with_capacity(alloc, buckets * WIDTH)?,
+            spilled: Vec::with_capacity(alloc, buckets)?,
         })
     }
 
@@ -113,7 +116,8 @@ impl Keys {
 
     // The key's holder, where the bucket names its place.
     fn named(&self, bucket: usize, key: Key) -> Option<Found>
-        requires { bucket < self.now.buckets }
+        requires exists { bucket < self.now.buckets }
+        requires written { self.now.used ≡ true }
         ensures some { IfSome result (λ found. keeper_of self.now key ≡ Some found) }
         ensures none { IfNone result ((i : ℕ) → i < 16 → found_at self.now.holdings.items key (get_or self.now.cells.items (bucket * 16 + i) 0) ≡ None) }
     {
@@ -148,7 +152,8 @@ impl Keys {
 
     // A cell of the bucket that none of the bucket's keys needs.
     fn stale_cell(&self, bucket: usize) -> Option<usize>
-        requires { bucket < self.now.buckets }
+        requires exists { bucket < self.now.buckets }
+        requires written { self.now.used ≡ true }
         ensures within { IfSome result (λ cell. (bucket * 16 ≤ cell) × (cell < bucket * 16 + 16)) }
         ensures stale { IfSome result (λ cell. IsStale self.now.buckets self.now.holdings.items bucket (get_or self.now.cells.items cell 0)) }
     {
@@ -160,12 +165,28 @@ impl Keys {
         None
     }
 
+    // Has cells and flags written, where no key was ever given. No place has a key then, so they may say anything.
+    fn write_buckets(&mut self)
+        ensures written { self.new.used ≡ true }
+        ensures holdings { self.new.holdings ≡ self.old.holdings }
+        ensures buckets { self.new.buckets ≡ self.old.buckets }
+    {
+        if self.used {
+            return;
+        }
+        fill(&mut self.cells, u32::MAX, self.buckets * WIDTH);
+        fill(&mut self.spilled, false, self.buckets);
+        self.used = true;
+    }
+
     // Has the bucket name the place, or else be spilled.
     fn name(&mut self, bucket: usize, place: usize)
-        requires { bucket < self.old.buckets }
+        requires exists { bucket < self.old.buckets }
+        requires written { self.old.used ≡ true }
         ensures named { get_or self.new.spilled.items bucket false ≡ false → ¬ IsUnnamed self.new.cells.items bucket place }
         ensures holdings { self.new.holdings ≡ self.old.holdings }
         ensures buckets { self.new.buckets ≡ self.old.buckets }
+        ensures written { self.new.used ≡ true }
     {
         let (Some(cell), Ok(name)) = (self.stale_cell(bucket), u32::try_from(place)) else {
             self.spilled[bucket] = true;
@@ -183,8 +204,8 @@ impl Keys {
         ensures { Reholds self.old self.new key (Some found) }
     {
         let place = key_place(found);
+        self.write_buckets();
         self.name(bucket, place);
-        self.used = true;
         self.holdings[place] = Some(Holding { key, found });
     }
 
@@ -221,6 +242,17 @@ impl Keys {
             return;
         };
         self.holdings[key_place(holding.found)] = None;
+    }
+}
+
+// So many items more, each this one, where there is room for them.
+fn fill<T: Copy>(items: &mut Vec<T>, item: T, count: usize)
+    requires { vec_len items.old + count ≤ vec_capacity items.old }
+    ensures sized { vec_len items.new ≡ vec_len items.old + count }
+    ensures room { vec_capacity items.new ≡ vec_capacity items.old }
+{
+    for _ in 0..count {
+        items.push_reserved(item);
     }
 }
 

@@ -8,6 +8,8 @@ invariant_of-self c =
     let s = c.args.self.now in
     record {
       sized = s.sized;
+      room_cells = s.room_cells;
+      room_flags = s.room_flags;
       kept = rw c.push_reserved.ensures.items (kept_added s.buckets s.holdings.items s.cells.items s.spilled.items s.kept);
       unused = λ e key. rw c.push_reserved.ensures.items (holder_added s.holdings.items key ∙ s.unused e key);
     }

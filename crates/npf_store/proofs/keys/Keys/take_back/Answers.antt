@@ -13,6 +13,8 @@ invariant_of-self c =
     let within = standing_within s.holdings.items (key_place c.args.found) c.in-Some.holding c.in-Some.ensures.some in
     record {
       sized = s.sized;
+      room_cells = s.room_cells;
+      room_flags = s.room_flags;
       kept = kept_cleared s.buckets s.holdings.items s.cells.items s.spilled.items s.kept c.key_place.result (subst (λ q. q < length s.holdings.items) (sym place) within);
       unused = λ e key. absurd (let none = s.unused e c.in-Some.holding.key in let held = holder_here s.buckets s.holdings.items s.cells.items s.spilled.items s.kept (key_place c.args.found) c.in-Some.holding c.in-Some.ensures.some in cc);
     }
