@@ -1,5 +1,5 @@
 // The line of an outcome, behind the packet's number, interface and direction.
-use npf_engine::{DropWhy, Outcome, Unkept};
+use npf_engine::{DropWhy, Kept, Outcome};
 use npf_packet::BadPacket;
 use npf_types::{Decision, Name, Return};
 use std::alloc::{AllocError, Global};
@@ -31,18 +31,14 @@ pub fn line(alloc: Global, outcome: Outcome) -> Result<String, AllocError> {
             config,
             rule: Some(rule),
             decision,
-            opened,
-            unkept,
+            kept,
             log,
         } => {
             let rule = u64::from(rule) + 1;
             let word = word(decision);
             let mut line = format!(in alloc; "{word} config {config} rule {rule}")?;
             line.push_str(told(decision))?;
-            if opened.is_some() {
-                line.push_str(" new")?;
-            }
-            line.push_str(missed(unkept))?;
+            line.push_str(became(kept))?;
             logged(line, log)
         }
         Outcome::Dropped { config, rule, why } => {
@@ -86,12 +82,13 @@ fn told(decision: Decision) -> &'static str {
     }
 }
 
-fn missed(unkept: Unkept) -> &'static str {
-    match unkept {
-        Unkept::Kept => "",
-        Unkept::Full => " unkept full",
-        Unkept::NoNode => " unkept nonode",
-        Unkept::Taken(_) => " unkept taken",
+fn became(kept: Kept) -> &'static str {
+    match kept {
+        Kept::Nothing => "",
+        Kept::Opened(_) => " new",
+        Kept::Full => " unkept full",
+        Kept::NoNode => " unkept nonode",
+        Kept::Taken(_) => " unkept taken",
     }
 }
 

@@ -18,8 +18,8 @@ use Rattle.npf_engine.specs.declared.answer.Answer.{Answer}
 use Rattle.npf_engine.specs.declared.crossing.Crossing.{Crossing}
 use Rattle.npf_engine.specs.declared.outcome.DropWhy.{DropWhy}
 use Rattle.npf_engine.specs.declared.outcome.DropWhy.TheVariants as Drops
+use Rattle.npf_engine.specs.declared.outcome.Kept.TheVariants as Keeps
 use Rattle.npf_engine.specs.declared.outcome.Outcome.TheVariants.{Dropped}
-use Rattle.npf_engine.specs.declared.outcome.Unkept.TheVariants as Unkepts
 use Rattle.npf_engine.specs.declared.ruling.Mapping.TheVariants.{Unmapped}
 use Rattle.npf_engine.specs.declared.trying.Passed.{Passed}
 use Rattle.npf_engine.specs.Answer.{AnswersByConn, AnswersRuled, AnswersTried, arrival_of, unkept_by}
@@ -40,7 +40,7 @@ unkept IsDropped.no_port some = absurd (some refl)
 
 module _ (passed : Passed) (answer : Answer) where
   pub tried_open : (opened : Opened) (id : ConnId) (there : Change) → opened ≡ Opened.Open id there →
-      answer.outcome ≡ by_ruling passed.config passed.ruling (Some id) Unkepts.Kept →
+      answer.outcome ≡ by_ruling passed.config passed.ruling (Keeps.Opened id) →
       answer.rewriting ≡ Some (record { action = passed.ruling.action; change = there }) →
       (sight : Sight) → AnswersTried passed opened answer sight
   tried_open opened id there is outcome rewriting sight bytes facts sent so = rw (is, outcome) (IsTried.opened (rw rewriting at so))
@@ -51,7 +51,7 @@ module _ (passed : Passed) (answer : Answer) where
 
   module _ (why : DropWhy) (sight : Sight) (opened : Opened) (dropped : IsDropped sight opened why) where
     pub tried_unkept : passed.mapping ≡ Unmapped → why ≢ Drops.NoPort →
-        answer.outcome ≡ by_ruling passed.config passed.ruling None (unkept_by why) →
+        answer.outcome ≡ by_ruling passed.config passed.ruling (unkept_by why) →
         answer.rewriting ≡ Some (record { action = passed.ruling.action; change = unchanged }) → AnswersTried passed opened answer sight
     tried_unkept mapped some outcome rewriting bytes facts sent so = rw outcome (IsTried.unkept mapped (unkept dropped some) (rw rewriting at so))
 
@@ -63,7 +63,7 @@ module _ (passed : Passed) (answer : Answer) where
 
 module _ (crossing : Crossing) (passed : Passed) (answer : Answer) (decided : passed.ruling.decision ≡ Pass) where
   pub ruled_passed : (old : PassView FlowEntry) → ¬ OpensOne passed.ruling passed.mapping →
-      answer.outcome ≡ by_ruling passed.config passed.ruling None Unkepts.Kept →
+      answer.outcome ≡ by_ruling passed.config passed.ruling Keeps.Nothing →
       answer.rewriting ≡ Some (record { action = passed.ruling.action; change = static_change passed.mapping }) →
       Does old old (AnswersRuled crossing passed.config passed.mapping (Some passed.ruling) answer old old)
   ruled_passed old none outcome rewriting = record {

@@ -24,8 +24,8 @@ use Rattle.npf_engine.specs.declared.answer.Answer.{Answer}
 use Rattle.npf_engine.specs.declared.answer.Rewriting.{Rewriting}
 use Rattle.npf_engine.specs.declared.crossing.Crossing.{Crossing}
 use Rattle.npf_engine.specs.declared.finding.Met.{Met}
+use Rattle.npf_engine.specs.declared.outcome.Kept.TheVariants as Keeps
 use Rattle.npf_engine.specs.declared.outcome.Outcome.TheVariants.{ByRule}
-use Rattle.npf_engine.specs.declared.outcome.Unkept.TheVariants.{Kept}
 use Rattle.npf_engine.specs.declared.ruling.Mapping.{Mapping}
 use Rattle.npf_engine.specs.declared.ruling.Ruling.{Ruling}
 use Rattle.npf_engine.specs.Answer.{Answers, AnswersUnder, AnswersByConn, AnswersRuled, IsSentSo, arrival_of}
@@ -38,7 +38,7 @@ use Rattle.npf_engine.specs.Outcome.{passes, sent_of}
 use Rattle.npf_engine.proofs.SightLemmas.{Turns, later_part, whole_did, whole_sight}
 
 module _ (crossing : Crossing) (config : ℕ) (mapped : Mapping) (ruled : Option Ruling) (answer : Answer) (old : Pass FlowEntry) (unsent : answer.rewriting ≡ None) where
-  pub ruled_by_none : ruled ≡ None → answer.outcome ≡ ByRule config None (Block Nothing) None Kept None →
+  pub ruled_by_none : ruled ≡ None → answer.outcome ≡ ByRule config None (Block Nothing) Keeps.Nothing None →
       Does old old (AnswersRuled crossing config mapped ruled answer old old)
   ruled_by_none none outcome = record {
     said = [];
@@ -46,7 +46,7 @@ module _ (crossing : Crossing) (config : ℕ) (mapped : Mapping) (ruled : Option
     did = did_nothing old;
   }
 
-  pub ruled_by_block : (ruling : Ruling) (reply : Return) → ruled ≡ Some ruling → ruling.decision ≡ Block reply → answer.outcome ≡ by_ruling config ruling None Kept →
+  pub ruled_by_block : (ruling : Ruling) (reply : Return) → ruled ≡ Some ruling → ruling.decision ≡ Block reply → answer.outcome ≡ by_ruling config ruling Keeps.Nothing →
       Does old old (AnswersRuled crossing config mapped ruled answer old old)
   ruled_by_block ruling reply is blocks outcome = record {
     said = [];

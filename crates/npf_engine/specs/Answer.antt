@@ -13,8 +13,8 @@ use Rattle.npf_engine.specs.declared.crossing.Crossing.{Crossing}
 use Rattle.npf_engine.specs.declared.finding.Met.{Met}
 use Rattle.npf_engine.specs.declared.outcome.DropWhy.{DropWhy}
 use Rattle.npf_engine.specs.declared.outcome.DropWhy.TheVariants as Drops
-use Rattle.npf_engine.specs.declared.outcome.Unkept.{Unkept}
-use Rattle.npf_engine.specs.declared.outcome.Unkept.TheVariants as Unkepts
+use Rattle.npf_engine.specs.declared.outcome.Kept.{Kept}
+use Rattle.npf_engine.specs.declared.outcome.Kept.TheVariants as Keeps
 use Rattle.npf_engine.specs.declared.ruling.Mapping.{Mapping}
 use Rattle.npf_engine.specs.declared.ruling.Ruling.{Ruling}
 use Rattle.npf_engine.specs.declared.trying.Passed.{Passed}
@@ -55,12 +55,12 @@ AnswersByConn taken answer =
     (bytes : List ℕ) (facts : Facts) (sent : Option (List ℕ)) → IsSentSo bytes facts answer.rewriting sent →
     IsByConn bytes facts taken answer.outcome sent
 
--- why a packet that isn't dropped for a reason is unkept; that no port is left is no such reason
-abbrev pub unkept_by : DropWhy → Unkept
-unkept_by Drops.Full = Unkepts.Full
-unkept_by Drops.NoNode = Unkepts.NoNode
-unkept_by (Drops.Taken holder) = Unkepts.Taken holder
-unkept_by Drops.NoPort = Unkepts.Kept
+-- what became of the connection of a packet that isn't dropped for a reason; that no port is left is no such reason
+abbrev pub unkept_by : DropWhy → Kept
+unkept_by Drops.Full = Keeps.Full
+unkept_by Drops.NoNode = Keeps.NoNode
+unkept_by (Drops.Taken holder) = Keeps.Taken holder
+unkept_by Drops.NoPort = Keeps.Nothing
 
 -- the packet was to open a connection, of which this became
 abbrev pub AnswersTried : Passed → Opened → Answer → Sight → Type 0

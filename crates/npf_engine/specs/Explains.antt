@@ -26,10 +26,10 @@ use Rattle.npf_rewrite.specs.Sent.{Sent}
 use Rattle.npf_engine.specs.declared.finding.Met.{Met}
 use Rattle.npf_engine.specs.declared.outcome.DropWhy.{DropWhy}
 use Rattle.npf_engine.specs.declared.outcome.DropWhy.TheVariants as Drops
+use Rattle.npf_engine.specs.declared.outcome.Kept.{Kept}
+use Rattle.npf_engine.specs.declared.outcome.Kept.TheVariants as Keeps
 use Rattle.npf_engine.specs.declared.outcome.Outcome.{Outcome}
 use Rattle.npf_engine.specs.declared.outcome.Outcome.TheVariants.{Skip, Malformed, ByConn, ByRule, Dropped}
-use Rattle.npf_engine.specs.declared.outcome.Unkept.{Unkept}
-use Rattle.npf_engine.specs.declared.outcome.Unkept.TheVariants.{Kept, Full, NoNode, Taken}
 use Rattle.npf_engine.specs.declared.ruling.Mapping.{Mapping}
 use Rattle.npf_engine.specs.declared.ruling.Mapping.TheVariants.{Unmapped}
 use Rattle.npf_engine.specs.declared.ruling.Ruling.{Ruling}
@@ -60,11 +60,11 @@ abbrev pub WasFull : Sight → Type 0
 WasFull sight = (slot : ℕ) → slot < sight.slots → SlotWasClaimed sight slot
 
 -- why a packet has no connection of its own
-pub data IsUnkept (sight : Sight) : Opened → Unkept → Type 0 where
-  full : WasFull sight → IsUnkept sight Openings.Full Full
-  no_node : IsUnkept sight Openings.NoNode NoNode
-  ended : {holder : Found} → IsUnkept sight (Openings.Known holder Steps.NotLive) (Taken holder)
-  crossed : {holder : Found} → IsUnkept sight (Openings.Taken holder) (Taken holder)
+pub data IsUnkept (sight : Sight) : Opened → Kept → Type 0 where
+  full : WasFull sight → IsUnkept sight Openings.Full Keeps.Full
+  no_node : IsUnkept sight Openings.NoNode Keeps.NoNode
+  ended : {holder : Found} → IsUnkept sight (Openings.Known holder Steps.NotLive) (Keeps.Taken holder)
+  crossed : {holder : Found} → IsUnkept sight (Openings.Taken holder) (Keeps.Taken holder)
 
 -- why a packet that a map was to translate is dropped
 pub data IsDropped (sight : Sight) : Opened → DropWhy → Type 0 where
@@ -79,8 +79,8 @@ abbrev pub by_conn : Met → Outcome
 by_conn taken = ByConn taken.id taken.reply.opener taken.place taken.reply.pass taken.reply.action.log
 
 -- the outcome of a packet on which a rule decided
-abbrev pub by_ruling : ℕ → Ruling → Option ConnId → Unkept → Outcome
-by_ruling config ruled opened why = ByRule config (Some ruled.place) ruled.decision opened why ruled.action.log
+abbrev pub by_ruling : ℕ → Ruling → Kept → Outcome
+by_ruling config ruled kept = ByRule config (Some ruled.place) ruled.decision kept ruled.action.log
 
 module _ (bytes : List ℕ) (facts : Facts) where
   -- it is sent: normalised by the action and then translated by the change
@@ -103,23 +103,23 @@ module _ (bytes : List ℕ) (facts : Facts) where
   -- another's by then, which took it; or it has none, and is sent without translation where no map applies, and is dropped where one does.
   pub data IsTried (sight : Sight) (config : ℕ) (ruled : Ruling) (mapped : Mapping) : Opened → Outcome → Option (List ℕ) → Type 0 where
     opened : {id : ConnId} {there : Change} {sent : Option (List ℕ)} → IsSent ruled.action there sent →
-        IsTried sight config ruled mapped (Openings.Open id there) (by_ruling config ruled (Some id) Kept) sent
+        IsTried sight config ruled mapped (Openings.Open id there) (by_ruling config ruled (Keeps.Opened id)) sent
     known : {holder : Found} {reply : FlowReply} {place : ℕ} {outcome : Outcome} {sent : Option (List ℕ)} →
         IsByConn (met holder reply place) outcome sent →
         IsTried sight config ruled mapped (Openings.Known holder (Steps.Done reply place)) outcome sent
-    unkept : {result : Opened} {why : Unkept} {sent : Option (List ℕ)} → mapped ≡ Unmapped → IsUnkept sight result why →
-        IsSent ruled.action unchanged sent → IsTried sight config ruled mapped result (by_ruling config ruled None why) sent
+    unkept : {result : Opened} {kept : Kept} {sent : Option (List ℕ)} → mapped ≡ Unmapped → IsUnkept sight result kept →
+        IsSent ruled.action unchanged sent → IsTried sight config ruled mapped result (by_ruling config ruled kept) sent
     dropped : {result : Opened} {why : DropWhy} → mapped ≢ Unmapped → IsDropped sight result why →
         IsTried sight config ruled mapped result (Dropped config ruled.place why) None
 
   -- What the configuration of this number made of a packet that no connection took, by what it then asked. No rule decides, and it is
   -- blocked; a rule blocks it; a rule passes it and it opens no connection; or it was to open one.
   pub data IsDecided (sight : Sight) (arrival : Arrival) (config : ℕ) (mapped : Mapping) : Option Ruling → List FlowSaid → Outcome → Option (List ℕ) → Type 0 where
-    unruled : IsDecided sight arrival config mapped None [] (ByRule config None (Block Nothing) None Kept None) None
+    unruled : IsDecided sight arrival config mapped None [] (ByRule config None (Block Nothing) Keeps.Nothing None) None
     blocked : {ruled : Ruling} {answer : Return} → ruled.decision ≡ Block answer →
-        IsDecided sight arrival config mapped (Some ruled) [] (by_ruling config ruled None Kept) None
+        IsDecided sight arrival config mapped (Some ruled) [] (by_ruling config ruled Keeps.Nothing) None
     passed : {ruled : Ruling} {sent : Option (List ℕ)} → ruled.decision ≡ Pass → ¬ OpensOne ruled mapped →
-        IsSent ruled.action (static_change mapped) sent → IsDecided sight arrival config mapped (Some ruled) [] (by_ruling config ruled None Kept) sent
+        IsSent ruled.action (static_change mapped) sent → IsDecided sight arrival config mapped (Some ruled) [] (by_ruling config ruled Keeps.Nothing) sent
     tried : {ruled : Ruling} {said : List FlowSaid} {result : Opened} {outcome : Outcome} {sent : Option (List ℕ)} →
         ruled.decision ≡ Pass → OpensOne ruled mapped → OpensConnection (attempt_of arrival facts ruled mapped) said result →
         IsTried sight config ruled mapped result outcome sent → IsDecided sight arrival config mapped (Some ruled) said outcome sent

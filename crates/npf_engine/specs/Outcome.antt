@@ -3,9 +3,9 @@ use Rattle.std.specs.Prelude.{ℕ, Bool, true, false, if◌then◌else◌, List,
 use Rattle.npf_types.specs.declared.decision.Decision.{Decision}
 use Rattle.npf_types.specs.declared.decision.Decision.TheVariants.{Pass, Block}
 use Rattle.npf_engine.specs.declared.outcome.DropWhy.TheVariants as Drops
+use Rattle.npf_engine.specs.declared.outcome.Kept.TheVariants as Keeps
 use Rattle.npf_engine.specs.declared.outcome.Outcome.{Outcome}
 use Rattle.npf_engine.specs.declared.outcome.Outcome.TheVariants.{Skip, Malformed, ByConn, ByRule, Dropped}
-use Rattle.npf_engine.specs.declared.outcome.Unkept.TheVariants as Unkepts
 
 abbrev pub is_pass : Decision → Bool
 is_pass Pass = true
@@ -15,7 +15,7 @@ abbrev pub passes : Outcome → Bool
 passes Skip = false
 passes (Malformed why at) = false
 passes (ByConn id opener place pass log) = pass
-passes (ByRule config rule decision opened why log) = is_pass decision
+passes (ByRule config rule decision kept log) = is_pass decision
 passes (Dropped config rule why) = false
 
 -- the bytes that are sent of a packet that is left with these: none where it doesn't pass
@@ -24,6 +24,6 @@ sent_of outcome bytes = if passes outcome then Some bytes else None
 
 -- the table of connections had no node left for the packet
 abbrev pub lacks_node : Outcome → Bool
-lacks_node (ByRule config rule decision opened Unkepts.NoNode log) = true
+lacks_node (ByRule config rule decision Keeps.NoNode log) = true
 lacks_node (Dropped config rule Drops.NoNode) = true
 lacks_node _ = false

@@ -7,9 +7,8 @@ ghost use Rattle.npf_engine.specs.Explains.{by_ruling};
 ghost use Rattle.npf_engine.specs.Outcome.{passes, lacks_node};
 
 use crate::finding::Met;
-use crate::outcome::{DropWhy, Outcome, Unkept};
+use crate::outcome::{DropWhy, Kept, Outcome};
 use crate::ruling::Ruling;
-use npf_core::ConnId;
 use npf_flow::FlowReply;
 use npf_types::{Action, Change, Decision, Return};
 
@@ -57,7 +56,7 @@ impl Answer {
 
     /// No rule decides, and the packet is blocked.
     pub(crate) fn unruled(config: u64) -> Answer
-        ensures outcome { result.outcome ≡ Outcome.ByRule config None (Block Nothing) None Unkept.Kept None }
+        ensures outcome { result.outcome ≡ Outcome.ByRule config None (Block Nothing) Kept.Nothing None }
         ensures rewriting { result.rewriting ≡ None }
     {
         Answer {
@@ -65,8 +64,7 @@ impl Answer {
                 config,
                 rule: None,
                 decision: Decision::Block(Return::Nothing),
-                opened: None,
-                unkept: Unkept::Kept,
+                kept: Kept::Nothing,
                 log: None,
             },
             rewriting: None,
@@ -75,28 +73,22 @@ impl Answer {
 
     /// A rule blocks the packet.
     pub(crate) fn blocked(config: u64, ruling: &Ruling) -> Answer
-        ensures outcome { result.outcome ≡ by_ruling config ruling.now None Unkept.Kept }
+        ensures outcome { result.outcome ≡ by_ruling config ruling.now Kept.Nothing }
         ensures rewriting { result.rewriting ≡ None }
     {
         Answer {
-            outcome: by_ruling(config, ruling, None, Unkept::Kept),
+            outcome: by_ruling(config, ruling, Kept::Nothing),
             rewriting: None,
         }
     }
 
-    /// A rule passes the packet, which opened this connection, or has none for this reason.
-    pub(crate) fn passed(
-        config: u64,
-        ruling: &Ruling,
-        opened: Option<ConnId>,
-        unkept: Unkept,
-        change: Change,
-    ) -> Answer
-        ensures outcome { result.outcome ≡ by_ruling config ruling.now opened unkept }
+    /// A rule passes the packet, and this became of its connection.
+    pub(crate) fn passed(config: u64, ruling: &Ruling, kept: Kept, change: Change) -> Answer
+        ensures outcome { result.outcome ≡ by_ruling config ruling.now kept }
         ensures rewriting { result.rewriting ≡ Some (record { action = ruling.now.action; change = change }) }
     {
         Answer {
-            outcome: by_ruling(config, ruling, opened, unkept),
+            outcome: by_ruling(config, ruling, kept),
             rewriting: Some(Rewriting {
                 action: ruling.action,
                 change,
@@ -117,15 +109,14 @@ impl Answer {
 }
 
 /// The outcome of a packet on which a rule decided.
-fn by_ruling(config: u64, ruling: &Ruling, opened: Option<ConnId>, unkept: Unkept) -> Outcome
-    ensures { result ≡ by_ruling config ruling.now opened unkept }
+fn by_ruling(config: u64, ruling: &Ruling, kept: Kept) -> Outcome
+    ensures { result ≡ by_ruling config ruling.now kept }
 {
     Outcome::ByRule {
         config,
         rule: Some(ruling.place),
         decision: ruling.decision,
-        opened,
-        unkept,
+        kept,
         log: ruling.action.log,
     }
 }

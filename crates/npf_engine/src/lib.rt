@@ -22,4 +22,4 @@ mod sending;
 mod trying;
 
 pub use handling::packet;
-pub use outcome::{DropWhy, Outcome, Unkept};
+pub use outcome::{DropWhy, Kept, Outcome};

@@ -5,10 +5,13 @@ use npf_core::{ConnId, Found};
 use npf_packet::BadPacket;
 use npf_types::{Decision, Name};
 
-/// Why a packet that a rule passed has no connection of its own; `Kept` where it has one, or nothing was to be kept.
+/// What became of the connection that a passed packet was to open.
 #[derive(Clone, Copy, Debug, PartialEq, Eq)]
-pub enum Unkept {
-    Kept,
+pub enum Kept {
+    /// None was to be opened.
+    Nothing,
+    /// The packet opened this one.
+    Opened(ConnId),
     /// Each slot of the table of connections was claimed.
     Full,
     /// The table had no node left to keep a key in.
@@ -50,13 +53,11 @@ pub enum Outcome {
         log: Option<Name>,
     },
     /// The configuration of this number, from 0, was asked, and the rule at this place, from 0, decided, None where none did.
-    /// `opened` is the connection that the packet opened.
     ByRule {
         config: u64,
         rule: Option<u32>,
         decision: Decision,
-        opened: Option<ConnId>,
-        unkept: Unkept,
+        kept: Kept,
         log: Option<Name>,
     },
     /// The rule at this place of that configuration passed it, and it couldn't be translated.

@@ -13,7 +13,7 @@ ghost use Rattle.npf_engine.specs.Ruling.{attempt_of};
 use crate::answer::Answer;
 use crate::crossing::Crossing;
 use crate::finding::Met;
-use crate::outcome::{DropWhy, Unkept};
+use crate::outcome::{DropWhy, Kept};
 use crate::ruling::{Mapping, Ruling, UNCHANGED, key_interface, opens_one, plan_of, static_change};
 use npf_connections::Connections;
 use npf_core::{Found, Stepped};
@@ -56,7 +56,7 @@ pub(crate) fn answer_passed<R: Wait, C: Connections<FlowLaw>>(
 {
     if !opens_one(&passed.ruling, &passed.mapping) {
         let change = static_change(&passed.mapping);
-        return Answer::passed(passed.config, &passed.ruling, None, Unkept::Kept, change);
+        return Answer::passed(passed.config, &passed.ruling, Kept::Nothing, change);
     }
     let attempt = attempt_of(crossing, arg, passed);
     let opened = open(rt, conns, pass, &attempt);
@@ -90,8 +90,7 @@ fn answer_tried(passed: &Passed, opened: Opened) -> Answer
         Opened::Open { id, there } => Answer::passed(
             passed.config,
             &passed.ruling,
-            Some(id),
-            Unkept::Kept,
+            Kept::Opened(id),
             there,
         ),
         Opened::Known { holder, answer } => answer_known(passed, holder, answer),
@@ -132,7 +131,6 @@ fn answer_refused(passed: &Passed, why: DropWhy) -> Answer
         Mapping::Unmapped => Answer::passed(
             passed.config,
             &passed.ruling,
-            None,
             unkept_of(why),
             UNCHANGED,
         ),
@@ -142,16 +140,16 @@ fn answer_refused(passed: &Passed, why: DropWhy) -> Answer
     }
 }
 
-/// Why a packet that isn't dropped for it is unkept.
-fn unkept_of(why: DropWhy) -> Unkept
+/// What became of the connection of a packet that isn't dropped for this reason.
+fn unkept_of(why: DropWhy) -> Kept
     requires { why ≢ DropWhy.NoPort }
     ensures unkept { result ≡ unkept_by why }
-    ensures node { result ≡ Unkept.NoNode → why ≡ DropWhy.NoNode }
+    ensures node { result ≡ Kept.NoNode → why ≡ DropWhy.NoNode }
 {
     match why {
-        DropWhy::Full => Unkept::Full,
-        DropWhy::NoNode => Unkept::NoNode,
-        DropWhy::Taken(holder) => Unkept::Taken(holder),
+        DropWhy::Full => Kept::Full,
+        DropWhy::NoNode => Kept::NoNode,
+        DropWhy::Taken(holder) => Kept::Taken(holder),
         DropWhy::NoPort => unreachable!(),
     }
 }

@@ -9,13 +9,12 @@ use Rattle.npf_types.specs.declared.name.Name.{Name}
 use Rattle.npf_types.specs.Name.{name_bytes}
 use Rattle.npf_packet.specs.declared.decoded.BadPacket.{BadPacket}
 use Rattle.npf_packet.specs.declared.decoded.BadPacket.TheVariants.{Cut, Bad}
-use Rattle.npf_core.specs.declared.conn_id.ConnId.{ConnId}
 use Rattle.npf_engine.specs.declared.outcome.DropWhy.{DropWhy}
 use Rattle.npf_engine.specs.declared.outcome.DropWhy.TheVariants as Drops
+use Rattle.npf_engine.specs.declared.outcome.Kept.{Kept}
+use Rattle.npf_engine.specs.declared.outcome.Kept.TheVariants as Keeps
 use Rattle.npf_engine.specs.declared.outcome.Outcome.{Outcome}
 use Rattle.npf_engine.specs.declared.outcome.Outcome.TheVariants.{Skip, Malformed, ByConn, ByRule, Dropped}
-use Rattle.npf_engine.specs.declared.outcome.Unkept.{Unkept}
-use Rattle.npf_engine.specs.declared.outcome.Unkept.TheVariants as Unkepts
 
 -- two numbers, each behind its text
 abbrev pub two_numbers : List ℕ → ℕ → List ℕ → ℕ → List ℕ
@@ -41,25 +40,19 @@ return_text Returns.Any = codes " return"
 return_text Returns.Rst = codes " return-rst"
 return_text Returns.Icmp = codes " return-icmp"
 
-abbrev pub opened_text : Option ConnId → List ℕ
-opened_text (Some id) = codes " new"
-opened_text None = []
-
-abbrev pub unkept_text : Unkept → List ℕ
-unkept_text Unkepts.Kept = []
-unkept_text Unkepts.Full = codes " unkept full"
-unkept_text Unkepts.NoNode = codes " unkept nonode"
-unkept_text (Unkepts.Taken holder) = codes " unkept taken"
-
 -- the packet opened a connection, or isn't kept
-abbrev pub kept_text : Option ConnId → Unkept → List ℕ
-kept_text opened why = opened_text opened ++ unkept_text why
+abbrev pub kept_text : Kept → List ℕ
+kept_text Keeps.Nothing = []
+kept_text (Keeps.Opened id) = codes " new"
+kept_text Keeps.Full = codes " unkept full"
+kept_text Keeps.NoNode = codes " unkept nonode"
+kept_text (Keeps.Taken holder) = codes " unkept taken"
 
 -- what the configuration of this number decided by the rule at a place, or by none; rules are numbered from 1
-abbrev pub verdict_text : ℕ → Option ℕ → Decision → Option ConnId → Unkept → List ℕ
-verdict_text config (Some place) Pass opened why = two_numbers (codes "pass config ") config (codes " rule ") (place + 1) ++ kept_text opened why
-verdict_text config (Some place) (Block answer) opened why = two_numbers (codes "block config ") config (codes " rule ") (place + 1) ++ return_text answer
-verdict_text config None decision opened why = codes "block config " ++ (decimal config ++ codes " none")
+abbrev pub verdict_text : ℕ → Option ℕ → Decision → Kept → List ℕ
+verdict_text config (Some place) Pass kept = two_numbers (codes "pass config ") config (codes " rule ") (place + 1) ++ kept_text kept
+verdict_text config (Some place) (Block answer) kept = two_numbers (codes "block config ") config (codes " rule ") (place + 1) ++ return_text answer
+verdict_text config None decision kept = codes "block config " ++ (decimal config ++ codes " none")
 
 abbrev pub drop_text : DropWhy → List ℕ
 drop_text Drops.Full = codes " full"
@@ -75,5 +68,5 @@ abbrev pub outcome_text : Outcome → List ℕ
 outcome_text Skip = codes "skip"
 outcome_text (Malformed why at) = malformed_text why at
 outcome_text (ByConn id opener place pass log) = conn_text opener place pass log
-outcome_text (ByRule config rule decision opened why log) = verdict_text config rule decision opened why ++ log_text log
+outcome_text (ByRule config rule decision kept log) = verdict_text config rule decision kept ++ log_text log
 outcome_text (Dropped config rule why) = dropped_text config rule why

@@ -1,10 +1,9 @@
 // What a line says of a packet's outcome, by the rows of the table.
 ghost use Rattle.std.specs.Prelude.{◌≡◌, ◌+◌, ◌++◌, OnOk};
-ghost use Rattle.npf_report.specs.OutcomeText.{outcome_text, malformed_text, conn_text, verdict_text, dropped_text, drop_text, kept_text, opened_text, unkept_text, return_text, log_text};
+ghost use Rattle.npf_report.specs.OutcomeText.{outcome_text, malformed_text, conn_text, verdict_text, dropped_text, drop_text, kept_text, return_text, log_text};
 
 use crate::writing::{write_counted, write_text, write_two};
-use npf_core::ConnId;
-use npf_engine::{DropWhy, Outcome, Unkept};
+use npf_engine::{DropWhy, Kept, Outcome};
 use npf_packet::BadPacket;
 use npf_types::{Decision, Name, NoMemory, Return};
 
@@ -25,11 +24,10 @@ pub(crate) fn write_outcome(into: &mut Vec<u8>, outcome: &Outcome) -> Result<(),
             config,
             rule,
             decision,
-            opened,
-            unkept,
+            kept,
             log,
         } => {
-            write_verdict(into, config, rule, decision, opened, unkept)?;
+            write_verdict(into, config, rule, decision, kept)?;
             write_log(into, log)
         }
         Outcome::Dropped { config, rule, why } => write_dropped(into, config, rule, why),
@@ -68,10 +66,9 @@ fn write_verdict(
     config: u64,
     rule: Option<u32>,
     decision: Decision,
-    opened: Option<ConnId>,
-    unkept: Unkept,
+    kept: Kept,
 ) -> Result<(), NoMemory>
-    ensures { OnOk result (into.new.items ≡ into.old.items ++ verdict_text config rule decision opened unkept) }
+    ensures { OnOk result (into.new.items ≡ into.old.items ++ verdict_text config rule decision kept) }
 {
     let Some(place) = rule else {
         write_counted(into, "block config ", config)?;
@@ -80,7 +77,7 @@ fn write_verdict(
     match decision {
         Decision::Pass => {
             write_two(into, "pass config ", config, " rule ", rule_number(place))?;
-            write_kept(into, opened, unkept)?;
+            write_text(into, kept_text(kept))?;
             Ok(())
         }
         Decision::Block(answer) => {
@@ -99,30 +96,15 @@ fn rule_number(place: u32) -> u64
 }
 
 /// The packet opened a connection, or isn't kept.
-fn write_kept(into: &mut Vec<u8>, opened: Option<ConnId>, unkept: Unkept) -> Result<(), NoMemory>
-    ensures { OnOk result (into.new.items ≡ into.old.items ++ kept_text opened unkept) }
+fn kept_text(kept: Kept) -> &'static str
+    ensures { result.now ≡ kept_text kept }
 {
-    write_text(into, opened_text(opened))?;
-    write_text(into, unkept_text(unkept))
-}
-
-fn opened_text(opened: Option<ConnId>) -> &'static str
-    ensures { result.now ≡ opened_text opened }
-{
-    match opened {
-        Some(_) => " new",
-        None => "",
-    }
-}
-
-fn unkept_text(unkept: Unkept) -> &'static str
-    ensures { result.now ≡ unkept_text unkept }
-{
-    match unkept {
-        Unkept::Kept => "",
-        Unkept::Full => " unkept full",
-        Unkept::NoNode => " unkept nonode",
-        Unkept::Taken(_) => " unkept taken",
+    match kept {
+        Kept::Nothing => "",
+        Kept::Opened(_) => " new",
+        Kept::Full => " unkept full",
+        Kept::NoNode => " unkept nonode",
+        Kept::Taken(_) => " unkept taken",
     }
 }
 

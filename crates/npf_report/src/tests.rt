@@ -1,7 +1,7 @@
 // The lines of a table of outcomes, one for each row of the report's table, and the total line.
 use crate::{line, total};
 use npf_core::{ConnId, Found};
-use npf_engine::{DropWhy, Outcome, Unkept};
+use npf_engine::{DropWhy, Kept, Outcome};
 use npf_packet::BadPacket;
 use npf_types::{Decision, Dir, Name, Return, Way};
 use std::alloc::Global;
@@ -24,13 +24,12 @@ fn by_conn(pass: bool, log: Option<Name>) -> Outcome {
     }
 }
 
-fn passed(opened: Option<ConnId>, unkept: Unkept, log: Option<Name>) -> Outcome {
+fn passed(kept: Kept, log: Option<Name>) -> Outcome {
     Outcome::ByRule {
         config: 0,
         rule: Some(0),
         decision: Decision::Pass,
-        opened,
-        unkept,
+        kept,
         log,
     }
 }
@@ -40,8 +39,7 @@ fn blocked(rule: Option<u32>, answer: Return, log: Option<Name>) -> Outcome {
         config: 12,
         rule,
         decision: Decision::Block(answer),
-        opened: None,
-        unkept: Unkept::Kept,
+        kept: Kept::Nothing,
         log,
     }
 }
@@ -76,21 +74,18 @@ fn rows(log: Option<Name>) -> [(Outcome, &'static str); 22] {
         (by_conn(true, log), "pass conn 2 step 14 log npflog0"),
         (by_conn(false, None), "block conn 2 step 14 state"),
         (by_conn(false, log), "block conn 2 step 14 state"),
-        (passed(None, Unkept::Kept, None), "pass config 0 rule 1"),
+        (passed(Kept::Nothing, None), "pass config 0 rule 1"),
         (
-            passed(Some(ID), Unkept::Kept, log),
+            passed(Kept::Opened(ID), log),
             "pass config 0 rule 1 new log npflog0",
         ),
+        (passed(Kept::Full, None), "pass config 0 rule 1 unkept full"),
         (
-            passed(None, Unkept::Full, None),
-            "pass config 0 rule 1 unkept full",
-        ),
-        (
-            passed(None, Unkept::NoNode, None),
+            passed(Kept::NoNode, None),
             "pass config 0 rule 1 unkept nonode",
         ),
         (
-            passed(None, Unkept::Taken(HOLDER), log),
+            passed(Kept::Taken(HOLDER), log),
             "pass config 0 rule 1 unkept taken log npflog0",
         ),
         (

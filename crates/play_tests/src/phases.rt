@@ -1,7 +1,8 @@
 // Phase after phase, with a control task's commands.
 use crate::packets::{MILLISECOND, datagram};
 use crate::run::{Setting, phase, run};
-use npf_engine::{Outcome, Unkept};
+use npf_core::ConnId;
+use npf_engine::{Kept, Outcome};
 use npf_runner::{Command, NoGate, Packet, Spread};
 use std::alloc::{AllocError, Global};
 use std::test::Fail;
@@ -75,19 +76,19 @@ fn expiry_frees_the_slot_for_the_next_phase(rt: HostRuntime) -> Result<(), Fail>
         ONE_WORKER,
         &NoGate,
     )?;
-    let mut kept = Vec::new(alloc);
+    let mut became = Vec::new(alloc);
     for outcome in outcomes.iter() {
-        let Outcome::ByRule { opened, unkept, .. } = *outcome else {
+        let Outcome::ByRule { kept, .. } = *outcome else {
             return Err("no rule decided".into());
         };
-        kept.push((opened.is_some(), unkept))?;
+        became.push(kept)?;
     }
     let expected = [
-        (true, Unkept::Kept),
-        (false, Unkept::Full),
-        (true, Unkept::Kept),
+        Kept::Opened(ConnId { slot: 0, inc: 1 }),
+        Kept::Full,
+        Kept::Opened(ConnId { slot: 0, inc: 2 }),
     ];
-    assert_eq!(rt; kept.as_slice(), expected.as_slice());
+    assert_eq!(rt; became.as_slice(), expected.as_slice());
     Ok(())
 }
 

@@ -3,7 +3,7 @@ use crate::gates::HoldUntil;
 use crate::meeting::Meeting;
 use crate::packets::{datagram, syn};
 use crate::run::{Setting, phase, run, run_over};
-use npf_engine::Outcome;
+use npf_engine::{Kept, Outcome};
 use npf_flow::FlowLaw;
 use npf_oneturn::OneTurn;
 use npf_runner::{NoGate, Spread};
@@ -80,7 +80,7 @@ fn second_worker_finds_the_connection_of_the_first(rt: HostRuntime) -> Result<()
     )?;
     assert!(rt; !gate.gave_up());
     let (
-        Some(Outcome::ByRule { opened, .. }),
+        Some(Outcome::ByRule { kept, .. }),
         Some(
             Outcome::ByConn {
                 id,
@@ -93,6 +93,6 @@ fn second_worker_finds_the_connection_of_the_first(rt: HostRuntime) -> Result<()
     else {
         return Err("other outcomes".into());
     };
-    assert_eq!(rt; (*opened, *opener, *place), (Some(*id), 1, 1));
+    assert_eq!(rt; (*kept, *opener, *place), (Kept::Opened(*id), 1, 1));
     Ok(())
 }
