@@ -21,7 +21,7 @@ pub struct Handled {
     pub packet: Packet,
 }
 
-/// The next so many packets, numbered from `first` on.
+/// The next so many packets, numbered from `first` on. What the packets stood in is given back with the last of them.
 pub fn next_jobs(
     alloc: Global,
     packets: &mut VecDeque<Packet>,
@@ -38,6 +38,9 @@ pub fn next_jobs(
         let packet = packets.pop_front().unwrap();
         let number = first + place as u64;
         jobs.push_reserved(Job { number, packet });
+    }
+    if packets.is_empty() {
+        *packets = VecDeque::new(alloc);
     }
     Ok(jobs)
 }
