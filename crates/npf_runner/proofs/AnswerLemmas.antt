@@ -6,12 +6,10 @@ use Rattle.std.proofs.lemmas.List.Elements.{All-nil, All-cons, All-head, All-tai
 use Rattle.npf_model.specs.Configuration.{Configuration}
 use Rattle.npf_dealing.specs.Dealing.{of_lane}
 use Rattle.npf_engine.specs.Histories.{History}
-use Rattle.npf_runner.specs.declared.job.Handled.{Handled}
-use Rattle.npf_runner.specs.declared.job.Job.{Job}
 use Rattle.npf_runner.specs.declared.packet.Packet.{Packet}
 use Rattle.npf_runner.specs.declared.phase.Spread.{Spread}
 use Rattle.npf_runner.specs.Dealing.{IsWorkerOf}
-use Rattle.npf_runner.specs.Job.{job_arrival, numbered_from}
+use Rattle.npf_runner.specs.Job.{Handled, Job, job_arrival, numbered_from}
 use Rattle.npf_runner.specs.Played.{outcomes_of, outputs_of}
 use Rattle.npf_runner.specs.Plays.{AreAnswered, AsksBetween, asked_by}
 use Rattle.npf_runner.proofs.LaneLemmas.{Zips}

@@ -1,7 +1,7 @@
 -- The steps of the loops over packets, commands and workers.
-use Rattle.std.proofs.Common.{◌≡◌, ℕ, ◌+◌, ◌-◌, ◌≤◌, ◌<◌, List, [], ◌∷◌, ◌++◌, All, map, length, take, drop, get_or, refl, ap, sym, subst, ◌∙◌, arith, suc}
+use Rattle.std.proofs.Common.{◌≡◌, ℕ, ◌+◌, ◌≤◌, ◌<◌, List, [], ◌∷◌, ◌++◌, All, map, length, take, drop, get_or, refl, ap, sym, subst, ◌∙◌, arith, suc}
 use Rattle.std.specs.List.{AllZip}
-use Rattle.std.proofs.lemmas.List.{append_assoc, drop_more, map-append, take_more}
+use Rattle.std.proofs.lemmas.List.{append_assoc, drop_more, length-take-le, map-append, take_more}
 use Rattle.std.proofs.lemmas.List.Sums.{sum_by-cons}
 use Rattle.std.proofs.lemmas.List.Elements.{All-nil, All-cons, All-head, All-tail}
 use Rattle.npf_publish.specs.declared.conf_reader.ConfReader.{ConfReader}
@@ -11,22 +11,32 @@ use Rattle.npf_runner.specs.declared.packet.Packet.{Packet}
 use Rattle.npf_runner.specs.declared.phase.Command.{Command}
 use Rattle.npf_runner.specs.declared.phase.Command.TheVariants.{Publish, Expire}
 use Rattle.npf_runner.specs.declared.phase.Phase.{Phase}
-use Rattle.npf_runner.specs.Job.{IsJob, numbered_from}
+use Rattle.npf_runner.specs.Job.{IsJob, numbered, numbered_from}
 use Rattle.npf_runner.specs.Plays.{IsShortPacket, PhasesPublishFrom, PublishFrom, packets_in, published_by}
 use Rattle.std.specs.Prelude.{Option, Some, None}
 
-pub numbered_more : (first count place : ℕ) (packet : Packet) (rest : List Packet) → place < count →
-    numbered_from (first + place) (take (count - place) (packet ∷ rest)) ≡ record { number = first + place; packet = packet } ∷ numbered_from (first + (place + 1)) (take (count - (place + 1)) rest)
-numbered_more first count place packet rest more =
-    let left : count - place ≡ suc (count - (place + 1)) = omega arith in
-    let next : first + place + 1 ≡ first + (place + 1) = omega arith in
-    ap (λ n. numbered_from (first + place) (take n (packet ∷ rest))) left
-    ∙ ap (λ n. record { number = first + place; packet = packet } ∷ numbered_from n (take (count - (place + 1)) rest)) next
+numbered_push : (first : ℕ) (packets : List Packet) (packet : Packet) →
+    numbered_from first (packets ++ packet ∷ []) ≡ numbered_from first packets ++ record { number = first + length packets; packet = packet } ∷ []
+numbered_push first [] packet = let same : first ≡ first + 0 = omega arith in ap (λ n. record { number = n; packet = packet } ∷ []) same
+numbered_push first (p ∷ packets) packet =
+    let same : first + 1 + length packets ≡ first + suc (length packets) = omega arith in
+    ap (λ jobs. record { number = first; packet = p } ∷ jobs) (numbered_push (first + 1) packets packet
+    ∙ ap (λ n. numbered_from (first + 1) packets ++ record { number = n; packet = packet } ∷ []) same)
 
-pub dropped_more : (count place : ℕ) (packet : Packet) (rest : List Packet) → place < count → drop (count - place) (packet ∷ rest) ≡ drop (count - (place + 1)) rest
-dropped_more count place packet rest more =
-    let left : count - place ≡ suc (count - (place + 1)) = omega arith in
-    ap (λ n. drop n (packet ∷ rest)) left
+-- one packet more is numbered
+pub numbered_more : (first : ℕ) (packets : List Packet) (i : ℕ) (packet : Packet) → i < length packets → packet ≡ get_or packets i packet →
+    numbered_from first (take (i + 1) packets) ≡ numbered_from first (take i packets) ++ record { number = first + i; packet = packet } ∷ []
+numbered_more first packets i packet low at =
+    let size : length (take i packets) ≡ i = length-take-le i packets (omega (arith, low)) in
+    ap (numbered_from first) (take_more packets i packet low ∙ ap (λ p. take i packets ++ p ∷ []) (sym at))
+    ∙ (numbered_push first (take i packets) packet ∙ ap (λ n. numbered_from first (take i packets) ++ record { number = first + n; packet = packet } ∷ []) size)
+
+-- the first of those that are left
+pub numbered_rest : (numbers : List ℕ) (packets : List Packet) (i n : ℕ) (packet : Packet) → i < length numbers → i < length packets → n ≡ get_or numbers i n → packet ≡ get_or packets i packet →
+    numbered (drop i numbers) (drop i packets) ≡ record { number = n; packet = packet } ∷ numbered (drop (i + 1) numbers) (drop (i + 1) packets)
+numbered_rest numbers packets i n packet low low' at at' =
+    ap (λ ns. numbered ns (drop i packets)) (drop_more numbers i n low ∙ ap (λ m. m ∷ drop (i + 1) numbers) (sym at))
+    ∙ ap (λ ps. numbered (n ∷ drop (i + 1) numbers) ps) (drop_more packets i packet low' ∙ ap (λ p. p ∷ drop (i + 1) packets) (sym at'))
 
 pub asks_range : (old new : ConfReader) (asked : Option ℕ) → Asks old new asked → reader_range new ≡ reader_range old
 asks_range old new None a = a.0
@@ -65,16 +75,11 @@ pub phase_ordered : (count last : ℕ) (phases : List Phase) (i : ℕ) (phase : 
     PublishFrom count last phase.commands × PhasesPublishFrom count (last + published_by phase.commands) (drop (i + 1) phases)
 phase_ordered count last phases i phase low at ordered = subst (λ ps. PhasesPublishFrom count last ps) (phases_from phases i phase low at) ordered
 
-zip_push : {X Y : Type 0} (R : X → Y → Type 0) (xs : List X) (ys : List Y) (x : X) (y : Y) → AllZip R xs ys → R x y → AllZip R (xs ++ x ∷ []) (ys ++ y ∷ [])
+pub zip_push : {X Y : Type 0} (R : X → Y → Type 0) (xs : List X) (ys : List Y) (x : X) (y : Y) → AllZip R xs ys → R x y → AllZip R (xs ++ x ∷ []) (ys ++ y ∷ [])
 zip_push R [] [] x y z r = (r, tt)
 zip_push R [] (b ∷ ys) x y z r = absurd z
 zip_push R (a ∷ xs) [] x y z r = absurd z
 zip_push R (a ∷ xs) (b ∷ ys) x y z r = (z.0, zip_push R xs ys x y z.1 r)
-
-pub zip_more : {X Y : Type 0} (R : X → Y → Type 0) (xs : List X) (ys : List Y) (i : ℕ) (x : X) (y : Y) → i < length xs → x ≡ get_or xs i x → AllZip R (take i xs) ys → R x y →
-    AllZip R (take (i + 1) xs) (ys ++ y ∷ [])
-zip_more R xs ys i x y low at z r =
-    subst (λ us. AllZip R us (ys ++ y ∷ [])) (sym (take_more xs i x low)) (subst (λ v. AllZip R (take i xs ++ v ∷ []) (ys ++ y ∷ [])) at (zip_push R (take i xs) ys x y z r))
 
 -- one item goes over into what is made, which keeps this part of it
 pub mapped_more : {X Y Z : Type 0} (f : X → Z) (g : Y → Z) (made new : List Y) (before after : List X) (x : X) (y : Y) → before ≡ x ∷ after → g y ≡ f x → new ≡ made ++ y ∷ [] →

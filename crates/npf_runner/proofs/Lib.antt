@@ -1,6 +1,7 @@
 pub mod AnswerLemmas
 pub mod CarryLemmas
 pub mod CommandLemmas
+pub mod DealtLemmas
 pub mod EngineLemmas
 pub mod ExpiryLemmas
 pub mod JobLemmas

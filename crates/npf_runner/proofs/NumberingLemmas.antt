@@ -5,9 +5,8 @@ use Rattle.std.proofs.lemmas.Bool.Decides.{Decides-eqb}
 use Rattle.npf_dealing.specs.Dealing.{of_lane}
 use Rattle.npf_dealing.proofs.LaneLemmas.{of_lane-yes, of_lane-no}
 use Rattle.npf_passes.proofs.NumberLemmas.{in_none, first_or_later}
-use Rattle.npf_runner.specs.declared.job.Job.{Job}
 use Rattle.npf_runner.specs.declared.packet.Packet.{Packet}
-use Rattle.npf_runner.specs.Job.{numbered_from}
+use Rattle.npf_runner.specs.Job.{Job, numbered_from}
 use Rattle.npf_runner.proofs.WorksLemmas.{numbers_of, Apart}
 
 abbrev job_at : ℕ → Packet → Job

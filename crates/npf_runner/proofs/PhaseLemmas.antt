@@ -22,8 +22,6 @@ use Rattle.npf_passes.specs.Spreading.{IsGiven}
 use Rattle.npf_passes.proofs.NumberLemmas.{in_none, first_or_later}
 use Rattle.npf_dealing.specs.Dealing.{of_lane}
 use Rattle.npf_engine.specs.Histories.{FlowEntry, History, entries_of}
-use Rattle.npf_runner.specs.declared.job.Handled.{Handled}
-use Rattle.npf_runner.specs.declared.job.Job.{Job}
 use Rattle.npf_runner.specs.declared.packet.Packet.{Packet}
 use Rattle.npf_runner.specs.declared.phase.Command.{Command}
 use Rattle.npf_runner.specs.declared.phase.Command.TheVariants.{Publish, Expire}
@@ -33,7 +31,7 @@ use Rattle.npf_runner.specs.declared.worker.Lane.{Lane}
 use Rattle.npf_runner.specs.declared.worker.Worker.{Worker}
 use Rattle.npf_runner.specs.Commands.{Runs}
 use Rattle.npf_runner.specs.Crew.{jobs_of, jobs_of_lane, done_of_lane, worker_of_lane}
-use Rattle.npf_runner.specs.Job.{numbered_from}
+use Rattle.npf_runner.specs.Job.{Handled, Job, numbered_from}
 use Rattle.npf_runner.specs.Lanes.{HasWorked}
 use Rattle.npf_runner.specs.Played.{outcomes_of, outputs_of}
 use Rattle.npf_runner.specs.Plays.{AreAnswered, AreFresh, GivesBack, IsExpiry, IsOfPacket, IsPhase, LeavesNoDue, PlaysPhase, published_by}

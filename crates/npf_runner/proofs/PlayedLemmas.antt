@@ -1,5 +1,5 @@
 -- What became of packets, taken apart and put together.
-use Rattle.std.proofs.Common.{◌≡◌, ◌+◌, List, [], ◌∷◌, ◌++◌, map, length, vec_len, refl, sym, ap, ◌∙◌, arith}
+use Rattle.std.proofs.Common.{◌≡◌, ℕ, ◌<◌, ◌+◌, List, [], ◌∷◌, ◌++◌, map, set, length, vec_len, refl, sym, ap, ◌∙◌, arith, suc, zero}
 use Rattle.std.specs.Global.{Vec}
 use Rattle.std.specs.List.{AllZip}
 use Rattle.std.proofs.lemmas.List.{length-append, length-map}
@@ -9,10 +9,10 @@ use Rattle.npf_engine.specs.declared.outcome.Outcome.{Outcome}
 use Rattle.npf_engine.specs.Histories.{FlowEntry}
 use Rattle.npf_model.specs.Configuration.{Configuration}
 use Rattle.npf_runner.specs.declared.crew.Queues.{Queues}
-use Rattle.npf_runner.specs.declared.job.Handled.{Handled}
 use Rattle.npf_runner.specs.declared.packet.Packet.{Packet}
 use Rattle.npf_runner.specs.declared.worker.Lane.{Lane}
 use Rattle.npf_runner.specs.Crew.{AreQueuesOf, done_of_lane, outcomes_of_lane, packets_of_lane}
+use Rattle.npf_runner.specs.Job.{Handled}
 use Rattle.npf_runner.specs.Lanes.{HasWorked}
 use Rattle.npf_runner.specs.Played.{handled, outcomes_of, outputs_of}
 
@@ -43,6 +43,16 @@ pub handled_more : (outcomes more_outcomes : List Outcome) (packets more_packets
     more_outcomes ≡ outcomes ++ outcomes_of dones → more_packets ≡ packets ++ outputs_of dones → handled more_outcomes more_packets ≡ handled outcomes packets ++ dones
 handled_more outcomes more_outcomes packets more_packets dones n come sent =
     ap (λ os. handled os more_packets) come ∙ (ap (λ ps. handled (outcomes ++ outcomes_of dones) ps) sent ∙ handled_both outcomes packets dones n)
+
+-- one more was, and its packet stands where it stood
+pub handled_at : (outcomes : List Outcome) (packets : List Packet) (i : ℕ) (outcome : Outcome) (packet : Packet) → length outcomes ≡ i → i < length packets →
+    handled (outcomes ++ outcome ∷ []) (set packets i packet) ≡ handled outcomes packets ++ record { outcome = outcome; packet = packet } ∷ []
+handled_at outcomes [] i outcome packet n low = absurd (omega (arith, low))
+handled_at [] (p ∷ packets) zero outcome packet n low = refl
+handled_at [] (p ∷ packets) (suc i) outcome packet n low = absurd (omega (arith, n))
+handled_at (o ∷ outcomes) (p ∷ packets) zero outcome packet n low = absurd (omega (arith, n))
+handled_at (o ∷ outcomes) (p ∷ packets) (suc i) outcome packet n low =
+    ap (λ ds. record { outcome = o; packet = p } ∷ ds) (handled_at outcomes packets i outcome packet (omega (arith, n)) (omega (arith, low)))
 
 pub more_length : {X : Type 0} (was now : Vec X) (part : Handled → X) (dones : List Handled) → now.items ≡ was.items ++ map part dones → vec_len now ≡ vec_len was + length dones
 more_length was now part dones is =

@@ -11,11 +11,10 @@ use Rattle.npf_dealing.specs.Dealing.{of_lane, queue_items, IsDealt}
 use Rattle.npf_dealing.proofs.LaneLemmas.{of_lane-no, get_or-map}
 use Rattle.npf_engine.specs.Histories.{FlowEntry}
 use Rattle.npf_runner.specs.declared.crew.Queues.{Queues}
-use Rattle.npf_runner.specs.declared.job.Handled.{Handled}
-use Rattle.npf_runner.specs.declared.job.Job.{Job}
 use Rattle.npf_runner.specs.declared.phase.Command.{Command}
 use Rattle.npf_runner.specs.declared.worker.Worker.{Worker}
 use Rattle.npf_runner.specs.Crew.{AreQueuesOf, jobs_of, worker_of_lane, jobs_of_lane, done_of_lane}
+use Rattle.npf_runner.specs.Job.{Handled, Job}
 use Rattle.npf_runner.specs.Lanes.{HasWorked}
 use Rattle.npf_runner.specs.Played.{outcomes_of, outputs_of}
 use Rattle.npf_runner.specs.Running.{RunsCrew}

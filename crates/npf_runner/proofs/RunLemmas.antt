@@ -11,12 +11,11 @@ use Rattle.npf_flow.specs.Flows.{flow_law}
 use Rattle.npf_model.specs.Configuration.{Configuration}
 use Rattle.npf_passes.proofs.NumberLemmas.{in_none}
 use Rattle.npf_engine.specs.Histories.{FlowEntry, History, carries}
-use Rattle.npf_runner.specs.declared.job.Handled.{Handled}
 use Rattle.npf_runner.specs.declared.packet.Packet.{Packet}
 use Rattle.npf_runner.specs.declared.phase.Command.{Command}
 use Rattle.npf_runner.specs.declared.phase.Phase.{Phase}
 use Rattle.npf_runner.specs.declared.phase.Spread.{Spread}
-use Rattle.npf_runner.specs.Job.{numbered_from}
+use Rattle.npf_runner.specs.Job.{Handled, numbered_from}
 use Rattle.npf_runner.specs.Played.{outcomes_of, outputs_of}
 use Rattle.npf_runner.specs.Plays.{IsUnnumbered, PlaysPhases, PlaysPhase, PlaysFrom, packets_in, published_by}
 use Rattle.npf_runner.specs.Running.{IsBack, RunsPhase, RunsPhases}

@@ -15,13 +15,11 @@ use Rattle.npf_passes.specs.Gathering.{Gathers, IsWhole}
 use Rattle.npf_passes.specs.Spreading.{IsGiven, Spreads}
 use Rattle.npf_passes.proofs.GatheringLemmas.{gathers_all}
 use Rattle.npf_engine.specs.Histories.{FlowEntry}
-use Rattle.npf_runner.specs.declared.job.Handled.{Handled}
-use Rattle.npf_runner.specs.declared.job.Job.{Job}
 use Rattle.npf_runner.specs.declared.worker.Lane.{Lane}
 use Rattle.npf_runner.specs.declared.worker.Worker.{Worker}
 use Rattle.npf_runner.specs.Commands.{Collects}
-use Rattle.npf_runner.specs.Crew.{IsEquipped, done_of_lane, worker_of_lane, pass_of_lane}
-use Rattle.npf_runner.specs.Job.{IsJob}
+use Rattle.npf_runner.specs.Crew.{HasJobs, IsEquipped, jobs_of_lane, done_of_lane, worker_of_lane, pass_of_lane}
+use Rattle.npf_runner.specs.Job.{Handled, Job}
 use Rattle.npf_runner.specs.Lanes.{CanWork, HasWorked}
 use Rattle.npf_runner.specs.Running.{IsBack}
 use Rattle.npf_runner.specs.Works.{IsRested, WorksThrough}
@@ -65,7 +63,7 @@ zip_right R P Q f (x ∷ xs) [] z all = absurd z
 zip_right R P Q f (x ∷ xs) (y ∷ ys) z all = All-cons Q y ys (f x y z.0 (All-head P x xs all)) (zip_right R P Q f xs ys z.1 (All-tail P x xs all))
 
 pub can_work : {P : Type 0} (view : P → Pass FlowEntry) (old : Pass FlowEntry) (configs : ℕ) (lanes : List (Lane P)) → All (λ (lane : Lane P). IsPass flow_law (view lane.pass)) lanes →
-    All (λ (lane : Lane P). IsGiven old (view lane.pass)) lanes → All (λ (lane : Lane P). IsEquipped lane.worker) lanes → All (λ (lane : Lane P). All IsJob lane.worker.jobs.items) lanes →
+    All (λ (lane : Lane P). IsGiven old (view lane.pass)) lanes → All (λ (lane : Lane P). IsEquipped lane.worker) lanes → All (λ (lane : Lane P). HasJobs lane.worker) lanes →
     All (λ (lane : Lane P). (reader_range lane.worker.reader).last < configs) lanes → All (CanWork view configs) lanes
 can_work view old configs lanes legal given ready jobs readers k d low =
     let g = given k d low in
@@ -106,7 +104,7 @@ pub lanes_come_back : {P : Type 0} (view : P → Pass FlowEntry) (configs : List
 lanes_come_back {P} view configs old begun ended z given =
     zip_right (HasWorked view configs) (λ (lane : Lane P). IsGiven old (view lane.pass)) (λ (lane : Lane P). ComesBack (view lane.pass))
     (λ b e h g. comes_back old (view b.pass) (view e.pass) g
-    (works_same configs (view b.pass) b.worker.reader b.worker.jobs.items (view e.pass) e.worker.reader (done_of_lane e) h.works) h.legal)
+    (works_same configs (view b.pass) b.worker.reader (jobs_of_lane b) (view e.pass) e.worker.reader (done_of_lane e) h.works) h.legal)
     begun ended z given
 
 -- all that come back: the workers' passes, and the control task's

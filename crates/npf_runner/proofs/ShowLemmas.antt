@@ -17,13 +17,12 @@ use Rattle.npf_passes.specs.Gathering.{IsTakenIn}
 use Rattle.npf_passes.specs.Spreading.{IsGiven}
 use Rattle.npf_passes.proofs.NumberLemmas.{in_none, none_added}
 use Rattle.npf_engine.specs.Histories.{FlowEntry, History, carries}
-use Rattle.npf_runner.specs.declared.job.Handled.{Handled}
 use Rattle.npf_runner.specs.declared.packet.Packet.{Packet}
 use Rattle.npf_runner.specs.declared.phase.Command.{Command}
 use Rattle.npf_runner.specs.declared.phase.Spread.{Spread}
 use Rattle.npf_runner.specs.declared.worker.Lane.{Lane}
 use Rattle.npf_runner.specs.Crew.{jobs_of, jobs_of_lane, done_of_lane, worker_of_lane}
-use Rattle.npf_runner.specs.Job.{numbered_from}
+use Rattle.npf_runner.specs.Job.{Handled, numbered_from}
 use Rattle.npf_runner.specs.Lanes.{HasWorked}
 use Rattle.npf_runner.specs.Running.{RunsPhase}
 use Rattle.npf_runner.proofs.CarryLemmas.{CarryNone, none_in_both, not_true, not_both}

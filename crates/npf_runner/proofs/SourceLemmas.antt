@@ -8,11 +8,11 @@ use Rattle.npf_passes.specs.Gathering.{numbers, IsTakenIn}
 use Rattle.npf_passes.specs.Spreading.{IsGiven}
 use Rattle.npf_passes.proofs.NumberLemmas.{in_none, first_of, later_of, first_or_later}
 use Rattle.npf_engine.specs.Histories.{FlowEntry, History}
-use Rattle.npf_runner.specs.declared.job.Handled.{Handled}
 use Rattle.npf_runner.specs.declared.phase.Command.{Command}
 use Rattle.npf_runner.specs.declared.worker.Lane.{Lane}
 use Rattle.npf_runner.specs.declared.worker.Worker.{Worker}
 use Rattle.npf_runner.specs.Crew.{done_of_lane, jobs_of_lane}
+use Rattle.npf_runner.specs.Job.{Handled}
 use Rattle.npf_runner.specs.Lanes.{HasWorked}
 use Rattle.npf_runner.specs.Running.{RunsCrew}
 use Rattle.npf_runner.proofs.CarryLemmas.{in_filter}

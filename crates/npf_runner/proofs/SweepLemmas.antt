@@ -11,12 +11,11 @@ use Rattle.npf_dealing.proofs.LaneLemmas.{dealt_low, dealt_first, dealt_rest}
 use Rattle.npf_passes.specs.Gathering.{sweep_counts}
 use Rattle.npf_engine.specs.Histories.{FlowEntry}
 use Rattle.npf_engine.specs.Outcome.{lacks_node}
-use Rattle.npf_runner.specs.declared.job.Handled.{Handled}
-use Rattle.npf_runner.specs.declared.job.Job.{Job}
 use Rattle.npf_runner.specs.declared.phase.Command.{Command}
 use Rattle.npf_runner.specs.declared.phase.Spread.{Spread}
 use Rattle.npf_runner.specs.declared.worker.Lane.{Lane}
-use Rattle.npf_runner.specs.Crew.{done_of_lane}
+use Rattle.npf_runner.specs.Crew.{done_of_lane, jobs_of_lane}
+use Rattle.npf_runner.specs.Job.{Handled, Job}
 use Rattle.npf_runner.specs.Lanes.{HasWorked}
 use Rattle.npf_runner.specs.Played.{outcomes_of}
 use Rattle.npf_runner.specs.Running.{RunsPhase}
@@ -81,7 +80,7 @@ module _ {P : Type 0} (view : P → Pass FlowEntry) (configs : List Configuratio
   lanes_sweeps (b ∷ begun) [] last z = absurd z
   lanes_sweeps (b ∷ begun) (e ∷ ended) last z =
       let rest = lanes_sweeps begun ended last z.1 in
-      let here = works_sweeps (view b.pass) b.worker.reader b.worker.jobs.items (view e.pass) e.worker.reader (done_of_lane e) z.0.works in
+      let here = works_sweeps (view b.pass) b.worker.reader (jobs_of_lane b) (view e.pass) e.worker.reader (done_of_lane e) z.0.works in
       let left = sum_by-cons lacking (done_of_lane e) (map done_of_lane ended) in
       let right = sum_by-cons (λ n. n) (view e.pass).sweeps (sweep_counts (map (λ (lane : Lane P). view lane.pass) ended ++ last ∷ [])) in
       omega (arith, rest, here, left, right)

@@ -23,9 +23,7 @@ use Rattle.npf_engine.specs.Handles.{Asks, Handles, IsExplained, CarryHereAlone}
 use Rattle.npf_engine.specs.Histories.{FlowAct, FlowEntry, History, carries, entries_of, is_unhold, told}
 use Rattle.npf_engine.specs.Outcome.{passes, sent_of}
 use Rattle.npf_passes.proofs.NumberLemmas.{in_none, first_of, later_of, first_or_later, stands_by}
-use Rattle.npf_runner.specs.declared.job.Handled.{Handled}
-use Rattle.npf_runner.specs.declared.job.Job.{Job}
-use Rattle.npf_runner.specs.Job.{job_arrival}
+use Rattle.npf_runner.specs.Job.{Handled, Job, job_arrival}
 use Rattle.npf_runner.specs.Plays.{GivesBack}
 use Rattle.npf_runner.specs.Works.{IsHandled, WorksThrough}
 use Rattle.npf_runner.proofs.CarryLemmas.{CarryNone, none_carried, not_true, not_both, IsUnder, is_under, stands_in_filter}

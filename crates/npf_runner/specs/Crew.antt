@@ -1,25 +1,33 @@
 -- Workers and their lanes, in parts.
-use Rattle.std.specs.Prelude.{◌≡◌, ℕ, ◌≤◌, ◌+◌, List, [], length, map, vec_capacity}
+use Rattle.std.specs.Prelude.{◌≡◌, ℕ, ◌≤◌, ◌+◌, List, [], All, length, map, vec_capacity}
 use Rattle.npf_dealing.specs.Dealing.{queue_items}
 use Rattle.npf_engine.specs.declared.outcome.Outcome.{Outcome}
 use Rattle.npf_runner.specs.declared.crew.Queues.{Queues}
 use Rattle.npf_runner.specs.declared.crew.Room.{Room}
-use Rattle.npf_runner.specs.declared.job.Handled.{Handled}
-use Rattle.npf_runner.specs.declared.job.Job.{Job}
 use Rattle.npf_runner.specs.declared.packet.Packet.{Packet}
 use Rattle.npf_runner.specs.declared.worker.Lane.{Lane}
 use Rattle.npf_runner.specs.declared.worker.Worker.{Worker}
+use Rattle.npf_runner.specs.Job.{Handled, Job, IsJob, numbered}
 use Rattle.npf_runner.specs.Played.{handled, outcomes_of, outputs_of}
 
-abbrev pub jobs_of : Worker → List Job
-jobs_of worker = worker.jobs.items
+abbrev pub numbers_of_worker : Worker → List ℕ
+numbers_of_worker worker = worker.numbers.items
 
--- the worker has room for what becomes of its packets
+abbrev pub packets_of_worker : Worker → List Packet
+packets_of_worker worker = worker.packets.items
+
+abbrev pub jobs_of : Worker → List Job
+jobs_of worker = numbered worker.numbers.items worker.packets.items
+
+-- each of the worker's packets has a number
+pub record HasJobs (worker : Worker) : Type 0 where
+  pub same_length : length worker.numbers.items ≡ length worker.packets.items
+  pub each : All IsJob (jobs_of worker)
+
+-- the worker has room for the outcomes of its packets
 pub record IsEquipped (worker : Worker) : Type 0 where
   pub no_outcomes : worker.outcomes.items ≡ []
-  pub no_packets : worker.packets.items ≡ []
-  pub for_outcomes : length worker.jobs.items ≤ vec_capacity worker.outcomes
-  pub for_packets : length worker.jobs.items ≤ vec_capacity worker.packets
+  pub for_outcomes : length worker.packets.items ≤ vec_capacity worker.outcomes
 
 abbrev pub worker_of_lane : {P : Type 0} → Lane P → Worker
 worker_of_lane lane = lane.worker
@@ -28,7 +36,7 @@ abbrev pub pass_of_lane : {P : Type 0} → Lane P → P
 pass_of_lane lane = lane.pass
 
 abbrev pub jobs_of_lane : {P : Type 0} → Lane P → List Job
-jobs_of_lane lane = lane.worker.jobs.items
+jobs_of_lane lane = jobs_of lane.worker
 
 abbrev pub outcomes_of_lane : {P : Type 0} → Lane P → List Outcome
 outcomes_of_lane lane = lane.worker.outcomes.items

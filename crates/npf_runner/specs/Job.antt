@@ -1,9 +1,24 @@
--- The packets of a phase with their numbers.
+-- The packets of a phase with their numbers, and what became of them.
 use Rattle.std.specs.Prelude.{ℕ, ◌≤◌, ◌+◌, List, [], ◌∷◌}
+use Rattle.npf_engine.specs.declared.outcome.Outcome.{Outcome}
 use Rattle.npf_engine.specs.Arrival.{Arrival}
-use Rattle.npf_runner.specs.declared.job.Job.{Job}
 use Rattle.npf_runner.specs.declared.packet.Packet.{Packet}
 use Rattle.npf_runner.specs.Plays.{arriving, IsShortPacket}
+
+-- a packet with its number in the run
+pub record Job : Type 0 where
+  pub number : ℕ
+  pub packet : Packet
+
+-- what became of a packet
+pub record Handled : Type 0 where
+  pub outcome : Outcome
+  pub packet : Packet
+
+-- packets with these numbers
+abbrev pub numbered : List ℕ → List Packet → List Job
+numbered (n ∷ numbers) (packet ∷ packets) = record { number = n; packet = packet } ∷ numbered numbers packets
+numbered _ _ = []
 
 -- packets numbered from n on
 abbrev pub numbered_from : ℕ → List Packet → List Job

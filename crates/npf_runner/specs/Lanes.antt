@@ -1,13 +1,12 @@
 -- Workers with their passes, before and after their packets.
-use Rattle.std.specs.Prelude.{◌≡◌, ℕ, ◌≤◌, ◌<◌, false, List, All, length}
+use Rattle.std.specs.Prelude.{◌≡◌, ℕ, ◌≤◌, ◌<◌, false, List, length}
 use Rattle.npf_connections.specs.Pass.{Pass, IsPass}
 use Rattle.npf_flow.specs.Flows.{flow_law}
 use Rattle.npf_model.specs.Configuration.{Configuration}
 use Rattle.npf_publish.specs.ConfReader.{reader_range}
 use Rattle.npf_engine.specs.Histories.{FlowEntry}
 use Rattle.npf_runner.specs.declared.worker.Lane.{Lane}
-use Rattle.npf_runner.specs.Crew.{IsEquipped, done_of_lane, outcomes_of_lane, packets_of_lane}
-use Rattle.npf_runner.specs.Job.{IsJob}
+use Rattle.npf_runner.specs.Crew.{HasJobs, IsEquipped, jobs_of_lane, done_of_lane, outcomes_of_lane, packets_of_lane}
 use Rattle.npf_runner.specs.Works.{WorksThrough}
 
 -- the worker can begin, where there are so many configurations: its pass rests, and it has room
@@ -15,12 +14,12 @@ pub record CanWork {P : Type 0} (view : P → Pass FlowEntry) (configs : ℕ) (l
   pub legal : IsPass flow_law (view lane.pass)
   pub out : (view lane.pass).entered ≡ false
   pub place : 1 ≤ (view lane.pass).places
-  pub jobs : All IsJob lane.worker.jobs.items
+  pub jobs : HasJobs lane.worker
   pub numbers : (reader_range lane.worker.reader).last < configs
   pub ready : IsEquipped lane.worker
 
 -- the worker has handled all its packets, and has an outcome for each that it gives back
 pub record HasWorked {P : Type 0} (view : P → Pass FlowEntry) (configs : List Configuration) (old new : Lane P) : Type 0 where
   pub legal : IsPass flow_law (view new.pass)
-  pub works : WorksThrough configs (view old.pass) old.worker.reader old.worker.jobs.items (view new.pass) new.worker.reader (done_of_lane new)
+  pub works : WorksThrough configs (view old.pass) old.worker.reader (jobs_of_lane old) (view new.pass) new.worker.reader (done_of_lane new)
   pub same_length : length (outcomes_of_lane new) ≡ length (packets_of_lane new)

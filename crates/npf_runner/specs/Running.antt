@@ -10,8 +10,6 @@ use Rattle.npf_passes.specs.Spreading.{IsGiven}
 use Rattle.npf_publish.specs.ConfReader.{IsNewReader}
 use Rattle.npf_dealing.specs.Dealing.{IsDealt}
 use Rattle.npf_engine.specs.Histories.{FlowEntry}
-use Rattle.npf_runner.specs.declared.job.Handled.{Handled}
-use Rattle.npf_runner.specs.declared.job.Job.{Job}
 use Rattle.npf_runner.specs.declared.packet.Packet.{Packet}
 use Rattle.npf_runner.specs.declared.phase.Command.{Command}
 use Rattle.npf_runner.specs.declared.phase.Phase.{Phase}
@@ -21,7 +19,7 @@ use Rattle.npf_runner.specs.declared.worker.Worker.{Worker}
 use Rattle.npf_runner.specs.Commands.{Collects, Runs}
 use Rattle.npf_runner.specs.Crew.{jobs_of, worker_of_lane, done_of_lane}
 use Rattle.npf_runner.specs.Dealing.{IsWorkerOf}
-use Rattle.npf_runner.specs.Job.{job_arrival, numbered_from}
+use Rattle.npf_runner.specs.Job.{Handled, Job, job_arrival, numbered_from}
 use Rattle.npf_runner.specs.Lanes.{HasWorked}
 use Rattle.npf_runner.specs.Plays.{published_by}
 use Rattle.npf_runner.specs.Works.{IsRested}

@@ -9,9 +9,7 @@ use Rattle.npf_publish.specs.declared.conf_reader.ConfReader.{ConfReader}
 use Rattle.npf_engine.specs.Handles.{Handles}
 use Rattle.npf_engine.specs.Histories.{FlowEntry}
 use Rattle.npf_engine.specs.Outcome.{passes, sent_of, lacks_node}
-use Rattle.npf_runner.specs.declared.job.Handled.{Handled}
-use Rattle.npf_runner.specs.declared.job.Job.{Job}
-use Rattle.npf_runner.specs.Job.{job_arrival}
+use Rattle.npf_runner.specs.Job.{Handled, Job, job_arrival}
 
 -- A pass that rests as before: it is the same, but for its history, which goes on, and its counts, which don't fall.
 pub record IsRested (old new : Pass FlowEntry) : Type 0 where

@@ -1,9 +1,8 @@
 // What a phase needs, made before it begins.
 ghost use Rattle.std.specs.Prelude.{◌≡◌, ◌≤◌, ◌+◌, ◌++◌, [], All, IfOk, map, vec_len, vec_capacity, Contains};
 ghost use Rattle.npf_dealing.specs.Dealing.{vec_items, queue_items};
-ghost use Rattle.npf_runner.specs.Crew.{HasRoomFor, IsEquipped, jobs_of, worker_of_lane, pass_of_lane, outcomes_of_lane, packets_of_lane};
+ghost use Rattle.npf_runner.specs.Crew.{HasRoomFor, IsEquipped, numbers_of_worker, packets_of_worker, worker_of_lane, pass_of_lane, outcomes_of_lane, packets_of_lane};
 
-use crate::job::Job;
 use crate::packet::Packet;
 use crate::worker::{Lane, Worker};
 use npf_engine::Outcome;
@@ -44,32 +43,35 @@ impl<P: Drop> Room<P> {
     }
 }
 
-/// A worker for each list of packets, with one of the readers, and with room for what becomes of its packets.
+/// A worker for each list of packets and of their numbers, with one of the readers, and with room for the packets' outcomes.
 pub fn workers_with(
     alloc: Global,
-    dealt: Vec<Vec<Job>>,
+    numbers: Vec<Vec<u64>>,
+    packets: Vec<Vec<Packet>>,
     mut readers: Vec<ConfReader>,
 ) -> Result<Vec<Worker>, NoMemory>
-    requires enough { vec_len dealt ≤ vec_len readers }
-    requires few { vec_len dealt ≤ 64 }
-    ensures count { IfOk result (λ workers. vec_len workers ≡ vec_len dealt) }
-    ensures jobs { IfOk result (λ workers. map jobs_of workers.items ≡ map vec_items dealt.items) }
+    requires numbered { vec_len numbers ≡ vec_len packets }
+    requires enough { vec_len packets ≤ vec_len readers }
+    requires few { vec_len packets ≤ 64 }
+    ensures count { IfOk result (λ workers. vec_len workers ≡ vec_len packets) }
+    ensures numbers { IfOk result (λ workers. map numbers_of_worker workers.items ≡ map vec_items numbers.items) }
+    ensures packets { IfOk result (λ workers. map packets_of_worker workers.items ≡ map vec_items packets.items) }
     ensures ready { IfOk result (λ workers. All IsEquipped workers.items) }
     ensures readers { IfOk result (λ workers. All (λ worker. Contains readers.items worker.reader) workers.items) }
 {
-    let mut workers = Vec::with_capacity(alloc, dealt.len())?;
-    for jobs in dealt {
+    let mut workers = Vec::with_capacity(alloc, packets.len())?;
+    let mut left = VecDeque::from(numbers);
+    for packets in packets {
         let number = workers.len() as u32;
         let reader = readers.pop().unwrap();
-        let outcomes = Vec::with_capacity(alloc, jobs.len())?;
-        let packets = Vec::with_capacity(alloc, jobs.len())?;
-        let jobs = VecDeque::from(jobs);
+        let numbers = left.pop_front().unwrap();
+        let outcomes = Vec::with_capacity(alloc, packets.len())?;
         workers.push_reserved(Worker {
             number,
             reader,
-            jobs,
-            outcomes,
+            numbers,
             packets,
+            outcomes,
         });
     }
     Ok(workers)
@@ -112,9 +114,9 @@ pub fn apart<P: Drop>(lanes: Vec<Lane<P>>, passes: &mut Vec<P>, mut queues: Queu
         let Worker {
             number: _,
             reader: _,
-            jobs: _,
-            outcomes,
+            numbers: _,
             packets,
+            outcomes,
         } = worker;
         passes.push_reserved(pass);
         queues.outcomes.push_reserved(VecDeque::from(outcomes));

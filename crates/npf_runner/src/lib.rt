@@ -12,7 +12,6 @@
 mod control;
 mod crew;
 mod gate;
-mod job;
 mod packet;
 mod phase;
 mod played;
@@ -20,6 +19,7 @@ mod playing;
 mod running;
 mod side_by_side;
 mod spread;
+mod taking;
 mod worker;
 
 pub use gate::{Gate, NoGate};

@@ -6,11 +6,11 @@ ghost use Rattle.npf_engine.specs.Handles.{configurations};
 ghost use Rattle.npf_runner.specs.Plays.{PlaysPhases, IsShortPacket, IsUnnumbered, AreInOrder, packets_in};
 
 use crate::gate::Gate;
-use crate::job::next_jobs;
 use crate::packet::Packet;
 use crate::phase::{Phase, Spread};
 use crate::played::{Answers, Played};
 use crate::running::{Task, count_published, run_phase};
+use crate::taking::next_packets;
 use npf_connections::Connections;
 use npf_flow::FlowLaw;
 use npf_ruleset::Config;
@@ -65,14 +65,15 @@ pub fn play<R: Threads + Wait + Sync, C: Connections<FlowLaw>, G: Gate>(
         outcomes: Vec::with_capacity(alloc, packets.len())?,
         packets: Vec::with_capacity(alloc, packets.len())?,
     };
-    let mut rest = VecDeque::from(packets);
+    let mut left = VecDeque::from(packets);
     let mut first = 1;
     let mut last = 0;
     for phase in phases {
-        let jobs = next_jobs(alloc, &mut rest, first, phase.packets as usize)?;
+        let packets = next_packets(alloc, &mut left, phase.packets as usize)?;
         let commands = phase.commands.as_slice();
         let task = Task {
-            jobs,
+            packets,
+            first,
             workers,
             spread,
             last,

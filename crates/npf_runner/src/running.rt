@@ -7,20 +7,21 @@ ghost use Rattle.npf_flow.specs.Flows.{flow_law};
 ghost use Rattle.npf_publish.specs.ConfReader.{IsNewReader, reader_range};
 ghost use Rattle.npf_publish.specs.Publisher.{published_number, publisher_range};
 ghost use Rattle.npf_engine.specs.Handles.{configurations};
-ghost use Rattle.npf_runner.specs.Crew.{AreQueuesOf, HasRoomFor, IsEquipped, jobs_of};
+ghost use Rattle.npf_runner.specs.Crew.{AreQueuesOf, HasJobs, HasRoomFor, IsEquipped, jobs_of};
 ghost use Rattle.npf_runner.specs.Dealing.{IsWorkerOf};
-ghost use Rattle.npf_runner.specs.Job.{IsJob, job_arrival};
+ghost use Rattle.npf_runner.specs.Job.{job_arrival, numbered_from};
 ghost use Rattle.npf_runner.specs.Played.{outcomes_of, outputs_of};
-ghost use Rattle.npf_runner.specs.Plays.{published_by};
+ghost use Rattle.npf_runner.specs.Plays.{IsShortPacket, published_by};
 ghost use Rattle.npf_runner.specs.Running.{IsBack, RunsCrew, RunsPhase};
 
 use crate::crew::{Queues, Room, apart, lanes_with, workers_with};
 use crate::gate::Gate;
-use crate::job::Job;
+use crate::packet::Packet;
 use crate::phase::{Command, Spread};
 use crate::played::Answers;
 use crate::side_by_side::side_by_side;
 use crate::spread::workers_of;
+use crate::taking::numbers_from;
 use crate::worker::Worker;
 use npf_connections::Connections;
 use npf_dealing::{deal, gather};
@@ -33,10 +34,11 @@ use std::alloc::Global;
 use std::sync::Wait;
 use std::thread::Threads;
 
-/// A phase's packets, how they are dealt to so many workers, and the last configuration that was published.
+/// A phase's packets, the number of the first, how they are dealt to so many workers, and the last configuration that was published.
 #[derive(Drop)]
 pub struct Task {
-    pub jobs: Vec<Job>,
+    pub packets: Vec<Packet>,
+    pub first: u64,
     pub workers: u32,
     pub spread: Spread,
     pub last: u64,
@@ -66,14 +68,15 @@ pub fn run_phase<R: Threads + Wait + Sync, C: Connections<FlowLaw>, G: Gate>(
     requires out { (C.view pass.old).entered ≡ false }
     requires places { (C.view pass.old).places ≡ all_places }
     requires workers { (1 ≤ task.workers) × (task.workers ≤ 64) }
-    requires jobs { All IsJob task.jobs.items }
+    requires first { (1 ≤ task.first) × (task.first + vec_len task.packets < 2 ^ 64) }
+    requires short { All IsShortPacket task.packets.items }
     requires numbers { task.last + published_by commands.now < length configs.now }
-    requires for_outcomes { vec_len all.outcomes + vec_len task.jobs ≤ vec_capacity all.outcomes }
-    requires for_packets { vec_len all.packets + vec_len task.jobs ≤ vec_capacity all.packets }
+    requires for_outcomes { vec_len all.outcomes + vec_len task.packets ≤ vec_capacity all.outcomes }
+    requires for_packets { vec_len all.packets + vec_len task.packets ≤ vec_capacity all.packets }
     ensures own { C.fits conns.now pass.new }
     ensures legal { IsPass flow_law (C.view pass.new) }
     ensures back { IsBack (C.view pass.old) (C.view pass.new) }
-    ensures runs { IfOk result (λ done. (dones : List _) × (done.outcomes.items ≡ all.outcomes.items ++ outcomes_of dones) × (done.packets.items ≡ all.packets.items ++ outputs_of dones) × RunsPhase C.view (configurations configs.now) task.workers task.spread (C.view pass.old) (C.view pass.new) task.last commands.now task.jobs.items dones) }
+    ensures runs { IfOk result (λ done. (dones : List _) × (done.outcomes.items ≡ all.outcomes.items ++ outcomes_of dones) × (done.packets.items ≡ all.packets.items ++ outputs_of dones) × RunsPhase C.view (configurations configs.now) task.workers task.spread (C.view pass.old) (C.view pass.new) task.last commands.now (numbered_from task.first task.packets.items) dones) }
     ensures outcomes_capacity { IfOk result (λ done. vec_capacity all.outcomes ≤ vec_capacity done.outcomes) }
     ensures packets_capacity { IfOk result (λ done. vec_capacity all.packets ≤ vec_capacity done.packets) }
 {
@@ -107,26 +110,32 @@ pub fn run_phase<R: Threads + Wait + Sync, C: Connections<FlowLaw>, G: Gate>(
 /// What a phase needs that publishes so many configurations.
 fn prepare<R: Wait>(rt: &R, alloc: Global, task: Task, published: u64) -> Result<Prepared, NoMemory>
     requires workers { (1 ≤ task.workers) × (task.workers ≤ 64) }
-    requires jobs { All IsJob task.jobs.items }
+    requires first { (1 ≤ task.first) × (task.first + vec_len task.packets < 2 ^ 64) }
+    requires short { All IsShortPacket task.packets.items }
     requires numbers { task.last + published < 2 ^ 64 }
-    ensures spreads { IfOk result (λ made. AllZip (λ job worker. IsWorkerOf task.spread task.workers (job_arrival job) worker) task.jobs.items made.order.items) }
-    ensures dealt { IfOk result (λ made. IsDealt made.order.items task.jobs.items (map jobs_of made.crew.items)) }
+    ensures places { IfOk result (λ made. vec_len made.order ≡ vec_len task.packets) }
+    ensures spreads { IfOk result (λ made. AllZip (λ job worker. IsWorkerOf task.spread task.workers (job_arrival job) worker) (numbered_from task.first task.packets.items) made.order.items) }
+    ensures dealt { IfOk result (λ made. IsDealt made.order.items (numbered_from task.first task.packets.items) (map jobs_of made.crew.items)) }
     ensures count { IfOk result (λ made. vec_len made.crew ≡ task.workers) }
+    ensures jobs { IfOk result (λ made. All HasJobs made.crew.items) }
     ensures ready { IfOk result (λ made. All IsEquipped made.crew.items) }
     ensures readers { IfOk result (λ made. All (λ worker. IsNewReader (record { first = task.last; last = task.last + published }) worker.reader) made.crew.items) }
     ensures number { IfOk result (λ made. published_number made.publisher ≡ task.last) }
     ensures range { IfOk result (λ made. publisher_range made.publisher ≡ record { first = task.last; last = task.last + published }) }
 {
     let Task {
-        jobs,
+        packets,
+        first,
         workers,
         spread,
         last,
     } = task;
-    let order = workers_of(alloc, jobs.as_slice(), spread, workers)?;
-    let dealt = deal(alloc, jobs, order.as_slice(), workers)?;
+    let order = workers_of(alloc, packets.as_slice(), first, spread, workers)?;
+    let numbers = numbers_from(alloc, first, packets.len())?;
+    let numbers = deal(alloc, numbers, order.as_slice(), workers)?;
+    let packets = deal(alloc, packets, order.as_slice(), workers)?;
     let (publisher, readers) = Publisher::new(rt, alloc, workers, last, last + published)?;
-    match workers_with(alloc, dealt, readers) {
+    match workers_with(alloc, numbers, packets, readers) {
         Ok(crew) => Ok(Prepared {
             order,
             crew,
@@ -159,7 +168,7 @@ fn run_crew<R: Threads + Wait + Sync, C: Connections<FlowLaw>, G: Gate>(
     requires places { (C.view pass.old).places ≡ all_places }
     requires crew { (1 ≤ vec_len crew) × (vec_len crew ≤ 64) }
     requires ready { All IsEquipped crew.items }
-    requires jobs { All (λ worker. All IsJob worker.jobs.items) crew.items }
+    requires jobs { All HasJobs crew.items }
     requires readers { All (λ worker. (reader_range worker.reader).last < length configs.now) crew.items }
     requires numbers { published_number publisher.old + published_by commands.now ≤ (publisher_range publisher.old).last }
     requires room { HasRoomFor (vec_len crew) room }

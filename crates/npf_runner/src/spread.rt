@@ -1,57 +1,63 @@
-ghost use Rattle.std.specs.Prelude.{◌≡◌, ◌≤◌, ◌<◌, All, IfOk, length, vec_len};
+ghost use Rattle.std.specs.Prelude.{◌≡◌, ◌≤◌, ◌<◌, ◌+◌, ◌^◌, All, IfOk, length, vec_len};
 ghost use Rattle.std.specs.List.{AllZip};
 ghost use Rattle.npf_key.specs.Port.{source_port, destination_port};
 ghost use Rattle.npf_packet.specs.Decoding.{Decodes};
 ghost use Rattle.npf_runner.specs.Dealing.{flow_number, IsWorkerOf, worker_by_flow};
-ghost use Rattle.npf_runner.specs.Job.{IsJob, job_arrival};
+ghost use Rattle.npf_runner.specs.Job.{job_arrival, numbered_from};
+ghost use Rattle.npf_runner.specs.Plays.{IsShortPacket, arriving};
 
-use crate::job::Job;
+use crate::packet::Packet;
 use crate::phase::Spread;
 use npf_key::key_of;
 use npf_packet::{Decoded, decode, one_decoding};
 use npf_types::{Facts, IfId, Key, L4, NoMemory};
 use std::alloc::Global;
 
-/// The worker of each packet, counted from 0.
+/// The worker of each packet, counted from 0, where the packets are numbered from `first` on.
 pub fn workers_of(
     alloc: Global,
-    jobs: &[Job],
+    packets: &[Packet],
+    first: u64,
     spread: Spread,
     workers: u32,
 ) -> Result<Vec<u32>, NoMemory>
     requires workers { 1 ≤ workers }
-    requires short { All IsJob jobs.now }
-    ensures count { IfOk result (λ order. vec_len order ≡ length jobs.now) }
+    requires first { (1 ≤ first) × (first + length packets.now < 2 ^ 64) }
+    requires short { All IsShortPacket packets.now }
+    ensures count { IfOk result (λ order. vec_len order ≡ length packets.now) }
     ensures fits { IfOk result (λ order. All (λ worker. worker < workers) order.items) }
-    ensures each { IfOk result (λ order. AllZip (λ job worker. IsWorkerOf spread workers (job_arrival job) worker) jobs.now order.items) }
+    ensures each { IfOk result (λ order. AllZip (λ job worker. IsWorkerOf spread workers (job_arrival job) worker) (numbered_from first packets.now) order.items) }
 {
-    let mut order = Vec::with_capacity(alloc, jobs.len())?;
-    for job in jobs {
-        order.push_reserved(worker_of(job, spread, workers));
+    let mut order = Vec::with_capacity(alloc, packets.len())?;
+    let mut number = first;
+    for packet in packets {
+        order.push_reserved(worker_of(number, packet, spread, workers));
+        number += 1;
     }
     Ok(order)
 }
 
-fn worker_of(job: &Job, spread: Spread, workers: u32) -> u32
+fn worker_of(number: u64, packet: &Packet, spread: Spread, workers: u32) -> u32
     requires workers { 1 ≤ workers }
-    requires short { IsJob job.now }
+    requires number { 1 ≤ number }
+    requires short { IsShortPacket packet.now }
     ensures fits { result < workers }
-    ensures is { IsWorkerOf spread workers (job_arrival job.now) result }
+    ensures is { IsWorkerOf spread workers (arriving number packet.now) result }
 {
     match spread {
-        Spread::Rr => ((job.number - 1) % u64::from(workers)) as u32,
-        Spread::Flow => worker_by_flow(job, workers),
+        Spread::Rr => ((number - 1) % u64::from(workers)) as u32,
+        Spread::Flow => worker_by_flow(packet, workers),
     }
 }
 
-fn worker_by_flow(job: &Job, workers: u32) -> u32
+fn worker_by_flow(packet: &Packet, workers: u32) -> u32
     requires workers { 1 ≤ workers }
-    requires short { IsJob job.now }
+    requires short { IsShortPacket packet.now }
     ensures fits { result < workers }
-    ensures is { (decoded : _) → Decodes job.now.packet.link job.now.packet.bytes decoded → result ≡ worker_by_flow workers decoded }
+    ensures is { (decoded : _) → Decodes packet.now.link packet.now.bytes decoded → result ≡ worker_by_flow workers decoded }
 {
     one_decoding();
-    match decode(job.packet.link, job.packet.bytes.as_slice()) {
+    match decode(packet.link, packet.bytes.as_slice()) {
         Decoded::Ip(facts) => (flow_number(&facts) % u64::from(workers)) as u32,
         Decoded::Skip | Decoded::Malformed { .. } => 0,
     }

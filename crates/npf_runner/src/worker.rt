@@ -8,24 +8,22 @@ ghost use Rattle.npf_runner.specs.Lanes.{CanWork, HasWorked};
 ghost use Rattle.npf_runner.specs.Works.{IsHandled};
 
 use crate::gate::Gate;
-use crate::job::{Handled, Job};
 use crate::packet::Packet;
 use npf_connections::Connections;
 use npf_engine::Outcome;
 use npf_flow::FlowLaw;
 use npf_publish::ConfReader;
 use npf_ruleset::Config;
-use std::collections::VecDeque;
 use std::sync::Wait;
 
-/// What a worker, counted from 0, needs beside a pass: its reader, its packets in order, and room for what becomes of them.
+/// What a worker, counted from 0, needs beside a pass: its reader, its packets in order with their numbers, and room for their outcomes.
 #[derive(Drop)]
 pub struct Worker {
     pub number: u32,
     pub reader: ConfReader,
-    pub jobs: VecDeque<Job>,
-    pub outcomes: Vec<Outcome>,
+    pub numbers: Vec<u64>,
     pub packets: Vec<Packet>,
+    pub outcomes: Vec<Outcome>,
 }
 
 /// A worker with its pass.
@@ -35,7 +33,7 @@ pub struct Lane<P: Drop> {
     pub worker: Worker,
 }
 
-/// Handles a worker's packets in order, `gate` being told of each.
+/// Handles a worker's packets in order where they stand, `gate` being told of each.
 pub fn work<R: Wait, C: Connections<FlowLaw>, G: Gate>(
     rt: &R,
     conns: &C,
@@ -52,18 +50,16 @@ pub fn work<R: Wait, C: Connections<FlowLaw>, G: Gate>(
     let Worker {
         number,
         reader,
-        jobs,
-        outcomes,
+        numbers,
         packets,
+        outcomes,
     } = worker;
-    for _ in 0..jobs.len() {
-        let job = jobs.pop_front().unwrap();
-        let n = job.number;
+    for place in 0..packets.len() {
+        let n = numbers[place];
         gate.before(*number, n);
-        let Handled { outcome, packet } = handle(rt, conns, configs, pass, reader, job);
+        let outcome = handle(rt, conns, configs, pass, reader, n, &mut packets[place]);
         gate.after(*number, n);
         outcomes.push_reserved(outcome);
-        packets.push_reserved(packet);
     }
 }
 
@@ -73,37 +69,29 @@ fn handle<R: Wait, C: Connections<FlowLaw>>(
     configs: &[Config],
     pass: &mut C::Pass,
     reader: &mut ConfReader,
-    job: Job,
-) -> Handled
+    number: u64,
+    packet: &mut Packet,
+) -> Outcome
     requires own { C.fits conns.now pass.old }
     requires legal { IsPass flow_law (C.view pass.old) }
     requires out { (C.view pass.old).entered ≡ false }
     requires place { 1 ≤ (C.view pass.old).places }
-    requires short { IsJob job }
+    requires short { IsJob (record { number = number; packet = packet.old }) }
     requires numbers { (reader_range reader.old).last < length configs.now }
     ensures own { C.fits conns.now pass.new }
-    ensures handled { IsHandled (configurations configs.now) (C.view pass.old) (C.view pass.new) reader.old reader.new job result }
+    ensures handled { IsHandled (configurations configs.now) (C.view pass.old) (C.view pass.new) reader.old reader.new (record { number = number; packet = packet.old }) (record { outcome = result; packet = packet.new }) }
 {
-    let Job { number, mut packet } = job;
-    let Packet {
-        time,
-        link,
-        ifid,
-        dir,
-        ref mut bytes,
-    } = packet;
-    let outcome = npf_engine::packet(
+    npf_engine::packet(
         rt,
         conns,
         pass,
         reader,
         configs,
         number,
-        time,
-        link,
-        ifid,
-        dir,
-        bytes.as_mut_slice(),
-    );
-    Handled { outcome, packet }
+        packet.time,
+        packet.link,
+        packet.ifid,
+        packet.dir,
+        packet.bytes.as_mut_slice(),
+    )
 }

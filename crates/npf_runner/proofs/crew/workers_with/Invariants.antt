@@ -2,17 +2,19 @@ use Rattle.std.proofs.Common.{◌≡◌, ◌≤◌, ◌+◌, ◌++◌, All, map,
 use Rattle.std.specs.List.{Contains}
 use Rattle.std.specs.Vec.Iter.{into_iter_items}
 use Rattle.npf_dealing.specs.Dealing.{vec_items}
-use Rattle.npf_runner.specs.Crew.{IsEquipped, jobs_of}
+use Rattle.npf_runner.specs.Crew.{IsEquipped, numbers_of_worker, packets_of_worker}
 use Rattle.npf_runner.proofs.crew.workers_with.Given as goal
 
-abbrev pub invariant-loop-jobs : goal.invariant-loop-jobs
-invariant-loop-jobs l =
-    (goal.iterator-loop-jobs).can_next l.jobs-iterator
-    × (goal.iterator-loop-jobs).is_finite l.jobs-iterator
-    × (length (into_iter_items l.jobs-iterator) ≤ vec_len l.readers)
-    × (vec_len l.workers + length (into_iter_items l.jobs-iterator) ≡ vec_len l.fn.dealt)
-    × (vec_len l.fn.dealt ≤ vec_capacity l.workers)
-    × (map vec_items l.fn.dealt.items ≡ map jobs_of l.workers.items ++ map vec_items (into_iter_items l.jobs-iterator))
+abbrev pub invariant-loop-packets : goal.invariant-loop-packets
+invariant-loop-packets l =
+    (goal.iterator-loop-packets).can_next l.packets-iterator
+    × (goal.iterator-loop-packets).is_finite l.packets-iterator
+    × (length (into_iter_items l.packets-iterator) ≤ vec_len l.readers)
+    × (length l.left.items ≡ length (into_iter_items l.packets-iterator))
+    × (vec_len l.workers + length (into_iter_items l.packets-iterator) ≡ vec_len l.fn.packets)
+    × (vec_len l.fn.packets ≤ vec_capacity l.workers)
+    × (map vec_items l.fn.numbers.items ≡ map numbers_of_worker l.workers.items ++ map vec_items l.left.items)
+    × (map vec_items l.fn.packets.items ≡ map packets_of_worker l.workers.items ++ map vec_items (into_iter_items l.packets-iterator))
     × All (λ reader. Contains l.fn.readers.items reader) l.readers.items
     × All IsEquipped l.workers.items
     × All (λ worker. Contains l.fn.readers.items worker.reader) l.workers.items

@@ -1,23 +1,16 @@
 use Rattle.std.proofs.Common.{rules, ◌≡◌, ◌<◌, ◌≤◌, ◌+◌, [], ◌∷◌, ◌++◌, All, take, drop, get_or, length, vec_len, refl, sym, ap, subst, ◌∙◌, arith}
 use Rattle.std.proofs.lemmas.List.{append_assoc, append-nil, length-drop, nil_from_length}
-use Rattle.std.proofs.lemmas.List.Elements.{All-take, All-drop}
+use Rattle.std.proofs.lemmas.List.Elements.{All-drop}
 use Rattle.npf_engine.specs.Handles.{configurations}
-use Rattle.npf_runner.specs.Job.{IsJob, numbered_from}
-use Rattle.npf_runner.specs.declared.job.Handled.{Handled}
+use Rattle.npf_runner.specs.Job.{Handled, numbered_from}
 use Rattle.npf_runner.specs.Played.{handled, outcomes_of, outputs_of}
 use Rattle.npf_runner.specs.Plays.{IsShortPacket, PhasesPublishFrom, PlaysPhases, packets_in, published_by}
 use Rattle.npf_runner.specs.Running.{RunsPhase, RunsPhases}
 use Rattle.npf_runner.proofs.EngineLemmas.{says_own, tells_in_longer}
-use Rattle.npf_runner.proofs.JobLemmas.{phase_fits, phase_ordered, phases_from, jobs_numbered, numbered_length, packets_first, published_below}
+use Rattle.npf_runner.proofs.JobLemmas.{phase_ordered, phases_from, numbered_length, packets_first, published_below}
 use Rattle.npf_runner.proofs.PlayedLemmas.{handled_more, more_length, outcomes_of-handled, outputs_of-handled}
-use Rattle.npf_runner.proofs.RunLemmas.{back_more, left_length, plays, taken_length}
+use Rattle.npf_runner.proofs.RunLemmas.{back_more, left_length, plays}
 use Rattle.npf_runner.proofs.playing.play.Goals as goal
-
-pub run_phase-requires-clause-jobs : goal.run_phase-requires-clause-jobs
-run_phase-requires-clause-jobs g c lifetimes outlives =
-    let taken = take c.phase-item.result.packets c.loop-phase.rest.items in
-    let inv = c.loop-phase.invariant in
-    subst (λ js. All IsJob js) (sym c.in_ok-jobs.ensures.jobs) (jobs_numbered c.loop-phase.first taken inv.7 (All-take IsShortPacket c.phase-item.result.packets c.loop-phase.rest.items inv.10))
 
 pub run_phase-requires-clause-numbers : goal.run_phase-requires-clause-numbers
 run_phase-requires-clause-numbers g c lifetimes outlives =
@@ -30,34 +23,6 @@ run_phase-requires-clause-numbers g c lifetimes outlives =
     let at : phase ≡ get_or phases i phase = search rules in
     let ordered = phase_ordered count last phases i phase (search rules) at inv.9 in
     subst (λ cs. last + published_by cs < count) (sym c.as_slice-commands.ensures) (published_below count last phase.commands ordered.0 inv.8)
-
-pub run_phase-requires-clause-for_outcomes : goal.run_phase-requires-clause-for_outcomes
-run_phase-requires-clause-for_outcomes g c lifetimes outlives =
-    let phases = c.args.phases.now in
-    let i = c.loop-phase.phase-index in
-    let phase = c.phase-item.result in
-    let rest = c.loop-phase.rest.items in
-    let inv = c.loop-phase.invariant in
-    let at : phase ≡ get_or phases i phase = search rules in
-    let enough : phase.packets ≤ length rest = phase_fits phases i phase (length rest) (search rules) at inv.5 in
-    let jobs : length c.in_ok-jobs.jobs.items ≡ phase.packets = ap length c.in_ok-jobs.ensures.jobs ∙ (numbered_length c.loop-phase.first (take phase.packets rest) ∙ taken_length phase.packets rest enough) in
-    let size : vec_len c.in_ok-jobs.jobs ≡ length c.in_ok-jobs.jobs.items = search rules in
-    let room = inv.12 in
-    omega (arith, jobs, size, room, enough)
-
-pub run_phase-requires-clause-for_packets : goal.run_phase-requires-clause-for_packets
-run_phase-requires-clause-for_packets g c lifetimes outlives =
-    let phases = c.args.phases.now in
-    let i = c.loop-phase.phase-index in
-    let phase = c.phase-item.result in
-    let rest = c.loop-phase.rest.items in
-    let inv = c.loop-phase.invariant in
-    let at : phase ≡ get_or phases i phase = search rules in
-    let enough : phase.packets ≤ length rest = phase_fits phases i phase (length rest) (search rules) at inv.5 in
-    let jobs : length c.in_ok-jobs.jobs.items ≡ phase.packets = ap length c.in_ok-jobs.ensures.jobs ∙ (numbered_length c.loop-phase.first (take phase.packets rest) ∙ taken_length phase.packets rest enough) in
-    let size : vec_len c.in_ok-jobs.jobs ≡ length c.in_ok-jobs.jobs.items = search rules in
-    let room = inv.13 in
-    omega (arith, jobs, size, room, enough)
 
 pub overflow_add-last : goal.overflow_add-last
 overflow_add-last g c =
@@ -80,7 +45,7 @@ loop-phase-preserved g c =
     let i = c.loop-phase.phase-index in
     let phase = c.phase-item.result in
     let after = drop (i + 1) phases in
-    let rest = c.loop-phase.rest.items in
+    let rest = c.loop-phase.left.items in
     let first = c.loop-phase.first in
     let last = c.loop-phase.last in
     let count = length c.args.configs.now in
@@ -101,14 +66,13 @@ loop-phase-preserved g c =
     let was = c.loop-phase.all in
     let now = c.in_ok-all.all in
     let before = handled was.outcomes.items was.packets.items in
-    let rest_is : c.next_jobs.new.packets.items ≡ drop phase.packets rest = c.in_ok-jobs.ensures.rest in
+    let rest_is : c.next_packets.new.left.items ≡ drop phase.packets rest = c.in_ok-packets.ensures.left in
     let parts = left_length phase.packets rest enough in
-    let fewer : phase.packets + length c.next_jobs.new.packets.items ≡ length rest = ap (λ z. phase.packets + length z) rest_is ∙ parts in
+    let fewer : phase.packets + length c.next_packets.new.left.items ≡ length rest = ap (λ z. phase.packets + length z) rest_is ∙ parts in
     let counted : c.count_published.result ≡ published_by phase.commands = c.count_published.ensures ∙ ap published_by same in
     let all = inv.6 in
     let some = inv.7 in
-    let jobs : length c.in_ok-jobs.jobs.items ≡ phase.packets = ap length c.in_ok-jobs.ensures.jobs ∙ (numbered_length first (take phase.packets rest) ∙ taken_length phase.packets rest enough) in
-    let here : length ran.0 ≡ phase.packets = ran.3.gathered.count ∙ (sym ran.3.dealt.count ∙ jobs) in
+    let here : length ran.0 ≡ phase.packets = ran.3.gathered.count ∙ (sym ran.3.dealt.count ∙ (numbered_length first c.in_ok-packets.packets.items ∙ search rules)) in
     let come : vec_len now.outcomes ≡ vec_len was.outcomes + length ran.0 = more_length was.outcomes now.outcomes (λ (done : Handled). done.outcome) ran.0 ran.1 in
     let sent : vec_len now.packets ≡ vec_len was.packets + length ran.0 = more_length was.packets now.packets (λ (done : Handled). done.packet) ran.0 ran.2 in
     let grown = handled_more was.outcomes.items now.outcomes.items was.packets.items now.packets.items ran.0 (search rules) ran.1 ran.2 in
@@ -118,8 +82,8 @@ loop-phase-preserved g c =
     let room = inv.12 in
     let room' = inv.13 in
     let ran_here : RunsPhase V configs c.args.workers c.args.spread (V c.loop-phase.pass) (V c.run_phase.new.pass) last phase.commands (numbered_from first (take phase.packets rest)) ran.0 =
-    subst (λ js. RunsPhase V configs c.args.workers c.args.spread (V c.loop-phase.pass) (V c.run_phase.new.pass) last phase.commands js ran.0) c.in_ok-jobs.ensures.jobs
-    (subst (λ cs. RunsPhase V configs c.args.workers c.args.spread (V c.loop-phase.pass) (V c.run_phase.new.pass) last cs c.in_ok-jobs.jobs.items ran.0) same ran.3) in (
+    subst (λ ps. RunsPhase V configs c.args.workers c.args.spread (V c.loop-phase.pass) (V c.run_phase.new.pass) last phase.commands (numbered_from first ps) ran.0) c.in_ok-packets.ensures.packets
+    (subst (λ cs. RunsPhase V configs c.args.workers c.args.spread (V c.loop-phase.pass) (V c.run_phase.new.pass) last cs (numbered_from first c.in_ok-packets.packets.items) ran.0) same ran.3) in (
       c.run_phase.ensures.own,
       c.run_phase.ensures.legal,
       back.entered ∙ inv.2,
@@ -136,7 +100,7 @@ loop-phase-preserved g c =
       omega (arith, sent, here, capacity', room', fewer),
       (λ new dones runs.
           let runs' = subst (λ z. RunsPhases V configs c.args.workers c.args.spread (V c.run_phase.new.pass) new (first + phase.packets) (last + published_by phase.commands) after z dones) rest_is
-          (subst (λ n. RunsPhases V configs c.args.workers c.args.spread (V c.run_phase.new.pass) new (first + phase.packets) (last + n) after c.next_jobs.new.packets.items dones) counted runs) in
+          (subst (λ n. RunsPhases V configs c.args.workers c.args.spread (V c.run_phase.new.pass) new (first + phase.packets) (last + n) after c.next_packets.new.left.items dones) counted runs) in
           let whole : RunsPhases V configs c.args.workers c.args.spread (V c.loop-phase.pass) new first last (phase ∷ after) rest (ran.0 ++ dones) =
           (V c.run_phase.new.pass, ran.0, dones, refl, back, c.run_phase.ensures.legal, ran_here, runs') in
           subst (λ z. RunsPhases V configs c.args.workers c.args.spread (V c.args.pass.now) new 1 0 phases c.args.packets.items z)
@@ -157,9 +121,9 @@ returns-clause-plays g c =
     let far : length phases ≤ i = search rules in
     let none : drop i phases ≡ [] = nil_from_length (drop i phases) (omega (arith, length-drop i phases, far)) in
     let left = inv.5 in
-    let empty : c.loop-phase.rest.items ≡ [] = nil_from_length c.loop-phase.rest.items (sym left ∙ ap packets_in none) in
-    let done : RunsPhases V configs c.args.workers c.args.spread (V c.loop-phase.pass) (V c.loop-phase.pass) c.loop-phase.first c.loop-phase.last (drop i phases) c.loop-phase.rest.items [] =
-    subst (λ z. RunsPhases V configs c.args.workers c.args.spread (V c.loop-phase.pass) (V c.loop-phase.pass) c.loop-phase.first c.loop-phase.last z c.loop-phase.rest.items []) (sym none) (refl, empty, refl) in
+    let empty : c.loop-phase.left.items ≡ [] = nil_from_length c.loop-phase.left.items (sym left ∙ ap packets_in none) in
+    let done : RunsPhases V configs c.args.workers c.args.spread (V c.loop-phase.pass) (V c.loop-phase.pass) c.loop-phase.first c.loop-phase.last (drop i phases) c.loop-phase.left.items [] =
+    subst (λ z. RunsPhases V configs c.args.workers c.args.spread (V c.loop-phase.pass) (V c.loop-phase.pass) c.loop-phase.first c.loop-phase.last z c.loop-phase.left.items []) (sym none) (refl, empty, refl) in
     let runs = subst (λ z. RunsPhases V configs c.args.workers c.args.spread (V c.args.pass.now) (V c.loop-phase.pass) 1 0 phases c.args.packets.items z) (append-nil dones)
     (inv.14 (V c.loop-phase.pass) [] done) in
     let whole = plays says_own tells_in_longer V configs c.args.workers c.args.spread (V c.args.pass.now) (V c.loop-phase.pass) phases c.args.packets.items dones runs

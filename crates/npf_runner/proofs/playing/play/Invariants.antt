@@ -14,15 +14,15 @@ invariant-loop-phase g l =
     × ((g.C.Connections.view l.pass).entered ≡ false)
     × ((g.C.Connections.view l.pass).places ≡ all_places)
     × IsBack (g.C.Connections.view l.initial.pass) (g.C.Connections.view l.pass)
-    × (packets_in (drop l.phase-index l.phases) ≡ length l.rest.items)
-    × (l.first + length l.rest.items ≡ 1 + length l.fn.packets.items)
+    × (packets_in (drop l.phase-index l.phases) ≡ length l.left.items)
+    × (l.first + length l.left.items ≡ 1 + length l.fn.packets.items)
     × (1 ≤ l.first)
     × (l.last < length l.configs)
     × PhasesPublishFrom (length l.configs) l.last (drop l.phase-index l.phases)
-    × All IsShortPacket l.rest.items
+    × All IsShortPacket l.left.items
     × (vec_len l.all.outcomes ≡ vec_len l.all.packets)
-    × (vec_len l.all.outcomes + length l.rest.items ≤ vec_capacity l.all.outcomes)
-    × (vec_len l.all.packets + length l.rest.items ≤ vec_capacity l.all.packets)
+    × (vec_len l.all.outcomes + length l.left.items ≤ vec_capacity l.all.outcomes)
+    × (vec_len l.all.packets + length l.left.items ≤ vec_capacity l.all.packets)
     × ((new : _) (dones : List _) →
-    RunsPhases g.C.Connections.view (configurations l.configs) l.workers l.spread (g.C.Connections.view l.pass) new l.first l.last (drop l.phase-index l.phases) l.rest.items dones →
+    RunsPhases g.C.Connections.view (configurations l.configs) l.workers l.spread (g.C.Connections.view l.pass) new l.first l.last (drop l.phase-index l.phases) l.left.items dones →
     RunsPhases g.C.Connections.view (configurations l.configs) l.workers l.spread (g.C.Connections.view l.initial.pass) new 1 0 l.phases l.fn.packets.items (handled l.all.outcomes.items l.all.packets.items ++ dones))

@@ -10,8 +10,7 @@ use Rattle.npf_engine.specs.Histories.{FlowEntry}
 use Rattle.npf_runner.specs.declared.worker.Lane.{Lane}
 use Rattle.npf_runner.specs.declared.worker.Worker.{Worker}
 use Rattle.npf_runner.specs.Commands.{Collects}
-use Rattle.npf_runner.specs.Crew.{IsEquipped, done_of_lane, pass_of_lane}
-use Rattle.npf_runner.specs.Job.{IsJob}
+use Rattle.npf_runner.specs.Crew.{HasJobs, IsEquipped, done_of_lane, pass_of_lane}
 use Rattle.npf_runner.specs.Lanes.{HasWorked}
 use Rattle.npf_runner.proofs.PlayedLemmas.{are_queues_of}
 use Rattle.npf_runner.proofs.RunningLemmas.{IsCrew, same_others, zip_places, All-unmap, All-passes, All-workers, All-others, ComesBack, can_work, all_back, begun_given, begun_legal, control_given, crew_whole, is_back}
@@ -47,7 +46,7 @@ side_by_side-own-requires-clause-can g c lifetimes outlives =
     (All-passes (λ pass. IsPass flow_law (V pass)) left lanes legal c.lanes_with-lanes.ensures.passes)
     (All-passes (λ pass. IsGiven old (V pass)) left lanes given c.lanes_with-lanes.ensures.passes)
     (All-workers IsEquipped lanes crew workers c.requires.ready)
-    (All-workers (λ (worker : Worker). All IsJob worker.jobs.items) lanes crew workers c.requires.jobs)
+    (All-workers HasJobs lanes crew workers c.requires.jobs)
     (All-workers (λ (worker : Worker). (reader_range worker.reader).last < length c.args.configs.now) lanes crew workers c.requires.readers)
 
 pub take_in-requires-clause-others : goal.take_in-requires-clause-others

@@ -1,19 +1,12 @@
-use Rattle.std.proofs.Common.{rules, ◌<◌, ◌+◌, All, map, length, sym, subst}
+use Rattle.std.proofs.Common.{rules, ◌<◌, ◌+◌, All, length, sym, subst}
 use Rattle.std.proofs.lemmas.List.Elements.{All-weaker}
 use Rattle.npf_publish.specs.ConfReader.{IsNewReader, reader_range}
 use Rattle.npf_engine.specs.Handles.{configurations}
 use Rattle.npf_runner.specs.declared.worker.Worker.{Worker}
-use Rattle.npf_runner.specs.Crew.{jobs_of}
-use Rattle.npf_runner.specs.Job.{IsJob}
+use Rattle.npf_runner.specs.Job.{numbered_from}
 use Rattle.npf_runner.specs.Played.{outcomes_of, outputs_of}
-use Rattle.npf_runner.proofs.RegatherLemmas.{All-dealt, regathers}
-use Rattle.npf_runner.proofs.RunningLemmas.{All-unmap}
+use Rattle.npf_runner.proofs.RegatherLemmas.{regathers}
 use Rattle.npf_runner.proofs.running.run_phase.Goals as goal
-
-pub run_crew-ran-requires-clause-jobs : goal.run_crew-ran-requires-clause-jobs
-run_crew-ran-requires-clause-jobs g c lifetimes outlives =
-    All-unmap (λ lane. All IsJob lane) jobs_of c.in_ok-order.field-0.crew.items
-    (All-dealt IsJob c.in_ok-order.field-0.order.items c.args.task.jobs.items (map jobs_of c.in_ok-order.field-0.crew.items) c.in_ok-order.ensures.dealt c.requires.jobs)
 
 pub run_crew-ran-requires-clause-readers : goal.run_crew-ran-requires-clause-readers
 run_crew-ran-requires-clause-readers g c lifetimes outlives =
@@ -29,7 +22,7 @@ gather-requires-clause-dealt g c =
     let V = g.C.Connections.view in
     let made = c.in_ok-order.field-0 in
     let ran = c.in_ok-queues.ensures.runs in
-    let again = regathers V (configurations c.args.configs.now) (V c.args.pass.now) (V c.run_crew-ran.new.pass) c.args.commands.now made.order.items c.args.task.jobs.items made.crew.items ran.0
+    let again = regathers V (configurations c.args.configs.now) (V c.args.pass.now) (V c.run_crew-ran.new.pass) c.args.commands.now made.order.items (numbered_from c.args.task.first c.args.task.packets.items) made.crew.items ran.0
     c.in_ok-order.ensures.dealt ran.2 c.in_ok-queues.queues c.as_slice-order.result.now ran.1 (search rules) in
     (outcomes_of again.dones, again.outcomes)
 
@@ -38,7 +31,7 @@ gather-requires-2-clause-dealt g c =
     let V = g.C.Connections.view in
     let made = c.in_ok-order.field-0 in
     let ran = c.in_ok-queues.ensures.runs in
-    let again = regathers V (configurations c.args.configs.now) (V c.args.pass.now) (V c.run_crew-ran.new.pass) c.args.commands.now made.order.items c.args.task.jobs.items made.crew.items ran.0
+    let again = regathers V (configurations c.args.configs.now) (V c.args.pass.now) (V c.run_crew-ran.new.pass) c.args.commands.now made.order.items (numbered_from c.args.task.first c.args.task.packets.items) made.crew.items ran.0
     c.in_ok-order.ensures.dealt ran.2 c.in_ok-queues.queues c.as_slice-order.result.now ran.1 (search rules) in
     (outputs_of again.dones, again.packets)
 
@@ -47,7 +40,7 @@ returns-clause-runs g c =
     let V = g.C.Connections.view in
     let made = c.in_ok-order.field-0 in
     let ran = c.in_ok-queues.ensures.runs in
-    let again = regathers V (configurations c.args.configs.now) (V c.args.pass.now) (V c.run_crew-ran.new.pass) c.args.commands.now made.order.items c.args.task.jobs.items made.crew.items ran.0
+    let again = regathers V (configurations c.args.configs.now) (V c.args.pass.now) (V c.run_crew-ran.new.pass) c.args.commands.now made.order.items (numbered_from c.args.task.first c.args.task.packets.items) made.crew.items ran.0
     c.in_ok-order.ensures.dealt ran.2 c.in_ok-queues.queues c.as_slice-order.result.now ran.1 (search rules) in
     let last = c.args.task.last in (
       again.dones,

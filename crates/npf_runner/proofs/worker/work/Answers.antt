@@ -1,49 +1,72 @@
-use Rattle.std.proofs.Common.{rules, ◌≡◌, ◌+◌, [], ◌∷◌, ◌++◌, length, refl, sym, ap, subst, ◌∙◌, arith}
-use Rattle.std.proofs.lemmas.List.{append_assoc, append-nil, nil_from_length}
-use Rattle.std.proofs.lemmas.List.Elements.{All-rest}
+use Rattle.std.proofs.Common.{rules, ◌≡◌, ◌<◌, ◌+◌, [], ◌∷◌, ◌++◌, All, drop, set, length, refl, sym, ap, subst, ◌∙◌, arith}
+use Rattle.std.proofs.lemmas.List.{append_assoc, append-nil, drop_all, drop-set-lt}
+use Rattle.std.proofs.lemmas.List.Elements.{All-head, All-rest}
 use Rattle.npf_engine.specs.Handles.{configurations}
-use Rattle.npf_runner.specs.Job.{IsJob}
+use Rattle.npf_runner.specs.Crew.{jobs_of}
+use Rattle.npf_runner.specs.Job.{Handled, Job, IsJob, numbered}
 use Rattle.npf_runner.specs.Played.{handled}
 use Rattle.npf_runner.specs.Works.{WorksThrough}
-use Rattle.npf_runner.proofs.JobLemmas.{asks_range}
-use Rattle.npf_runner.proofs.PlayedLemmas.{handled_more}
+use Rattle.npf_runner.proofs.JobLemmas.{asks_range, numbered_rest}
+use Rattle.npf_runner.proofs.PlayedLemmas.{handled_at}
 use Rattle.npf_runner.proofs.RestLemmas.{rested_more}
 use Rattle.npf_runner.proofs.worker.work.Goals as goal
 
-pub loop-preserved : goal.loop-preserved
-loop-preserved g c =
+pub handle-outcome-requires-clause-short : goal.handle-outcome-requires-clause-short
+handle-outcome-requires-clause-short g c lifetimes outlives =
+    let i = c.loop-place.place in
+    let numbers = c.args.lane.now.worker.numbers.items in
+    let packets = c.loop-place.packets.items in
+    let n = c.index-n.result.now in
+    let packet = c.index_mut.result.now in
+    let low : i < length packets = search rules in
+    let low' : i < length numbers = search rules in
+    let left = numbered (drop (i + 1) numbers) (drop (i + 1) packets) in
+    let is = numbered_rest numbers packets i n packet low' low (search rules) (search rules) in
+    All-head IsJob (record { number = n; packet = packet }) left (subst (λ jobs. All IsJob jobs) is c.loop-place.invariant.3)
+
+pub loop-place-preserved : goal.loop-place-preserved
+loop-place-preserved g c =
     let V = g.C.Connections.view in
     let configs = configurations c.args.configs.now in
-    let job = c.unwrap-job.result in
-    let done = c.handle-outcome.result in
-    let jobs = c.loop.jobs.items in
-    let rest = c.pop_front.new.self.items in
-    let outcomes = c.loop.outcomes.items in
-    let packets = c.loop.packets.items in
-    let before = handled outcomes packets in
+    let i = c.loop-place.place in
     let first = c.args.lane.now in
+    let numbers = first.worker.numbers.items in
+    let packets = c.loop-place.packets.items in
+    let outcomes = c.loop-place.outcomes.items in
+    let n = c.index-n.result.now in
+    let packet = c.index_mut.result.now in
+    let outcome = c.handle-outcome.result in
+    let output = c.handle-outcome.new.packet in
+    let job : Job = record { number = n; packet = packet } in
+    let done : Handled = record { outcome = outcome; packet = output } in
     let h = c.handle-outcome.ensures.handled in
-    let inv = c.loop.invariant in
-    let pops : jobs ≡ job ∷ rest = search rules in
-    let fewer : length jobs ≡ length rest + 1 = ap length pops ∙ omega arith in
-    let come : c.push_reserved.new.self.items ≡ outcomes ++ done.outcome ∷ [] = search rules in
-    let sent : c.push_reserved-in-loop.new.self.items ≡ packets ++ done.packet ∷ [] = search rules in
-    let pushed = handled_more outcomes c.push_reserved.new.self.items packets c.push_reserved-in-loop.new.self.items (done ∷ []) (search rules) come sent in (
+    let inv = c.loop-place.invariant in
+    let low : i < length packets = search rules in
+    let low' : i < length numbers = search rules in
+    let left = numbered (drop (i + 1) numbers) (drop (i + 1) packets) in
+    let is : numbered (drop i numbers) (drop i packets) ≡ job ∷ left = numbered_rest numbers packets i n packet low' low (search rules) (search rules) in
+    let same : numbered (drop (i + 1) numbers) (drop (i + 1) (set packets i output)) ≡ left = ap (numbered (drop (i + 1) numbers)) (drop-set-lt (i + 1) packets i output (omega arith)) in
+    let before = handled outcomes packets in
+    let come : c.push_reserved.new.self.items ≡ outcomes ++ outcome ∷ [] = search rules in
+    let pushed : handled c.push_reserved.new.self.items (set packets i output) ≡ before ++ done ∷ [] =
+    ap (λ os. handled os (set packets i output)) come ∙ handled_at outcomes packets i outcome output (search rules) low in (
       c.handle-outcome.ensures.own,
       h.rested.legal,
-      rested_more (V first.pass) (V c.loop.pass) (V c.handle-outcome.new.pass) inv.2 h.rested,
-      All-rest IsJob job rest jobs pops inv.3,
-      asks_range c.loop.reader c.handle-outcome.new.reader h.handles.asked h.handles.asks ∙ inv.4,
-      search rules,
-      search rules,
+      rested_more (V first.pass) (V c.loop-place.pass) (V c.handle-outcome.new.pass) inv.2 h.rested,
+      subst (λ jobs. All IsJob jobs) (sym same) (All-rest IsJob job left (numbered (drop i numbers) (drop i packets)) is inv.3),
+      asks_range c.loop-place.reader c.handle-outcome.new.reader h.handles.asked h.handles.asks ∙ inv.4,
       search rules,
       search rules,
       search rules,
       (λ new next dones w.
-          subst (λ z. WorksThrough configs (V first.pass) first.worker.reader first.worker.jobs.items new next z)
+          subst (λ z. WorksThrough configs (V first.pass) first.worker.reader (jobs_of first.worker) new next z)
           (sym (append_assoc before (done ∷ []) dones) ∙ ap (λ z. z ++ dones) (sym pushed))
-          (inv.10 new next (done ∷ dones) (subst (λ z. WorksThrough configs (V c.loop.pass) c.loop.reader z new next (done ∷ dones)) (sym pops)
-          (V c.handle-outcome.new.pass, c.handle-outcome.new.reader, h, w)))),
+          (inv.8 new next (done ∷ dones) (subst (λ jobs. WorksThrough configs (V c.loop-place.pass) c.loop-place.reader jobs new next (done ∷ dones)) (sym is) (
+            V c.handle-outcome.new.pass,
+            c.handle-outcome.new.reader,
+            h,
+            subst (λ jobs. WorksThrough configs (V c.handle-outcome.new.pass) c.handle-outcome.new.reader jobs new next dones) same w,
+          )))),
     )
 
 pub returns-clause-worked : goal.returns-clause-worked
@@ -51,11 +74,15 @@ returns-clause-worked g c =
     let V = g.C.Connections.view in
     let configs = configurations c.args.configs.now in
     let first = c.args.lane.now in
-    let inv = c.loop.invariant in
-    let none : c.loop.jobs.items ≡ [] = nil_from_length c.loop.jobs.items (search rules) in
+    let numbers = first.worker.numbers.items in
+    let pass = V c.loop-place.pass in
+    let reader = c.loop-place.reader in
+    let inv = c.loop-place.invariant in
+    let left = drop c.loop-place.place c.loop-place.packets.items in
+    let none : drop c.loop-place.place numbers ≡ [] = drop_all c.loop-place.place numbers (search rules) in
     record {
       legal = inv.1;
-      works = subst (λ z. WorksThrough configs (V first.pass) first.worker.reader first.worker.jobs.items (V c.loop.pass) c.loop.reader z) (append-nil (handled c.loop.outcomes.items c.loop.packets.items))
-          (inv.10 (V c.loop.pass) c.loop.reader [] (subst (λ z. WorksThrough configs (V c.loop.pass) c.loop.reader z (V c.loop.pass) c.loop.reader []) (sym none) (refl, refl)));
+      works = subst (λ z. WorksThrough configs (V first.pass) first.worker.reader (jobs_of first.worker) pass reader z) (append-nil (handled c.loop-place.outcomes.items c.loop-place.packets.items))
+          (inv.8 pass reader [] (subst (λ ns. WorksThrough configs pass reader (numbered ns left) pass reader []) (sym none) (refl, refl)));
       same_length = search rules;
     }
