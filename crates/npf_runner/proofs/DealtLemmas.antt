@@ -42,7 +42,7 @@ module _ (order : List ℕ) (first : ℕ) (packets : List Packet) (numbers : Lis
   packets_at : (w : ℕ) → w < length crew → get_or (map packets_of_worker crew) w [] ≡ of_lane w order packets
   packets_at w low = dealt.each w [] (rw (length-map crew packets_of_worker) low)
 
-  pub dealt_jobs : IsDealt order (numbered_from first packets) (map jobs_of crew)
+  dealt_jobs : IsDealt order (numbered_from first packets) (map jobs_of crew)
   dealt_jobs = record {
     count = numbered_length first packets ∙ dealt.count;
     fits = subst (λ n. All (λ lane. lane < n) order) (length-map crew packets_of_worker ∙ sym (length-map crew jobs_of)) dealt.fits;
@@ -56,7 +56,7 @@ module _ (order : List ℕ) (first : ℕ) (packets : List Packet) (numbers : Lis
           ∙ (ap (λ ns. numbered ns (get_or (map packets_of_worker crew) w [])) (numbers_at w low)
           ∙ (ap (λ ps. numbered (of_lane w order (range_with_len first (length packets))) ps) (packets_at w low) ∙ (lane_numbered w order first packets).0))
 
-  pub have_jobs : 1 ≤ first → All IsShortPacket packets → All HasJobs crew
+  have_jobs : 1 ≤ first → All IsShortPacket packets → All HasJobs crew
   have_jobs some short w d low = record {
     same_length =
         ap length (sym (get_or-map numbers_of_worker crew w d [] low) ∙ numbers_at w low)
@@ -64,3 +64,6 @@ module _ (order : List ℕ) (first : ℕ) (packets : List Packet) (numbers : Lis
     each = All-unmap (λ lane. All IsJob lane) jobs_of crew
         (All-dealt IsJob order (numbered_from first packets) (map jobs_of crew) dealt_jobs (jobs_numbered first packets some short)) w d low;
   }
+
+  pub jobs_dealt : 1 ≤ first → All IsShortPacket packets → IsDealt order (numbered_from first packets) (map jobs_of crew) × All HasJobs crew
+  jobs_dealt some short = (dealt_jobs, have_jobs some short)

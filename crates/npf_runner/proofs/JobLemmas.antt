@@ -66,11 +66,6 @@ published_below count last (Expire time ∷ commands) p low = published_below co
 pub phases_from : (phases : List Phase) (i : ℕ) (phase : Phase) → i < length phases → phase ≡ get_or phases i phase → drop i phases ≡ phase ∷ drop (i + 1) phases
 phases_from phases i phase low at = drop_more phases i phase low ∙ ap (λ p. p ∷ drop (i + 1) phases) (sym at)
 
--- what is left has a phase's packets
-pub phase_fits : (phases : List Phase) (i : ℕ) (phase : Phase) (left : ℕ) → i < length phases → phase ≡ get_or phases i phase → packets_in (drop i phases) ≡ left → phase.packets ≤ left
-phase_fits phases i phase left low at all =
-    let sums = ap packets_in (phases_from phases i phase low at) ∙ packets_first phase (drop (i + 1) phases) in omega (arith, sums, all)
-
 pub phase_ordered : (count last : ℕ) (phases : List Phase) (i : ℕ) (phase : Phase) → i < length phases → phase ≡ get_or phases i phase → PhasesPublishFrom count last (drop i phases) →
     PublishFrom count last phase.commands × PhasesPublishFrom count (last + published_by phase.commands) (drop (i + 1) phases)
 phase_ordered count last phases i phase low at ordered = subst (λ ps. PhasesPublishFrom count last ps) (phases_from phases i phase low at) ordered

@@ -1,4 +1,4 @@
-use Rattle.std.proofs.Common.{◌≡◌, ◌≤◌, ◌++◌, All, List, drop, length, vec_len, vec_capacity}
+use Rattle.std.proofs.Common.{◌≡◌, ◌≤◌, ◌++◌, All, List, drop, vec_len, vec_capacity}
 use Rattle.npf_connections.specs.Pass.{IsPass}
 use Rattle.npf_flow.specs.Flows.{flow_law}
 use Rattle.npf_publish.specs.ConfReader.{reader_range}
