@@ -7,7 +7,7 @@ use Rattle.npf_dealing.proofs.LaneLemmas.{get_or-map}
 use Rattle.npf_runner.specs.declared.packet.Packet.{Packet}
 use Rattle.npf_runner.specs.declared.worker.Worker.{Worker}
 use Rattle.npf_runner.specs.Crew.{HasJobs, numbers_of_worker, packets_of_worker, jobs_of}
-use Rattle.npf_runner.specs.Job.{Job, IsJob, numbered, numbered_from}
+use Rattle.npf_runner.specs.Job.{Job, IsJob, with_numbers, numbered_from}
 use Rattle.npf_runner.specs.Plays.{IsShortPacket}
 use Rattle.npf_runner.proofs.JobLemmas.{jobs_numbered, numbered_length}
 use Rattle.npf_runner.proofs.RegatherLemmas.{All-dealt}
@@ -15,7 +15,7 @@ use Rattle.npf_runner.proofs.RunningLemmas.{All-unmap}
 
 -- a lane's numbers are those of its packets
 abbrev IsNumbered : List ℕ → List Packet → List Job → Type 0
-IsNumbered numbers packets jobs = (numbered numbers packets ≡ jobs) × (length numbers ≡ length packets)
+IsNumbered numbers packets jobs = (with_numbers numbers packets ≡ jobs) × (length numbers ≡ length packets)
 
 lane_numbered : (w : ℕ) (order : List ℕ) (first : ℕ) (packets : List Packet) →
     IsNumbered (of_lane w order (range_with_len first (length packets))) (of_lane w order packets) (of_lane w order (numbered_from first packets))
@@ -29,7 +29,7 @@ lane_numbered w (v ∷ order) first (packet ∷ packets) =
     by_test true ns ps jobs rest = (ap (λ js. record { number = first; packet = packet } ∷ js) rest.0, ap suc rest.1)
     by_test false ns ps jobs rest = rest
 
-jobs_at : (crew : List Worker) (w : ℕ) (d : List Job) → w < length crew → get_or (map jobs_of crew) w d ≡ numbered (get_or (map numbers_of_worker crew) w []) (get_or (map packets_of_worker crew) w [])
+jobs_at : (crew : List Worker) (w : ℕ) (d : List Job) → w < length crew → get_or (map jobs_of crew) w d ≡ with_numbers (get_or (map numbers_of_worker crew) w []) (get_or (map packets_of_worker crew) w [])
 jobs_at [] w d low = absurd (omega (arith, low))
 jobs_at (worker ∷ crew) zero d low = refl
 jobs_at (worker ∷ crew) (suc w) d low = jobs_at crew w d (omega (arith, low))
@@ -42,7 +42,7 @@ module _ (order : List ℕ) (first : ℕ) (packets : List Packet) (numbers : Lis
   packets_at : (w : ℕ) → w < length crew → get_or (map packets_of_worker crew) w [] ≡ of_lane w order packets
   packets_at w low = dealt.each w [] (rw (length-map crew packets_of_worker) low)
 
-  pub dealt_jobs : IsDealt order (numbered_from first packets) (map jobs_of crew)
+  dealt_jobs : IsDealt order (numbered_from first packets) (map jobs_of crew)
   dealt_jobs = record {
     count = numbered_length first packets ∙ dealt.count;
     fits = subst (λ n. All (λ lane. lane < n) order) (length-map crew packets_of_worker ∙ sym (length-map crew jobs_of)) dealt.fits;
@@ -53,10 +53,10 @@ module _ (order : List ℕ) (first : ℕ) (packets : List Packet) (numbers : Lis
       each w d low' =
           let low : w < length crew = subst (λ n. w < n) (length-map crew jobs_of) low' in
           jobs_at crew w d low
-          ∙ (ap (λ ns. numbered ns (get_or (map packets_of_worker crew) w [])) (numbers_at w low)
-          ∙ (ap (λ ps. numbered (of_lane w order (range_with_len first (length packets))) ps) (packets_at w low) ∙ (lane_numbered w order first packets).0))
+          ∙ (ap (λ ns. with_numbers ns (get_or (map packets_of_worker crew) w [])) (numbers_at w low)
+          ∙ (ap (λ ps. with_numbers (of_lane w order (range_with_len first (length packets))) ps) (packets_at w low) ∙ (lane_numbered w order first packets).0))
 
-  pub have_jobs : 1 ≤ first → All IsShortPacket packets → All HasJobs crew
+  have_jobs : 1 ≤ first → All IsShortPacket packets → All HasJobs crew
   have_jobs some short w d low = record {
     same_length =
         ap length (sym (get_or-map numbers_of_worker crew w d [] low) ∙ numbers_at w low)
@@ -64,3 +64,6 @@ module _ (order : List ℕ) (first : ℕ) (packets : List Packet) (numbers : Lis
     each = All-unmap (λ lane. All IsJob lane) jobs_of crew
         (All-dealt IsJob order (numbered_from first packets) (map jobs_of crew) dealt_jobs (jobs_numbered first packets some short)) w d low;
   }
+
+  pub jobs_dealt : 1 ≤ first → All IsShortPacket packets → IsDealt order (numbered_from first packets) (map jobs_of crew) × All HasJobs crew
+  jobs_dealt some short = (dealt_jobs, have_jobs some short)

@@ -11,7 +11,7 @@ use Rattle.npf_runner.specs.declared.packet.Packet.{Packet}
 use Rattle.npf_runner.specs.declared.phase.Command.{Command}
 use Rattle.npf_runner.specs.declared.phase.Command.TheVariants.{Publish, Expire}
 use Rattle.npf_runner.specs.declared.phase.Phase.{Phase}
-use Rattle.npf_runner.specs.Job.{IsJob, numbered, numbered_from}
+use Rattle.npf_runner.specs.Job.{IsJob, with_numbers, numbered_from}
 use Rattle.npf_runner.specs.Plays.{IsShortPacket, PhasesPublishFrom, PublishFrom, packets_in, published_by}
 use Rattle.std.specs.Prelude.{Option, Some, None}
 
@@ -33,10 +33,10 @@ numbered_more first packets i packet low at =
 
 -- the first of those that are left
 pub numbered_rest : (numbers : List ℕ) (packets : List Packet) (i n : ℕ) (packet : Packet) → i < length numbers → i < length packets → n ≡ get_or numbers i n → packet ≡ get_or packets i packet →
-    numbered (drop i numbers) (drop i packets) ≡ record { number = n; packet = packet } ∷ numbered (drop (i + 1) numbers) (drop (i + 1) packets)
+    with_numbers (drop i numbers) (drop i packets) ≡ record { number = n; packet = packet } ∷ with_numbers (drop (i + 1) numbers) (drop (i + 1) packets)
 numbered_rest numbers packets i n packet low low' at at' =
-    ap (λ ns. numbered ns (drop i packets)) (drop_more numbers i n low ∙ ap (λ m. m ∷ drop (i + 1) numbers) (sym at))
-    ∙ ap (λ ps. numbered (n ∷ drop (i + 1) numbers) ps) (drop_more packets i packet low' ∙ ap (λ p. p ∷ drop (i + 1) packets) (sym at'))
+    ap (λ ns. with_numbers ns (drop i packets)) (drop_more numbers i n low ∙ ap (λ m. m ∷ drop (i + 1) numbers) (sym at))
+    ∙ ap (λ ps. with_numbers (n ∷ drop (i + 1) numbers) ps) (drop_more packets i packet low' ∙ ap (λ p. p ∷ drop (i + 1) packets) (sym at'))
 
 pub asks_range : (old new : ConfReader) (asked : Option ℕ) → Asks old new asked → reader_range new ≡ reader_range old
 asks_range old new None a = a.0
@@ -65,11 +65,6 @@ published_below count last (Expire time ∷ commands) p low = published_below co
 
 pub phases_from : (phases : List Phase) (i : ℕ) (phase : Phase) → i < length phases → phase ≡ get_or phases i phase → drop i phases ≡ phase ∷ drop (i + 1) phases
 phases_from phases i phase low at = drop_more phases i phase low ∙ ap (λ p. p ∷ drop (i + 1) phases) (sym at)
-
--- what is left has a phase's packets
-pub phase_fits : (phases : List Phase) (i : ℕ) (phase : Phase) (left : ℕ) → i < length phases → phase ≡ get_or phases i phase → packets_in (drop i phases) ≡ left → phase.packets ≤ left
-phase_fits phases i phase left low at all =
-    let sums = ap packets_in (phases_from phases i phase low at) ∙ packets_first phase (drop (i + 1) phases) in omega (arith, sums, all)
 
 pub phase_ordered : (count last : ℕ) (phases : List Phase) (i : ℕ) (phase : Phase) → i < length phases → phase ≡ get_or phases i phase → PhasesPublishFrom count last (drop i phases) →
     PublishFrom count last phase.commands × PhasesPublishFrom count (last + published_by phase.commands) (drop (i + 1) phases)

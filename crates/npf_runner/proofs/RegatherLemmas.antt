@@ -2,8 +2,9 @@
 use Rattle.std.proofs.Common.{◌≡◌, ◌⊎◌, ℕ, ◌==◌, ◌≤◌, ◌<◌, Bool, true, false, List, [], ◌∷◌, All, cond, map, get_or, length, refl, sym, ap, subst, ◌∙◌, ⊎_elim, inl, inr, arith, zero, suc}
 use Rattle.std.specs.List.{AllZip}
 use Rattle.std.proofs.lemmas.Bool.Decides.{Decides-eqb}
-use Rattle.std.proofs.lemmas.List.{length-map, get_or_default}
+use Rattle.std.proofs.lemmas.List.{length-map, get_or_default, get_or_past}
 use Rattle.std.proofs.lemmas.List.Elements.{All-nil, All-cons, All-head, All-tail}
+use Rattle.std.proofs.lemmas.Slice.Zip.{AllZip-long}
 use Rattle.npf_connections.specs.Pass.{Pass}
 use Rattle.npf_model.specs.Configuration.{Configuration}
 use Rattle.npf_publish.specs.declared.conf_reader.ConfReader.{ConfReader}
@@ -21,7 +22,6 @@ use Rattle.npf_runner.specs.Running.{RunsCrew}
 use Rattle.npf_runner.specs.Works.{WorksThrough}
 use Rattle.npf_runner.proofs.LaneLemmas.{Zips, merges}
 use Rattle.npf_runner.proofs.PairLemmas.{At, at_zip, at_left, at_right}
-use Rattle.npf_runner.proofs.RunningLemmas.{zip_length}
 
 -- what holds of all holds of those of a lane
 pub All-of_lane : {X : Type 0} (P : X → Type 0) (w : ℕ) (order : List ℕ) (xs : List X) → All P xs → All P (of_lane w order xs)
@@ -45,11 +45,6 @@ of_none n w (v ∷ order) (x ∷ xs) fits far = by_test (v == w) refl (of_none n
     by_test : (test : Bool) → (v == w) ≡ test → of_lane w order xs ≡ [] → of_lane w (v ∷ order) (x ∷ xs) ≡ []
     by_test true is rest = absurd (let low = All-head (λ lane. lane < n) v order fits in let same = (Decides-eqb v w).0 is in omega (arith, low, same, far))
     by_test false is rest = of_lane-no v w order x xs is ∙ rest
-
-pub get_or-beyond : {X : Type 0} (xs : List X) (w : ℕ) (d : X) → length xs ≤ w → get_or xs w d ≡ d
-get_or-beyond [] w d far = refl
-get_or-beyond (x ∷ xs) zero d far = absurd (omega (arith, far))
-get_or-beyond (x ∷ xs) (suc w) d far = get_or-beyond xs w d (omega (arith, far))
 
 -- a pair at each place, or the place is behind the last
 pub record AtPlace {X Y : Type 0} (xs : List X) (ys : List Y) (i : ℕ) : Type 0 where
@@ -126,7 +121,7 @@ module _ {P : Type 0} (view : P → Pass FlowEntry) (configs : List Configuratio
     (lanes : List (List Handled)) (dealt : IsDealt order jobs (map jobs_of crew)) (r : RunsCrew view configs old new commands crew lanes) where
   same_size : length lanes ≡ length (map jobs_of crew)
   same_size =
-      ap length (sym r.done) ∙ (length-map r.ended done_of_lane ∙ (zip_length (HasWorked view configs) r.begun r.ended r.worked
+      ap length (sym r.done) ∙ (length-map r.ended done_of_lane ∙ (AllZip-long (HasWorked view configs) r.begun r.ended r.worked
       ∙ (sym (length-map r.begun worker_of_lane) ∙ (ap length r.workers ∙ sym (length-map crew jobs_of)))))
 
   -- each lane is as long as what was dealt to it
@@ -138,7 +133,7 @@ module _ {P : Type 0} (view : P → Pass FlowEntry) (configs : List Configuratio
           let size : length (map jobs_of crew) ≡ length r.begun = length-map crew jobs_of ∙ (ap length (sym r.workers) ∙ length-map r.begun worker_of_lane) in
           let out : length lanes ≤ w = omega (arith, same_size, size, far) in
           let none : of_lane w order jobs ≡ [] = of_none (length (map jobs_of crew)) w order jobs dealt.fits (omega (arith, size, far)) in
-          ap length (get_or-beyond lanes w [] out) ∙ sym (ap length none)
+          ap length (get_or_past lanes w [] out) ∙ sym (ap length none)
 
       near : AtPlace r.begun r.ended w → length (get_or lanes w []) ≡ length (of_lane w order jobs)
       near p =

@@ -1,7 +1,7 @@
 -- Phases that ran one after the other play.
-use Rattle.std.proofs.Common.{◌≡◌, ℕ, ◌≤◌, ◌+◌, true, List, [], ◌∷◌, ◌++◌, map, length, take, drop, refl, sym, ap, subst, ◌∙◌, ⊎_elim, arith, zero, suc}
+use Rattle.std.proofs.Common.{◌≡◌, ℕ, ◌≤◌, ◌+◌, true, List, [], ◌∷◌, ◌++◌, map, length, take, drop, refl, sym, ap, subst, ◌∙◌, ⊎_elim, arith}
 use Rattle.std.specs.List.{Contains}
-use Rattle.std.proofs.lemmas.List.{append_assoc, append-nil}
+use Rattle.std.proofs.lemmas.List.{append_assoc, append-nil, drop_at, length-drop, length-map, length-take-le, map-append, take-map, take_at}
 use Rattle.std.proofs.lemmas.List.Elements.{Contains-append_cases}
 use Rattle.npf_core.specs.History.{Legal}
 use Rattle.npf_core.proofs.HistoryLemmas.{IsPrefix-trans}
@@ -36,26 +36,13 @@ pub record Later (now end : Pass FlowEntry) (first : ℕ) : Type 0 where
   pub epoch : now.epoch ≤ end.epoch
 
 take_map : {X Y : Type 0} (f : X → Y) (n : ℕ) (xs ys : List X) → length xs ≡ n → take n (map f (xs ++ ys)) ≡ map f xs
-take_map f zero [] ys e = refl
-take_map f zero (x ∷ xs) ys e = absurd (omega (arith, e))
-take_map f (suc n) [] ys e = absurd (omega (arith, e))
-take_map f (suc n) (x ∷ xs) ys e = ap (λ zs. f x ∷ zs) (take_map f n xs ys (omega (arith, e)))
+take_map f n xs ys e = take-map f n (xs ++ ys) ∙ ap (map f) (take_at xs ys n e)
 
 drop_map : {X Y : Type 0} (f : X → Y) (n : ℕ) (xs ys : List X) → length xs ≡ n → drop n (map f (xs ++ ys)) ≡ map f ys
-drop_map f zero [] ys e = refl
-drop_map f zero (x ∷ xs) ys e = absurd (omega (arith, e))
-drop_map f (suc n) [] ys e = absurd (omega (arith, e))
-drop_map f (suc n) (x ∷ xs) ys e = drop_map f n xs ys (omega (arith, e))
-
-pub taken_length : {X : Type 0} (n : ℕ) (xs : List X) → n ≤ length xs → length (take n xs) ≡ n
-taken_length zero xs e = refl
-taken_length (suc n) [] e = absurd (omega (arith, e))
-taken_length (suc n) (x ∷ xs) e = ap suc (taken_length n xs (omega (arith, e)))
+drop_map f n xs ys e = ap (drop n) (map-append f xs ys) ∙ drop_at (map f xs) (map f ys) n (length-map xs f ∙ e)
 
 pub left_length : {X : Type 0} (n : ℕ) (xs : List X) → n ≤ length xs → n + length (drop n xs) ≡ length xs
-left_length zero xs e = omega arith
-left_length (suc n) [] e = absurd (omega (arith, e))
-left_length (suc n) (x ∷ xs) e = let r = left_length n xs (omega (arith, e)) in omega (arith, r)
+left_length n xs e = let left = length-drop n xs in omega (arith, left, e)
 
 pub back_more : (old mid new : Pass FlowEntry) → IsBack old mid → IsBack mid new → IsBack old new
 back_more old mid new p q = record {
@@ -131,7 +118,7 @@ module _ (says : SaysOwn) (tells : TellsInLonger) {P : Type 0} (view : P → Pas
       let r = runs.6 in
       let enough : phase.packets ≤ length packets = let c = packets_first phase phases in omega (arith, c, count) in
       let left : packets_in phases ≡ length (drop phase.packets packets) = let c = packets_first phase phases in let l = left_length phase.packets packets enough in omega (arith, c, count, l) in
-      let these : length (take phase.packets packets) ≡ phase.packets = taken_length phase.packets packets enough in
+      let these : length (take phase.packets packets) ≡ phase.packets = length-take-le phase.packets packets enough in
       let size : length here ≡ phase.packets = here_length now mid first last phase.commands (take phase.packets packets) here r ∙ these in
       let rest = later phases mid end (first + phase.packets) (last + published_by phase.commands) (drop phase.packets packets) after runs.7 (back.places ∙ all) left in
       let made = r.ran.is_whole.added ++ free_entries r.ran.whole r.ran.collects.frees.ids in

@@ -31,12 +31,6 @@ zip_places R [] (y ∷ ys) n h = absurd (omega (arith, n))
 zip_places R (x ∷ xs) [] n h = absurd (omega (arith, n))
 zip_places R (x ∷ xs) (y ∷ ys) n h = (h 0 x (omega arith), zip_places R xs ys (omega (arith, n)) (λ i d low. h (suc i) d (omega arith)))
 
-pub zip_length : {X Y : Type 0} (R : X → Y → Type 0) (xs : List X) (ys : List Y) → AllZip R xs ys → length ys ≡ length xs
-zip_length R [] [] z = refl
-zip_length R [] (y ∷ ys) z = absurd z
-zip_length R (x ∷ xs) [] z = absurd z
-zip_length R (x ∷ xs) (y ∷ ys) z = ap suc (zip_length R xs ys z.1)
-
 pub All-unmap : {X Y : Type 0} (P : Y → Type 0) (f : X → Y) (xs : List X) → All P (map f xs) → All (λ x. P (f x)) xs
 All-unmap P f [] all = All-nil (λ x. P (f x))
 All-unmap P f (x ∷ xs) all = All-cons (λ x. P (f x)) x xs (All-head P (f x) (map f xs) all) (All-unmap P f xs (All-tail P (f x) (map f xs) all))

@@ -7,7 +7,7 @@ use Rattle.npf_runner.specs.declared.crew.Room.{Room}
 use Rattle.npf_runner.specs.declared.packet.Packet.{Packet}
 use Rattle.npf_runner.specs.declared.worker.Lane.{Lane}
 use Rattle.npf_runner.specs.declared.worker.Worker.{Worker}
-use Rattle.npf_runner.specs.Job.{Handled, Job, IsJob, numbered}
+use Rattle.npf_runner.specs.Job.{Handled, Job, IsJob, with_numbers}
 use Rattle.npf_runner.specs.Played.{handled, outcomes_of, outputs_of}
 
 abbrev pub numbers_of_worker : Worker → List ℕ
@@ -17,7 +17,7 @@ abbrev pub packets_of_worker : Worker → List Packet
 packets_of_worker worker = worker.packets.items
 
 abbrev pub jobs_of : Worker → List Job
-jobs_of worker = numbered worker.numbers.items worker.packets.items
+jobs_of worker = with_numbers worker.numbers.items worker.packets.items
 
 -- each of the worker's packets has a number
 pub record HasJobs (worker : Worker) : Type 0 where

@@ -16,9 +16,9 @@ pub record Handled : Type 0 where
   pub packet : Packet
 
 -- packets with these numbers
-abbrev pub numbered : List ℕ → List Packet → List Job
-numbered (n ∷ numbers) (packet ∷ packets) = record { number = n; packet = packet } ∷ numbered numbers packets
-numbered _ _ = []
+abbrev pub with_numbers : List ℕ → List Packet → List Job
+with_numbers (n ∷ numbers) (packet ∷ packets) = record { number = n; packet = packet } ∷ with_numbers numbers packets
+with_numbers _ _ = []
 
 -- packets numbered from n on
 abbrev pub numbered_from : ℕ → List Packet → List Job

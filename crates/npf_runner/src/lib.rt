@@ -2,7 +2,8 @@
 //
 // In a phase each worker takes its packets in rising order on a thread of its own, at the same time as the control task does the phase's
 // commands; each has a pass of its own to the table of connections, which is split from the caller's at the phase's start and
-// joined at its end. Then what was killed is freed.
+// joined at its end. Then what was killed is freed. A worker handles its packets where they stand, and with one worker and one phase no
+// packet is ever moved.
 //
 // The contract of `play`: whatever the interleaving, the history that the caller's pass shows at the end explains each packet's
 // outcome, within its phase and under a configuration of its phase (specs/Plays). It is proved from the contracts of the engine, of

@@ -14,7 +14,9 @@ use Rattle.npf_runner.specs.Crew.{HasJobs, IsEquipped, done_of_lane, pass_of_lan
 use Rattle.npf_runner.specs.Lanes.{HasWorked}
 use Rattle.npf_runner.proofs.PlayedLemmas.{are_queues_of}
 use Rattle.npf_runner.proofs.RunningLemmas.{IsCrew, same_others, zip_places, All-unmap, All-passes, All-workers, All-others, ComesBack, can_work, all_back, begun_given, begun_legal, control_given, crew_whole, is_back}
+use Rattle.npf_runner.proofs.running.run_crew.Given.{Over}
 use Rattle.npf_runner.proofs.running.run_crew.Goals as goal
+use Rattle.npf_runner.proofs.running.run_crew.Goals.{After-push_reserved}
 
 pub side_by_side-own-requires-clause-out : goal.side_by_side-own-requires-clause-out
 side_by_side-own-requires-clause-out g c lifetimes outlives =
@@ -57,8 +59,9 @@ take_in-requires-clause-others g c lifetimes outlives =
     let same = same_others others c.apart-queues.new.passes.items c.args.room.others.items ended controlled (search rules) c.apart-queues.ensures.passes c.requires.room.others in
     All-others (λ pass. g.C.Connections.fits c.args.conns.now pass) others ended controlled same c.side_by_side-own.ensures.lanes c.side_by_side-own.ensures.own
 
-pub take_in-requires-clause-others_legal : goal.take_in-requires-clause-others_legal
-take_in-requires-clause-others_legal g c lifetimes outlives =
+-- all passes are ready to be taken in
+come_back : (g : Over) (c : After-push_reserved g) → All (λ pass. ComesBack (g.C.Connections.view pass)) c.push_reserved.new.self.items
+come_back g c =
     let V = g.C.Connections.view in
     let old = V c.args.pass.now in
     let configs = configurations c.args.configs.now in
@@ -74,48 +77,22 @@ take_in-requires-clause-others_legal g c lifetimes outlives =
     let is : IsCrew V configs old passes left c.args.crew.items begun ended control controlled =
     record { popped = search rules; given = c.in_ok-passes.ensures.spreads.each; legal = c.in_ok-passes.ensures.given_legal; from = c.lanes_with-lanes.ensures.passes; worked = worked; rested = c.side_by_side-own.ensures.rested } in
     let same = same_others others c.apart-queues.new.passes.items c.args.room.others.items ended controlled (search rules) c.apart-queues.ensures.passes c.requires.room.others in
-    All-weaker (λ pass. ComesBack (V pass)) (λ pass. IsPass flow_law (V pass)) (λ pass b. b.legal) others
-    (all_back V configs old passes left c.args.crew.items begun ended control controlled is others same)
+    all_back V configs old passes left c.args.crew.items begun ended control controlled is others same
+
+pub take_in-requires-clause-others_legal : goal.take_in-requires-clause-others_legal
+take_in-requires-clause-others_legal g c lifetimes outlives =
+    let V = g.C.Connections.view in
+    All-weaker (λ pass. ComesBack (V pass)) (λ pass. IsPass flow_law (V pass)) (λ pass b. b.legal) c.push_reserved.new.self.items (come_back g (goal.at.take_in-requires-clause-others_legal g c).After-push_reserved)
 
 pub take_in-requires-clause-others_out : goal.take_in-requires-clause-others_out
 take_in-requires-clause-others_out g c lifetimes outlives =
     let V = g.C.Connections.view in
-    let old = V c.args.pass.now in
-    let configs = configurations c.args.configs.now in
-    let passes = c.in_ok-passes.passes.items in
-    let left = c.pop.new.self.items in
-    let begun = c.lanes_with-lanes.result.items in
-    let ended = c.side_by_side-own.result.1.items in
-    let control = c.unwrap-own.result in
-    let controlled = c.side_by_side-own.result.0.0 in
-    let others = c.push_reserved.new.self.items in
-    let count : length ended ≡ length begun = search rules in
-    let worked = zip_places (HasWorked V configs) begun ended count (λ i d low. c.side_by_side-own.ensures.worked i d (search rules)) in
-    let is : IsCrew V configs old passes left c.args.crew.items begun ended control controlled =
-    record { popped = search rules; given = c.in_ok-passes.ensures.spreads.each; legal = c.in_ok-passes.ensures.given_legal; from = c.lanes_with-lanes.ensures.passes; worked = worked; rested = c.side_by_side-own.ensures.rested } in
-    let same = same_others others c.apart-queues.new.passes.items c.args.room.others.items ended controlled (search rules) c.apart-queues.ensures.passes c.requires.room.others in
-    All-weaker (λ pass. ComesBack (V pass)) (λ pass. (V pass).entered ≡ false) (λ pass b. b.out) others
-    (all_back V configs old passes left c.args.crew.items begun ended control controlled is others same)
+    All-weaker (λ pass. ComesBack (V pass)) (λ pass. (V pass).entered ≡ false) (λ pass b. b.out) c.push_reserved.new.self.items (come_back g (goal.at.take_in-requires-clause-others_out g c).After-push_reserved)
 
 pub take_in-requires-clause-unjoined : goal.take_in-requires-clause-unjoined
 take_in-requires-clause-unjoined g c lifetimes outlives =
     let V = g.C.Connections.view in
-    let old = V c.args.pass.now in
-    let configs = configurations c.args.configs.now in
-    let passes = c.in_ok-passes.passes.items in
-    let left = c.pop.new.self.items in
-    let begun = c.lanes_with-lanes.result.items in
-    let ended = c.side_by_side-own.result.1.items in
-    let control = c.unwrap-own.result in
-    let controlled = c.side_by_side-own.result.0.0 in
-    let others = c.push_reserved.new.self.items in
-    let count : length ended ≡ length begun = search rules in
-    let worked = zip_places (HasWorked V configs) begun ended count (λ i d low. c.side_by_side-own.ensures.worked i d (search rules)) in
-    let is : IsCrew V configs old passes left c.args.crew.items begun ended control controlled =
-    record { popped = search rules; given = c.in_ok-passes.ensures.spreads.each; legal = c.in_ok-passes.ensures.given_legal; from = c.lanes_with-lanes.ensures.passes; worked = worked; rested = c.side_by_side-own.ensures.rested } in
-    let same = same_others others c.apart-queues.new.passes.items c.args.room.others.items ended controlled (search rules) c.apart-queues.ensures.passes c.requires.room.others in
-    All-weaker (λ pass. ComesBack (V pass)) (λ pass. (V pass).joined ≡ []) (λ pass b. b.unjoined) others
-    (all_back V configs old passes left c.args.crew.items begun ended control controlled is others same)
+    All-weaker (λ pass. ComesBack (V pass)) (λ pass. (V pass).joined ≡ []) (λ pass b. b.unjoined) c.push_reserved.new.self.items (come_back g (goal.at.take_in-requires-clause-unjoined g c).After-push_reserved)
 
 pub returns-in_err-published-clause-back : goal.returns-in_err-published-clause-back
 returns-in_err-published-clause-back g c =

@@ -3,7 +3,7 @@ use Rattle.std.proofs.lemmas.List.{append_assoc, append-nil, drop_all, drop-set-
 use Rattle.std.proofs.lemmas.List.Elements.{All-head, All-rest}
 use Rattle.npf_engine.specs.Handles.{configurations}
 use Rattle.npf_runner.specs.Crew.{jobs_of}
-use Rattle.npf_runner.specs.Job.{Handled, Job, IsJob, numbered}
+use Rattle.npf_runner.specs.Job.{Handled, Job, IsJob, with_numbers}
 use Rattle.npf_runner.specs.Played.{handled}
 use Rattle.npf_runner.specs.Works.{WorksThrough}
 use Rattle.npf_runner.proofs.JobLemmas.{asks_range, numbered_rest}
@@ -20,7 +20,7 @@ handle-outcome-requires-clause-short g c lifetimes outlives =
     let packet = c.index_mut.result.now in
     let low : i < length packets = search rules in
     let low' : i < length numbers = search rules in
-    let left = numbered (drop (i + 1) numbers) (drop (i + 1) packets) in
+    let left = with_numbers (drop (i + 1) numbers) (drop (i + 1) packets) in
     let is = numbered_rest numbers packets i n packet low' low (search rules) (search rules) in
     All-head IsJob (record { number = n; packet = packet }) left (subst (λ jobs. All IsJob jobs) is c.loop-place.invariant.3)
 
@@ -43,9 +43,9 @@ loop-place-preserved g c =
     let inv = c.loop-place.invariant in
     let low : i < length packets = search rules in
     let low' : i < length numbers = search rules in
-    let left = numbered (drop (i + 1) numbers) (drop (i + 1) packets) in
-    let is : numbered (drop i numbers) (drop i packets) ≡ job ∷ left = numbered_rest numbers packets i n packet low' low (search rules) (search rules) in
-    let same : numbered (drop (i + 1) numbers) (drop (i + 1) (set packets i output)) ≡ left = ap (numbered (drop (i + 1) numbers)) (drop-set-lt (i + 1) packets i output (omega arith)) in
+    let left = with_numbers (drop (i + 1) numbers) (drop (i + 1) packets) in
+    let is : with_numbers (drop i numbers) (drop i packets) ≡ job ∷ left = numbered_rest numbers packets i n packet low' low (search rules) (search rules) in
+    let same : with_numbers (drop (i + 1) numbers) (drop (i + 1) (set packets i output)) ≡ left = ap (with_numbers (drop (i + 1) numbers)) (drop-set-lt (i + 1) packets i output (omega arith)) in
     let before = handled outcomes packets in
     let come : c.push_reserved.new.self.items ≡ outcomes ++ outcome ∷ [] = search rules in
     let pushed : handled c.push_reserved.new.self.items (set packets i output) ≡ before ++ done ∷ [] =
@@ -53,7 +53,7 @@ loop-place-preserved g c =
       c.handle-outcome.ensures.own,
       h.rested.legal,
       rested_more (V first.pass) (V c.loop-place.pass) (V c.handle-outcome.new.pass) inv.2 h.rested,
-      subst (λ jobs. All IsJob jobs) (sym same) (All-rest IsJob job left (numbered (drop i numbers) (drop i packets)) is inv.3),
+      subst (λ jobs. All IsJob jobs) (sym same) (All-rest IsJob job left (with_numbers (drop i numbers) (drop i packets)) is inv.3),
       asks_range c.loop-place.reader c.handle-outcome.new.reader h.handles.asked h.handles.asks ∙ inv.4,
       search rules,
       search rules,
@@ -83,6 +83,6 @@ returns-clause-worked g c =
     record {
       legal = inv.1;
       works = subst (λ z. WorksThrough configs (V first.pass) first.worker.reader (jobs_of first.worker) pass reader z) (append-nil (handled c.loop-place.outcomes.items c.loop-place.packets.items))
-          (inv.8 pass reader [] (subst (λ ns. WorksThrough configs pass reader (numbered ns left) pass reader []) (sym none) (refl, refl)));
+          (inv.8 pass reader [] (subst (λ ns. WorksThrough configs pass reader (with_numbers ns left) pass reader []) (sym none) (refl, refl)));
       same_length = search rules;
     }

@@ -1,9 +1,9 @@
-use Rattle.std.proofs.Common.{◌≡◌, ◌≤◌, ◌++◌, All, List, drop, length, vec_len, vec_capacity}
+use Rattle.std.proofs.Common.{◌≡◌, ◌≤◌, ◌++◌, All, List, drop, vec_len, vec_capacity}
 use Rattle.npf_connections.specs.Pass.{IsPass}
 use Rattle.npf_flow.specs.Flows.{flow_law}
 use Rattle.npf_publish.specs.ConfReader.{reader_range}
 use Rattle.npf_engine.specs.Handles.{configurations}
-use Rattle.npf_runner.specs.Job.{IsJob, numbered}
+use Rattle.npf_runner.specs.Job.{IsJob, with_numbers}
 use Rattle.npf_runner.specs.Played.{handled}
 use Rattle.npf_runner.specs.Works.{IsRested, WorksThrough}
 use Rattle.npf_runner.proofs.worker.work.Given as goal
@@ -13,11 +13,11 @@ invariant-loop-place g l =
     g.C.Connections.fits l.conns l.pass
     × IsPass flow_law (g.C.Connections.view l.pass)
     × IsRested (g.C.Connections.view l.initial.pass) (g.C.Connections.view l.pass)
-    × All IsJob (numbered (drop l.place l.numbers.items) (drop l.place l.packets.items))
+    × All IsJob (with_numbers (drop l.place l.numbers.items) (drop l.place l.packets.items))
     × (reader_range l.reader ≡ reader_range l.initial.reader)
     × (vec_len l.packets ≡ vec_len l.initial.packets)
     × (vec_len l.outcomes ≡ l.place)
     × (vec_len l.initial.packets ≤ vec_capacity l.outcomes)
     × ((new : _) (next : _) (dones : List _) →
-    WorksThrough (configurations l.configs) (g.C.Connections.view l.pass) l.reader (numbered (drop l.place l.numbers.items) (drop l.place l.packets.items)) new next dones →
-    WorksThrough (configurations l.configs) (g.C.Connections.view l.initial.pass) l.initial.reader (numbered l.numbers.items l.initial.packets.items) new next (handled l.outcomes.items l.packets.items ++ dones))
+    WorksThrough (configurations l.configs) (g.C.Connections.view l.pass) l.reader (with_numbers (drop l.place l.numbers.items) (drop l.place l.packets.items)) new next dones →
+    WorksThrough (configurations l.configs) (g.C.Connections.view l.initial.pass) l.initial.reader (with_numbers l.numbers.items l.initial.packets.items) new next (handled l.outcomes.items l.packets.items ++ dones))
