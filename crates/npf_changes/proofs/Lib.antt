@@ -3,5 +3,6 @@ mod AskLemmas
 mod EntryLemmas
 mod FindLemmas
 mod KeptLemmas
+mod LawLemmas
 mod ReadLemmas
 mod RemovalLemmas

@@ -1,4 +1,5 @@
 pub mod Additions
+pub mod ChangeLaws
 pub mod Changes
 pub mod Entries
 pub mod Found

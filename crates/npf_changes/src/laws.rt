@@ -1,0 +1,14 @@
+// What follows of the changes, whatever the configuration: each is a theorem about the relations that the changes answer.
+ghost use Rattle.npf_changes.specs.ChangeLaws.{OneFlush, OneRemoval, SettledAddition, SettledRemoval};
+
+/// Rules that are taken out leave one configuration, or are refused for one fault.
+pub fn one_removal()
+    ensures one_removal { OneRemoval }
+    ensures one_flush { OneFlush }
+{}
+
+/// An entry is added or taken out, or it is refused for one fault, and never both.
+pub fn settled_entries()
+    ensures addition { SettledAddition }
+    ensures removal { SettledRemoval }
+{}
