@@ -1,4 +1,5 @@
 mod AdditionLemmas
+mod AnswerLemmas
 mod AskLemmas
 mod EntryLemmas
 mod FindLemmas

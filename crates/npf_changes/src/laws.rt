@@ -1,5 +1,5 @@
 // What follows of the changes, whatever the configuration: each is a theorem about the relations that the changes answer.
-ghost use Rattle.npf_changes.specs.ChangeLaws.{OneFlush, OneRemoval, SettledAddition, SettledRemoval};
+ghost use Rattle.npf_changes.specs.ChangeLaws.{OneAddition, OneFlush, OneRemoval, SettledAddition, SettledRemoval};
 
 /// Rules that are taken out leave one configuration, or are refused for one fault.
 pub fn one_removal()
@@ -11,4 +11,10 @@ pub fn one_removal()
 pub fn settled_entries()
     ensures addition { SettledAddition }
     ensures removal { SettledRemoval }
+{}
+
+/// The rule that a text writes is added in one way, or it is refused for faults that are told alike, and never both, where all rules
+/// weigh so little together that their programs have few enough instructions.
+pub fn one_addition()
+    ensures { OneAddition }
 {}
