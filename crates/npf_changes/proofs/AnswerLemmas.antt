@@ -37,31 +37,27 @@ use Rattle.npf_changes.proofs.LawLemmas.{one_after, one_told}
 one_lexed : (text : List ℕ) (one other : Lexed) → IsOnly IsLexed text one → IsOnly IsLexed text other → one ≡ other
 one_lexed text one other is there = there.only one is.reads
 
--- two readings of a text have the same tokens
-module _ (text : List ℕ) (tokens others : List Token) (is : IsOnly IsLexed text (Ok tokens)) (other : IsOnly IsLexed text (Ok others)) where
-  same_tokens : others ≡ tokens
-  same_tokens = let same = one_lexed text (Ok tokens) (Ok others) is other in cc
-
-  same_parsed : (tree : RuleTree) → Parses lone_rule others tree → Parses lone_rule tokens tree
-  same_parsed tree parsed = subst (λ (ts : List Token). Parses lone_rule ts tree) same_tokens parsed
-
-  same_halts : (span : Span) → HaltsAt lone_rule others span → HaltsAt lone_rule tokens span
-  same_halts span halts = subst (λ (ts : List Token). HaltsAt lone_rule ts span) same_tokens halts
+-- what holds of the tokens of one reading holds of those of another
+along : (text : List ℕ) (tokens others : List Token) → IsOnly IsLexed text (Ok tokens) → IsOnly IsLexed text (Ok others) → (P : List Token → Type 0) → P others → P tokens
+along text tokens others is other P there =
+    let both = one_lexed text (Ok tokens) (Ok others) is other in
+    let same : others ≡ tokens = cc in
+    subst P same there
 
 one_reading : (text : List ℕ) → HasOneResult (ReadsRule text)
 one_reading text one two (written {tokens = ts} {tree = t} is parsed) (written {tokens = us} {tree = u} other parses) =
-    ap Ok (one_thing lone_rule lone_rule_advances ts t u parsed (same_parsed text ts us is other u parses))
+    ap Ok (one_thing lone_rule lone_rule_advances ts t u parsed (along text ts us is other (λ ts. Parses lone_rule ts u) parses))
 one_reading text one two (written {tokens = ts} is _) (in_tokens {fault = g} other) = let same = one_lexed text (Ok ts) (Err g) is other in cc
 one_reading text one two (written {tokens = ts} {tree = t} is parsed) (in_grammar {tokens = us} {span = span} other halts) =
-    absurd (not_both lone_rule lone_rule_advances ts span (t, parsed) (same_halts text ts us is other span halts))
+    absurd (not_both lone_rule lone_rule_advances ts span (t, parsed) (along text ts us is other (λ ts. HaltsAt lone_rule ts span) halts))
 one_reading text one two (in_tokens {fault = f} is) (written {tokens = us} other _) = let same = one_lexed text (Err f) (Ok us) is other in cc
 one_reading text one two (in_tokens {fault = f} is) (in_tokens {fault = g} other) = let same = one_lexed text (Err f) (Err g) is other in cc
 one_reading text one two (in_tokens {fault = f} is) (in_grammar {tokens = us} other _) = let same = one_lexed text (Err f) (Ok us) is other in cc
 one_reading text one two (in_grammar {tokens = ts} {span = span} is halts) (written {tokens = us} {tree = u} other parses) =
-    absurd (not_both lone_rule lone_rule_advances ts span (u, same_parsed text ts us is other u parses) halts)
+    absurd (not_both lone_rule lone_rule_advances ts span (u, along text ts us is other (λ ts. Parses lone_rule ts u) parses) halts)
 one_reading text one two (in_grammar {tokens = ts} is _) (in_tokens {fault = g} other) = let same = one_lexed text (Ok ts) (Err g) is other in cc
 one_reading text one two (in_grammar {tokens = ts} {span = p} is halts) (in_grammar {tokens = us} {span = q} other there) =
-    let same = one_place lone_rule lone_rule_advances ts p q halts (same_halts text ts us is other q there) in cc
+    let same = one_place lone_rule lone_rule_advances ts p q halts (along text ts us is other (λ ts. HaltsAt lone_rule ts q) there) in cc
 
 -- first faults of one list stand at one place and have one number
 no_first : (faults : List ConfFault) (fault : ConfFault) → faults ≡ [] → ¬ IsFirstFaultOf faults fault
