@@ -33,7 +33,7 @@ OneRemoval = (old : Configuration) (name : Name) (id : ℕ) → HasOneResult (Re
 abbrev pub OneFlush : Type 0
 OneFlush = (old : Configuration) (name : Name) → HasOneResult (FlushesRules old name)
 
--- an entry is added, or it is refused for one fault, and never both; in which order the entries stand isn't said
+-- an entry is added, or it is refused for one fault, and never both; the tables that come of it aren't compared
 abbrev pub SettledAddition : Type 0
 SettledAddition = (old : Configuration) (name : Name) (prefix : Prefix) → AreSettled (AddsEntry old name prefix) (AddsEntry old name prefix)
 
