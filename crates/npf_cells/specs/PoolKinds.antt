@@ -13,7 +13,7 @@ use Rattle.npf_cells.specs.declared.views.PoolSide.{PoolSide}
 use Rattle.npf_cells.specs.Cells.{IsCells}
 use Rattle.npf_cells.specs.Layout.{pool_at, pool_words, place_word}
 
--- a pass owns no more nodes than there are levels of the trie
+-- a pass that claims a node owns fewer than this: there are as many levels of the trie
 abbrev pub most_nodes : ℕ
 most_nodes = 95
 

@@ -105,7 +105,8 @@ impl<L: Law, H: KeyHash> Cells<L, H> {
     }
 
     /// Stores in a word of a node that the pass owns, but never in its state; or in a word of a connection that it is building, but
-    /// never in its turn. The fields are those of docs/ARCHITECTURE.md, counted from 0.
+    /// never in its turn, as incarnation that connection's own alone, and in the words of a key only while it holds none of that way.
+    /// The fields are those of docs/ARCHITECTURE.md, counted from 0.
     pub fn store_private(
         &self,
         pass: &mut CellPass<L>,

@@ -1,4 +1,4 @@
--- What follows of the changes of a configuration, whatever it is: each comes to one answer.
+-- How many answers the definitions of changes allow.
 use Rattle.std.specs.Prelude.{◌≡◌, ℕ, ◌≤◌, Result, Ok, Err, List}
 use Rattle.std.specs.List.{sum_by}
 use Rattle.npf_types.specs.declared.limits.TheConstants.{MAX_INSTRUCTIONS}

@@ -1,4 +1,4 @@
-// What follows of the changes, whatever the configuration: each is a theorem about the relations that the changes answer.
+// What the relations that changes answer allow: each function is a theorem about them, and does nothing.
 ghost use Rattle.npf_changes.specs.ChangeLaws.{OneAddition, OneFlush, OneRemoval, SettledAddition, SettledRemoval};
 
 /// Rules that are taken out leave one configuration, or are refused for one fault.

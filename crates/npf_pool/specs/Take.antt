@@ -28,8 +28,8 @@ pub record CountsSweep (count : ℕ) (old now : PoolSide) : Type 0 where
   pub row : 1 ≤ count → now.row ≡ count
   pub sweeps : now.sweeps ≡ old.sweeps + min count 1
 
--- the word was full in a state of the table in which the pass had found those before it full, the nodes' in a row, and nothing else
--- was new to it
+-- the word was full in a state of the table in which nothing was new to the pass but what it loaded of the pool; of nodes, it had then
+-- found those before it full, in a row
 pub record StoodFull {S A R : Type 0} (m : Meaning S A R) (layout : Layout) (pool : Pool) (view : CellView S A R) (word : ℕ) : Type 0 where
   pub side : PoolSide
   pub row : pool ≡ Nodes → 1 ≤ word → side.row ≡ word

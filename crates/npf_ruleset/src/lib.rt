@@ -4,8 +4,8 @@
 // A flat rule has the program of its rule, and beside it a small row of conditions that each packet
 // meets which the rule describes: the family, the protocols as a set of bits, and the hulls of the
 // addresses and ports of both ends. What a rule is bound to by direction and interface stands there
-// too, with what its ruleset is bound to. A walk passes over a rule whose row excludes the packet,
-// and runs the program of any other: that alone decides that the rule describes the packet.
+// too, with what its ruleset is bound to. A walk that comes to a rule runs its program only where the
+// row admits the packet: the program alone decides that the rule describes the packet.
 //
 // In a group the rules with `final` are tried upwards first, and, where none of them matched, the
 // others downwards, so that the first match ends it (npf.conf(5), "Groups" and "Rules"). A group
