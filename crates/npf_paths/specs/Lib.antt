@@ -1,0 +1,9 @@
+pub mod CellLaw
+pub mod CellWords
+pub mod FillingLaw
+pub mod Growing
+pub mod GrowingLaw
+pub mod LevelLaw
+pub mod PathLaw
+pub mod Paths
+pub mod Places
