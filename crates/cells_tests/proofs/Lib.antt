@@ -1,2 +1,1 @@
-mod PoolLemmas
 mod SlotLemmas

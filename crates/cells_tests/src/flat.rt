@@ -1,9 +1,9 @@
 // A hash of the tests' own.
-use npf_cells::KeyHash;
+use npf_digits::KeyHash;
 use npf_types::Key;
 
-// Every key has the same hash.
-pub(crate) struct Flat;
+/// Every key has the same hash.
+pub struct Flat;
 
 impl KeyHash for Flat {
     ghost digest = { λ key. 0 };

@@ -1,13 +1,12 @@
-// Nodes that 64 passes take and give back at once, each in a thread of its own.
-ghost use Rattle.std.specs.Prelude.{◌≡◌, ◌≤◌, ◌+◌, ◌<◌, length};
+// Slots that 64 passes take at once, each in a thread of its own.
+ghost use Rattle.std.specs.Prelude.{◌≡◌, ◌≤◌, ◌<◌, length};
 ghost use Rattle.std.specs.Thread.{IsSync};
-ghost use Rattle.npf_cells.specs.Passes.{IsPassOf, IsProtected};
-ghost use Rattle.npf_cells.specs.PoolKinds.{most_nodes};
-ghost use Rattle.cells_tests.specs.Hands.{IsAtRest};
+ghost use Rattle.npf_cells.specs.declared.views.Pin.TheVariants.{Idle};
+ghost use Rattle.npf_cells.specs.Passes.{IsPassOf};
 
 use crate::flat::Flat;
 use npf_cells::{CellPass, Cells, Pool};
-use npf_epoch::{enter, leave};
+use npf_epoch::enter;
 use npf_flow::FlowLaw;
 use npf_pool::take;
 use std::alloc::{AllocError, Global};
@@ -16,125 +15,94 @@ use std::sync::atomic::{AtomicBool, Ordering};
 use std::test::Fail;
 use std::thread::{Threads, join};
 
-// The nodes that all share, and how often each pass takes two of them.
-const NODES: u32 = 96;
+// The slots that all share, and how many each pass asks for: 480 more in all than there are.
+const SLOTS: u32 = 20_000;
 
-const ROUNDS: u32 = 40;
+const ROUNDS: u32 = 320;
 
-// A mark for each node, which says that it lies in a hand.
+// A mark for each slot, which says that it was taken.
 fn no_marks(alloc: Global) -> Result<Vec<AtomicBool>, AllocError> {
     let mut marks = Vec::new(alloc);
-    for _ in 0..NODES {
+    for _ in 0..SLOTS {
         marks.push(AtomicBool::new(false))?;
     }
     Ok(marks)
 }
 
-// Sets or takes away the mark of a node. Answers whether it was set, or there is no such node.
-fn mark(marks: &[AtomicBool], node: u32, held: bool) -> bool {
-    match marks.get(node as usize) {
-        Some(mark) => mark.swap(held, Ordering::SeqCst),
+// Sets the mark of a slot. Answers whether it was set before, or there is no such slot.
+fn mark(marks: &[AtomicBool], slot: u32) -> bool {
+    match marks.get(slot as usize) {
+        Some(mark) => mark.swap(true, Ordering::SeqCst),
         None => true,
     }
 }
 
-// Takes so many nodes, one after another, and gives them back, the last first. Answers whether one of them lay in another hand.
-#[tactic(auto, using(crate::proofs::PoolLemmas::returned))]
-fn hold(
-    rt: &impl Wait,
-    cells: &Cells<FlowLaw, Flat>,
-    pass: &mut CellPass<FlowLaw>,
-    marks: &[AtomicBool],
-    count: u64,
-) -> bool
-    requires own { IsPassOf cells.now.table.shared.key cells.now.table.shared.table_id pass.old.seat.table_id pass.old.readers.items pass.old.seat.me }
-    requires protected { IsProtected pass.old.seat.me.0.epochs.pin }
-    requires few { length pass.old.seat.me.0.pools.nodes + count ≤ most_nodes }
-    ensures own { IsPassOf cells.now.table.shared.key cells.now.table.shared.table_id pass.new.seat.table_id pass.new.readers.items pass.new.seat.me }
-    ensures protected { IsProtected pass.new.seat.me.0.epochs.pin }
-    ensures nodes { pass.new.seat.me.0.pools.nodes ≡ pass.old.seat.me.0.pools.nodes }
-    ensures builds { pass.new.seat.me.0.pools.builds ≡ pass.old.seat.me.0.pools.builds }
-    ensures places { pass.new.seat.me.0.seats ≡ pass.old.seat.me.0.seats }
-{
-    if count == 0 {
-        return false;
-    }
-    let Some(node) = take(rt, cells, pass, Pool::Nodes, 0) else {
-        return false;
-    };
-    let held = mark(marks, node, true);
-    let more = hold(rt, cells, pass, marks, count - 1);
-    mark(marks, node, false);
-    cells.give_back(pass, Pool::Nodes, node);
-    held || more
+// How many slots are marked.
+fn marked(marks: &[AtomicBool]) -> usize {
+    marks
+        .iter()
+        .filter(|mark| mark.load(Ordering::SeqCst))
+        .count()
 }
 
-// One pass's work. Answers whether it held a node that lay in another hand.
+// One pass's work, which leaves what it claimed to itself. Answers whether one of its slots was taken before.
 fn work(
     rt: &impl Wait,
     cells: &Cells<FlowLaw, Flat>,
     pass: CellPass<FlowLaw>,
     marks: &[AtomicBool],
-) -> (CellPass<FlowLaw>, bool)
+) -> bool
     requires own { IsPassOf cells.now.table.shared.key cells.now.table.shared.table_id pass.seat.table_id pass.readers.items pass.seat.me }
-    requires rests { IsAtRest pass.seat.me.0 }
-    ensures own { IsPassOf cells.now.table.shared.key cells.now.table.shared.table_id result.0.seat.table_id result.0.readers.items result.0.seat.me }
-    ensures rests { IsAtRest result.0.seat.me.0 }
+    requires out { pass.seat.me.0.epochs.pin ≡ Idle }
 {
     let mut pass = pass;
-    let mut held = false;
+    let mut twice = false;
     enter(cells, &mut pass);
     for _ in 0..ROUNDS {
-        held = hold(rt, cells, &mut pass, marks, 2) || held;
+        if let Some(slot) = take(rt, cells, &mut pass, Pool::Slots, 7) {
+            twice = mark(marks, slot) || twice;
+        }
     }
-    leave(cells, &mut pass);
-    (pass, held)
+    twice
 }
 
-// The pass's work, beside that of so many others that are split off. Answers whether two of them held one node at once.
+// The pass's work, beside that of so many others that are split off. Answers whether a slot was taken twice.
 fn work_beside<R: Threads + Wait + Sync>(
     rt: &R,
     cells: &Cells<FlowLaw, Flat>,
     pass: CellPass<FlowLaw>,
     marks: &[AtomicBool],
     others: u64,
-) -> (CellPass<FlowLaw>, bool)
+) -> bool
     requires own { IsPassOf cells.now.table.shared.key cells.now.table.shared.table_id pass.seat.table_id pass.readers.items pass.seat.me }
-    requires rests { IsAtRest pass.seat.me.0 }
+    requires out { pass.seat.me.0.epochs.pin ≡ Idle }
     requires places { others < length pass.seat.me.0.seats.readers }
-    ensures own { IsPassOf cells.now.table.shared.key cells.now.table.shared.table_id result.0.seat.table_id result.0.readers.items result.0.seat.me }
-    ensures rests { IsAtRest result.0.seat.me.0 }
 {
     if others == 0 {
         return work(rt, cells, pass, marks);
     }
     let mut pass = pass;
     let other = cells.split(&mut pass);
-    let ((other, held), (pass, more)) = join(
+    let (twice, more) = join(
         rt,
         move ||
-            requires { IsPassOf cells.now.table.shared.key cells.now.table.shared.table_id other.seat.table_id other.readers.items other.seat.me × IsAtRest other.seat.me.0 }
+            requires { IsPassOf cells.now.table.shared.key cells.now.table.shared.table_id other.seat.table_id other.readers.items other.seat.me × (other.seat.me.0.epochs.pin ≡ Idle) }
         { work(rt, cells, other, marks) },
         move ||
-            requires { IsSync R.row × IsPassOf cells.now.table.shared.key cells.now.table.shared.table_id pass.seat.table_id pass.readers.items pass.seat.me × IsAtRest pass.seat.me.0 × (0 < others) × (others ≤ length pass.seat.me.0.seats.readers) }
-            ensures { IsPassOf cells.entry.now.table.shared.key cells.entry.now.table.shared.table_id result.0.seat.table_id result.0.readers.items result.0.seat.me × IsAtRest result.0.seat.me.0 }
+            requires { IsSync R.row × IsPassOf cells.now.table.shared.key cells.now.table.shared.table_id pass.seat.table_id pass.readers.items pass.seat.me × (pass.seat.me.0.epochs.pin ≡ Idle) × (0 < others) × (others ≤ length pass.seat.me.0.seats.readers) }
         { work_beside(rt, cells, pass, marks, others - 1) },
     );
-    let mut pass = pass;
-    cells.join(&mut pass, other);
-    (pass, held || more)
+    twice || more
 }
 
 #[test]
-fn no_node_lies_in_two_hands(rt: HostRuntime) -> Result<(), Fail> {
+fn no_slot_is_taken_twice(rt: HostRuntime) -> Result<(), Fail> {
     let marks = no_marks(rt.alloc())?;
-    let (cells, pass) = Cells::<FlowLaw, Flat>::new(rt.alloc(), 64, NODES)?;
-    let (mut pass, held) = work_beside(&rt, &cells, pass, marks.as_slice(), 63);
-    assert_eq!(rt; held, false);
-    assert_eq!(rt; cells.load_pool(&mut pass, Pool::Nodes, 0), 0);
-    assert_eq!(rt;
-        cells.load_pool(&mut pass, Pool::Nodes, 1),
-        0xFFFF_FFFF_0000_0000
-    );
+    let (cells, mut pass) = Cells::<FlowLaw, Flat>::new(rt.alloc(), SLOTS, 16)?;
+    let mut last = cells.split(&mut pass);
+    assert_eq!(rt; work_beside(&rt, &cells, pass, marks.as_slice(), 63), false);
+    assert_eq!(rt; marked(marks.as_slice()), 20_000);
+    enter(&cells, &mut last);
+    assert_eq!(rt; take(&rt, &cells, &mut last, Pool::Slots, 7), None);
     Ok(())
 }

@@ -191,7 +191,7 @@ module _ {S A R : Type 0} (m : Meaning S A R) (layout : Layout) (log : List (Ent
 
 -- two seats that build in one slot are one
 pub builds_alone : {S A R : Type 0} (m : Meaning S A R) (layout : Layout) → BuildsAlone m layout
-builds_alone m layout s i j v w id other kept at there mine theirs same =
+builds_alone m layout digest s i j v w id other kept at there mine theirs same =
     let k = state_of m kept.log in
     let first = (building_at (k.slot id.slot) id.inc i ((kept.connections.each i v at).building id mine)).1 in
     let second = (building_at (k.slot other.slot) other.inc j ((kept.connections.each j w there).building other theirs)).1 in

@@ -6,9 +6,11 @@ use Rattle.std.proofs.lemmas.List.Elements.{Contains-append_left, Contains-appen
 use mathlib.Core.Option.{some}
 use lib.ListN.{get_elem?}
 use Rattle.atomic_table.specs.Seated.{TableId}
-use Rattle.atomic_table.specs.Table.{Me, Step, Allows, Splits, Joins, keeps}
+use Rattle.atomic_table.specs.Table.{State, Me, Step, Allows, Splits, Joins, keeps}
 use Rattle.atomic_table.proofs.Lists.{at_map, set_else}
+use Rattle.npf_types.specs.declared.key.Key.{Key}
 use Rattle.npf_core.specs.Meaning.{Meaning}
+use Rattle.npf_core.specs.Machine.{Machine}
 use Rattle.npf_core.specs.History.{state_of}
 use Rattle.npf_core.proofs.HistoryLemmas.{Legal-prefix}
 use Rattle.npf_connections.specs.Joining.{IsSplit, IsJoined}
@@ -19,33 +21,47 @@ use Rattle.npf_cells.specs.declared.views.Pin.TheVariants.{Idle}
 use Rattle.npf_cells.specs.Cells.{seat_side, reader_view, IsCells}
 use Rattle.npf_cells.specs.Epochs.{Epochs, pin_place}
 use Rattle.npf_cells.specs.Layout.{epoch_word, reader_word}
-use Rattle.npf_cells.specs.Moves.{given_seat, gives_reader, given_view, taking_seat, takes_in, nothing_left, IsBorn, HasRead}
+use Rattle.npf_cells.specs.Moves.{given_seat, gives_reader, given_view, taking_seat, joined_pools, joined_trie, takes_in, nothing_left, IsBorn, HasRead}
 use Rattle.npf_cells.specs.Passes.{cell_pass, IsPassOf}
 use Rattle.npf_cells.specs.Pools.{taken, OwnsNothing}
 use Rattle.npf_cells.specs.Seats.{Seats}
+use Rattle.npf_cells.specs.Stored.{FitsStored}
+use Rattle.npf_cells.specs.Trie.{TrieWords, trie_words, FitsTrie}
 use Rattle.npf_cells.proofs.EpochLemmas.{epochs-split, epochs-join}
 use Rattle.npf_cells.proofs.ConnLemmas.{fits_nothing, owes_nothing, builds-set, builds-kept, builds-push, unstored-set, unstored-push, conns-same}
 use Rattle.npf_cells.proofs.Frames.{pushed_side, merged_side, framed, seats_step, spent-set, spent-push}
+use Rattle.npf_cells.proofs.LockLemmas.{locks-same, holders-set, holders-push}
 use Rattle.npf_cells.proofs.PoolLemmas.{pools-same, taken-set, taken-push}
 use Rattle.npf_cells.proofs.PrefixLemmas.{none_listed, none_in_prefix, seen_entry}
 use Rattle.npf_cells.proofs.SeatLemmas.{unspent, seats-split, none_seen, seats-born, seats-join, long, mine_seen, told_seen, seats-read, only_seat, most_places, owned_within}
+use Rattle.npf_cells.proofs.TrieLemmas.{KeepsTrie, knows_same, trie_kept, fits-set, fits-push, fits_unread, keeps_words}
+use Rattle.npf_cells.proofs.StoredLemmas.{fits_unstored, own_same, stored_kept, stored-set, stored-push}
 use Rattle.npf_cells.proofs.SumLemmas.{first_occurs}
 
-module _ {S A R F : Type 0} (m : Meaning S A R) (layout : Layout) where
+module _ {S A R F : Type 0} (m : Meaning S A R) (digest : Key → ℕ) (layout : Layout) where
+  keeps_all : (s : State F (CellView S A R)) (kept : IsCells m digest layout s) → KeepsTrie layout.slots (state_of m kept.log) (state_of m kept.log) (trie_words layout s.words) (trie_words layout s.words)
+  keeps_all s kept = keeps_words layout (state_of m kept.log) (state_of m kept.log) s.words s.words (λ key. refl) (λ identity c. c) (λ j h. refl)
+
   -- a seat is split so
   pub splits : (id : ℕ) (v : CellView S A R) → v.seats.lives ≡ true → v.epochs.pin ≡ Idle → 2 ≤ length v.seats.readers →
-      Splits (IsCells {F = F} m layout) id v (gives_reader v) (given_view v)
+      Splits (IsCells {F = F} m digest layout) id v (gives_reader v) (given_view v)
   splits id v lives idle places s kept at =
-      framed m layout s (record { words = s.words; homes = s.homes; views = set s.views id (gives_reader v) ++ given_view v ∷ [] }) kept kept.log refl
+      framed m digest layout s (record { words = s.words; homes = s.homes; views = set s.views id (gives_reader v) ++ given_view v ∷ [] }) kept kept.published kept.log refl
       (subst (λ sides. Seats layout.slots kept.log sides) (sym (pushed_side seat_side s.views id (gives_reader v) (given_view v)))
       (seats-split layout.slots kept.log (map seat_side s.views) id v.seats kept.seats (at_map seat_side s.views id v at) lives places))
       (subst (λ rs. Epochs (epoch_word s.words) (reader_word s.words) rs) (sym (pushed_side reader_view s.views id (gives_reader v) (given_view v)))
       (epochs-split (epoch_word s.words) (reader_word s.words) (map reader_view s.views) kept.epochs id (length v.seats.readers - 1) (reader_view v) (at_map reader_view s.views id v at) idle))
-      (pools-same layout (taken (state_of m kept.log) s.views) (taken (state_of m kept.log) (set s.views id (gives_reader v) ++ given_view v ∷ [])) s.words s.words kept.pools refl (λ j h. refl)
-      (λ pool p. taken-push (state_of m kept.log) (set s.views id (gives_reader v)) (given_view v) refl pool p ∙ taken-set (state_of m kept.log) s.views id v (gives_reader v) at refl pool p))
+      (pools-same layout (taken kept.published (state_of m kept.log) s.views) (taken kept.published (state_of m kept.log) (set s.views id (gives_reader v) ++ given_view v ∷ [])) s.words s.words kept.pools refl (λ j h. refl)
+      (λ pool p. taken-push kept.published (state_of m kept.log) (set s.views id (gives_reader v)) (given_view v) refl pool p ∙ taken-set kept.published (state_of m kept.log) s.views id v (gives_reader v) at refl pool p))
+      (trie_kept digest layout kept.published (state_of m kept.log) (state_of m kept.log) s.words s.words s.views (set s.views id (gives_reader v) ++ given_view v ∷ []) kept.trie (keeps_all s kept)
+      (fits-push digest layout.slots (state_of m kept.log) (trie_words layout s.words) (set s.views id (gives_reader v)) (given_view v) (fits_unread digest layout.slots (state_of m kept.log) (trie_words layout s.words))
+      (fits-set digest layout.slots (state_of m kept.log) (trie_words layout s.words) s.views id (gives_reader v) (kept.trie.each id v at) kept.trie.each)))
       (conns-same m layout kept.log s.words s.words s.views (set s.views id (gives_reader v) ++ given_view v ∷ []) kept.connections refl (λ slot h. refl)
       (builds-push (state_of m kept.log) (set s.views id (gives_reader v)) (given_view v) refl refl (builds-kept (state_of m kept.log) s.views id v (gives_reader v) at refl refl kept.connections.each))
       (λ slot. unstored-push (set s.views id (gives_reader v)) (given_view v) refl slot ∙ unstored-set s.views id v (gives_reader v) at refl slot))
+      (stored-push layout s.words (set s.views id (gives_reader v)) (given_view v) (fits_unstored layout s.words (given_view v).pools refl) (stored-set layout s.words s.views id (gives_reader v) (kept.stored id v at) (λ j u ne there. kept.stored j u there)))
+      (locks-same layout s.words s.words s.views (set s.views id (gives_reader v) ++ given_view v ∷ []) kept.locks (λ lock h. refl)
+      (λ lock. holders-push layout (set s.views id (gives_reader v)) (given_view v) refl lock ∙ holders-set layout s.views id v (gives_reader v) at refl lock))
       (spent-push (set s.views id (gives_reader v)) (given_view v) (record { nodes = refl; builds = refl }) (spent-set s.views id (gives_reader v) some_left kept.spent))
     where
       some_left : length (gives_reader v).seats.readers ≡ 0 → OwnsNothing v.pools
@@ -53,30 +69,43 @@ module _ {S A R F : Type 0} (m : Meaning S A R) (layout : Layout) where
 
   -- two seats are joined so
   pub joins : (id : ℕ) (v : CellView S A R) (other : ℕ) (w : CellView S A R) → v.seats.lives ≡ true → v.seats.theirs ≡ [] → v.epochs.pin ≡ Idle → 1 ≤ length v.seats.readers →
-      w.seats.lives ≡ true → w.seats.theirs ≡ [] → w.epochs.pin ≡ Idle → w.pools.nodes ≡ [] → w.pools.builds ≡ [] → Joins (IsCells {F = F} m layout) id v other w (takes_in v w) nothing_left
-  joins id v other w lives theirs idle place w-lives w-theirs w-idle w-nodes w-builds s kept at apart there =
+      w.seats.lives ≡ true → w.seats.theirs ≡ [] → w.epochs.pin ≡ Idle → w.pools.nodes ≡ [] → w.pools.builds ≡ [] → w.trie.locks ≡ [] → Joins (IsCells {F = F} m digest layout) id v other w (takes_in v w) nothing_left
+  joins id v other w lives theirs idle place w-lives w-theirs w-idle w-nodes w-builds w-locks s kept at apart there =
       let was : get_elem? s.views other ≡ some w = sym (set_else s.views id other (takes_in v w) apart) ∙ there in
-      framed m layout s (record { words = s.words; homes = s.homes; views = set (set s.views id (takes_in v w)) other nothing_left }) kept kept.log refl
+      framed m digest layout s (record { words = s.words; homes = s.homes; views = set (set s.views id (takes_in v w)) other nothing_left }) kept kept.published kept.log refl
       (subst (λ sides. Seats layout.slots kept.log sides) (sym (merged_side seat_side s.views id other (takes_in v w) nothing_left))
       (seats-join layout.slots kept.log (map seat_side s.views) id v.seats other w.seats kept.seats (at_map seat_side s.views id v at) apart (at_map seat_side s.views other w was)
       lives theirs place w-lives w-theirs))
       (subst (λ rs. Epochs (epoch_word s.words) (reader_word s.words) rs) (sym (merged_side reader_view s.views id other (takes_in v w) nothing_left))
       (epochs-join (epoch_word s.words) (reader_word s.words) (map reader_view s.views) kept.epochs id other (reader_view v) (reader_view w) apart
       (at_map reader_view s.views id v at) (at_map reader_view s.views other w was) idle w-idle))
-      (pools-same layout (taken (state_of m kept.log) s.views) (taken (state_of m kept.log) (set (set s.views id (takes_in v w)) other nothing_left)) s.words s.words kept.pools refl (λ j h. refl)
-      (λ pool p. taken-set (state_of m kept.log) (set s.views id (takes_in v w)) other w nothing_left there (sym w-nodes) pool p ∙ taken-set (state_of m kept.log) s.views id v (takes_in v w) at refl pool p))
+      (pools-same layout (taken kept.published (state_of m kept.log) s.views) (taken kept.published (state_of m kept.log) (set (set s.views id (takes_in v w)) other nothing_left)) s.words s.words kept.pools refl (λ j h. refl)
+      (λ pool p. taken-set kept.published (state_of m kept.log) (set s.views id (takes_in v w)) other w nothing_left there (sym w-nodes) pool p ∙ taken-set kept.published (state_of m kept.log) s.views id v (takes_in v w) at refl pool p))
+      (trie_kept digest layout kept.published (state_of m kept.log) (state_of m kept.log) s.words s.words s.views (set (set s.views id (takes_in v w)) other nothing_left) kept.trie (keeps_all s kept)
+      (fits-set digest layout.slots (state_of m kept.log) (trie_words layout s.words) (set s.views id (takes_in v w)) other nothing_left (fits_unread digest layout.slots (state_of m kept.log) (trie_words layout s.words))
+      (fits-set digest layout.slots (state_of m kept.log) (trie_words layout s.words) s.views id (takes_in v w) (taker_fits (kept.trie.each id v at)) kept.trie.each)))
       (conns-same m layout kept.log s.words s.words s.views (set (set s.views id (takes_in v w)) other nothing_left) kept.connections refl (λ slot h. refl)
       (builds-set (state_of m kept.log) (set s.views id (takes_in v w)) other nothing_left (fits_nothing (state_of m kept.log) other) (builds-kept (state_of m kept.log) s.views id v (takes_in v w) at refl refl kept.connections.each))
       (λ slot. unstored-set (set s.views id (takes_in v w)) other w nothing_left there (sym (owes_nothing (state_of m kept.log) other w.pools.builds w.pools.unstored (kept.connections.each other w was) w-builds)) slot
       ∙ unstored-set s.views id v (takes_in v w) at refl slot))
+      (stored-set layout s.words (set s.views id (takes_in v w)) other nothing_left (fits_unstored layout s.words (nothing_left {S = S} {A = A} {R = R}).pools refl)
+      (λ j u ne there'. stored-set layout s.words s.views id (takes_in v w) (taker_stored (kept.stored id v at)) (λ i x ne' e. kept.stored i x e) j u there'))
+      (locks-same layout s.words s.words s.views (set (set s.views id (takes_in v w)) other nothing_left) kept.locks (λ lock h. refl)
+      (λ lock. holders-set layout (set s.views id (takes_in v w)) other w nothing_left there (sym w-locks) lock ∙ holders-set layout s.views id v (takes_in v w) at refl lock))
       (spent-set (set s.views id (takes_in v w)) other nothing_left (λ _. record { nodes = refl; builds = refl }) (spent-set s.views id (takes_in v w) some_left kept.spent))
     where
+      taker_stored : {words : List ℕ} → FitsStored layout words v.pools → FitsStored layout words (joined_pools v.pools w.pools)
+      taker_stored {words} fits = stored_kept layout words words v.pools (joined_pools v.pools w.pools) fits refl (own_same layout v.pools (joined_pools v.pools w.pools) refl refl) (λ pool place field own. refl)
+
+      taker_fits : {k : Machine S} {t : TrieWords} → FitsTrie digest layout.slots k t v.trie → FitsTrie digest layout.slots k t (joined_trie v.trie w.trie)
+      taker_fits fits = record { stands = fits.stands; leaf = fits.leaf; seen = fits.seen; claimed = fits.claimed }
+
       some_left : length (v.seats.readers ++ w.seats.readers) ≡ 0 → OwnsNothing (takes_in v w).pools
       some_left none = let has = length-append v.seats.readers w.seats.readers in absurd (omega (arith, has, none, place))
 
   -- a new seat gets its number by a load
   pub gets_born : (st : Step F) (id n i : ℕ) (me : Me F (CellView S A R)) → me.0.seats.lives ≡ false → 1 ≤ length me.0.seats.readers →
-      Allows (IsCells m layout) n id me i (λ k. k) (IsBorn m st me)
+      Allows (IsCells m digest layout) n id me i (λ k. k) (IsBorn m st me)
   gets_born st id n i me lives place s kept homes at bound =
       let v = me.0 in
       let there = at_map seat_side s.views id v at in
@@ -84,7 +113,7 @@ module _ {S A R F : Type 0} (m : Meaning S A R) (layout : Layout) where
         record v { seats = record v.seats { number = id; lives = true; others = [] } },
         keeps,
         tt,
-        seats_step m layout s i id me.1 v (record v { seats = record v.seats { number = id; lives = true; others = [] } }) kept at refl refl
+        seats_step m digest layout s i id me.1 v (record v { seats = record v.seats { number = id; lives = true; others = [] } }) kept at refl refl (knows_same v.trie)
             (seats-born layout.slots kept.log (map seat_side s.views) id v.seats kept.seats there lives place),
         record {
           number = id;
@@ -98,7 +127,7 @@ module _ {S A R F : Type 0} (m : Meaning S A R) (layout : Layout) where
 
   -- a seat reads what it was told by a load
   pub reads : (st : Step F) (id n i : ℕ) (me : Me F (CellView S A R)) → me.0.seats.lives ≡ true → 1 ≤ length me.0.seats.readers →
-      Allows (IsCells m layout) n id me i (λ k. k) (HasRead m st me)
+      Allows (IsCells m digest layout) n id me i (λ k. k) (HasRead m st me)
   reads st id n i me lives place s kept homes at bound =
       let v = me.0 in
       let sides = map seat_side s.views in
@@ -110,7 +139,7 @@ module _ {S A R F : Type 0} (m : Meaning S A R) (layout : Layout) where
         next,
         keeps,
         tt,
-        seats_step m layout s i id me.1 v next kept at refl refl (seats-read layout.slots kept.log sides id v.seats kept.seats there lives),
+        seats_step m digest layout s i id me.1 v next kept at refl refl (knows_same v.trie) (seats-read layout.slots kept.log sides id v.seats kept.seats there lives),
         record {
           history = long.history;
           is = refl;
@@ -173,16 +202,19 @@ module _ {S A R F : Type 0} (m : Meaning S A R) (st : Step F) (v w : CellView S 
     takes = rw (length-append v.seats.readers w.seats.readers) refl;
   })
 
-  pub joined_pass : v.pools.builds ≡ [] → IsPass m (cell_pass next.0)
-  joined_pass done = record {
+  pub joined_pass : v.pools.builds ≡ [] → v.trie.answered ≡ [] → IsPass m (cell_pass next.0)
+  joined_pass done quiet = record {
     legal = rw view l.legal;
-    stays = λ id c. absurd (none_listed id c);
+    stays = λ id c. absurd (none_listed id (subst (λ ids. Contains ids id) answered c));
     building = λ id c. absurd (none_listed id (subst (λ ids. Contains ids id) builds c));
-    unanswered = λ _. refl;
+    unanswered = λ _. answered;
     idle = λ _. builds;
     alone = λ all e c. ⊎_elim (λ none. absurd (seen_entry l.history e none (rw view at c))) (λ own. own) (l.sole (sym (ap (λ (y : CellView S A R). length y.seats.readers) view) ∙ all) e.seat);
   }
     where
+      answered : next.0.trie.answered ≡ []
+      answered = ap (λ (y : CellView S A R). y.trie.answered) view ∙ quiet
+
       builds : next.0.pools.builds ≡ []
       builds = ap (λ (y : CellView S A R). y.pools.builds) view ∙ done
 
@@ -220,6 +252,8 @@ module _ {S A R F : Type 0} (m : Meaning S A R) (layout : Layout) (table seat : 
         most = (let a = own.most in omega (arith, kept, a));
         reader = (let a = own.reader in omega (arith, first, a));
         epoch = own.epoch;
+        unanswered = own.unanswered;
+        unlocked = own.unlocked;
       })
 
   pub given_on : (st : Step F) (seat' : TableId) (readers' : List ℕ) (found : ℕ) (next : Me F (CellView S A R)) → 2 ≤ length me.0.seats.readers → seat' ≡ seat →
@@ -238,6 +272,8 @@ module _ {S A R F : Type 0} (m : Meaning S A R) (layout : Layout) (table seat : 
         most = omega (arith, dropped);
         reader = born.reader;
         epoch = omega arith;
+        unanswered = λ _. refl;
+        unlocked = λ _. refl;
       })
 
   pub joined_on : (w : CellView S A R) (st : Step F) (seat' : TableId) (readers' : List ℕ) (found : ℕ) (next : Me F (CellView S A R)) → seat' ≡ seat →
@@ -258,6 +294,8 @@ module _ {S A R F : Type 0} (m : Meaning S A R) (layout : Layout) (table seat : 
         most = read.most;
         reader = (let a = own.reader in omega (arith, first, a));
         epoch = own.epoch;
+        unanswered = own.unanswered;
+        unlocked = own.unlocked;
       })
 
 -- the last of the reader places is what is dropped

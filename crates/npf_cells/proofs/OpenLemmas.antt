@@ -10,9 +10,15 @@ use Rattle.std.proofs.lemmas.Nat.Bits.{bit_at-zero, bit_at_mask_inside, bit_at_m
 use mathlib.Core.Option.{some, some-injective, some-ne-none}
 use lib.ListN.{get_elem?}
 use Rattle.atomic_table.specs.Table.{opening as table_opening}
+use Rattle.npf_types.specs.declared.key.Key.{Key}
 use Rattle.npf_core.specs.Machine.{opening}
 use Rattle.npf_core.specs.Meaning.{Meaning}
 use Rattle.npf_connections.specs.Pass.{all_places}
+use Rattle.npf_paths.specs.declared.cell.Cell.TheVariants.{Empty, Leaf, Node}
+use Rattle.npf_paths.specs.declared.place.Lock.{Lock}
+use Rattle.npf_paths.specs.declared.place.Place.{Place}
+use Rattle.npf_paths.proofs.LevelLemmas.{bare_has_levels}
+use Rattle.npf_paths.specs.CellWords.{cell_of}
 use Rattle.npf_cells.specs.declared.layout.Layout.{Layout}
 use Rattle.npf_cells.specs.declared.layout.Pool.{Pool}
 use Rattle.npf_cells.specs.declared.layout.Pool.TheVariants.{Slots, Nodes}
@@ -25,11 +31,17 @@ use Rattle.npf_cells.specs.Layout.{pools_at, pool_words, pool_places, pool_at, p
 use Rattle.npf_cells.specs.Opening.{with_past, opening_words}
 use Rattle.npf_cells.specs.Pools.{taken, OwnsNothing}
 use Rattle.npf_cells.specs.Seats.{FitsSeats, Seats}
+use Rattle.npf_cells.specs.Locks.{lock_at, has_lock, lock_holders}
+use Rattle.npf_cells.specs.Stored.{FitsStored}
+use Rattle.npf_cells.specs.Trie.{is_in_trie, place_at, trie_words, holder_at, FitsTrie}
 use Rattle.npf_cells.specs.Sums.{occurs, numbers_below}
 use Rattle.npf_cells.proofs.ConnLemmas.{fits_nothing}
 use Rattle.npf_cells.proofs.EpochLemmas.{idle_holds}
 use Rattle.npf_cells.proofs.PrefixLemmas.{none_listed, prefix_of_none}
 use Rattle.npf_cells.proofs.SeatLemmas.{cases_lt}
+use Rattle.npf_cells.proofs.LockLemmas.{lock_behind}
+use Rattle.npf_cells.proofs.StoredLemmas.{fits_unstored}
+use Rattle.npf_cells.proofs.TrieLemmas.{place_behind, fits_unread}
 use Rattle.npf_cells.proofs.SumLemmas.{occurs_below, occurs_beyond, length-numbers_below}
 
 zeros : (n i : ℕ) → slice_index (replicate n 0) i ≡ 0
@@ -132,6 +144,11 @@ module _ (layout : Layout) where
       ∙ bit_past (pool_at layout Slots) layout.slots start slots_reach (λ i low high. start_zero i (omega (arith, low))) p h k
   past Nodes p h k = bit_past (pool_at layout Nodes) layout.nodes middle nodes_reach (λ i low high. middle_zero i low) p h k
 
+-- no cell is said by 0
+nothing_in : (b : Bool) (word : ℕ) → word ≡ 0 → cond b (cell_of word) Empty ≡ Empty
+nothing_in true word e = ap cell_of e
+nothing_in false word e = refl
+
 module _ {S A R : Type 0} (layout : Layout) where
   abbrev view : CellView S A R
   view = first_cell_view layout
@@ -165,14 +182,15 @@ module _ {S A R : Type 0} (layout : Layout) where
       each (suc j) v e = absurd (some-ne-none v (sym e))
 
   -- no place is taken
-  untaken : (v : CellView S A R) → v.pools.nodes ≡ [] → (pool : Pool) (p : ℕ) → taken opening (v ∷ []) pool p ≡ 0
+  untaken : (v : CellView S A R) → v.pools.nodes ≡ [] → (pool : Pool) (p : ℕ) → taken [] opening (v ∷ []) pool p ≡ 0
   untaken v none Slots p = refl
   untaken v none Nodes p = let a = sum_by-cons (λ (u : CellView S A R). occurs p u.pools.nodes) v [] in let b : occurs p v.pools.nodes ≡ 0 = ap (occurs p) none in omega (arith, a, b)
 
   -- the rule of a new table
-  pub opens : {F : Type 0} (m : Meaning S A R) (words : List ℕ) (homes : List F) → words ≡ opening_words layout → IsCells m layout (table_opening words homes (first_cell_view {S = S} {A = A} {R = R} layout))
-  opens m words homes is = rw is (record {
+  pub opens : {F : Type 0} (m : Meaning S A R) (digest : Key → ℕ) (words : List ℕ) (homes : List F) → words ≡ opening_words layout → IsCells m digest layout (table_opening words homes (first_cell_view {S = S} {A = A} {R = R} layout))
+  opens m digest words homes is = rw is (record {
     log = [];
+    published = [];
     seats = first_seats;
     epochs = record {
       from = omega (arith, epoch);
@@ -187,9 +205,17 @@ module _ {S A R : Type 0} (layout : Layout) where
       past = past layout;
       beyond = λ p h. untaken view refl Nodes p;
     };
-    trie = record { reach = (let a = count layout in omega (arith, a)) };
+    trie = record {
+      ends = λ key level p end. sym (ap (λ cell. holder_at (trie_words layout (opening_words layout)) cell key) (blank p));
+      leaves = λ digits level p slot way are on e. absurd (let no : Empty ≡ Leaf slot way = sym (blank p) ∙ e in cc);
+      nodes = λ digits level p node are on e. absurd (let no : Empty ≡ Node node = sym (blank p) ∙ e in cc);
+      homes = λ digits level p slot way are on e. absurd (let no : Empty ≡ Leaf slot way = sym (blank p) ∙ e in cc);
+      levels = bare_has_levels (trie_words layout (opening_words layout)).cell (λ p. rw (blank p) tt);
+      each = unread;
+    };
     connections = record { reach = count layout; legal = tt; each = builds_none; incs = no_incs };
-    nodes = record { reach = (let a = count layout in omega (arith, a)) };
+    stored = unstored;
+    locks = record { says = λ lock h. behind layout (lock_at layout lock) (lock_behind layout lock) ∙ sym (unheld lock); alone = λ lock h. (let none = unheld lock in omega (arith, none)) };
     spent = λ j v e none. nothing j v e;
   })
     where
@@ -216,6 +242,22 @@ module _ {S A R : Type 0} (layout : Layout) where
       nobody : (j : ℕ) (r : ReaderView) → get_elem? (reader_view view ∷ []) j ≡ some r → (place : ℕ) → Contains r.side.scanned place → ⊥
       nobody zero r e place c = none_listed place (subst (λ (u : ReaderView). Contains u.side.scanned place) (sym (some-injective _ _ e)) c)
       nobody (suc j) r e place c = absurd (some-ne-none r (sym e))
+
+      -- nothing stands in the trie
+      blank : (p : Place) → (trie_words layout (opening_words layout)).cell p ≡ Empty
+      blank p = nothing_in (is_in_trie layout p) (slice_index (opening_words layout) (place_at layout p)) (behind layout (place_at layout p) (place_behind layout p))
+
+      unread : (j : ℕ) (v : CellView S A R) → get_elem? (view ∷ []) j ≡ some v → FitsTrie {S = S} digest layout.slots opening (trie_words layout (opening_words layout)) v.trie
+      unread zero v e = subst (λ (u : CellView S A R). FitsTrie {S = S} digest layout.slots opening (trie_words layout (opening_words layout)) u.trie) (some-injective _ _ e)
+          (fits_unread digest layout.slots opening (trie_words layout (opening_words layout)))
+      unread (suc j) v e = absurd (some-ne-none v (sym e))
+
+      unstored : (j : ℕ) (v : CellView S A R) → get_elem? (view ∷ []) j ≡ some v → FitsStored layout (opening_words layout) v.pools
+      unstored zero v e = subst (λ (u : CellView S A R). FitsStored layout (opening_words layout) u.pools) (some-injective _ _ e) (fits_unstored layout (opening_words layout) view.pools refl)
+      unstored (suc j) v e = absurd (some-ne-none v (sym e))
+
+      unheld : (lock : Lock) → lock_holders layout (view ∷ []) lock ≡ 0
+      unheld lock = sum_by-cons (λ (u : CellView S A R). has_lock layout lock u.trie.locks) view []
 
       nothing : (j : ℕ) (v : CellView S A R) → get_elem? (view ∷ []) j ≡ some v → OwnsNothing v.pools
       nothing zero v e = subst (λ (u : CellView S A R). OwnsNothing u.pools) (some-injective _ _ e) (record { nodes = refl; builds = refl })

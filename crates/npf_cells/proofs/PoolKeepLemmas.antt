@@ -5,12 +5,14 @@ use Rattle.std.specs.List.{Contains}
 use Rattle.std.proofs.lemmas.Bool.{cases_eq}
 use Rattle.std.proofs.lemmas.Bool.Decides.{Decides-eqb, not_from_Decides}
 use Rattle.std.proofs.lemmas.List.{get_or-set_other, set-get_or}
+use Rattle.std.proofs.lemmas.List.Elements.{Contains-append_right}
 use Rattle.std.proofs.lemmas.Nat.Bits.{bit_at-lt, bit_at_set_same, bit_at_set_other, bit_at_clear_same, bit_at_clear_other}
 use mathlib.Core.Option.{some}
 use lib.ListN.{get_elem?}
 use Rattle.atomic_table.specs.Seated.{TableId}
 use Rattle.atomic_table.specs.Table.{State, Me, Step, Allows, stepped, keeps}
 use Rattle.atomic_table.proofs.Lists.{at_map}
+use Rattle.npf_types.specs.declared.key.Key.{Key}
 use Rattle.npf_core.specs.History.{state_of}
 use Rattle.npf_core.specs.Machine.{Machine}
 use Rattle.npf_core.specs.Meaning.{Meaning}
@@ -19,17 +21,21 @@ use Rattle.npf_cells.specs.declared.layout.Pool.{Pool}
 use Rattle.npf_cells.specs.declared.layout.Pool.TheVariants.{Slots, Nodes}
 use Rattle.npf_cells.specs.declared.views.CellView.{CellView}
 use Rattle.npf_cells.specs.declared.views.PoolSide.{PoolSide}
+use Rattle.npf_cells.specs.declared.views.StoredWord.{StoredWord}
 use Rattle.npf_cells.specs.Cells.{seat_side, IsCells}
 use Rattle.npf_cells.specs.Layout.{pool_at, pool_words, pool_places, place_word, pool_bit}
 use Rattle.npf_cells.specs.Passes.{IsPassOf}
 use Rattle.npf_cells.specs.PoolKinds.{with_pools, sweeping, claiming_node, others_than, giving_back, Sweeps, ClaimsNode, GivesNodeBack, StoodSo}
 use Rattle.npf_cells.specs.Pools.{node_owners, taken}
+use Rattle.npf_cells.specs.Stored.{IsOwnField, FitsStored}
 use Rattle.npf_cells.specs.Sums.{occurs}
 use Rattle.npf_cells.specs.TableLaw.{OwnsAlone}
 use Rattle.npf_cells.proofs.Frames.{IsPoolStep, pools_step}
 use Rattle.npf_cells.proofs.ListLemmas.{one_where, occurs-cons, left_same, left_others, stands_once}
 use Rattle.npf_cells.proofs.PoolLemmas.{word_within, places_within, pools-same, pools-set, taken-set}
 use Rattle.npf_cells.proofs.SeatLemmas.{cases_lt}
+use Rattle.npf_cells.proofs.TrieLemmas.{knows_same}
+use Rattle.npf_cells.proofs.StoredLemmas.{fits_unstored, own_same, stored_kept}
 use Rattle.npf_cells.proofs.SumLemmas.{sum-set, one_of_sum, two_of_sum}
 
 sweeping-same : (pool : Pool) (count word : ℕ) (side : PoolSide) (found : ℕ) →
@@ -45,23 +51,25 @@ pool_step layout words pool place n within =
       behind = λ j h. get_or-set_other words (place_word layout pool place) j n 0 (λ e. absurd (let high = lies.1 in omega (arith, e, h, high)));
     }
 
-module _ {S A R F : Type 0} (m : Meaning S A R) (layout : Layout) where
+module _ {S A R F : Type 0} (m : Meaning S A R) (digest : Key → ℕ) (layout : Layout) where
   -- the rule doesn't speak of the slots' values
-  pub unhomed : (s : State F (CellView S A R)) → IsCells m layout s → IsCells {F = ℕ} m layout (record { words = s.words; homes = []; views = s.views })
+  pub unhomed : (s : State F (CellView S A R)) → IsCells m digest layout s → IsCells {F = ℕ} m digest layout (record { words = s.words; homes = []; views = s.views })
   unhomed s kept = record {
     log = kept.log;
+    published = kept.published;
     seats = kept.seats;
     epochs = kept.epochs;
     pools = kept.pools;
     trie = kept.trie;
     connections = kept.connections;
-    nodes = kept.nodes;
+    stored = kept.stored;
+    locks = kept.locks;
     spent = kept.spent;
   }
 
   -- what a step finds, in the state that it meets
-  pub stood_so : (s : State F (CellView S A R)) (id : ℕ) (v : CellView S A R) (word i : ℕ) → IsCells m layout s → get_elem? s.views id ≡ some v → v.seats.lives ≡ true → i ≡ word →
-      StoodSo m layout v word (slice_index s.words i)
+  pub stood_so : (s : State F (CellView S A R)) (id : ℕ) (v : CellView S A R) (word i : ℕ) → IsCells m digest layout s → get_elem? s.views id ≡ some v → v.seats.lives ≡ true → i ≡ word →
+      StoodSo m digest layout v word (slice_index s.words i)
   stood_so s id v word i kept at lives there =
       let number = ((kept.seats.each id v.seats (at_map seat_side s.views id v at)).lives lives).number in
       record {
@@ -71,8 +79,12 @@ module _ {S A R F : Type 0} (m : Meaning S A R) (layout : Layout) where
         there = ap (slice_index s.words) (sym there);
       }
 
+  sweep_fits : (s : State F (CellView S A R)) (id : ℕ) (v : CellView S A R) → IsCells m digest layout s → get_elem? s.views id ≡ some v → (pool : Pool) (word n : ℕ) → FitsStored layout s.words (sweeping pool (pool_words layout.nodes) word v.pools n)
+  sweep_fits s id v kept at Slots word n = stored_kept layout s.words s.words v.pools (sweeping Slots (pool_words layout.nodes) word v.pools n) (kept.stored id v at) refl (own_same layout v.pools (sweeping Slots (pool_words layout.nodes) word v.pools n) refl refl) (λ pool place field own. refl)
+  sweep_fits s id v kept at Nodes word n = stored_kept layout s.words s.words v.pools (sweeping Nodes (pool_words layout.nodes) word v.pools n) (kept.stored id v at) refl (own_same layout v.pools (sweeping Nodes (pool_words layout.nodes) word v.pools n) refl refl) (λ pool place field own. refl)
+
   pub may_sweep : (st : Step F) (id n : ℕ) (pool : Pool) (word i : ℕ) (me : Me F (CellView S A R)) → me.0.seats.lives ≡ true → i ≡ pool_at layout pool + word →
-      Allows (IsCells m layout) n id me i (λ k. k) (Sweeps m layout pool word st me)
+      Allows (IsCells m digest layout) n id me i (λ k. k) (Sweeps m digest layout pool word st me)
   may_sweep st id n pool word i me lives there s kept homes at bound =
       let w : CellView S A R = record me.0 { pools = sweeping pool (pool_words layout.nodes) word me.0.pools (slice_index s.words i) } in
       let same = sweeping-same pool (pool_words layout.nodes) word me.0.pools (slice_index s.words i) in
@@ -80,47 +92,47 @@ module _ {S A R F : Type 0} (m : Meaning S A R) (layout : Layout) where
         w,
         keeps,
         tt,
-        pools_step m layout s i (slice_index s.words i) id me.1 me.0 w kept at refl refl same.1 same.2 (λ none. let nothing = kept.spent id me.0 at none in record { nodes = same.0 ∙ nothing.nodes; builds = same.1 ∙ nothing.builds })
+        pools_step m digest layout s i (slice_index s.words i) id me.1 me.0 w kept at refl refl (knows_same me.0.trie) (sweep_fits s id me.0 kept at pool word (slice_index s.words i)) same.1 same.2 (λ none. let nothing = kept.spent id me.0 at none in record { nodes = same.0 ∙ nothing.nodes; builds = same.1 ∙ nothing.builds })
             (record { before = λ j h. ap (λ ws. slice_index ws j) words; behind = λ j h. ap (λ ws. slice_index ws j) words })
-            (pools-same layout (taken (state_of m kept.log) s.views) (taken (state_of m kept.log) (set s.views id w)) s.words (set s.words i (slice_index s.words i)) kept.pools
-            (length-set s.words i (slice_index s.words i)) (λ j h. ap (λ ws. slice_index ws j) words) (taken-set (state_of m kept.log) s.views id me.0 w at same.0)),
+            (pools-same layout (taken kept.published (state_of m kept.log) s.views) (taken kept.published (state_of m kept.log) (set s.views id w)) s.words (set s.words i (slice_index s.words i)) kept.pools
+            (length-set s.words i (slice_index s.words i)) (λ j h. ap (λ ws. slice_index ws j) words) (taken-set kept.published (state_of m kept.log) s.views id me.0 w at same.0)),
         record { is = refl; stood = stood_so s id me.0 (pool_at layout pool + word) i kept at lives there },
       )
 
   -- a node's bit changes, and with it who owns the node
-  module _ (s : State F (CellView S A R)) (id : ℕ) (me : Me F (CellView S A R)) (kept : IsCells m layout s) (at : get_elem? s.views id ≡ some me.0) (node : ℕ) (within : node < layout.nodes) where
+  module _ (s : State F (CellView S A R)) (id : ℕ) (me : Me F (CellView S A R)) (kept : IsCells m digest layout s) (at : get_elem? s.views id ≡ some me.0) (node : ℕ) (within : node < layout.nodes) where
     abbrev word : ℕ
     word = place_word layout Nodes node
 
     abbrev found : ℕ
     found = slice_index s.words word
 
-    abbrev with_nodes : List ℕ → CellView S A R
-    with_nodes nodes = record me.0 { pools = record me.0.pools { found = found; nodes = nodes } }
+    abbrev with_nodes : List ℕ → List StoredWord → CellView S A R
+    with_nodes nodes stored = record me.0 { pools = record me.0.pools { found = found; nodes = nodes; stored = stored } }
 
     abbrev k : Machine S
     k = state_of m kept.log
 
     -- the node's bit says how many own it
-    pub owned : bit_at found (node % 64) ≡ node_owners s.views node
+    pub owned : bit_at found (node % 64) ≡ node_owners s.views node + occurs node kept.published
     owned = kept.pools.bits Nodes node within
 
-    pub owners_after : (nodes : List ℕ) (p : ℕ) → node_owners (set s.views id (with_nodes nodes)) p + occurs p me.0.pools.nodes ≡ node_owners s.views p + occurs p nodes
-    owners_after nodes p = sum-set (λ (u : CellView S A R). occurs p u.pools.nodes) s.views id me.0 (with_nodes nodes) at
+    pub owners_after : (nodes : List ℕ) (stored : List StoredWord) (p : ℕ) → node_owners (set s.views id (with_nodes nodes stored)) p + occurs p me.0.pools.nodes ≡ node_owners s.views p + occurs p nodes
+    owners_after nodes stored p = sum-set (λ (u : CellView S A R). occurs p u.pools.nodes) s.views id me.0 (with_nodes nodes stored) at
 
-    pub node_step : (n : ℕ) (nodes : List ℕ) → 1 ≤ length me.0.seats.readers → bit_at n (node % 64) ≡ node_owners (set s.views id (with_nodes nodes)) node →
+    pub node_step : (n : ℕ) (nodes : List ℕ) (stored : List StoredWord) → FitsStored layout s.words (record me.0.pools { found = found; nodes = nodes; stored = stored }) → 1 ≤ length me.0.seats.readers → bit_at n (node % 64) ≡ node_owners (set s.views id (with_nodes nodes stored)) node + occurs node kept.published →
         ((i : ℕ) → i < 64 → i ≢ node % 64 → bit_at n i ≡ bit_at found i) → ((p : ℕ) → p ≢ node → occurs p nodes ≡ occurs p me.0.pools.nodes) →
-        IsCells m layout (stepped s word n id me.1 (with_nodes nodes) keeps)
-    node_step n nodes place here bits others =
-        pools_step m layout s word n id me.1 me.0 (with_nodes nodes) kept at refl refl refl refl (λ none. absurd (omega (arith, none, place))) (pool_step layout s.words Nodes node n within)
-        (pools-set layout (taken k s.views) (taken k (set s.views id (with_nodes nodes))) s.words Nodes node n kept.pools within here bits rest)
+        IsCells m digest layout (stepped s word n id me.1 (with_nodes nodes stored) keeps)
+    node_step n nodes stored fits place here bits others =
+        pools_step m digest layout s word n id me.1 me.0 (with_nodes nodes stored) kept at refl refl (knows_same me.0.trie) fits refl refl (λ none. absurd (omega (arith, none, place))) (pool_step layout s.words Nodes node n within)
+        (pools-set layout (taken kept.published k s.views) (taken kept.published k (set s.views id (with_nodes nodes stored))) s.words Nodes node n kept.pools within here bits rest)
       where
-        rest : (other : Pool) (p : ℕ) → (other ≡ Nodes → p ≢ node) → taken k (set s.views id (with_nodes nodes)) other p ≡ taken k s.views other p
+        rest : (other : Pool) (p : ℕ) → (other ≡ Nodes → p ≢ node) → taken kept.published k (set s.views id (with_nodes nodes stored)) other p ≡ taken kept.published k s.views other p
         rest Slots p two = refl
-        rest Nodes p two = let sums = owners_after nodes p in let same = others p (two refl) in omega (arith, sums, same)
+        rest Nodes p two = let sums = owners_after nodes stored p in let same = others p (two refl) in omega (arith, sums, same)
 
   pub may_claim_node : (st : Step F) (id n node mask : ℕ) (me : Me F (CellView S A R)) → me.0.seats.lives ≡ true → 1 ≤ length me.0.seats.readers → node < layout.nodes → mask ≡ 1 * 2 ^ (node % 64) % 2 ^ 64 →
-      Allows (IsCells m layout) n id me (place_word layout Nodes node) (λ k. bit_or k mask) (ClaimsNode m layout node st me)
+      Allows (IsCells m digest layout) n id me (place_word layout Nodes node) (λ k. bit_or k mask) (ClaimsNode m digest layout node st me)
   may_claim_node st id n node mask me lives place within is s kept homes at bound = rw is (
     record me.0 { pools = claiming_node node me.0.pools (found s id me kept at node within) },
     keeps,
@@ -129,16 +141,24 @@ module _ {S A R F : Type 0} (m : Meaning S A R) (layout : Layout) where
     record { is = refl; stood = stood_so s id me.0 (place_word layout Nodes node) (place_word layout Nodes node) kept at lives refl },
   )
     where
-      by_bit : (b : Bool) → eqb (bit_at (found s id me kept at node within) (node % 64)) 0 ≡ b → IsCells m layout (stepped s (place_word layout Nodes node) (bit_or (found s id me kept at node within) (1 * 2 ^ (node % 64) % 2 ^ 64)) id me.1
-          (with_nodes s id me kept at node within (cond b (node ∷ me.0.pools.nodes) me.0.pools.nodes)) keeps)
-      by_bit b e = node_step s id me kept at node within (bit_or (found s id me kept at node within) (1 * 2 ^ (node % 64) % 2 ^ 64)) (cond b (node ∷ me.0.pools.nodes) me.0.pools.nodes) place
+      by_bit : (b : Bool) → eqb (bit_at (found s id me kept at node within) (node % 64)) 0 ≡ b → IsCells m digest layout (stepped s (place_word layout Nodes node) (bit_or (found s id me kept at node within) (1 * 2 ^ (node % 64) % 2 ^ 64)) id me.1
+          (with_nodes s id me kept at node within (cond b (node ∷ me.0.pools.nodes) me.0.pools.nodes) me.0.pools.stored) keeps)
+      by_bit b e = node_step s id me kept at node within (bit_or (found s id me kept at node within) (1 * 2 ^ (node % 64) % 2 ^ 64)) (cond b (node ∷ me.0.pools.nodes) me.0.pools.nodes) me.0.pools.stored (claimer_fits b) place
           (bit_at_set_same w64 (found s id me kept at node within) (node % 64) (omega arith) ∙ sym (one b e)) (λ i h ne. bit_at_set_other w64 (found s id me kept at node within) (node % 64) (omega arith) i ne) (others b)
         where
-          one : (b : Bool) → eqb (bit_at (found s id me kept at node within) (node % 64)) 0 ≡ b → node_owners (set s.views id (with_nodes s id me kept at node within (cond b (node ∷ me.0.pools.nodes) me.0.pools.nodes))) node ≡ 1
+          claimer_fits : (b : Bool) → FitsStored layout s.words (record me.0.pools { found = found s id me kept at node within; nodes = cond b (node ∷ me.0.pools.nodes) me.0.pools.nodes; stored = me.0.pools.stored })
+          claimer_fits b = stored_kept layout s.words s.words me.0.pools (record me.0.pools { found = found s id me kept at node within; nodes = cond b (node ∷ me.0.pools.nodes) me.0.pools.nodes }) (kept.stored id me.0 at) refl (owns_more b) (λ pool place field own. refl)
+            where
+              owns_more : (b : Bool) (pool : Pool) (place field : ℕ) → IsOwnField layout me.0.pools pool place field → IsOwnField layout (record me.0.pools { found = found s id me kept at node within; nodes = cond b (node ∷ me.0.pools.nodes) me.0.pools.nodes }) pool place field
+              owns_more b Slots place field own = own
+              owns_more true Nodes place field own = (Contains-append_right (node ∷ []) me.0.pools.nodes place own.0, own.1, own.2, own.3)
+              owns_more false Nodes place field own = own
+
+          one : (b : Bool) → eqb (bit_at (found s id me kept at node within) (node % 64)) 0 ≡ b → node_owners (set s.views id (with_nodes s id me kept at node within (cond b (node ∷ me.0.pools.nodes) me.0.pools.nodes) me.0.pools.stored)) node + occurs node kept.published ≡ 1
           one true e =
               let none : bit_at (found s id me kept at node within) (node % 64) ≡ 0 = (Decides-eqb _ _).0 e in
               let bit = owned s id me kept at node within in
-              let sums = owners_after s id me kept at node within (node ∷ me.0.pools.nodes) node in
+              let sums = owners_after s id me kept at node within (node ∷ me.0.pools.nodes) me.0.pools.stored node in
               let more = occurs-cons node node me.0.pools.nodes in
               let once : one_where (eqb node node) ≡ 1 = ap one_where (eq-eqb node node refl) in
               omega (arith, none, bit, sums, more, once)
@@ -146,7 +166,7 @@ module _ {S A R F : Type 0} (m : Meaning S A R) (layout : Layout) where
               let some' : bit_at (found s id me kept at node within) (node % 64) ≢ 0 = not_from_Decides _ (Decides-eqb (bit_at (found s id me kept at node within) (node % 64)) 0) e in
               let below = bit_at-lt (found s id me kept at node within) (node % 64) in
               let bit = owned s id me kept at node within in
-              let sums = owners_after s id me kept at node within me.0.pools.nodes node in
+              let sums = owners_after s id me kept at node within me.0.pools.nodes me.0.pools.stored node in
               omega (arith, some', below, bit, sums)
 
           others : (b : Bool) (p : ℕ) → p ≢ node → occurs p (cond b (node ∷ me.0.pools.nodes) me.0.pools.nodes) ≡ occurs p me.0.pools.nodes
@@ -157,29 +177,29 @@ module _ {S A R F : Type 0} (m : Meaning S A R) (layout : Layout) where
           others false p ne = refl
 
   pub may_return_node : (st : Step F) (id n node mask : ℕ) (me : Me F (CellView S A R)) → me.0.seats.lives ≡ true → 1 ≤ length me.0.seats.readers → node < layout.nodes → Contains me.0.pools.nodes node → mask ≡ bit_not w64 (1 * 2 ^ (node % 64) % 2 ^ 64) →
-      Allows (IsCells m layout) n id me (place_word layout Nodes node) (λ k. bit_and k mask) (GivesNodeBack m layout node st me)
+      Allows (IsCells m digest layout) n id me (place_word layout Nodes node) (λ k. bit_and k mask) (GivesNodeBack m digest layout node st me)
   may_return_node st id n node mask me lives place within owns is s kept homes at bound = rw is (
     record me.0 { pools = giving_back node me.0.pools (found s id me kept at node within) },
     keeps,
     tt,
-    node_step s id me kept at node within (bit_and (found s id me kept at node within) (bit_not w64 (1 * 2 ^ (node % 64) % 2 ^ 64))) (others_than node me.0.pools.nodes) place
+    node_step s id me kept at node within (bit_and (found s id me kept at node within) (bit_not w64 (1 * 2 ^ (node % 64) % 2 ^ 64))) (others_than node me.0.pools.nodes) [] (fits_unstored layout s.words (giving_back node me.0.pools (found s id me kept at node within)) refl) place
         (bit_at_clear_same w64 (found s id me kept at node within) (node % 64) (omega arith) ∙ sym none) (λ i h ne. bit_at_clear_other w64 (found s id me kept at node within) (node % 64) (omega arith) i h ne) (λ p ne. left_others node p me.0.pools.nodes ne),
     record { is = refl; stood = stood_so s id me.0 (place_word layout Nodes node) (place_word layout Nodes node) kept at lives refl },
   )
     where
-      none : node_owners (set s.views id (with_nodes s id me kept at node within (others_than node me.0.pools.nodes))) node ≡ 0
+      none : node_owners (set s.views id (with_nodes s id me kept at node within (others_than node me.0.pools.nodes) [])) node + occurs node kept.published ≡ 0
       none =
           let below = bit_at-lt (found s id me kept at node within) (node % 64) in
           let bit = owned s id me kept at node within in
-          let sums = owners_after s id me kept at node within (others_than node me.0.pools.nodes) node in
+          let sums = owners_after s id me kept at node within (others_than node me.0.pools.nodes) [] node in
           let left = left_same node me.0.pools.nodes in
           let one = stands_once node me.0.pools.nodes owns in
           omega (arith, below, bit, sums, left, one)
 
 -- a node whose bit was clear is none that the seat owns
-pub not_owned : {S A R : Type 0} (m : Meaning S A R) (layout : Layout) (v : CellView S A R) (node found : ℕ) → node < layout.nodes →
-    StoodSo m layout v (place_word layout Nodes node) found → bit_at found (node % 64) ≡ 0 → Contains v.pools.nodes node → ⊥
-not_owned {S} {A} {R} m layout v node found within stood clear owns =
+pub not_owned : {S A R : Type 0} (m : Meaning S A R) (digest : Key → ℕ) (layout : Layout) (v : CellView S A R) (node found : ℕ) → node < layout.nodes →
+    StoodSo m digest layout v (place_word layout Nodes node) found → bit_at found (node % 64) ≡ 0 → Contains v.pools.nodes node → ⊥
+not_owned {S} {A} {R} m digest layout v node found within stood clear owns =
     let bit = stood.rule.pools.bits Nodes node within in
     let none : pool_bit layout Nodes stood.state.words node ≡ 0 = ap (λ n. bit_at n (node % 64)) stood.there ∙ clear in
     let mine = one_of_sum (λ (u : CellView S A R). occurs node u.pools.nodes) stood.state.views v.seats.number v stood.seated in
@@ -187,8 +207,8 @@ not_owned {S} {A} {R} m layout v node found within stood clear owns =
     omega (arith, bit, none, mine, one)
 
 -- the bit of a node counts its owners
-few_owners : {S A R : Type 0} (m : Meaning S A R) (layout : Layout) (s : State ℕ (CellView S A R)) (node : ℕ) → IsCells m layout s → node_owners s.views node ≤ 1
-few_owners m layout s node kept = ⊎_elim
+few_owners : {S A R : Type 0} (m : Meaning S A R) (digest : Key → ℕ) (layout : Layout) (s : State ℕ (CellView S A R)) (node : ℕ) → IsCells m digest layout s → node_owners s.views node ≤ 1
+few_owners m digest layout s node kept = ⊎_elim
     (λ (h : node < layout.nodes).
     let bit = kept.pools.bits Nodes node h in
     let below = bit_at-lt (slice_index s.words (place_word layout Nodes node)) (node % 64) in
@@ -198,10 +218,10 @@ few_owners m layout s node kept = ⊎_elim
 
 -- so two seats that own it are one
 pub owns_alone : {S A R : Type 0} (m : Meaning S A R) (layout : Layout) → OwnsAlone m layout
-owns_alone {S} {A} {R} m layout s i j node v w kept at there mine theirs = ⊎_elim
+owns_alone {S} {A} {R} m layout digest s i j node v w kept at there mine theirs = ⊎_elim
     (λ e. e)
     (λ (ne : i ≢ j).
-    let few = few_owners m layout s node kept in
+    let few = few_owners m digest layout s node kept in
     let both = two_of_sum (λ (u : CellView S A R). occurs node u.pools.nodes) s.views i j v w at there ne in
     let one = stands_once node v.pools.nodes mine in
     let another = stands_once node w.pools.nodes theirs in
@@ -223,4 +243,6 @@ pools_on layout table seat seat' readers me next side own same is = rw is (recor
   most = own.most;
   reader = own.reader;
   epoch = own.epoch;
+  unanswered = own.unanswered;
+  unlocked = own.unlocked;
 })

@@ -100,15 +100,15 @@ module _ (layout : Layout) where
           (cases_eq (place_word layout other p) (place_word layout pool place))
 
 -- what is taken, where passes change what they own
-module _ {S A R : Type 0} (k : Machine S) (views : List (CellView S A R)) where
-  pub taken-set : (id : ℕ) (v w : CellView S A R) → get_elem? views id ≡ some v → w.pools.nodes ≡ v.pools.nodes → (pool : Pool) (p : ℕ) → taken k (set views id w) pool p ≡ taken k views pool p
+module _ {S A R : Type 0} (published : List ℕ) (k : Machine S) (views : List (CellView S A R)) where
+  pub taken-set : (id : ℕ) (v w : CellView S A R) → get_elem? views id ≡ some v → w.pools.nodes ≡ v.pools.nodes → (pool : Pool) (p : ℕ) → taken published k (set views id w) pool p ≡ taken published k views pool p
   taken-set id v w at same Slots p = refl
   taken-set id v w at same Nodes p =
       let more = sum-set (λ (u : CellView S A R). occurs p u.pools.nodes) views id v w at in
       let one = ap (occurs p) same in
       omega (arith, more, one)
 
-  pub taken-push : (w : CellView S A R) → w.pools.nodes ≡ [] → (pool : Pool) (p : ℕ) → taken k (views ++ w ∷ []) pool p ≡ taken k views pool p
+  pub taken-push : (w : CellView S A R) → w.pools.nodes ≡ [] → (pool : Pool) (p : ℕ) → taken published k (views ++ w ∷ []) pool p ≡ taken published k views pool p
   taken-push w none Slots p = refl
   taken-push w none Nodes p =
       let more = sum_by_push (λ (u : CellView S A R). occurs p u.pools.nodes) views w in

@@ -55,9 +55,9 @@ module _ {S A R : Type 0} (m : Meaning S A R) (k : Machine S) (seat packet slot 
 
   module _ (views : List (CellView S A R)) (id : ℕ) (v w : CellView S A R) (at : get_elem? views id ≡ some v) where
     -- what else is taken stays
-    pub taken_else : w.pools.nodes ≡ v.pools.nodes → (pool : Pool) (p : ℕ) → (pool ≡ Slots → p ≢ slot) → taken claimed (set views id w) pool p ≡ taken k views pool p
-    taken_else same Slots p two = ap (λ (x : Slot S). claim_bit x.stage) (slot_else p (two refl))
-    taken_else same Nodes p two = taken-set k views id v w at same Nodes p
+    pub taken_else : (published : List ℕ) → w.pools.nodes ≡ v.pools.nodes → (pool : Pool) (p : ℕ) → (pool ≡ Slots → p ≢ slot) → taken published claimed (set views id w) pool p ≡ taken published k views pool p
+    taken_else published same Slots p two = ap (λ (x : Slot S). claim_bit x.stage) (slot_else p (two refl))
+    taken_else published same Nodes p two = taken-set published k views id v w at same Nodes p
 
     module _ (mine : id ≡ seat) (vacant : (k.slot slot).stage ≡ Vacant) (kept : BuildsIn k views)
         (more : w.pools.builds ≡ claimed_id k slot ∷ v.pools.builds) (owes : w.pools.unstored ≡ slot ∷ v.pools.unstored) where

@@ -1,10 +1,11 @@
 -- What the steps on the epoch and on the readers change in the pass's own view, and what each tells.
-use Rattle.std.specs.Prelude.{◌≡◌, ℕ, ◌+◌, ◌^◌, ◌≤◌, ◌==◌, ◌||◌, Bool, [], ◌∷◌, max, if◌then◌else◌}
+use Rattle.std.specs.Prelude.{◌≡◌, ℕ, ◌+◌, ◌^◌, ◌≤◌, ◌==◌, ◌||◌, Bool, None, [], ◌∷◌, max, if◌then◌else◌}
 use Rattle.atomic_table.specs.Table.{Me, Step}
 use Rattle.npf_cells.specs.declared.views.CellView.{CellView}
 use Rattle.npf_cells.specs.declared.views.EpochSide.{EpochSide}
 use Rattle.npf_cells.specs.declared.views.Pin.{Pin}
 use Rattle.npf_cells.specs.declared.views.Pin.TheVariants.{Idle, Pinned, Protected}
+use Rattle.npf_cells.specs.declared.views.TrieSide.{TrieSide}
 use Rattle.npf_cells.specs.Epochs.{PinAllows}
 
 -- the pass after a step that changes only what it knows of the epoch
@@ -42,6 +43,13 @@ protecting side found = record side {
 
 abbrev pub unpinning : EpochSide → EpochSide
 unpinning side = record side { pin = Idle }
+
+-- what a pass read of the trie in its stay is nothing to the next one
+abbrev pub forgetting : TrieSide → TrieSide
+forgetting side = record side { stands = None; leaf = None; seen = None; meets = None; answered = [] }
+
+abbrev pub unpinned : {S A R F : Type 0} → Me F (CellView S A R) → Me F (CellView S A R)
+unpinned me = (record me.0 { epochs = unpinning me.0.epochs; trie = forgetting me.0.trie }, me.1)
 
 -- a reader word is passed by where it is idle or pinned in the epoch that was loaded
 abbrev pub passes_by : EpochSide → ℕ → Bool
@@ -90,7 +98,7 @@ pub record Protects {S A R F : Type 0} (step : Step F) (me : Me F (CellView S A 
   pub is : next ≡ with_epochs me (protecting me.0.epochs found)
 
 pub record Unpins {S A R F : Type 0} (step : Step F) (me : Me F (CellView S A R)) (found : ℕ) (next : Me F (CellView S A R)) : Type 0 where
-  pub is : next ≡ with_epochs me (unpinning me.0.epochs)
+  pub is : next ≡ unpinned me
 
 -- the reader's word is the one after the epoch's and those of the readers before it
 pub record Scans {S A R F : Type 0} (step : Step F) (me : Me F (CellView S A R)) (found : ℕ) (next : Me F (CellView S A R)) : Type 0 where

@@ -2,6 +2,8 @@
 -- of each node (16 places, its state, its parent), and those of each connection (turn, incarnation, phase, 15 key words, 3 notes).
 use Rattle.std.specs.Prelude.{ℕ, ◌+◌, ◌*◌, ◌/◌, ◌%◌, List, slice_index}
 use Rattle.std.specs.Int.{bit_at}
+use Rattle.npf_types.specs.declared.key.Way.{Way}
+use Rattle.npf_types.specs.declared.key.Way.TheVariants.{Forward, Backward, Port}
 use Rattle.npf_connections.specs.Pass.{all_places}
 use Rattle.npf_cells.specs.declared.layout.Layout.{Layout}
 use Rattle.npf_cells.specs.declared.layout.Pool.{Pool}
@@ -49,6 +51,12 @@ state_field = 16
 
 abbrev pub inc_field : ℕ
 inc_field = 1
+
+-- where the five words of the key of a way begin
+abbrev pub key_field : Way → ℕ
+key_field Forward = 3
+key_field Backward = 8
+key_field Port = 13
 
 -- the words of a place: a node has 18, a connection 21
 abbrev pub field_count : Pool → ℕ

@@ -9,7 +9,8 @@ use Rattle.npf_cells.specs.declared.views.CellView.{CellView}
 use Rattle.npf_cells.specs.declared.views.EpochSide.{EpochSide}
 use Rattle.npf_cells.specs.declared.views.PoolSide.{PoolSide}
 use Rattle.npf_cells.specs.declared.views.SeatSide.{SeatSide}
-use Rattle.npf_cells.specs.Cells.{idle_side, empty_handed}
+use Rattle.npf_cells.specs.declared.views.TrieSide.{TrieSide}
+use Rattle.npf_cells.specs.Cells.{idle_side, empty_handed, unread_side}
 use Rattle.npf_cells.specs.Epochs.{pin_place}
 use Rattle.npf_cells.specs.Passes.{cell_pass}
 
@@ -35,7 +36,7 @@ abbrev pub gives_reader : {S A R : Type 0} → CellView S A R → CellView S A R
 gives_reader v = record v { seats = givers_seat v.seats }
 
 abbrev pub given_view : {S A R : Type 0} → CellView S A R → CellView S A R
-given_view v = record { seats = given_seat v.seats; epochs = idle_side; pools = empty_handed }
+given_view v = record { seats = given_seat v.seats; epochs = idle_side; pools = empty_handed; trie = unread_side }
 
 -- the seat that takes another in, which it hasn't read yet, and what is left of that one
 abbrev pub taking_seat : {S A R : Type 0} → SeatSide S A R → SeatSide S A R → SeatSide S A R
@@ -65,15 +66,19 @@ joined_epochs mine theirs = record mine {
 abbrev pub joined_pools : PoolSide → PoolSide → PoolSide
 joined_pools mine theirs = record mine { sweeps = mine.sweeps + theirs.sweeps }
 
+abbrev pub joined_trie : TrieSide → TrieSide → TrieSide
+joined_trie mine theirs = record mine { places = mine.places + theirs.places; words = mine.words + theirs.words; published = mine.published + theirs.published }
+
 abbrev pub takes_in : {S A R : Type 0} → CellView S A R → CellView S A R → CellView S A R
 takes_in v w = record {
   seats = taking_seat v.seats w.seats;
   epochs = joined_epochs v.epochs w.epochs;
   pools = joined_pools v.pools w.pools;
+  trie = joined_trie v.trie w.trie;
 }
 
 abbrev pub nothing_left : {S A R : Type 0} → CellView S A R
-nothing_left = record { seats = spent_seat; epochs = idle_side; pools = empty_handed }
+nothing_left = record { seats = spent_seat; epochs = idle_side; pools = empty_handed; trie = unread_side }
 
 -- the new seat got its number: it is no other's, and has no entry
 pub record IsBorn {S A R F : Type 0} (m : Meaning S A R) (step : Step F) (me : Me F (CellView S A R)) (found : ℕ) (next : Me F (CellView S A R)) : Type 0 where

@@ -24,14 +24,14 @@ IsProtected Idle = ⊥
 IsProtected (Pinned _) = ⊥
 IsProtected (Protected _ _) = Unit {0}
 
--- what a pass shows: no step of a trie or of a connection stands yet, so it was answered nothing
+-- what a pass shows
 abbrev pub cell_pass : {S A R : Type 0} → CellView S A R → Pass (Entry S A R)
 cell_pass v = record {
   slots = v.seats.slots;
   number = v.seats.number;
   history = v.seats.history;
   entered = is_pinned v.epochs.pin;
-  answered = [];
+  answered = v.trie.answered;
   builds = v.pools.builds;
   places = length v.seats.readers;
   joined = v.seats.joined;
@@ -52,3 +52,5 @@ pub record IsPassOf {S A R F : Type 0} (layout : Layout) (table seat : TableId) 
   pub most : length me.0.seats.readers ≤ all_places
   pub reader : pin_place me.0.seats.readers < all_places
   pub epoch : me.0.epochs.loaded ≤ last_epoch
+  pub unanswered : me.0.epochs.pin ≡ Idle → me.0.trie.answered ≡ []
+  pub unlocked : me.0.epochs.pin ≡ Idle → me.0.trie.locks ≡ []

@@ -1,21 +1,29 @@
 -- What the steps on the pools change in the pass's own view, and what each tells.
-use Rattle.std.specs.Prelude.{◌≡◌, ℕ, ◌+◌, ◌-◌, ◌^◌, ◌%◌, ◌==◌, true, false, List, ◌∷◌, filter, slice_index, if◌then◌else◌}
+use Rattle.std.specs.Prelude.{◌≡◌, ℕ, ◌+◌, ◌-◌, ◌^◌, ◌%◌, ◌<◌, ◌==◌, true, false, Some, List, [], ◌∷◌, length, filter, slice_index, if◌then◌else◌}
 use Rattle.std.specs.Int.{bit_at}
 use mathlib.Core.Option.{some}
 use lib.ListN.{get_elem?}
 use Rattle.atomic_table.specs.Table.{Me, State, Step}
+use Rattle.npf_types.specs.declared.key.Key.{Key}
 use Rattle.npf_core.specs.Meaning.{Meaning}
+use Rattle.npf_digits.specs.Digits.{PartsAt}
 use Rattle.npf_cells.specs.declared.layout.Layout.{Layout}
 use Rattle.npf_cells.specs.declared.layout.Pool.{Pool}
 use Rattle.npf_cells.specs.declared.layout.Pool.TheVariants.{Slots, Nodes}
 use Rattle.npf_cells.specs.declared.views.CellView.{CellView}
+use Rattle.npf_cells.specs.declared.views.Meeting.{Meeting}
 use Rattle.npf_cells.specs.declared.views.PoolSide.{PoolSide}
 use Rattle.npf_cells.specs.Cells.{IsCells}
 use Rattle.npf_cells.specs.Layout.{pool_at, pool_words, place_word}
 
--- a pass that claims a node owns fewer than this: there are as many levels of the trie
-abbrev pub most_nodes : ℕ
-most_nodes = 95
+-- a pass needs a node where its last load of a place, for a key that it is to hold, found the leaf of another key, and it owns fewer
+-- nodes than there are levels below that place, down to and with the one at which the two keys part
+pub record NeedsNode {S A R : Type 0} (digest : Key → ℕ) (v : CellView S A R) : Type 0 where
+  pub meeting : Meeting
+  pub met : v.trie.meets ≡ Some meeting
+  pub parting : ℕ
+  pub parts : PartsAt (digest meeting.key) meeting.key (digest meeting.other) meeting.other parting
+  pub few : meeting.level + length v.pools.nodes < parting
 
 -- the pass after a step that changes only what it knows and has of the pools
 abbrev pub with_pools : {S A R F : Type 0} → Me F (CellView S A R) → PoolSide → Me F (CellView S A R)
@@ -42,26 +50,26 @@ claiming_node node side found = record side { found = found; nodes = if bit_at f
 abbrev pub others_than : ℕ → List ℕ → List ℕ
 others_than node = filter (λ x. if x == node then false else true)
 
--- a node is given back
+-- a node is given back, and what was stored is forgotten
 abbrev pub giving_back : ℕ → PoolSide → ℕ → PoolSide
-giving_back node side found = record side { found = found; nodes = others_than node side.nodes }
+giving_back node side found = record side { found = found; nodes = others_than node side.nodes; stored = [] }
 
 -- the word was this number in a state of the table in which the seat knew and had this
-pub record StoodSo {S A R : Type 0} (m : Meaning S A R) (layout : Layout) (view : CellView S A R) (word n : ℕ) : Type 0 where
+pub record StoodSo {S A R : Type 0} (m : Meaning S A R) (digest : Key → ℕ) (layout : Layout) (view : CellView S A R) (word n : ℕ) : Type 0 where
   pub state : State ℕ (CellView S A R)
-  pub rule : IsCells m layout state
+  pub rule : IsCells m digest layout state
   pub seated : get_elem? state.views view.seats.number ≡ some view
   pub there : slice_index state.words word ≡ n
 
 -- the kinds, as what they tell
-pub record Sweeps {S A R F : Type 0} (m : Meaning S A R) (layout : Layout) (pool : Pool) (word : ℕ) (step : Step F) (me : Me F (CellView S A R)) (found : ℕ) (next : Me F (CellView S A R)) : Type 0 where
+pub record Sweeps {S A R F : Type 0} (m : Meaning S A R) (digest : Key → ℕ) (layout : Layout) (pool : Pool) (word : ℕ) (step : Step F) (me : Me F (CellView S A R)) (found : ℕ) (next : Me F (CellView S A R)) : Type 0 where
   pub is : next ≡ with_pools me (sweeping pool (pool_words layout.nodes) word me.0.pools found)
-  pub stood : StoodSo m layout me.0 (pool_at layout pool + word) found
+  pub stood : StoodSo m digest layout me.0 (pool_at layout pool + word) found
 
-pub record ClaimsNode {S A R F : Type 0} (m : Meaning S A R) (layout : Layout) (node : ℕ) (step : Step F) (me : Me F (CellView S A R)) (found : ℕ) (next : Me F (CellView S A R)) : Type 0 where
+pub record ClaimsNode {S A R F : Type 0} (m : Meaning S A R) (digest : Key → ℕ) (layout : Layout) (node : ℕ) (step : Step F) (me : Me F (CellView S A R)) (found : ℕ) (next : Me F (CellView S A R)) : Type 0 where
   pub is : next ≡ with_pools me (claiming_node node me.0.pools found)
-  pub stood : StoodSo m layout me.0 (place_word layout Nodes node) found
+  pub stood : StoodSo m digest layout me.0 (place_word layout Nodes node) found
 
-pub record GivesNodeBack {S A R F : Type 0} (m : Meaning S A R) (layout : Layout) (node : ℕ) (step : Step F) (me : Me F (CellView S A R)) (found : ℕ) (next : Me F (CellView S A R)) : Type 0 where
+pub record GivesNodeBack {S A R F : Type 0} (m : Meaning S A R) (digest : Key → ℕ) (layout : Layout) (node : ℕ) (step : Step F) (me : Me F (CellView S A R)) (found : ℕ) (next : Me F (CellView S A R)) : Type 0 where
   pub is : next ≡ with_pools me (giving_back node me.0.pools found)
-  pub stood : StoodSo m layout me.0 (place_word layout Nodes node) found
+  pub stood : StoodSo m digest layout me.0 (place_word layout Nodes node) found

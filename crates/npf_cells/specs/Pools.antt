@@ -1,5 +1,5 @@
 -- The part of the rule on pools: a bit for each place, which says whether it is taken.
-use Rattle.std.specs.Prelude.{◌≡◌, ℕ, ◌*◌, ◌≤◌, ◌<◌, List, [], length, sum_by}
+use Rattle.std.specs.Prelude.{◌≡◌, ℕ, ◌+◌, ◌*◌, ◌≤◌, ◌<◌, List, [], length, sum_by}
 use Rattle.npf_core.specs.declared.stage.Stage.{Stage}
 use Rattle.npf_core.specs.declared.stage.Stage.TheVariants.{Vacant, Building, Live, Dead}
 use Rattle.npf_core.specs.Machine.{Machine}
@@ -22,10 +22,10 @@ claim_bit Dead = 1
 abbrev pub node_owners : {S A R : Type 0} → List (CellView S A R) → ℕ → ℕ
 node_owners views node = sum_by (λ v. occurs node v.pools.nodes) views
 
--- a slot is taken where it is claimed, a node where a pass owns it
-abbrev pub taken : {S A R : Type 0} → Machine S → List (CellView S A R) → Pool → ℕ → ℕ
-taken k views Slots place = claim_bit (k.slot place).stage
-taken k views Nodes place = node_owners views place
+-- a slot is taken where it is claimed, a node where a pass owns it or it was published in the trie
+abbrev pub taken : {S A R : Type 0} → List ℕ → Machine S → List (CellView S A R) → Pool → ℕ → ℕ
+taken published k views Slots place = claim_bit (k.slot place).stage
+taken published k views Nodes place = node_owners views place + occurs place published
 
 -- a seat that owns no node and builds nothing
 pub record OwnsNothing (side : PoolSide) : Type 0 where

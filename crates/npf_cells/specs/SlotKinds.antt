@@ -2,6 +2,7 @@
 use Rattle.std.specs.Prelude.{◌≡◌, ◌≢◌, ℕ, ◌%◌, List, ◌∷◌, Some}
 use Rattle.std.specs.Int.{bit_at}
 use Rattle.atomic_table.specs.Table.{Me, Step}
+use Rattle.npf_types.specs.declared.key.Key.{Key}
 use Rattle.npf_core.specs.declared.conn_id.ConnId.{ConnId}
 use Rattle.npf_core.specs.declared.entry.Entry.{Entry}
 use Rattle.npf_core.specs.Meaning.{Meaning}
@@ -32,8 +33,8 @@ pub record HasClaimed {S A R F : Type 0} (m : Meaning S A R) (n slot : ℕ) (old
   pub is : now ≡ (claiming_slot old.0 now.0.pools.found now.0.seats.history id, old.1)
 
 -- the kind, as what it tells
-pub record ClaimsSlot {S A R F : Type 0} (m : Meaning S A R) (layout : Layout) (n slot : ℕ) (step : Step F) (me : Me F (CellView S A R)) (found : ℕ) (next : Me F (CellView S A R)) : Type 0 where
+pub record ClaimsSlot {S A R F : Type 0} (m : Meaning S A R) (digest : Key → ℕ) (layout : Layout) (n slot : ℕ) (step : Step F) (me : Me F (CellView S A R)) (found : ℕ) (next : Me F (CellView S A R)) : Type 0 where
   pub finds : next.0.pools.found ≡ found
-  pub stood : StoodSo m layout me.0 (place_word layout Slots slot) found
+  pub stood : StoodSo m digest layout me.0 (place_word layout Slots slot) found
   pub won : bit_at found (slot % 64) ≡ 0 → HasClaimed m n slot me next
   pub lost : bit_at found (slot % 64) ≢ 0 → next ≡ with_pools me (record me.0.pools { found = found })

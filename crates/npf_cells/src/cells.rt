@@ -1,10 +1,9 @@
-ghost use Rattle.std.specs.Prelude.{◌≡◌, ◌≤◌, ◌+◌, ◌-◌, ◌++◌, ℕ, IfOk, length, slice_index, take, drop};
+ghost use Rattle.std.specs.Prelude.{◌≡◌, ◌≤◌, ◌<◌, ◌^◌, ◌+◌, ◌-◌, ◌++◌, ℕ, IfOk, length, slice_index, take, drop};
 ghost use Rattle.npf_connections.specs.Pass.{all_places};
 ghost use Rattle.npf_cells.specs.Layout.{pool_words, word_count};
 ghost use Rattle.npf_cells.specs.Opening.{opening_words, with_past};
 ghost use Rattle.npf_cells.specs.Sums.{numbers_below};
 
-use crate::hash::KeyHash;
 use crate::kinds::{
     AdvancesEpoch, LoadsEpoch, PinsReader, ProtectsReader, ScansReader, UnpinsReader,
 };
@@ -15,9 +14,9 @@ use crate::views::CellView;
 use arrayvec::ArrayVec;
 use atomic_table::{Refused, Seat, Table};
 use npf_core::Law;
+use npf_digits::KeyHash;
 use npf_types::NoMemory;
 use std::alloc::Global;
-use std::marker::PhantomData;
 
 /// A table of connections without locks.
 #[derive(Drop)]
@@ -26,12 +25,12 @@ pub struct Cells<L: Law, H: KeyHash> {
         Option<(L::State, u64)>,
         CellView<L::State, L::Arg, L::Reply>,
         Layout,
-        CellsRule<L>,
+        CellsRule<L, H>,
         Global,
     >,
     pub(crate) layout: Layout,
-    hash: PhantomData<H>,
     ghost laid: { table.shared.key ≡ layout },
+    ghost narrow: { (layout.slots < 2 ^ 32) × (layout.nodes < 2 ^ 32) },
 }
 
 /// A pass of such a table.
@@ -48,10 +47,10 @@ impl<L: Law, H: KeyHash> Cells<L, H> {
     ghost use Rattle.npf_connections.specs.Pass.{IsPass, IsFirstPass, all_places};
     ghost use Rattle.npf_connections.specs.Worn.{last_epoch};
     ghost use Rattle.npf_cells.specs.declared.views.Pin.TheVariants.{Idle, Pinned};
-    ghost use Rattle.npf_cells.specs.Cells.{idle_side, empty_handed};
+    ghost use Rattle.npf_cells.specs.Cells.{idle_side, empty_handed, unread_side};
     ghost use Rattle.npf_cells.specs.Epochs.{HasScannedAll};
-    ghost use Rattle.npf_cells.specs.Kinds.{HasLoaded, IsMet, with_epochs, loading, pinning, protecting, unpinning, scanning, advancing};
-    ghost use Rattle.npf_cells.specs.Moves.{joined_epochs, joined_pools};
+    ghost use Rattle.npf_cells.specs.Kinds.{HasLoaded, IsMet, with_epochs, loading, pinning, protecting, unpinned, scanning, advancing};
+    ghost use Rattle.npf_cells.specs.Moves.{joined_epochs, joined_pools, joined_trie};
     ghost use Rattle.npf_cells.specs.Passes.{IsPassOf, cell_pass};
 
     /// A table of so many slots and nodes, and its first pass. All the memory that it ever has is taken here.
@@ -66,17 +65,14 @@ impl<L: Law, H: KeyHash> Cells<L, H> {
         ensures legal { IfOk result (λ made. IsPass L.meaning (cell_pass made.1.seat.me.0)) }
         ensures idle { IfOk result (λ made. made.1.seat.me.0.epochs.pin ≡ Idle) }
         ensures empty { IfOk result (λ made. made.1.seat.me.0.pools ≡ empty_handed) }
+        ensures unread { IfOk result (λ made. made.1.seat.me.0.trie ≡ unread_side) }
     {
         let layout = Layout { slots, nodes };
         let words = first_words(alloc, layout)?;
         let homes = vacant_homes::<L::State>(alloc, slots)?;
         match Table::new(alloc, words.as_slice(), homes, &layout) {
             Ok((table, seat)) => {
-                let cells = Cells {
-                    table,
-                    layout,
-                    hash: PhantomData,
-                };
+                let cells = Cells { table, layout };
                 let readers = all_readers();
                 Ok((cells, CellPass { seat, readers }))
             }
@@ -102,9 +98,11 @@ impl<L: Law, H: KeyHash> Cells<L, H> {
         ensures given_idle { result.seat.me.0.epochs.pin ≡ Idle }
         ensures given_unread { result.seat.me.0.epochs ≡ idle_side }
         ensures given_empty { result.seat.me.0.pools ≡ empty_handed }
+        ensures given_nothing { result.seat.me.0.trie ≡ unread_side }
         ensures idle { pass.new.seat.me.0.epochs.pin ≡ Idle }
         ensures pools { pass.new.seat.me.0.pools ≡ pass.old.seat.me.0.pools }
         ensures epochs { pass.new.seat.me.0.epochs ≡ pass.old.seat.me.0.epochs }
+        ensures trie { pass.new.seat.me.0.trie ≡ pass.old.seat.me.0.trie }
         ensures given_legal { IsPass L.meaning (cell_pass result.seat.me.0) }
     {
         let readers = give_last(&mut pass.readers);
@@ -126,6 +124,7 @@ impl<L: Law, H: KeyHash> Cells<L, H> {
         ensures idle { pass.new.seat.me.0.epochs.pin ≡ Idle }
         ensures pools { pass.new.seat.me.0.pools ≡ joined_pools pass.old.seat.me.0.pools other.seat.me.0.pools }
         ensures epochs { pass.new.seat.me.0.epochs ≡ joined_epochs pass.old.seat.me.0.epochs other.seat.me.0.epochs }
+        ensures trie { pass.new.seat.me.0.trie ≡ joined_trie pass.old.seat.me.0.trie other.seat.me.0.trie }
         ensures joins { IsJoined (cell_pass pass.old.seat.me.0) (cell_pass other.seat.me.0) (cell_pass pass.new.seat.me.0) }
         ensures legal { IsPass L.meaning (cell_pass pass.new.seat.me.0) }
     {
@@ -172,12 +171,13 @@ impl<L: Law, H: KeyHash> Cells<L, H> {
             .load::<ProtectsReader>(&mut pass.seat, EPOCH)
     }
 
-    /// Ends what was pinned.
+    /// Ends what was pinned, and with it what the pass read in this stay.
     pub fn unpin(&self, pass: &mut CellPass<L>)
         requires own { IsPassOf self.now.table.shared.key self.now.table.shared.table_id pass.old.seat.table_id pass.old.readers.items pass.old.seat.me }
         requires pinned { ¬ (pass.old.seat.me.0.epochs.pin ≡ Idle) }
+        requires unlocked { pass.old.seat.me.0.trie.locks ≡ [] }
         ensures own { IsPassOf self.now.table.shared.key self.now.table.shared.table_id pass.new.seat.table_id pass.new.readers.items pass.new.seat.me }
-        ensures next { pass.new.seat.me ≡ with_epochs pass.old.seat.me (unpinning pass.old.seat.me.0.epochs) }
+        ensures next { pass.new.seat.me ≡ unpinned pass.old.seat.me }
     {
         let reader = pass.readers[0];
         self.table

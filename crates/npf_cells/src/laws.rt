@@ -1,6 +1,7 @@
 // What holds of every table between any two steps. The functions do nothing: each is a theorem.
 ghost use Rattle.npf_cells.specs.declared.layout.Layout.{Layout};
 ghost use Rattle.npf_cells.specs.TableLaw.{OwnsAlone, BuildsAlone, HoldsBack, CountsRaises};
+ghost use Rattle.npf_cells.specs.TrieLaw.{EndsNameHolders, LeavesAreKept, NodesAreKept};
 
 use npf_core::Law;
 
@@ -18,4 +19,12 @@ pub fn protection_law<L: Law>()
 /// The count law: no pass raises the epoch without counting it.
 pub fn count_law<L: Law>()
     ensures counted { (layout : Layout) → CountsRaises L.meaning layout }
+{}
+
+/// The trie law: what stands where a key's path ends names the key's holder; and what a pass loaded in its stay isn't used again: the words
+/// of its leaf are as they were, whose connection is claimed, and the node in which it stands is no pass's own.
+pub fn trie_law<L: Law>()
+    ensures ends { (layout : Layout) → EndsNameHolders L.meaning layout }
+    ensures leaves { (layout : Layout) → LeavesAreKept L.meaning layout }
+    ensures nodes { (layout : Layout) → NodesAreKept L.meaning layout }
 {}

@@ -1,5 +1,10 @@
 ghost use Rattle.std.specs.Prelude.{◌≡◌, ◌+◌, ◌<◌};
-ghost use Rattle.npf_cells.specs.Layout.{reader_at, pool_at, pool_places, pool_words, field_at, field_count, word_count};
+ghost use Rattle.npf_cells.specs.Locks.{IsLockOf, lock_at};
+ghost use Rattle.npf_cells.specs.Trie.{IsInTrie, place_at};
+ghost use Rattle.npf_cells.specs.Layout.{key_field, reader_at, pool_at, pool_places, pool_words, field_at, field_count, word_count};
+
+use npf_paths::{Lock, Place};
+use npf_types::Way;
 
 /// How many slots and nodes a table has, which says where each of its words lies.
 #[derive(Clone, Copy)]
@@ -25,6 +30,9 @@ pub(crate) const FIRST_EPOCH: u64 = 2;
 
 /// A reader word that is idle.
 pub(crate) const IDLE: u64 = 0;
+
+/// The field of a node's state among its words.
+pub(crate) const STATE: u32 = 16;
 
 /// The field of a connection's incarnation among its words.
 pub(crate) const INCARNATION: u32 = 1;
@@ -74,6 +82,35 @@ impl Layout {
         }
     }
 
+    /// The place of a place of the trie among the words.
+    pub(crate) fn trie_place(&self, place: Place) -> usize
+        requires { IsInTrie self.now place }
+        ensures { result ≡ place_at self.now place }
+    {
+        match place {
+            Place::Root(digit) => {
+                67 + words_of(self.slots) as usize + words_of(self.nodes) as usize + digit as usize
+            }
+            Place::Node { node, digit } => self.field_place(Pool::Nodes, node, digit),
+        }
+    }
+
+    /// The place of a lock among the words.
+    pub(crate) fn lock_place(&self, lock: Lock) -> usize
+        requires { IsLockOf self.now lock }
+        ensures { result ≡ lock_at self.now lock }
+    {
+        match lock {
+            Lock::Root(digit) => {
+                67 + words_of(self.slots) as usize
+                    + words_of(self.nodes) as usize
+                    + 64
+                    + digit as usize
+            }
+            Lock::Node(node) => self.field_place(Pool::Nodes, node, STATE),
+        }
+    }
+
     /// The place of a pool's word among the words.
     pub(crate) fn pool_place(&self, pool: Pool, word: u32) -> usize
         ensures { result ≡ pool_at self.now pool + word }
@@ -97,4 +134,16 @@ pub(crate) fn reader_place(reader: u32) -> usize
     ensures { result ≡ reader_at reader }
 {
     1 + reader as usize
+}
+
+/// The field of a word of a way's key among a connection's words.
+pub(crate) fn key_field(way: Way, word: u32) -> u32
+    requires { word < 5 }
+    ensures { result ≡ key_field way + word }
+{
+    match way {
+        Way::Forward => 3 + word,
+        Way::Backward => 8 + word,
+        Way::Port => 13 + word,
+    }
 }

@@ -11,21 +11,28 @@
 // protected pass holds the epoch back, and no pass raises it without counting it.
 #![tactic(auto)]
 
+mod aim;
 mod cells;
-mod hash;
+mod hold;
 mod kinds;
 mod laws;
 mod layout;
+mod locks;
+mod look;
 mod passing;
 mod pools;
 mod private;
+mod publish;
 mod rule;
 mod slots;
 mod views;
 
+pub use aim::Aim;
 pub use cells::{CellPass, Cells};
-pub use hash::KeyHash;
-pub use laws::{claim_law, count_law, protection_law};
+pub use laws::{claim_law, count_law, protection_law, trie_law};
 pub use layout::{LAST_EPOCH, Layout, Pool, READERS};
 pub use rule::CellsRule;
-pub use views::{CellView, EpochSide, Pin, PoolSide, SeatSide};
+pub use views::{
+    CellView, EpochSide, LoadedLeaf, Meeting, PathPlace, Pin, PoolSide, SeatSide, SeenCell,
+    StoredWord, TrieSide,
+};

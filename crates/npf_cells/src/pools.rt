@@ -2,12 +2,12 @@ ghost use Rattle.std.specs.Prelude.{◌≡◌, ◌-◌, ◌*◌, ◌%◌, ◌^�
 ghost use Rattle.std.specs.Int.{bit_at};
 
 use crate::cells::{CellPass, Cells};
-use crate::hash::KeyHash;
 use crate::layout::Pool;
 use crate::rule::Running;
 use crate::views::CellView;
 use atomic_table::Play;
 use npf_core::Law;
+use npf_digits::KeyHash;
 use std::marker::{Brand, PhantomData};
 
 // What a load of a pool's word is told.
@@ -49,40 +49,43 @@ impl NodeAim for Brand {
     ghost node = { 0 };
 }
 
-pub(crate) struct SweepsPool<L: Law, W> {
+pub(crate) struct SweepsPool<L: Law, H: KeyHash, W> {
     law: PhantomData<L>,
+    hash: PhantomData<H>,
     aim: PhantomData<W>,
 }
 
-impl<L: Law, W: SweepAim> Play<Running<L::State>, CellView<L::State, L::Arg, L::Reply>>
-    for SweepsPool<L, W> {
+impl<L: Law, H: KeyHash, W: SweepAim> Play<Running<L::State>, CellView<L::State, L::Arg, L::Reply>>
+    for SweepsPool<L, H, W> {
     ghost use Rattle.npf_cells.specs.PoolKinds.{Sweeps};
 
-    ghost then = { Sweeps L.meaning W.layout W.pool W.word };
+    ghost then = { Sweeps L.meaning H.digest W.layout W.pool W.word };
 }
 
-pub(crate) struct TakesNode<L: Law, W> {
+pub(crate) struct TakesNode<L: Law, H: KeyHash, W> {
     law: PhantomData<L>,
+    hash: PhantomData<H>,
     aim: PhantomData<W>,
 }
 
-impl<L: Law, W: NodeAim> Play<Running<L::State>, CellView<L::State, L::Arg, L::Reply>>
-    for TakesNode<L, W> {
+impl<L: Law, H: KeyHash, W: NodeAim> Play<Running<L::State>, CellView<L::State, L::Arg, L::Reply>>
+    for TakesNode<L, H, W> {
     ghost use Rattle.npf_cells.specs.PoolKinds.{ClaimsNode};
 
-    ghost then = { ClaimsNode L.meaning W.layout W.node };
+    ghost then = { ClaimsNode L.meaning H.digest W.layout W.node };
 }
 
-pub(crate) struct ReturnsNode<L: Law, W> {
+pub(crate) struct ReturnsNode<L: Law, H: KeyHash, W> {
     law: PhantomData<L>,
+    hash: PhantomData<H>,
     aim: PhantomData<W>,
 }
 
-impl<L: Law, W: NodeAim> Play<Running<L::State>, CellView<L::State, L::Arg, L::Reply>>
-    for ReturnsNode<L, W> {
+impl<L: Law, H: KeyHash, W: NodeAim> Play<Running<L::State>, CellView<L::State, L::Arg, L::Reply>>
+    for ReturnsNode<L, H, W> {
     ghost use Rattle.npf_cells.specs.PoolKinds.{GivesNodeBack};
 
-    ghost then = { GivesNodeBack L.meaning W.layout W.node };
+    ghost then = { GivesNodeBack L.meaning H.digest W.layout W.node };
 }
 
 impl<L: Law, H: KeyHash> Cells<L, H> {
@@ -91,16 +94,17 @@ impl<L: Law, H: KeyHash> Cells<L, H> {
     ghost use Rattle.npf_cells.specs.declared.layout.Pool.TheVariants.{Slots, Nodes};
     ghost use Rattle.npf_cells.specs.Layout.{pool_at, pool_places, pool_words, place_word};
     ghost use Rattle.npf_cells.specs.Passes.{IsPassOf, IsProtected};
-    ghost use Rattle.npf_cells.specs.PoolKinds.{StoodSo, most_nodes, with_pools, sweeping, claiming_node, giving_back};
+    ghost use Rattle.npf_cells.specs.PoolKinds.{StoodSo, NeedsNode, with_pools, sweeping, claiming_node, giving_back};
     ghost use Rattle.npf_cells.specs.SlotKinds.{HasClaimed};
 
     /// Loads a word of a pool: a bit for each of 64 places, set where it is taken or past the last place.
     pub fn load_pool(&self, pass: &mut CellPass<L>, pool: Pool, word: u32) -> u64
         requires own { IsPassOf self.now.table.shared.key self.now.table.shared.table_id pass.old.seat.table_id pass.old.readers.items pass.old.seat.me }
         requires word { word < pool_words (pool_places self.now.table.shared.key pool) }
+        requires needs { pool ≡ Nodes → NeedsNode H.digest pass.old.seat.me.0 }
         ensures own { IsPassOf self.now.table.shared.key self.now.table.shared.table_id pass.new.seat.table_id pass.new.readers.items pass.new.seat.me }
         ensures next { pass.new.seat.me ≡ with_pools pass.old.seat.me (sweeping pool (pool_words self.now.table.shared.key.nodes) word pass.old.seat.me.0.pools result) }
-        ensures stood { StoodSo L.meaning self.now.table.shared.key pass.old.seat.me.0 (pool_at self.now.table.shared.key pool + word) result }
+        ensures stood { StoodSo L.meaning H.digest self.now.table.shared.key pass.old.seat.me.0 (pool_at self.now.table.shared.key pool + word) result }
     {
         self.load_pool_as::<Brand>(pass, pool, word)
     }
@@ -111,12 +115,12 @@ impl<L: Law, H: KeyHash> Cells<L, H> {
         requires aim { (W.layout ≡ self.now.table.shared.key) × (W.pool ≡ pool) × (W.word ≡ word) }
         ensures own { IsPassOf self.now.table.shared.key self.now.table.shared.table_id pass.new.seat.table_id pass.new.readers.items pass.new.seat.me }
         ensures next { pass.new.seat.me ≡ with_pools pass.old.seat.me (sweeping pool (pool_words self.now.table.shared.key.nodes) word pass.old.seat.me.0.pools result) }
-        ensures stood { StoodSo L.meaning self.now.table.shared.key pass.old.seat.me.0 (pool_at self.now.table.shared.key pool + word) result }
+        ensures stood { StoodSo L.meaning H.digest self.now.table.shared.key pass.old.seat.me.0 (pool_at self.now.table.shared.key pool + word) result }
     {
         let place = self.layout.pool_place(pool, word);
         self.table
             .shared
-            .load::<SweepsPool<L, W>>(&mut pass.seat, place)
+            .load::<SweepsPool<L, H, W>>(&mut pass.seat, place)
     }
 
     /// Claims a place, unless it is taken. Answers whether it did. A node is then the pass's own. In a slot the pass is then building
@@ -125,13 +129,13 @@ impl<L: Law, H: KeyHash> Cells<L, H> {
         requires own { IsPassOf self.now.table.shared.key self.now.table.shared.table_id pass.old.seat.table_id pass.old.readers.items pass.old.seat.me }
         requires place { place < pool_places self.now.table.shared.key pool }
         requires protected { IsProtected pass.old.seat.me.0.epochs.pin }
-        requires few { pool ≡ Nodes → length pass.old.seat.me.0.pools.nodes < most_nodes }
+        requires needs { pool ≡ Nodes → NeedsNode H.digest pass.old.seat.me.0 }
         ensures own { IsPassOf self.now.table.shared.key self.now.table.shared.table_id pass.new.seat.table_id pass.new.readers.items pass.new.seat.me }
         ensures slot { pool ≡ Slots → result ≡ true → HasClaimed L.meaning n place pass.old.seat.me pass.new.seat.me }
         ensures node { pool ≡ Nodes → pass.new.seat.me ≡ with_pools pass.old.seat.me (claiming_node place pass.old.seat.me.0.pools pass.new.seat.me.0.pools.found) }
         ensures unowned { pool ≡ Nodes → result ≡ true → ¬ (Contains pass.old.seat.me.0.pools.nodes place) }
         ensures loses { result ≡ false → pass.new.seat.me ≡ with_pools pass.old.seat.me (record pass.old.seat.me.0.pools { found = pass.new.seat.me.0.pools.found }) }
-        ensures stood { StoodSo L.meaning self.now.table.shared.key pass.old.seat.me.0 (place_word self.now.table.shared.key pool place) pass.new.seat.me.0.pools.found }
+        ensures stood { StoodSo L.meaning H.digest self.now.table.shared.key pass.old.seat.me.0 (place_word self.now.table.shared.key pool place) pass.new.seat.me.0.pools.found }
         ensures answers { (result ≡ true) ↔ (bit_at pass.new.seat.me.0.pools.found (place % 64) ≡ 0) }
     {
         match pool {
@@ -146,7 +150,7 @@ impl<L: Law, H: KeyHash> Cells<L, H> {
         requires node { node < self.now.table.shared.key.nodes }
         ensures own { IsPassOf self.now.table.shared.key self.now.table.shared.table_id pass.new.seat.table_id pass.new.readers.items pass.new.seat.me }
         ensures next { pass.new.seat.me ≡ with_pools pass.old.seat.me (claiming_node node pass.old.seat.me.0.pools pass.new.seat.me.0.pools.found) }
-        ensures stood { StoodSo L.meaning self.now.table.shared.key pass.old.seat.me.0 (place_word self.now.table.shared.key Nodes node) pass.new.seat.me.0.pools.found }
+        ensures stood { StoodSo L.meaning H.digest self.now.table.shared.key pass.old.seat.me.0 (place_word self.now.table.shared.key Nodes node) pass.new.seat.me.0.pools.found }
         ensures unowned { result ≡ true → ¬ (Contains pass.old.seat.me.0.pools.nodes node) }
         ensures answers { (result ≡ true) ↔ (bit_at pass.new.seat.me.0.pools.found (node % 64) ≡ 0) }
     {
@@ -159,7 +163,7 @@ impl<L: Law, H: KeyHash> Cells<L, H> {
         requires aim { (W.layout ≡ self.now.table.shared.key) × (W.node ≡ node) }
         ensures own { IsPassOf self.now.table.shared.key self.now.table.shared.table_id pass.new.seat.table_id pass.new.readers.items pass.new.seat.me }
         ensures next { pass.new.seat.me ≡ with_pools pass.old.seat.me (claiming_node node pass.old.seat.me.0.pools pass.new.seat.me.0.pools.found) }
-        ensures stood { StoodSo L.meaning self.now.table.shared.key pass.old.seat.me.0 (place_word self.now.table.shared.key Nodes node) pass.new.seat.me.0.pools.found }
+        ensures stood { StoodSo L.meaning H.digest self.now.table.shared.key pass.old.seat.me.0 (place_word self.now.table.shared.key Nodes node) pass.new.seat.me.0.pools.found }
         ensures unowned { result ≡ true → ¬ (Contains pass.old.seat.me.0.pools.nodes node) }
         ensures answers { (result ≡ true) ↔ (bit_at pass.new.seat.me.0.pools.found (node % 64) ≡ 0) }
     {
@@ -167,7 +171,7 @@ impl<L: Law, H: KeyHash> Cells<L, H> {
         let found = self
             .table
             .shared
-            .fetch_or::<TakesNode<L, W>>(&mut pass.seat, place, place_bit(node));
+            .fetch_or::<TakesNode<L, H, W>>(&mut pass.seat, place, place_bit(node));
         is_clear(found, node)
     }
 
@@ -179,7 +183,7 @@ impl<L: Law, H: KeyHash> Cells<L, H> {
         requires owned { Contains pass.old.seat.me.0.pools.nodes place }
         ensures own { IsPassOf self.now.table.shared.key self.now.table.shared.table_id pass.new.seat.table_id pass.new.readers.items pass.new.seat.me }
         ensures next { pass.new.seat.me ≡ with_pools pass.old.seat.me (giving_back place pass.old.seat.me.0.pools pass.new.seat.me.0.pools.found) }
-        ensures stood { StoodSo L.meaning self.now.table.shared.key pass.old.seat.me.0 (place_word self.now.table.shared.key Nodes place) pass.new.seat.me.0.pools.found }
+        ensures stood { StoodSo L.meaning H.digest self.now.table.shared.key pass.old.seat.me.0 (place_word self.now.table.shared.key Nodes place) pass.new.seat.me.0.pools.found }
     {
         self.give_back_as::<Brand>(pass, pool, place);
     }
@@ -192,12 +196,12 @@ impl<L: Law, H: KeyHash> Cells<L, H> {
         requires aim { (W.layout ≡ self.now.table.shared.key) × (W.node ≡ place) }
         ensures own { IsPassOf self.now.table.shared.key self.now.table.shared.table_id pass.new.seat.table_id pass.new.readers.items pass.new.seat.me }
         ensures next { pass.new.seat.me ≡ with_pools pass.old.seat.me (giving_back place pass.old.seat.me.0.pools pass.new.seat.me.0.pools.found) }
-        ensures stood { StoodSo L.meaning self.now.table.shared.key pass.old.seat.me.0 (place_word self.now.table.shared.key Nodes place) pass.new.seat.me.0.pools.found }
+        ensures stood { StoodSo L.meaning H.digest self.now.table.shared.key pass.old.seat.me.0 (place_word self.now.table.shared.key Nodes place) pass.new.seat.me.0.pools.found }
     {
         let word = self.layout.pool_place(pool, place / 64);
         self.table
             .shared
-            .fetch_and::<ReturnsNode<L, W>>(&mut pass.seat, word, !place_bit(place));
+            .fetch_and::<ReturnsNode<L, H, W>>(&mut pass.seat, word, !place_bit(place));
     }
 }
 

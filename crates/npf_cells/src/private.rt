@@ -1,12 +1,12 @@
 ghost use Rattle.std.specs.Prelude.{◌≡◌};
 
 use crate::cells::{CellPass, Cells};
-use crate::hash::KeyHash;
 use crate::layout::{INCARNATION, Pool};
 use crate::rule::Running;
 use crate::views::CellView;
 use atomic_table::Play;
 use npf_core::Law;
+use npf_digits::KeyHash;
 use std::marker::{Brand, PhantomData};
 
 // What a load of an incarnation is told.
@@ -57,35 +57,37 @@ impl<F, S, A, R, W: IncAim> Play<F, CellView<S, A, R>> for LoadsIncarnation<W> {
     ghost then = { LoadsInc W.slot };
 }
 
-pub(crate) struct StoresInOwn<L: Law, W> {
+pub(crate) struct StoresInOwn<L: Law, H: KeyHash, W> {
     law: PhantomData<L>,
+    hash: PhantomData<H>,
     aim: PhantomData<W>,
 }
 
-impl<L: Law, W: StoreAim> Play<Running<L::State>, CellView<L::State, L::Arg, L::Reply>>
-    for StoresInOwn<L, W> {
+impl<L: Law, H: KeyHash, W: StoreAim> Play<Running<L::State>, CellView<L::State, L::Arg, L::Reply>>
+    for StoresInOwn<L, H, W> {
     ghost use Rattle.npf_cells.specs.PrivateKinds.{StoresPrivate};
 
-    ghost then = { StoresPrivate L.meaning W.layout W.pool W.place W.field };
+    ghost then = { StoresPrivate L.meaning H.digest W.layout W.pool W.place W.field };
 }
 
 impl<L: Law, H: KeyHash> Cells<L, H> {
-    ghost use Rattle.std.specs.Prelude.{◌≡◌, ◌<◌};
+    ghost use Rattle.std.specs.Prelude.{◌≡◌, ◌<◌, ◌⊎◌};
     ghost use Rattle.npf_cells.specs.Conns.{IsBuiltIn};
-    ghost use Rattle.npf_cells.specs.Layout.{field_at, field_count, pool_places};
+    ghost use Rattle.npf_cells.specs.Layout.{field_count, pool_places};
     ghost use Rattle.npf_cells.specs.Passes.{IsPassOf};
-    ghost use Rattle.npf_cells.specs.PoolKinds.{StoodSo, with_pools};
-    ghost use Rattle.npf_cells.specs.PrivateKinds.{ShowsInc, MayStore, storing};
+    ghost use Rattle.npf_cells.specs.PoolKinds.{with_pools};
+    ghost use Rattle.npf_cells.specs.PrivateKinds.{ShowsInc, ShowsLeafInc, HasLeafIn, MayStore, storing};
 
-    /// Loads the incarnation of a slot in which the pass is building a connection: that connection's, or the one before it where the
-    /// pass hasn't stored it yet.
+    /// Loads the incarnation of a slot in which the pass is building a connection, or of the leaf that it loaded last: that
+    /// connection's, or the one before it where the pass that is building it hasn't stored it yet.
     pub fn load_inc(&self, pass: &mut CellPass<L>, slot: u32) -> u64
         requires own { IsPassOf self.now.table.shared.key self.now.table.shared.table_id pass.old.seat.table_id pass.old.readers.items pass.old.seat.me }
         requires slot { slot < self.now.table.shared.key.slots }
-        requires building { IsBuiltIn pass.old.seat.me.0.pools.builds slot }
+        requires fixed { IsBuiltIn pass.old.seat.me.0.pools.builds slot ⊎ HasLeafIn pass.old.seat.me.0.trie slot }
         ensures own { IsPassOf self.now.table.shared.key self.now.table.shared.table_id pass.new.seat.table_id pass.new.readers.items pass.new.seat.me }
         ensures same { pass.new.seat.me ≡ pass.old.seat.me }
         ensures shows { ShowsInc pass.old.seat.me.0.pools slot result }
+        ensures leaf { ShowsLeafInc pass.old.seat.me.0.trie slot result }
     {
         self.load_inc_as::<Brand>(pass, slot)
     }
@@ -97,6 +99,7 @@ impl<L: Law, H: KeyHash> Cells<L, H> {
         ensures own { IsPassOf self.now.table.shared.key self.now.table.shared.table_id pass.new.seat.table_id pass.new.readers.items pass.new.seat.me }
         ensures same { pass.new.seat.me ≡ pass.old.seat.me }
         ensures shows { ShowsInc pass.old.seat.me.0.pools slot result }
+        ensures leaf { ShowsLeafInc pass.old.seat.me.0.trie slot result }
     {
         let word = self.layout.field_place(Pool::Slots, slot, INCARNATION);
         self.table
@@ -120,8 +123,7 @@ impl<L: Law, H: KeyHash> Cells<L, H> {
         requires field { field < field_count pool }
         requires may { MayStore L.meaning pass.old.seat.me.0 pool place field value }
         ensures own { IsPassOf self.now.table.shared.key self.now.table.shared.table_id pass.new.seat.table_id pass.new.readers.items pass.new.seat.me }
-        ensures next { pass.new.seat.me ≡ with_pools pass.old.seat.me (storing pool place field pass.old.seat.me.0.pools) }
-        ensures stands { StoodSo L.meaning self.now.table.shared.key pass.new.seat.me.0 (field_at self.now.table.shared.key pool place field) value }
+        ensures next { pass.new.seat.me ≡ with_pools pass.old.seat.me (storing pool place field value pass.old.seat.me.0.pools) }
     {
         self.store_private_as::<Brand>(pass, pool, place, field, value);
     }
@@ -140,12 +142,11 @@ impl<L: Law, H: KeyHash> Cells<L, H> {
         requires may { MayStore L.meaning pass.old.seat.me.0 pool place field value }
         requires aim { (W.layout ≡ self.now.table.shared.key) × (W.pool ≡ pool) × (W.place ≡ place) × (W.field ≡ field) }
         ensures own { IsPassOf self.now.table.shared.key self.now.table.shared.table_id pass.new.seat.table_id pass.new.readers.items pass.new.seat.me }
-        ensures next { pass.new.seat.me ≡ with_pools pass.old.seat.me (storing pool place field pass.old.seat.me.0.pools) }
-        ensures stands { StoodSo L.meaning self.now.table.shared.key pass.new.seat.me.0 (field_at self.now.table.shared.key pool place field) value }
+        ensures next { pass.new.seat.me ≡ with_pools pass.old.seat.me (storing pool place field value pass.old.seat.me.0.pools) }
     {
         let word = self.layout.field_place(pool, place, field);
         self.table
             .shared
-            .store::<StoresInOwn<L, W>>(&mut pass.seat, word, value);
+            .store::<StoresInOwn<L, H, W>>(&mut pass.seat, word, value);
     }
 }

@@ -2,6 +2,7 @@ use crate::layout::Layout;
 use crate::views::CellView;
 use atomic_table::TableRule;
 use npf_core::Law;
+use npf_digits::KeyHash;
 use std::marker::PhantomData;
 
 /// A connection's flow and its count of steps, or none where the slot is vacant.
@@ -10,15 +11,19 @@ pub(crate) type Running<S> = Option<(S, u64)>;
 pub(crate) type Sight<L: Law> = CellView<L::State, L::Arg, L::Reply>;
 
 /// The rule of the table.
-pub struct CellsRule<L: Law> {
+pub struct CellsRule<L: Law, H: KeyHash> {
     law: PhantomData<L>,
+    hash: PhantomData<H>,
 }
 
-impl<L: Law> TableRule<Option<(L::State, u64)>, CellView<L::State, L::Arg, L::Reply>, Layout>
-    for CellsRule<L> {
+impl<L: Law, H: KeyHash> TableRule<
+    Option<(L::State, u64)>,
+    CellView<L::State, L::Arg, L::Reply>,
+    Layout,
+> for CellsRule<L, H> {
     ghost use Rattle.npf_cells.specs.Cells.{IsCells, first_cell_view};
 
-    ghost holds = { IsCells L.meaning };
+    ghost holds = { IsCells L.meaning H.digest };
 
     ghost first = { first_cell_view };
 }

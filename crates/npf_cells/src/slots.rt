@@ -1,13 +1,13 @@
 ghost use Rattle.std.specs.Prelude.{◌≡◌};
 
 use crate::cells::{CellPass, Cells};
-use crate::hash::KeyHash;
 use crate::layout::Pool;
 use crate::pools::{is_clear, place_bit};
 use crate::rule::Running;
 use crate::views::CellView;
 use atomic_table::Play;
 use npf_core::Law;
+use npf_digits::KeyHash;
 use std::marker::{Brand, PhantomData};
 
 // What a step on a slot's bit is told.
@@ -30,16 +30,17 @@ impl SlotAim for Brand {
     ghost packet = { 0 };
 }
 
-pub(crate) struct TakesSlot<L: Law, W> {
+pub(crate) struct TakesSlot<L: Law, H: KeyHash, W> {
     law: PhantomData<L>,
+    hash: PhantomData<H>,
     aim: PhantomData<W>,
 }
 
-impl<L: Law, W: SlotAim> Play<Running<L::State>, CellView<L::State, L::Arg, L::Reply>>
-    for TakesSlot<L, W> {
+impl<L: Law, H: KeyHash, W: SlotAim> Play<Running<L::State>, CellView<L::State, L::Arg, L::Reply>>
+    for TakesSlot<L, H, W> {
     ghost use Rattle.npf_cells.specs.SlotKinds.{ClaimsSlot};
 
-    ghost then = { ClaimsSlot L.meaning W.layout W.packet W.slot };
+    ghost then = { ClaimsSlot L.meaning H.digest W.layout W.packet W.slot };
 }
 
 impl<L: Law, H: KeyHash> Cells<L, H> {
@@ -59,7 +60,7 @@ impl<L: Law, H: KeyHash> Cells<L, H> {
         ensures own { IsPassOf self.now.table.shared.key self.now.table.shared.table_id pass.new.seat.table_id pass.new.readers.items pass.new.seat.me }
         ensures claims { result ≡ true → HasClaimed L.meaning n slot pass.old.seat.me pass.new.seat.me }
         ensures loses { result ≡ false → pass.new.seat.me ≡ with_pools pass.old.seat.me (record pass.old.seat.me.0.pools { found = pass.new.seat.me.0.pools.found }) }
-        ensures stood { StoodSo L.meaning self.now.table.shared.key pass.old.seat.me.0 (place_word self.now.table.shared.key Slots slot) pass.new.seat.me.0.pools.found }
+        ensures stood { StoodSo L.meaning H.digest self.now.table.shared.key pass.old.seat.me.0 (place_word self.now.table.shared.key Slots slot) pass.new.seat.me.0.pools.found }
         ensures answers { (result ≡ true) ↔ (bit_at pass.new.seat.me.0.pools.found (slot % 64) ≡ 0) }
     {
         self.claim_slot_as::<Brand>(pass, slot, n)
@@ -73,14 +74,14 @@ impl<L: Law, H: KeyHash> Cells<L, H> {
         ensures own { IsPassOf self.now.table.shared.key self.now.table.shared.table_id pass.new.seat.table_id pass.new.readers.items pass.new.seat.me }
         ensures claims { result ≡ true → HasClaimed L.meaning n slot pass.old.seat.me pass.new.seat.me }
         ensures loses { result ≡ false → pass.new.seat.me ≡ with_pools pass.old.seat.me (record pass.old.seat.me.0.pools { found = pass.new.seat.me.0.pools.found }) }
-        ensures stood { StoodSo L.meaning self.now.table.shared.key pass.old.seat.me.0 (place_word self.now.table.shared.key Slots slot) pass.new.seat.me.0.pools.found }
+        ensures stood { StoodSo L.meaning H.digest self.now.table.shared.key pass.old.seat.me.0 (place_word self.now.table.shared.key Slots slot) pass.new.seat.me.0.pools.found }
         ensures answers { (result ≡ true) ↔ (bit_at pass.new.seat.me.0.pools.found (slot % 64) ≡ 0) }
     {
         let place = self.layout.pool_place(Pool::Slots, slot / 64);
         let found = self
             .table
             .shared
-            .fetch_or::<TakesSlot<L, W>>(&mut pass.seat, place, place_bit(slot));
+            .fetch_or::<TakesSlot<L, H, W>>(&mut pass.seat, place, place_bit(slot));
         is_clear(found, slot)
     }
 }

@@ -1,4 +1,7 @@
+use crate::layout::Pool;
 use npf_core::{ConnId, Entry};
+use npf_paths::{Cell, Lock, Place};
+use npf_types::{Key, Way};
 use std::collections::LinkedList;
 
 /// Who a pass is, what it has seen, and which reader places it owns.
@@ -45,6 +48,14 @@ pub struct EpochSide {
     pub raises: u64,
 }
 
+/// A word that a pass stored in one of its own places.
+pub struct StoredWord {
+    pub pool: Pool,
+    pub place: u32,
+    pub field: u32,
+    pub value: u64,
+}
+
 /// What a pass knows of the pools, and what it has of them.
 pub struct PoolSide {
     /// How often it loaded each word of the nodes in a row, all bits set.
@@ -59,6 +70,60 @@ pub struct PoolSide {
     pub builds: LinkedList<ConnId>,
     /// Those of their slots whose incarnation it hasn't stored yet.
     pub unstored: LinkedList<u32>,
+    /// What it stored in its places since it last gave a node up, the last first.
+    pub stored: LinkedList<StoredWord>,
+}
+
+/// A place of the trie that is on a key's path, at this level.
+pub struct PathPlace {
+    pub key: Key,
+    pub level: u32,
+    pub place: Place,
+}
+
+/// A leaf of the trie: the way of a connection's key, and the key and the incarnation that the words of its slot had.
+pub struct LoadedLeaf {
+    pub slot: u32,
+    pub way: Way,
+    pub key: Key,
+    pub inc: u64,
+}
+
+/// What stood in a place of a key's path, at this level, when a pass loaded it.
+pub struct SeenCell {
+    pub key: Key,
+    pub level: u32,
+    pub place: Place,
+    pub cell: Cell,
+}
+
+/// Where a key that a pass is to hold meets the leaf of another key: at this level of its path.
+pub struct Meeting {
+    pub key: Key,
+    pub other: Key,
+    pub level: u32,
+}
+
+/// What a pass knows of the trie.
+pub struct TrieSide {
+    /// Where the last node that it loaded in this stay leads.
+    pub stands: Option<PathPlace>,
+    /// The leaf that it loaded last in this stay.
+    pub leaf: Option<LoadedLeaf>,
+    /// The place that it loaded last, and what stood there.
+    pub seen: Option<SeenCell>,
+    /// The meeting that its last load of a place found, where that was to hold a key.
+    pub meets: Option<Meeting>,
+    /// The locks that it has.
+    pub locks: LinkedList<Lock>,
+    /// The connections that it was answered in this stay.
+    pub answered: LinkedList<ConnId>,
+    /// How many places of the trie it loaded.
+    pub places: u64,
+    /// How many words of keys it loaded.
+    pub words: u64,
+    /// How often it stored in a place of the trie.
+    pub published: u64,
 }
 
 /// What a pass knows, a side for each part of the rule that has one. No value of it is made.
@@ -66,4 +131,5 @@ pub struct CellView<S, A, R> {
     pub seats: SeatSide<S, A, R>,
     pub epochs: EpochSide,
     pub pools: PoolSide,
+    pub trie: TrieSide,
 }

@@ -1,11 +1,12 @@
-ghost use Rattle.std.specs.Prelude.{◌≡◌};
+ghost use Rattle.std.specs.Prelude.{◌≡◌, []};
 ghost use Rattle.npf_cells.specs.declared.views.Pin.TheVariants.{Idle};
-ghost use Rattle.npf_cells.specs.Kinds.{with_epochs, unpinning};
+ghost use Rattle.npf_cells.specs.Kinds.{with_epochs, unpinned};
 ghost use Rattle.npf_cells.specs.Passes.{IsPassOf, IsProtected};
 ghost use Rattle.npf_epoch.specs.Stays.{HasEntered};
 
-use npf_cells::{CellPass, Cells, KeyHash};
+use npf_cells::{CellPass, Cells};
 use npf_core::Law;
+use npf_digits::KeyHash;
 
 /// Begins a stay: what can be reached from now on isn't used again before the pass leaves.
 pub fn enter<L: Law, H: KeyHash>(cells: &Cells<L, H>, pass: &mut CellPass<L>)
@@ -22,13 +23,14 @@ pub fn enter<L: Law, H: KeyHash>(cells: &Cells<L, H>, pass: &mut CellPass<L>)
     cells.protect(pass);
 }
 
-/// Ends a stay.
+/// Ends a stay, and with it what the pass read in it.
 pub fn leave<L: Law, H: KeyHash>(cells: &Cells<L, H>, pass: &mut CellPass<L>)
     requires own { IsPassOf cells.now.table.shared.key cells.now.table.shared.table_id pass.old.seat.table_id pass.old.readers.items pass.old.seat.me }
     requires pinned { ¬ (pass.old.seat.me.0.epochs.pin ≡ Idle) }
+    requires unlocked { pass.old.seat.me.0.trie.locks ≡ [] }
     ensures own { IsPassOf cells.now.table.shared.key cells.now.table.shared.table_id pass.new.seat.table_id pass.new.readers.items pass.new.seat.me }
     ensures unmoved { pass.new.seat.me.0.epochs.raises ≡ pass.old.seat.me.0.epochs.raises }
-    ensures next { pass.new.seat.me ≡ with_epochs pass.old.seat.me (unpinning pass.old.seat.me.0.epochs) }
+    ensures next { pass.new.seat.me ≡ unpinned pass.old.seat.me }
 {
     cells.unpin(pass);
 }

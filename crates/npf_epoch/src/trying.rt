@@ -5,8 +5,9 @@ ghost use Rattle.npf_cells.specs.Passes.{IsPassOf};
 ghost use Rattle.npf_connections.specs.Worn.{last_epoch};
 ghost use Rattle.npf_epoch.specs.Tries.{CanRaise, scanning_on};
 
-use npf_cells::{CellPass, Cells, KeyHash, LAST_EPOCH, READERS};
+use npf_cells::{CellPass, Cells, LAST_EPOCH, READERS};
 use npf_core::Law;
+use npf_digits::KeyHash;
 
 /// Raises the epoch by one where no reader is pinned in an older one. Answers whether this call did.
 pub fn try_advance<L: Law, H: KeyHash>(cells: &Cells<L, H>, pass: &mut CellPass<L>) -> bool

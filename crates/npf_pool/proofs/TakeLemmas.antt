@@ -3,6 +3,7 @@ use Rattle.std.proofs.Common.{◌≡◌, ◌≢◌, ℕ, ◌+◌, ◌-◌, ◌*�
 use Rattle.std.specs.Int.{bit_at}
 use Rattle.std.proofs.lemmas.Bool.{cases_eq, cases_lt}
 use Rattle.atomic_table.specs.Table.{Me}
+use Rattle.npf_types.specs.declared.key.Key.{Key}
 use Rattle.npf_core.specs.Meaning.{Meaning}
 use Rattle.npf_cells.specs.declared.layout.Layout.{Layout}
 use Rattle.npf_cells.specs.declared.layout.Pool.{Pool}
@@ -29,9 +30,9 @@ words_within layout Slots word bit h low = omega (arith, h, low)
 words_within layout Nodes word bit h low = omega (arith, h, low)
 
 -- a bit that is clear is that of a place
-pub free_within : {S A R : Type 0} (m : Meaning S A R) (layout : Layout) (pool : Pool) (view : CellView S A R) (word found bit : ℕ) → StoodSo m layout view (pool_at layout pool + word) found →
+pub free_within : {S A R : Type 0} (m : Meaning S A R) (digest : Key → ℕ) (layout : Layout) (pool : Pool) (view : CellView S A R) (word found bit : ℕ) → StoodSo m digest layout view (pool_at layout pool + word) found →
     word < pool_words (pool_places layout pool) → bit < 64 → bit_at found bit ≡ 0 → 64 * word + bit < pool_places layout pool
-free_within m layout pool view word found bit stood h low clear = ⊎_elim (λ within. within) past (cases_lt (64 * word + bit) (pool_places layout pool))
+free_within m digest layout pool view word found bit stood h low clear = ⊎_elim (λ within. within) past (cases_lt (64 * word + bit) (pool_places layout pool))
   where
     past : pool_places layout pool ≤ 64 * word + bit → 64 * word + bit < pool_places layout pool
     past beyond =
@@ -57,24 +58,24 @@ module _ {S A R F : Type 0} where
   swept_more Nodes old now next is more =
       more ∙ ap (λ (y : Me F (CellView S A R)). with_pools y (record y.0.pools { found = next.0.pools.found; row = next.0.pools.row; sweeps = next.0.pools.sweeps })) is
 
-module _ {S A R F : Type 0} (m : Meaning S A R) (layout : Layout) where
+module _ {S A R F : Type 0} (m : Meaning S A R) (digest : Key → ℕ) (layout : Layout) where
   -- the pass found the words below this one full
   pub record FullBelow (pool : Pool) (old : Me F (CellView S A R)) (word : ℕ) (now : Me F (CellView S A R)) : Type 0 where
     pub is : now ≡ with_pools old (having_swept pool old.0.pools now.0.pools)
     pub row : pool ≡ Nodes → 1 ≤ word → now.0.pools.row ≡ word
     pub before : word < pool_words (pool_places layout pool) → now ≡ with_pools old (searching pool old.0.pools now.0.pools)
     pub whole : pool ≡ Nodes → word ≡ pool_words layout.nodes → now.0.pools.sweeps ≡ old.0.pools.sweeps + min word 1
-    pub full : (k : ℕ) → k < word → StoodFull m layout pool old.0 k
+    pub full : (k : ℕ) → k < word → StoodFull m digest layout pool old.0 k
 
   -- one word more was full
   full_more : (pool : Pool) (old now : Me F (CellView S A R)) (word found : ℕ) → FullBelow pool old word now → word < pool_words (pool_places layout pool) → found ≡ 2 ^ 64 - 1 →
-      StoodSo m layout now.0 (pool_at layout pool + word) found → (k : ℕ) → k < word + 1 → StoodFull m layout pool old.0 k
+      StoodSo m digest layout now.0 (pool_at layout pool + word) found → (k : ℕ) → k < word + 1 → StoodFull m digest layout pool old.0 k
   full_more pool old now word found so h e stood k h' = ⊎_elim
-      (λ (e' : k ≡ word). subst (λ i. StoodFull m layout pool old.0 i) (sym e') (record {
+      (λ (e' : k ≡ word). subst (λ i. StoodFull m digest layout pool old.0 i) (sym e') (record {
         side = now.0.pools;
         row = so.row;
-        stood = subst (λ v. StoodSo m layout v (pool_at layout pool + word) (2 ^ 64 - 1)) (ap (λ (y : Me F (CellView S A R)). y.0) (so.before h))
-            (subst (λ n. StoodSo m layout now.0 (pool_at layout pool + word) n) e stood);
+        stood = subst (λ v. StoodSo m digest layout v (pool_at layout pool + word) (2 ^ 64 - 1)) (ap (λ (y : Me F (CellView S A R)). y.0) (so.before h))
+            (subst (λ n. StoodSo m digest layout now.0 (pool_at layout pool + word) n) e stood);
       }))
       (λ ne. so.full k (omega (arith, h', ne)))
       (cases_eq k word)
@@ -96,7 +97,7 @@ module _ {S A R F : Type 0} (m : Meaning S A R) (layout : Layout) where
         loaded ∙ ap (λ n. with_pools old (record old.0.pools { found = next.0.pools.found; row = next.0.pools.row; sweeps = n })) none
 
   pub one_more : (pool : Pool) (old now next : Me F (CellView S A R)) (word found : ℕ) → FullBelow pool old word now → word < pool_words (pool_places layout pool) → found ≡ 2 ^ 64 - 1 →
-      next ≡ with_pools now (sweeping pool (pool_words layout.nodes) word now.0.pools found) → StoodSo m layout now.0 (pool_at layout pool + word) found → FullBelow pool old (word + 1) next
+      next ≡ with_pools now (sweeping pool (pool_words layout.nodes) word now.0.pools found) → StoodSo m digest layout now.0 (pool_at layout pool + word) found → FullBelow pool old (word + 1) next
   one_more Slots old now next word found so h e is stood =
       let on = searched_more Slots old now next (so.before h) (subst (λ y. y ≡ with_pools now (searching Slots now.0.pools y.0.pools)) (sym is) refl) in
       record { is = on; row = λ e'. absurd cc; before = λ _. on; whole = λ e'. absurd cc; full = full_more Slots old now word found so h e stood }
@@ -112,6 +113,6 @@ module _ {S A R F : Type 0} (m : Meaning S A R) (layout : Layout) where
       }
 
   -- what was found after a search stands for what was known before it
-  pub before_search : (pool : Pool) (old me : Me F (CellView S A R)) (word : ℕ) → me ≡ with_pools old (searching pool old.0.pools me.0.pools) → StoodFull m layout pool me.0 word → StoodFull m layout pool old.0 word
-  before_search Slots old me word is full = let known = subst (λ (y : Me F (CellView S A R)). StoodFull m layout Slots y.0 word) is full in record { side = known.side; row = λ e. absurd cc; stood = known.stood }
-  before_search Nodes old me word is full = let known = subst (λ (y : Me F (CellView S A R)). StoodFull m layout Nodes y.0 word) is full in record { side = known.side; row = known.row; stood = known.stood }
+  pub before_search : (pool : Pool) (old me : Me F (CellView S A R)) (word : ℕ) → me ≡ with_pools old (searching pool old.0.pools me.0.pools) → StoodFull m digest layout pool me.0 word → StoodFull m digest layout pool old.0 word
+  before_search Slots old me word is full = let known = subst (λ (y : Me F (CellView S A R)). StoodFull m digest layout Slots y.0 word) is full in record { side = known.side; row = λ e. absurd cc; stood = known.stood }
+  before_search Nodes old me word is full = let known = subst (λ (y : Me F (CellView S A R)). StoodFull m digest layout Nodes y.0 word) is full in record { side = known.side; row = known.row; stood = known.stood }

@@ -1,5 +1,6 @@
 -- What a pass that takes a place changes of its view, and what it found where there was none.
 use Rattle.std.specs.Prelude.{◌≡◌, ℕ, ◌+◌, ◌-◌, ◌^◌, ◌≤◌, ◌∷◌, min}
+use Rattle.npf_types.specs.declared.key.Key.{Key}
 use Rattle.npf_core.specs.Meaning.{Meaning}
 use Rattle.npf_cells.specs.declared.layout.Layout.{Layout}
 use Rattle.npf_cells.specs.declared.layout.Pool.{Pool}
@@ -30,7 +31,7 @@ pub record CountsSweep (count : ℕ) (old now : PoolSide) : Type 0 where
 
 -- the word was full in a state of the table in which nothing was new to the pass but what it loaded of the pool; of nodes, it had then
 -- found those before it full, in a row
-pub record StoodFull {S A R : Type 0} (m : Meaning S A R) (layout : Layout) (pool : Pool) (view : CellView S A R) (word : ℕ) : Type 0 where
+pub record StoodFull {S A R : Type 0} (m : Meaning S A R) (digest : Key → ℕ) (layout : Layout) (pool : Pool) (view : CellView S A R) (word : ℕ) : Type 0 where
   pub side : PoolSide
   pub row : pool ≡ Nodes → 1 ≤ word → side.row ≡ word
-  pub stood : StoodSo m layout (record view { pools = searching pool view.pools side }) (pool_at layout pool + word) (2 ^ 64 - 1)
+  pub stood : StoodSo m digest layout (record view { pools = searching pool view.pools side }) (pool_at layout pool + word) (2 ^ 64 - 1)

@@ -1,14 +1,15 @@
-ghost use Rattle.std.specs.Prelude.{◌≡◌, ◌≢◌, ◌-◌, ◌^◌, ◌<◌, ℕ, IfSome, IfNone, length, Contains};
+ghost use Rattle.std.specs.Prelude.{◌≡◌, ◌≢◌, ◌-◌, ◌^◌, ◌<◌, ℕ, IfSome, IfNone, Contains};
 ghost use Rattle.std.specs.Int.{bit_at};
 ghost use Rattle.npf_cells.specs.declared.layout.Pool.TheVariants.{Slots, Nodes};
 ghost use Rattle.npf_cells.specs.Layout.{pool_places, pool_words};
 ghost use Rattle.npf_cells.specs.Passes.{IsPassOf, IsProtected};
-ghost use Rattle.npf_cells.specs.PoolKinds.{most_nodes, with_pools};
+ghost use Rattle.npf_cells.specs.PoolKinds.{NeedsNode, with_pools};
 ghost use Rattle.npf_cells.specs.SlotKinds.{HasClaimed};
 ghost use Rattle.npf_pool.specs.Take.{searching, taking, having_swept, CountsSweep, StoodFull};
 
-use npf_cells::{CellPass, Cells, KeyHash, Pool};
+use npf_cells::{CellPass, Cells, Pool};
 use npf_core::Law;
+use npf_digits::KeyHash;
 use std::sync::Wait;
 
 /// Takes a node, or claims a slot for the packet n. None only after a sweep that found each word of that pool full.
@@ -21,7 +22,7 @@ pub fn take<L: Law, H: KeyHash>(
 ) -> Option<u32>
     requires own { IsPassOf cells.now.table.shared.key cells.now.table.shared.table_id pass.old.seat.table_id pass.old.readers.items pass.old.seat.me }
     requires protected { IsProtected pass.old.seat.me.0.epochs.pin }
-    requires few { pool ≡ Nodes → length pass.old.seat.me.0.pools.nodes < most_nodes }
+    requires needs { pool ≡ Nodes → NeedsNode H.digest pass.old.seat.me.0 }
     ensures own { IsPassOf cells.now.table.shared.key cells.now.table.shared.table_id pass.new.seat.table_id pass.new.readers.items pass.new.seat.me }
     ensures within { IfSome result (λ place. place < pool_places cells.now.table.shared.key pool) }
     ensures claims { IfSome result (λ slot. pool ≡ Slots → HasClaimed L.meaning n slot pass.old.seat.me pass.new.seat.me) }
@@ -29,7 +30,7 @@ pub fn take<L: Law, H: KeyHash>(
     ensures takes { IfSome result (λ node. pool ≡ Nodes → pass.new.seat.me ≡ with_pools pass.old.seat.me (taking node pass.old.seat.me.0.pools pass.new.seat.me.0.pools)) }
     ensures none { IfNone result (pass.new.seat.me ≡ with_pools pass.old.seat.me (having_swept pool pass.old.seat.me.0.pools pass.new.seat.me.0.pools)) }
     ensures swept { IfNone result (pool ≡ Nodes → CountsSweep (pool_words cells.now.table.shared.key.nodes) pass.old.seat.me.0.pools pass.new.seat.me.0.pools) }
-    ensures full { IfNone result ((word : ℕ) → word < pool_words (pool_places cells.now.table.shared.key pool) → StoodFull L.meaning cells.now.table.shared.key pool pass.old.seat.me.0 word) }
+    ensures full { IfNone result ((word : ℕ) → word < pool_words (pool_places cells.now.table.shared.key pool) → StoodFull L.meaning H.digest cells.now.table.shared.key pool pass.old.seat.me.0 word) }
 {
     for _ in rt.forever() {
         match find_clear(cells, pass, pool) {
@@ -51,12 +52,13 @@ fn find_clear<L: Law, H: KeyHash>(
     pool: Pool,
 ) -> Option<u32>
     requires own { IsPassOf cells.now.table.shared.key cells.now.table.shared.table_id pass.old.seat.table_id pass.old.readers.items pass.old.seat.me }
+    requires needs { pool ≡ Nodes → NeedsNode H.digest pass.old.seat.me.0 }
     ensures own { IsPassOf cells.now.table.shared.key cells.now.table.shared.table_id pass.new.seat.table_id pass.new.readers.items pass.new.seat.me }
     ensures within { IfSome result (λ place. place < pool_places cells.now.table.shared.key pool) }
     ensures searches { IfSome result (λ place. pass.new.seat.me ≡ with_pools pass.old.seat.me (searching pool pass.old.seat.me.0.pools pass.new.seat.me.0.pools)) }
     ensures none { IfNone result (pass.new.seat.me ≡ with_pools pass.old.seat.me (having_swept pool pass.old.seat.me.0.pools pass.new.seat.me.0.pools)) }
     ensures swept { IfNone result (pool ≡ Nodes → CountsSweep (pool_words cells.now.table.shared.key.nodes) pass.old.seat.me.0.pools pass.new.seat.me.0.pools) }
-    ensures full { IfNone result ((word : ℕ) → word < pool_words (pool_places cells.now.table.shared.key pool) → StoodFull L.meaning cells.now.table.shared.key pool pass.old.seat.me.0 word) }
+    ensures full { IfNone result ((word : ℕ) → word < pool_words (pool_places cells.now.table.shared.key pool) → StoodFull L.meaning H.digest cells.now.table.shared.key pool pass.old.seat.me.0 word) }
 {
     let words = cells.layout().pool_words(pool);
     for word in 0..words {

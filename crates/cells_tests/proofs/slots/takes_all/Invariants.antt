@@ -1,3 +1,4 @@
+use Rattle.std.proofs.Common.{◌≡◌}
 use Rattle.npf_cells.specs.Passes.{IsPassOf, IsProtected}
 use Rattle.cells_tests.proofs.slots.takes_all.Given as goal
 
@@ -5,4 +6,5 @@ abbrev pub invariant-loop-count : goal.invariant-loop-count
 invariant-loop-count g l = record {
   own : IsPassOf l.cells.table.shared.key l.cells.table.shared.table_id l.pass.seat.table_id l.pass.readers.items l.pass.seat.me;
   protected : IsProtected l.pass.seat.me.0.epochs.pin;
+  trie : l.pass.seat.me.0.trie ≡ l.initial.pass.seat.me.0.trie;
 }

@@ -8,5 +8,5 @@ abbrev pub invariant-loop-word : goal.invariant-loop-word
 invariant-loop-word g l = record {
   own : IsPassOf l.cells.table.shared.key l.cells.table.shared.table_id l.pass.seat.table_id l.pass.readers.items l.pass.seat.me;
   count : l.words ≡ pool_words (pool_places l.cells.table.shared.key l.pool);
-  below : FullBelow g.L.Law.meaning l.cells.table.shared.key l.pool l.initial.pass.seat.me l.word l.pass.seat.me;
+  below : FullBelow g.L.Law.meaning g.H.KeyHash.digest l.cells.table.shared.key l.pool l.initial.pass.seat.me l.word l.pass.seat.me;
 }

@@ -7,10 +7,10 @@ use Rattle.npf_cells.proofs.cells.Cells.advance.Goals as goal
 pub compare_exchange-found-requires : goal.compare_exchange-found-requires
 compare_exchange-found-requires g c =
     let own = c.requires.own in
-    (own.same, omega (arith, own.words), may_advance g.L.Law.meaning c.args.self.now.table.shared.key _ _ _ c.args.epoch c.args.pass.now.seat.me c.requires.loaded.last c.requires.below c.requires.scanned)
+    (own.same, omega (arith, own.words), may_advance g.L.Law.meaning g.H.KeyHash.digest c.args.self.now.table.shared.key _ _ _ c.args.epoch c.args.pass.now.seat.me c.requires.loaded.last c.requires.below c.requires.scanned)
 
 pub returns-clause-own : goal.returns-clause-own
-returns-clause-own g c = pass_on c.args.self.now.table.shared.key _ _ _ _ _ _ _ c.requires.own c.compare_exchange-found.ensures.0 c.compare_exchange-found.ensures.2.is c.requires.own.epoch
+returns-clause-own g c = pass_on c.args.self.now.table.shared.key _ _ _ _ _ _ _ c.requires.own c.compare_exchange-found.ensures.0 c.compare_exchange-found.ensures.2.is c.requires.own.epoch c.requires.own.unanswered c.requires.own.unlocked
 
 pub returns-clause-met : goal.returns-clause-met
 returns-clause-met g c =

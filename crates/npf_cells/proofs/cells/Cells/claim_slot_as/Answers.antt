@@ -10,4 +10,4 @@ fetch_or-found-requires g c =
     let place : c.pool_place-place.result ≡ place_word c.args.self.now.table.shared.key Slots c.args.slot
     = c.pool_place-place.ensures ∙ ap (λ l. pool_at l Slots + c.args.slot / 64) (sym c.args.self.now.laid) in
     rw (c.requires.aim.0, c.requires.aim.1, c.requires.aim.2, place, c.place_bit.ensures)
-    (own.same, omega (arith, own.words, c.requires.slot), may_claim_slot g.L.Law.meaning c.args.self.now.table.shared.key _ _ _ c.args.n c.args.slot _ c.args.pass.now.seat.me own.lives own.theirs own.place c.requires.protected c.requires.slot refl)
+    (own.same, omega (arith, own.words, c.requires.slot), may_claim_slot g.L.Law.meaning g.H.KeyHash.digest c.args.self.now.table.shared.key _ _ _ c.args.n c.args.slot _ c.args.pass.now.seat.me own.lives own.theirs own.place c.requires.protected c.requires.slot refl)

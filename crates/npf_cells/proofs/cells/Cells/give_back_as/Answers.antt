@@ -13,7 +13,7 @@ fetch_and-requires g c =
     = c.pool_place-word.ensures
     ∙ (ap (λ l. pool_at l c.args.pool + c.args.place / 64) (sym c.args.self.now.laid) ∙ ap (λ p. pool_at c.args.self.now.table.shared.key p + c.args.place / 64) c.requires.pool) in
     rw (c.requires.aim.0, c.requires.aim.1, word, c.place_bit.ensures)
-    (own.same, omega (arith, own.words, c.requires.place), may_return_node g.L.Law.meaning c.args.self.now.table.shared.key _ _ _ c.args.place _ c.args.pass.now.seat.me own.lives own.place c.requires.place c.requires.owned refl)
+    (own.same, omega (arith, own.words, c.requires.place), may_return_node g.L.Law.meaning g.H.KeyHash.digest c.args.self.now.table.shared.key _ _ _ c.args.place _ c.args.pass.now.seat.me own.lives own.place c.requires.place c.requires.owned refl)
 
 pub returns-clause-own : goal.returns-clause-own
 returns-clause-own g c = pools_on c.args.self.now.table.shared.key _ _ _ _ _ _ _ c.requires.own c.fetch_and.ensures.0 c.fetch_and.ensures.2.is
@@ -28,4 +28,4 @@ pub returns-clause-stood : goal.returns-clause-stood
 returns-clause-stood g c =
     let aim = c.requires.aim in
     let found = sym (ap (λ y. y.0.pools.found) c.fetch_and.ensures.2.is) in
-    subst (λ (y : Layout × ℕ × ℕ). StoodSo g.L.Law.meaning y.0 c.args.pass.now.seat.me.0 (place_word y.0 Nodes y.1) y.2) (λ i. (aim.0 i, aim.1 i, found i)) c.fetch_and.ensures.2.stood
+    subst (λ (y : Layout × ℕ × ℕ). StoodSo g.L.Law.meaning g.H.KeyHash.digest y.0 c.args.pass.now.seat.me.0 (place_word y.0 Nodes y.1) y.2) (λ i. (aim.0 i, aim.1 i, found i)) c.fetch_and.ensures.2.stood

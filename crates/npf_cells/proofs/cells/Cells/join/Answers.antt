@@ -11,7 +11,7 @@ join_seat-requires g c =
       other.same,
       other.free,
       omega (arith, own.words),
-      joins g.L.Law.meaning c.args.self.now.table.shared.key _ c.args.pass.now.seat.me.0 _ c.args.other.seat.me.0 own.lives own.theirs c.requires.out own.place other.lives other.theirs c.requires.other_out c.requires.other_nodes c.requires.other_done,
+      joins g.L.Law.meaning g.H.KeyHash.digest c.args.self.now.table.shared.key _ c.args.pass.now.seat.me.0 _ c.args.other.seat.me.0 own.lives own.theirs c.requires.out own.place other.lives other.theirs c.requires.other_out c.requires.other_nodes c.requires.other_done (other.unlocked c.requires.other_out),
     )
 
 pub load-requires : goal.load-requires
@@ -22,7 +22,7 @@ load-requires g c =
     let place = own.place in (
       e.0 ∙ own.same,
       omega (arith, own.words),
-      reads g.L.Law.meaning c.args.self.now.table.shared.key _ _ _ _ _ (ap (λ y. y.0.seats.lives) e.2 ∙ own.lives) (rw e.2 (omega (arith, has, place))),
+      reads g.L.Law.meaning g.H.KeyHash.digest c.args.self.now.table.shared.key _ _ _ _ _ (ap (λ y. y.0.seats.lives) e.2 ∙ own.lives) (rw e.2 (omega (arith, has, place))),
     )
 
 pub add_all-requires : goal.add_all-requires
@@ -46,7 +46,7 @@ returns-clause-joins g c =
 
 pub returns-clause-legal : goal.returns-clause-legal
 returns-clause-legal g c =
-    joined_pass g.L.Law.meaning _ c.args.pass.now.seat.me.0 c.args.other.seat.me.0 _ _ _ (rw c.join_seat.ensures.2 at c.load.ensures.2) c.requires.done
+    joined_pass g.L.Law.meaning _ c.args.pass.now.seat.me.0 c.args.other.seat.me.0 _ _ _ (rw c.join_seat.ensures.2 at c.load.ensures.2) c.requires.done (c.requires.own.unanswered c.requires.out)
 
 pub returns-clause-idle : goal.returns-clause-idle
 returns-clause-idle g c = ap (λ y. y.0.epochs.pin) c.load.ensures.2.is ∙ (ap (λ y. y.0.epochs.pin) c.join_seat.ensures.2 ∙ c.requires.out)

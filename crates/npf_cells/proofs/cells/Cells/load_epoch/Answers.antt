@@ -5,10 +5,10 @@ use Rattle.npf_cells.proofs.cells.Cells.load_epoch.Goals as goal
 pub load-requires : goal.load-requires
 load-requires g c =
     let own = c.requires.own in
-    (own.same, omega (arith, own.words), may_load g.L.Law.meaning c.args.self.now.table.shared.key _ _ _ c.args.pass.now.seat.me)
+    (own.same, omega (arith, own.words), may_load g.L.Law.meaning g.H.KeyHash.digest c.args.self.now.table.shared.key _ _ _ c.args.pass.now.seat.me)
 
 pub returns-clause-own : goal.returns-clause-own
-returns-clause-own g c = pass_on c.args.self.now.table.shared.key _ _ _ _ _ _ _ c.requires.own c.load.ensures.0 c.load.ensures.2.is c.load.ensures.2.met.most
+returns-clause-own g c = pass_on c.args.self.now.table.shared.key _ _ _ _ _ _ _ c.requires.own c.load.ensures.0 c.load.ensures.2.is c.load.ensures.2.met.most c.requires.own.unanswered c.requires.own.unlocked
 
 pub returns-clause-met : goal.returns-clause-met
 returns-clause-met g c = c.load.ensures.2.met

@@ -11,4 +11,4 @@ load-requires g c =
     = c.field_place-word.ensures ∙ ap (λ l. field_at l Slots c.args.slot inc_field) (sym c.args.self.now.laid) in
     let reach = field_reach c.args.self.now.table.shared.key Slots c.args.slot inc_field c.requires.slot (omega arith) in
     rw (c.requires.aim, place)
-    (own.same, omega (arith, own.words, reach), may_load_inc g.L.Law.meaning c.args.self.now.table.shared.key _ _ _ c.args.slot c.args.pass.now.seat.me c.requires.slot)
+    (own.same, omega (arith, own.words, reach), may_load_inc g.L.Law.meaning g.H.KeyHash.digest c.args.self.now.table.shared.key _ _ _ c.args.slot c.args.pass.now.seat.me c.requires.slot)

@@ -7,10 +7,10 @@ pub load-requires : goal.load-requires
 load-requires g c =
     let own = c.requires.own in
     rw c.reader_place.ensures
-    (own.same, omega (arith, own.words, c.requires.reader), may_scan g.L.Law.meaning c.args.self.now.table.shared.key _ _ _ c.args.reader c.args.pass.now.seat.me refl)
+    (own.same, omega (arith, own.words, c.requires.reader), may_scan g.L.Law.meaning g.H.KeyHash.digest c.args.self.now.table.shared.key _ _ _ c.args.reader c.args.pass.now.seat.me refl)
 
 pub returns-clause-own : goal.returns-clause-own
-returns-clause-own g c = pass_on c.args.self.now.table.shared.key _ _ _ _ _ _ _ c.requires.own c.load.ensures.0 c.load.ensures.2.is c.requires.own.epoch
+returns-clause-own g c = pass_on c.args.self.now.table.shared.key _ _ _ _ _ _ _ c.requires.own c.load.ensures.0 c.load.ensures.2.is c.requires.own.epoch c.requires.own.unanswered c.requires.own.unlocked
 
 pub returns-clause-next : goal.returns-clause-next
 returns-clause-next g c =

@@ -6,7 +6,7 @@ use Rattle.npf_cells.proofs.cells.Cells.split.Goals as goal
 pub split_seat-seat-requires : goal.split_seat-seat-requires
 split_seat-seat-requires g c =
     let own = c.requires.own in
-    (own.same, omega (arith, own.words), splits g.L.Law.meaning c.args.self.now.table.shared.key c.args.pass.now.seat.id c.args.pass.now.seat.me.0 own.lives c.requires.out c.requires.places)
+    (own.same, omega (arith, own.words), splits g.L.Law.meaning g.H.KeyHash.digest c.args.self.now.table.shared.key c.args.pass.now.seat.id c.args.pass.now.seat.me.0 own.lives c.requires.out c.requires.places)
 
 pub load-requires : goal.load-requires
 load-requires g c =
@@ -16,7 +16,7 @@ load-requires g c =
     let p = c.requires.places in (
       e.3 ∙ own.same,
       omega (arith, own.words),
-      gets_born g.L.Law.meaning c.args.self.now.table.shared.key _ _ _ _ _ (ap (λ y. y.0.seats.lives) e.4) (rw e.4 (omega (arith, d, p))),
+      gets_born g.L.Law.meaning g.H.KeyHash.digest c.args.self.now.table.shared.key _ _ _ _ _ (ap (λ y. y.0.seats.lives) e.4) (rw e.4 (omega (arith, d, p))),
     )
 
 pub returns-clause-own : goal.returns-clause-own

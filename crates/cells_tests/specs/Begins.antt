@@ -1,0 +1,20 @@
+-- Connections that a pass has just begun to build.
+use Rattle.std.specs.Prelude.{◌≡◌, ◌<◌, Contains}
+use Rattle.npf_types.specs.declared.key.Way.{Way}
+use Rattle.npf_core.specs.declared.conn_id.ConnId.{ConnId}
+use Rattle.npf_core.specs.Meaning.{Meaning}
+use Rattle.npf_cells.specs.declared.layout.Layout.{Layout}
+use Rattle.npf_cells.specs.declared.views.CellView.{CellView}
+use Rattle.npf_cells.specs.HoldKinds.{MayHoldSo}
+
+-- the pass is building the connection, has stored its incarnation, and may hold a key of each way for it
+pub record HasBegun {S A R : Type 0} (m : Meaning S A R) (layout : Layout) (v : CellView S A R) (id : ConnId) : Type 0 where
+  pub exists : id.slot < layout.slots
+  pub may : (way : Way) → MayHoldSo m v id way
+  pub stored : ¬ Contains v.pools.unstored id.slot
+
+-- the pass is in its stay still, and has the nodes, the locks and the sight of the trie that it had
+pub record KeepsStay {S A R : Type 0} (old now : CellView S A R) : Type 0 where
+  pub epochs : now.epochs ≡ old.epochs
+  pub nodes : now.pools.nodes ≡ old.pools.nodes
+  pub trie : now.trie ≡ old.trie

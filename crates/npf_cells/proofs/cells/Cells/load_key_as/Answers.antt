@@ -1,0 +1,18 @@
+use Rattle.std.proofs.Common.{◌≡◌, ◌∙◌, ◌+◌, sym, arith}
+use Rattle.npf_cells.specs.declared.layout.Pool.TheVariants.{Slots}
+use Rattle.npf_cells.specs.Layout.{key_field, field_at}
+use Rattle.npf_cells.proofs.PrivateKeepLemmas.{field_reach}
+use Rattle.npf_cells.proofs.PrivateTrieLemmas.{key_short}
+use Rattle.npf_cells.proofs.LookKeepLemmas.{may_load_key}
+use Rattle.npf_cells.proofs.cells.Cells.load_key_as.Goals as goal
+
+pub load-requires : goal.load-requires
+load-requires g c =
+    let own = c.requires.own in
+    let field : c.key_field.result ≡ key_field c.args.way + c.args.word = c.key_field.ensures in
+    let place : c.field_place-place.result ≡ field_at c.args.self.now.table.shared.key Slots c.args.slot (key_field c.args.way + c.args.word)
+    = c.field_place-place.ensures ∙ (λ i. field_at (sym c.args.self.now.laid i) Slots c.args.slot (field i)) in
+    let short = key_short c.args.way c.args.word c.requires.word in
+    let reach = field_reach c.args.self.now.table.shared.key Slots c.args.slot (key_field c.args.way + c.args.word) c.requires.slot (omega (arith, short)) in
+    rw (c.requires.aim.0, c.requires.aim.1, c.requires.aim.2, c.requires.aim.3, place)
+    (own.same, omega (arith, own.words, reach), may_load_key g.L.Law.meaning g.H.KeyHash.digest c.args.self.now.table.shared.key _ _ _ c.args.slot c.args.way c.args.word c.args.pass.now.seat.me c.requires.word)

@@ -1,0 +1,13 @@
+use Rattle.std.proofs.Common.{◌≡◌, ◌∙◌, sym, ap, arith}
+use Rattle.npf_cells.specs.Locks.{lock_at}
+use Rattle.npf_cells.proofs.LockKeepLemmas.{lock_reach, may_store_state}
+use Rattle.npf_cells.proofs.cells.Cells.store_node_as.Goals as goal
+
+pub store-requires : goal.store-requires
+store-requires g c =
+    let own = c.requires.own in
+    let place : c.lock_place-word.result ≡ lock_at c.args.self.now.table.shared.key c.args.lock
+    = c.lock_place-word.ensures ∙ ap (λ l. lock_at l c.args.lock) (sym c.args.self.now.laid) in
+    let reach = lock_reach c.args.self.now.table.shared.key c.args.lock c.requires.lock in
+    rw (c.requires.aim.0, c.requires.aim.1, c.requires.aim.2, place)
+    (own.same, omega (arith, own.words, reach), may_store_state g.L.Law.meaning g.H.KeyHash.digest c.args.self.now.table.shared.key _ _ _ c.args.lock c.args.state c.args.pass.now.seat.me c.requires.lock c.requires.locked c.requires.state)

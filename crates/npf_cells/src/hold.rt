@@ -1,0 +1,99 @@
+ghost use Rattle.std.specs.Prelude.{◌≡◌};
+
+use crate::cells::{CellPass, Cells};
+use crate::rule::Running;
+use crate::views::CellView;
+use atomic_table::Play;
+use npf_core::{ConnId, Law};
+use npf_digits::KeyHash;
+use npf_paths::{Cell, Place};
+use npf_types::{Key, Way};
+use std::marker::{Brand, PhantomData};
+
+// What a step for a key that is to be held is told.
+pub(crate) trait HoldAim {
+    ghost use Rattle.npf_types.specs.declared.key.Key.{Key};
+    ghost use Rattle.npf_types.specs.declared.key.Way.{Way};
+    ghost use Rattle.npf_core.specs.declared.conn_id.ConnId.{ConnId};
+    ghost use Rattle.npf_paths.specs.declared.place.Place.{Place};
+    ghost use Rattle.npf_paths.specs.declared.cell.Cell.{Cell};
+    ghost use Rattle.npf_cells.specs.declared.layout.Layout.{Layout};
+
+    ghost layout: { Layout };
+
+    ghost id: { ConnId };
+
+    ghost key: { Key };
+
+    ghost way: { Way };
+
+    ghost place: { Place };
+
+    ghost cell: { Cell };
+}
+
+impl HoldAim for Brand {
+    ghost use Rattle.std.specs.Prelude.{[]};
+    ghost use Rattle.npf_types.specs.declared.key.Way.TheVariants.{Forward};
+    ghost use Rattle.npf_paths.specs.declared.cell.Cell.TheVariants.{Empty};
+    ghost use Rattle.npf_paths.specs.declared.place.Place.TheVariants.{Root};
+
+    ghost layout = { record { slots = 0; nodes = 0 } };
+
+    ghost id = { record { slot = 0; inc = 0 } };
+
+    ghost key = { record { 0 = [] } };
+
+    ghost way = { Forward };
+
+    ghost place = { Root 0 };
+
+    ghost cell = { Empty };
+}
+
+pub(crate) struct LoadsToHold<L: Law, H: KeyHash, W> {
+    law: PhantomData<L>,
+    hash: PhantomData<H>,
+    aim: PhantomData<W>,
+}
+
+impl<L: Law, H: KeyHash, W: HoldAim> Play<Running<L::State>, CellView<L::State, L::Arg, L::Reply>>
+    for LoadsToHold<L, H, W> {
+    ghost use Rattle.npf_cells.specs.HoldKinds.{LoadsForHold};
+
+    ghost then = { LoadsForHold L.meaning H.digest W.layout W.id W.key W.way W.place };
+}
+
+impl<L: Law, H: KeyHash> Cells<L, H> {
+    ghost use Rattle.std.specs.Prelude.{◌≡◌};
+    ghost use Rattle.npf_cells.specs.HoldKinds.{MayHoldSo, HoldsAt};
+    ghost use Rattle.npf_cells.specs.LookKinds.{StandsOnPath};
+    ghost use Rattle.npf_cells.specs.Passes.{IsPassOf, IsProtected};
+    ghost use Rattle.npf_cells.specs.Trie.{IsInTrie};
+
+    // Loads a place of the path of a key that is to be held.
+    pub(crate) fn hold_place<W: HoldAim>(
+        &self,
+        pass: &mut CellPass<L>,
+        place: Place,
+        id: ConnId,
+        key: &Key,
+        way: Way,
+    ) -> Cell
+        requires own { IsPassOf self.now.table.shared.key self.now.table.shared.table_id pass.old.seat.table_id pass.old.readers.items pass.old.seat.me }
+        requires place { IsInTrie self.now.table.shared.key place }
+        requires protected { IsProtected pass.old.seat.me.0.epochs.pin }
+        requires stands { StandsOnPath H.digest pass.old.seat.me.0.trie key.now place }
+        requires may { MayHoldSo L.meaning pass.old.seat.me.0 id way }
+        requires aim { (W.layout ≡ self.now.table.shared.key) × (W.id ≡ id) × (W.key ≡ key.now) × (W.way ≡ way) × (W.place ≡ place) }
+        ensures own { IsPassOf self.now.table.shared.key self.now.table.shared.table_id pass.new.seat.table_id pass.new.readers.items pass.new.seat.me }
+        ensures holds { HoldsAt L.meaning H.digest self.now.table.shared.key id key.now way place result pass.old.seat.me pass.new.seat.me }
+    {
+        let word = self.layout.trie_place(place);
+        let found = self
+            .table
+            .shared
+            .load::<LoadsToHold<L, H, W>>(&mut pass.seat, word);
+        Cell::of_word(found)
+    }
+}

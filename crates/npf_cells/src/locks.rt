@@ -1,0 +1,127 @@
+ghost use Rattle.std.specs.Prelude.{◌≡◌};
+
+use crate::cells::{CellPass, Cells};
+use crate::rule::Running;
+use crate::views::CellView;
+use atomic_table::Play;
+use npf_core::Law;
+use npf_digits::KeyHash;
+use npf_paths::Lock;
+use std::marker::{Brand, PhantomData};
+
+/// The state of what isn't locked, and of what is.
+const FREE: u64 = 0;
+
+const LOCKED: u64 = 1;
+
+// What a step on a lock is told.
+pub(crate) trait LockAim {
+    ghost use Rattle.std.specs.Prelude.{ℕ};
+    ghost use Rattle.npf_paths.specs.declared.place.Lock.{Lock};
+    ghost use Rattle.npf_cells.specs.declared.layout.Layout.{Layout};
+
+    ghost layout: { Layout };
+
+    ghost lock: { Lock };
+
+    ghost state: { ℕ };
+}
+
+impl LockAim for Brand {
+    ghost use Rattle.npf_paths.specs.declared.place.Lock.TheVariants.{Root};
+
+    ghost layout = { record { slots = 0; nodes = 0 } };
+
+    ghost lock = { Root 0 };
+
+    ghost state = { 0 };
+}
+
+pub(crate) struct GetsLock<L: Law, H: KeyHash, W> {
+    law: PhantomData<L>,
+    hash: PhantomData<H>,
+    aim: PhantomData<W>,
+}
+
+impl<L: Law, H: KeyHash, W: LockAim> Play<Running<L::State>, CellView<L::State, L::Arg, L::Reply>>
+    for GetsLock<L, H, W> {
+    ghost use Rattle.npf_cells.specs.LockKinds.{TriesLock};
+
+    ghost then = { TriesLock L.meaning H.digest W.layout W.lock };
+}
+
+pub(crate) struct StoresNode<W> {
+    aim: PhantomData<W>,
+}
+
+impl<F, S, A, R, W: LockAim> Play<F, CellView<S, A, R>> for StoresNode<W> {
+    ghost use Rattle.npf_cells.specs.LockKinds.{StoresState};
+
+    ghost then = { StoresState W.layout W.lock W.state };
+}
+
+impl<L: Law, H: KeyHash> Cells<L, H> {
+    ghost use Rattle.std.specs.Prelude.{◌≡◌, ◌<◌, ◌↔◌, ℕ, true, false, Contains};
+    ghost use Rattle.npf_cells.specs.LockKinds.{GotLock, locking, unlocking};
+    ghost use Rattle.npf_cells.specs.Locks.{IsLockOf, lock_at};
+    ghost use Rattle.npf_cells.specs.LookKinds.{with_trie};
+    ghost use Rattle.npf_cells.specs.Passes.{IsPassOf, IsProtected};
+
+    /// Tries to get a lock. Answers whether it did: false exactly where a pass had it.
+    pub fn try_lock(&self, pass: &mut CellPass<L>, lock: Lock) -> bool
+        requires own { IsPassOf self.now.table.shared.key self.now.table.shared.table_id pass.old.seat.table_id pass.old.readers.items pass.old.seat.me }
+        requires lock { IsLockOf self.now.table.shared.key lock }
+        requires protected { IsProtected pass.old.seat.me.0.epochs.pin }
+        ensures own { IsPassOf self.now.table.shared.key self.now.table.shared.table_id pass.new.seat.table_id pass.new.readers.items pass.new.seat.me }
+        ensures gets { result ≡ true → pass.new.seat.me ≡ with_trie pass.old.seat.me (locking lock pass.old.seat.me.0.trie) }
+        ensures same { result ≡ false → pass.new.seat.me ≡ pass.old.seat.me }
+        ensures answers { GotLock L.meaning H.digest self.now.table.shared.key pass.old.seat.me.0 lock result }
+    {
+        self.try_lock_as::<Brand>(pass, lock)
+    }
+
+    fn try_lock_as<W: LockAim>(&self, pass: &mut CellPass<L>, lock: Lock) -> bool
+        requires own { IsPassOf self.now.table.shared.key self.now.table.shared.table_id pass.old.seat.table_id pass.old.readers.items pass.old.seat.me }
+        requires lock { IsLockOf self.now.table.shared.key lock }
+        requires protected { IsProtected pass.old.seat.me.0.epochs.pin }
+        requires aim { (W.layout ≡ self.now.table.shared.key) × (W.lock ≡ lock) }
+        ensures own { IsPassOf self.now.table.shared.key self.now.table.shared.table_id pass.new.seat.table_id pass.new.readers.items pass.new.seat.me }
+        ensures gets { result ≡ true → pass.new.seat.me ≡ with_trie pass.old.seat.me (locking lock pass.old.seat.me.0.trie) }
+        ensures same { result ≡ false → pass.new.seat.me ≡ pass.old.seat.me }
+        ensures answers { GotLock L.meaning H.digest self.now.table.shared.key pass.old.seat.me.0 lock result }
+    {
+        let word = self.layout.lock_place(lock);
+        let found = self
+            .table
+            .shared
+            .compare_exchange::<GetsLock<L, H, W>>(&mut pass.seat, word, FREE, LOCKED);
+        found == FREE
+    }
+
+    /// Stores the state of a node, or of a place of the root, whose lock the pass has: 0 frees the lock, 1 keeps it.
+    pub fn store_node(&self, pass: &mut CellPass<L>, lock: Lock, state: u64)
+        requires own { IsPassOf self.now.table.shared.key self.now.table.shared.table_id pass.old.seat.table_id pass.old.readers.items pass.old.seat.me }
+        requires lock { IsLockOf self.now.table.shared.key lock }
+        requires locked { Contains pass.old.seat.me.0.trie.locks lock }
+        requires state { state < 2 }
+        ensures own { IsPassOf self.now.table.shared.key self.now.table.shared.table_id pass.new.seat.table_id pass.new.readers.items pass.new.seat.me }
+        ensures next { pass.new.seat.me ≡ with_trie pass.old.seat.me (unlocking self.now.table.shared.key lock state pass.old.seat.me.0.trie) }
+    {
+        self.store_node_as::<Brand>(pass, lock, state);
+    }
+
+    fn store_node_as<W: LockAim>(&self, pass: &mut CellPass<L>, lock: Lock, state: u64)
+        requires own { IsPassOf self.now.table.shared.key self.now.table.shared.table_id pass.old.seat.table_id pass.old.readers.items pass.old.seat.me }
+        requires lock { IsLockOf self.now.table.shared.key lock }
+        requires locked { Contains pass.old.seat.me.0.trie.locks lock }
+        requires state { state < 2 }
+        requires aim { (W.layout ≡ self.now.table.shared.key) × (W.lock ≡ lock) × (W.state ≡ state) }
+        ensures own { IsPassOf self.now.table.shared.key self.now.table.shared.table_id pass.new.seat.table_id pass.new.readers.items pass.new.seat.me }
+        ensures next { pass.new.seat.me ≡ with_trie pass.old.seat.me (unlocking self.now.table.shared.key lock state pass.old.seat.me.0.trie) }
+    {
+        let word = self.layout.lock_place(lock);
+        self.table
+            .shared
+            .store::<StoresNode<W>>(&mut pass.seat, word, state);
+    }
+}

@@ -1,0 +1,173 @@
+ghost use Rattle.std.specs.Prelude.{◌≡◌};
+
+use crate::aim::Aim;
+use crate::cells::{CellPass, Cells};
+use crate::layout::{Pool, key_field};
+use crate::rule::Running;
+use crate::views::CellView;
+use atomic_table::Play;
+use npf_core::Law;
+use npf_digits::KeyHash;
+use npf_paths::{Cell, Place};
+use npf_types::{Key, Way};
+use std::marker::{Brand, PhantomData};
+
+// What a load of a place is told.
+pub(crate) trait LookAim {
+    ghost use Rattle.std.specs.Prelude.{ℕ};
+    ghost use Rattle.npf_types.specs.declared.key.Key.{Key};
+    ghost use Rattle.npf_paths.specs.declared.place.Place.{Place};
+    ghost use Rattle.npf_cells.specs.declared.layout.Layout.{Layout};
+
+    ghost layout: { Layout };
+
+    ghost packet: { ℕ };
+
+    ghost key: { Key };
+
+    ghost place: { Place };
+}
+
+impl LookAim for Brand {
+    ghost use Rattle.std.specs.Prelude.{[]};
+    ghost use Rattle.npf_paths.specs.declared.place.Place.TheVariants.{Root};
+
+    ghost layout = { record { slots = 0; nodes = 0 } };
+
+    ghost packet = { 0 };
+
+    ghost key = { record { 0 = [] } };
+
+    ghost place = { Root 0 };
+}
+
+// What a load of a word of a key is told.
+pub(crate) trait KeyAim {
+    ghost use Rattle.std.specs.Prelude.{ℕ};
+    ghost use Rattle.npf_types.specs.declared.key.Way.{Way};
+    ghost use Rattle.npf_cells.specs.declared.layout.Layout.{Layout};
+
+    ghost layout: { Layout };
+
+    ghost slot: { ℕ };
+
+    ghost way: { Way };
+
+    ghost word: { ℕ };
+}
+
+impl KeyAim for Brand {
+    ghost use Rattle.npf_types.specs.declared.key.Way.TheVariants.{Forward};
+
+    ghost layout = { record { slots = 0; nodes = 0 } };
+
+    ghost slot = { 0 };
+
+    ghost way = { Forward };
+
+    ghost word = { 0 };
+}
+
+pub(crate) struct LooksAtPlace<L: Law, H: KeyHash, W> {
+    law: PhantomData<L>,
+    hash: PhantomData<H>,
+    aim: PhantomData<W>,
+}
+
+impl<L: Law, H: KeyHash, W: LookAim> Play<Running<L::State>, CellView<L::State, L::Arg, L::Reply>>
+    for LooksAtPlace<L, H, W> {
+    ghost use Rattle.npf_cells.specs.LookKinds.{LoadsPlace};
+
+    ghost then = { LoadsPlace L.meaning H.digest W.layout W.packet W.key W.place };
+}
+
+pub(crate) struct LoadsKeyWord<W> {
+    aim: PhantomData<W>,
+}
+
+impl<F, S, A, R, W: KeyAim> Play<F, CellView<S, A, R>> for LoadsKeyWord<W> {
+    ghost use Rattle.npf_cells.specs.LookKinds.{LoadsKey};
+
+    ghost then = { LoadsKey W.layout W.slot W.way W.word };
+}
+
+impl<L: Law, H: KeyHash> Cells<L, H> {
+    ghost use Rattle.std.specs.Prelude.{◌≡◌, ◌<◌, ◌⊎◌};
+    ghost use Rattle.npf_cells.specs.Conns.{IsBuiltIn};
+    ghost use Rattle.npf_cells.specs.Aims.{MayAim, TellsAim, aim_key};
+    ghost use Rattle.npf_cells.specs.LookKinds.{StandsOnPath, LooksAt, IsLeafOf, ShowsKey, ShowsStoredKey, with_trie, reading};
+    ghost use Rattle.npf_cells.specs.Passes.{IsPassOf, IsProtected};
+    ghost use Rattle.npf_cells.specs.Trie.{IsInTrie};
+
+    /// Loads a place of the trie that is on the key's path, where the pass stands there. A node leads on. To look, any other cell is the
+    /// end, and its answer from this load on. To hold, the leaf of the same key is the end.
+    pub fn load_place(&self, pass: &mut CellPass<L>, place: Place, aim: &Aim) -> Cell
+        requires own { IsPassOf self.now.table.shared.key self.now.table.shared.table_id pass.old.seat.table_id pass.old.readers.items pass.old.seat.me }
+        requires place { IsInTrie self.now.table.shared.key place }
+        requires protected { IsProtected pass.old.seat.me.0.epochs.pin }
+        requires stands { StandsOnPath H.digest pass.old.seat.me.0.trie (aim_key aim.now) place }
+        requires aim { MayAim L.meaning pass.old.seat.me.0 aim.now }
+        ensures own { IsPassOf self.now.table.shared.key self.now.table.shared.table_id pass.new.seat.table_id pass.new.readers.items pass.new.seat.me }
+        ensures tells { TellsAim L.meaning H.digest self.now.table.shared.key aim.now place result pass.old.seat.me pass.new.seat.me }
+    {
+        match aim {
+            Aim::Look { n, key } => self.look_place::<Brand>(pass, place, *n, key),
+            Aim::Hold { id, key, way } => self.hold_place::<Brand>(pass, place, *id, key, *way),
+        }
+    }
+
+    fn look_place<W: LookAim>(
+        &self,
+        pass: &mut CellPass<L>,
+        place: Place,
+        n: u64,
+        key: &Key,
+    ) -> Cell
+        requires own { IsPassOf self.now.table.shared.key self.now.table.shared.table_id pass.old.seat.table_id pass.old.readers.items pass.old.seat.me }
+        requires place { IsInTrie self.now.table.shared.key place }
+        requires protected { IsProtected pass.old.seat.me.0.epochs.pin }
+        requires stands { StandsOnPath H.digest pass.old.seat.me.0.trie key.now place }
+        requires aim { (W.layout ≡ self.now.table.shared.key) × (W.packet ≡ n) × (W.key ≡ key.now) × (W.place ≡ place) }
+        ensures own { IsPassOf self.now.table.shared.key self.now.table.shared.table_id pass.new.seat.table_id pass.new.readers.items pass.new.seat.me }
+        ensures looks { LooksAt L.meaning H.digest self.now.table.shared.key n key.now place result pass.old.seat.me pass.new.seat.me }
+    {
+        let word = self.layout.trie_place(place);
+        let found = self
+            .table
+            .shared
+            .load::<LooksAtPlace<L, H, W>>(&mut pass.seat, word);
+        Cell::of_word(found)
+    }
+
+    /// Loads a word of the key of the leaf that the pass loaded last in this stay, or of a connection that it is building.
+    pub fn load_key(&self, pass: &mut CellPass<L>, slot: u32, way: Way, word: u32) -> u64
+        requires own { IsPassOf self.now.table.shared.key self.now.table.shared.table_id pass.old.seat.table_id pass.old.readers.items pass.old.seat.me }
+        requires slot { slot < self.now.table.shared.key.slots }
+        requires word { word < 5 }
+        requires fixed { IsLeafOf pass.old.seat.me.0.trie slot way ⊎ IsBuiltIn pass.old.seat.me.0.pools.builds slot }
+        ensures own { IsPassOf self.now.table.shared.key self.now.table.shared.table_id pass.new.seat.table_id pass.new.readers.items pass.new.seat.me }
+        ensures next { pass.new.seat.me ≡ with_trie pass.old.seat.me (reading pass.old.seat.me.0.trie) }
+        ensures shows { ShowsKey pass.old.seat.me.0.trie slot way word result }
+        ensures stored { ShowsStoredKey self.now.table.shared.key pass.old.seat.me.0.pools.stored slot way word result }
+    {
+        self.load_key_as::<Brand>(pass, slot, way, word)
+    }
+
+    fn load_key_as<W: KeyAim>(&self, pass: &mut CellPass<L>, slot: u32, way: Way, word: u32) -> u64
+        requires own { IsPassOf self.now.table.shared.key self.now.table.shared.table_id pass.old.seat.table_id pass.old.readers.items pass.old.seat.me }
+        requires slot { slot < self.now.table.shared.key.slots }
+        requires word { word < 5 }
+        requires aim { (W.layout ≡ self.now.table.shared.key) × (W.slot ≡ slot) × (W.way ≡ way) × (W.word ≡ word) }
+        ensures own { IsPassOf self.now.table.shared.key self.now.table.shared.table_id pass.new.seat.table_id pass.new.readers.items pass.new.seat.me }
+        ensures next { pass.new.seat.me ≡ with_trie pass.old.seat.me (reading pass.old.seat.me.0.trie) }
+        ensures shows { ShowsKey pass.old.seat.me.0.trie slot way word result }
+        ensures stored { ShowsStoredKey self.now.table.shared.key pass.old.seat.me.0.pools.stored slot way word result }
+    {
+        let place = self
+            .layout
+            .field_place(Pool::Slots, slot, key_field(way, word));
+        self.table
+            .shared
+            .load::<LoadsKeyWord<W>>(&mut pass.seat, place)
+    }
+}

@@ -1,0 +1,100 @@
+ghost use Rattle.std.specs.Prelude.{◌≡◌};
+
+use crate::aim::Aim;
+use crate::cells::{CellPass, Cells};
+use crate::hold::HoldAim;
+use crate::rule::Running;
+use crate::views::CellView;
+use atomic_table::Play;
+use npf_core::{ConnId, Law};
+use npf_digits::KeyHash;
+use npf_paths::{Cell, Place};
+use npf_types::{Key, Way};
+use std::marker::{Brand, PhantomData};
+
+pub(crate) struct PublishesKey<L: Law, H: KeyHash, W> {
+    law: PhantomData<L>,
+    hash: PhantomData<H>,
+    aim: PhantomData<W>,
+}
+
+impl<L: Law, H: KeyHash, W: HoldAim> Play<Running<L::State>, CellView<L::State, L::Arg, L::Reply>>
+    for PublishesKey<L, H, W> {
+    ghost use Rattle.npf_cells.specs.PublishKinds.{PublishesFor};
+
+    ghost then = { PublishesFor L.meaning H.digest W.layout W.id W.key W.way W.place W.cell };
+}
+
+/// A store of what stands in a place.
+pub(crate) struct StoresSame;
+
+impl<F, S, A, R> Play<F, CellView<S, A, R>> for StoresSame {
+    ghost use Rattle.npf_cells.specs.PublishKinds.{StoresAgain};
+
+    ghost then = { StoresAgain };
+}
+
+impl<L: Law, H: KeyHash> Cells<L, H> {
+    ghost use Rattle.std.specs.Prelude.{◌≡◌};
+    ghost use Rattle.npf_cells.specs.LookKinds.{with_trie};
+    ghost use Rattle.npf_paths.specs.Paths.{IsEnd};
+    ghost use Rattle.npf_cells.specs.Passes.{IsPassOf, IsProtected};
+    ghost use Rattle.npf_cells.specs.PublishKinds.{aim_now, MayPublish, MayPublishFor, Published, HasHeld, SeesLocked, publishing};
+    ghost use Rattle.npf_cells.specs.Trie.{IsInTrie};
+
+    /// Stores in a place of the trie whose lock the pass has, and which it loaded since it got it. To hold a key, the connection's leaf goes
+    /// where nothing stands; where the leaf of another key does, new nodes go there that lead on to both, one a level, down to and with
+    /// the one at which the keys part. Without an aim what stands there is stored again.
+    pub fn publish_place(&self, pass: &mut CellPass<L>, place: Place, cell: Cell, aim: Option<&Aim>)
+        requires own { IsPassOf self.now.table.shared.key self.now.table.shared.table_id pass.old.seat.table_id pass.old.readers.items pass.old.seat.me }
+        requires place { IsInTrie self.now.table.shared.key place }
+        requires protected { IsProtected pass.old.seat.me.0.epochs.pin }
+        requires may { MayPublish L.meaning H.digest self.now.table.shared.key pass.old.seat.me.0 place cell (aim_now aim) }
+        ensures own { IsPassOf self.now.table.shared.key self.now.table.shared.table_id pass.new.seat.table_id pass.new.readers.items pass.new.seat.me }
+        ensures published { Published L.meaning H.digest self.now.table.shared.key place cell (aim_now aim.entry) pass.old.seat.me pass.new.seat.me }
+    {
+        match aim {
+            Some(Aim::Hold { id, key, way }) => {
+                self.publish_key::<Brand>(pass, place, cell, *id, key, *way)
+            }
+            _ => self.publish_same(pass, place, cell),
+        }
+    }
+
+    fn publish_same(&self, pass: &mut CellPass<L>, place: Place, cell: Cell)
+        requires own { IsPassOf self.now.table.shared.key self.now.table.shared.table_id pass.old.seat.table_id pass.old.readers.items pass.old.seat.me }
+        requires place { IsInTrie self.now.table.shared.key place }
+        requires sees { SeesLocked pass.old.seat.me.0.trie place cell }
+        requires end { IsEnd cell }
+        ensures own { IsPassOf self.now.table.shared.key self.now.table.shared.table_id pass.new.seat.table_id pass.new.readers.items pass.new.seat.me }
+        ensures next { pass.new.seat.me ≡ with_trie pass.old.seat.me (publishing pass.old.seat.me.0.trie) }
+    {
+        let word = self.layout.trie_place(place);
+        self.table
+            .shared
+            .store::<StoresSame>(&mut pass.seat, word, cell.word());
+    }
+
+    fn publish_key<W: HoldAim>(
+        &self,
+        pass: &mut CellPass<L>,
+        place: Place,
+        cell: Cell,
+        id: ConnId,
+        key: &Key,
+        way: Way,
+    )
+        requires own { IsPassOf self.now.table.shared.key self.now.table.shared.table_id pass.old.seat.table_id pass.old.readers.items pass.old.seat.me }
+        requires place { IsInTrie self.now.table.shared.key place }
+        requires protected { IsProtected pass.old.seat.me.0.epochs.pin }
+        requires may { MayPublishFor L.meaning H.digest self.now.table.shared.key pass.old.seat.me.0 id key.now way place cell }
+        requires aim { (W.layout ≡ self.now.table.shared.key) × (W.id ≡ id) × (W.key ≡ key.now) × (W.way ≡ way) × (W.place ≡ place) × (W.cell ≡ cell) }
+        ensures own { IsPassOf self.now.table.shared.key self.now.table.shared.table_id pass.new.seat.table_id pass.new.readers.items pass.new.seat.me }
+        ensures held { HasHeld L.meaning H.digest self.now.table.shared.key id key.now way place cell pass.old.seat.me pass.new.seat.me }
+    {
+        let word = self.layout.trie_place(place);
+        self.table
+            .shared
+            .store::<PublishesKey<L, H, W>>(&mut pass.seat, word, cell.word());
+    }
+}

@@ -1,0 +1,140 @@
+-- A place is filled under its lock.
+use Rattle.std.proofs.Common.{◌≡◌, ℕ, ◌<◌, Some, length, List, [], ◌∷◌, refl, sym, ap, ◌∙◌, subst, inl}
+use Rattle.std.specs.List.{Contains}
+use Rattle.atomic_table.specs.Table.{Me}
+use Rattle.npf_core.specs.Meaning.{Meaning}
+use Rattle.npf_core.specs.declared.held.Held.{Held}
+use Rattle.npf_types.specs.declared.key.Key.{Key}
+use Rattle.npf_types.specs.declared.key.Way.{Way}
+use Rattle.npf_core.specs.declared.found.Found.{Found}
+use Rattle.npf_paths.specs.declared.cell.Cell.{Cell}
+use Rattle.npf_paths.specs.declared.cell.Cell.TheVariants.{Empty, Leaf, Node, Mark}
+use Rattle.npf_paths.specs.declared.place.Lock.{Lock}
+use Rattle.npf_paths.specs.declared.place.Place.{Place}
+use Rattle.npf_paths.specs.Places.{lock_of}
+use Rattle.npf_cells.specs.declared.aim.Aim.{Aim}
+use Rattle.npf_cells.specs.declared.layout.Layout.{Layout}
+use Rattle.npf_cells.specs.declared.views.CellView.{CellView}
+use Rattle.npf_cells.specs.declared.views.LoadedLeaf.{LoadedLeaf}
+use Rattle.npf_cells.specs.declared.views.StoredWord.{StoredWord}
+use Rattle.npf_cells.specs.declared.views.TrieSide.{TrieSide}
+use Rattle.npf_cells.specs.Aims.{MayAim, TellsAim, aim_key}
+use Rattle.npf_cells.specs.HoldKinds.{MayHoldSo}
+use Rattle.npf_cells.specs.LockKinds.{locking}
+use Rattle.npf_cells.specs.LookKinds.{StandsOnPath, with_trie}
+use Rattle.npf_cells.specs.PoolKinds.{with_pools}
+use Rattle.npf_cells.specs.PublishKinds.{HasStoredKey, MayPublish, Published}
+use Rattle.npf_cells.specs.PublishKinds.PutsFor.{fills}
+use Rattle.npf_trie.specs.declared.step.Met.{Met}
+use Rattle.npf_trie.specs.declared.step.Met.TheVariants.{Holder, Other}
+use Rattle.npf_trie.specs.declared.step.Point.{Point}
+use Rattle.npf_trie.specs.declared.step.Step.{Step}
+use Rattle.npf_trie.specs.declared.step.Step.TheVariants.{Ends, Leads, Again}
+use Rattle.npf_trie.specs.declared.step.Wanted.{Wanted}
+use Rattle.npf_trie.specs.HoldKey.{CanHold, IsAtPlace, StepsSo, TellsMet}
+use Rattle.npf_trie.specs.LookUp.{ComparesWords}
+use Rattle.npf_trie.proofs.HoldLemmas.{comes_after, comes_then, steps_so, StaysOn, stays_after, stays_trie, stays_stored, at_after, may_after}
+use Rattle.npf_trie.proofs.StepLemmas.{Comes, Loads, node_leads, mark_stays, sees_empty, empty_stays, holder_read_ends, other_read_stays, published_ends}
+
+-- what a load for the key asks, and tells
+pub aims_there : (digest : Key → ℕ) (side : TrieSide) (wanted : Wanted) (p : Place) (aim : Aim) → aim ≡ Aim.Hold wanted.id wanted.key wanted.way → StandsOnPath digest side wanted.key p → StandsOnPath digest side (aim_key aim) p
+aims_there digest side wanted p aim aimed on = subst (λ (x : Aim). StandsOnPath digest side (aim_key x) p) (sym aimed) on
+
+pub aims_so : {S A R : Type 0} (m : Meaning S A R) (v : CellView S A R) (wanted : Wanted) (aim : Aim) → aim ≡ Aim.Hold wanted.id wanted.key wanted.way → MayHoldSo m v wanted.id wanted.way → MayAim m v aim
+aims_so m v wanted aim aimed may = subst (λ (x : Aim). MayAim m v x) (sym aimed) may
+
+pub aim_tells : {S A R F : Type 0} (m : Meaning S A R) (digest : Key → ℕ) (layout : Layout) (wanted : Wanted) (point : Point) (aim : Aim) (cell : Cell) (a b : Me F (CellView S A R)) → aim ≡ Aim.Hold wanted.id wanted.key wanted.way →
+    TellsAim m digest layout aim point.place cell a b → Loads m digest layout wanted point cell a b
+aim_tells m digest layout wanted point aim cell a b aimed tells = subst (λ (x : Aim). TellsAim m digest layout x point.place cell a b) aimed tells
+
+-- a pass at a place of the path that has the place's lock, and may put the leaf of the key there: it is ready since it began with none
+pub record IsReady {S A R F : Type 0} (m : Meaning S A R) (digest : Key → ℕ) (layout : Layout) (wanted : Wanted) (point : Point) (a d : Me F (CellView S A R)) : Type 0 where
+  pub stays : StaysOn a d
+  pub may : MayHoldSo m d.0 wanted.id wanted.way
+  pub exists : wanted.id.slot < layout.slots
+  pub stored : ¬ Contains d.0.pools.unstored wanted.id.slot
+  pub key_stored : HasStoredKey layout d.0.pools.stored wanted.id.slot wanted.way wanted.key
+  pub at : IsAtPlace digest layout d.0 wanted.key point
+  pub nodes : d.0.pools.nodes ≡ []
+  pub locks : d.0.trie.locks ≡ lock_of point.place ∷ []
+  pub free : a.0.trie.locks ≡ []
+
+-- it stored the key and got the lock
+pub ready_now : {S A R F : Type 0} (m : Meaning S A R) (digest : Key → ℕ) (layout : Layout) (wanted : Wanted) (point : Point) (lock : Lock) (words : List StoredWord) (a b d : Me F (CellView S A R)) →
+    CanHold m layout a.0 wanted.id wanted.way → IsAtPlace digest layout a.0 wanted.key point → lock ≡ lock_of point.place → b ≡ with_pools a (record a.0.pools { stored = words }) →
+    HasStoredKey layout b.0.pools.stored wanted.id.slot wanted.way wanted.key → d ≡ with_trie b (locking lock b.0.trie) → IsReady m digest layout wanted point a d
+ready_now {S} {A} {R} {F} m digest layout wanted point lock words a b d can at is_lock stores has gets =
+    let stays = stays_after a b d (stays_stored a b words stores) (stays_trie b d _ gets refl) in
+    record {
+      stays = stays;
+      may = may_after m a d wanted.id wanted.way stays can.may;
+      exists = can.exists;
+      stored = λ inside. can.stored (subst (λ slots. Contains slots wanted.id.slot) stays.keeps.unstored inside);
+      key_stored = subst (λ (y : Me F (CellView S A R)). HasStoredKey layout y.0.pools.stored wanted.id.slot wanted.way wanted.key) (sym gets) has;
+      at = at_after digest layout a d wanted.key point (ap (λ (y : Me F (CellView S A R)). y.0.trie.stands) gets ∙ ap (λ (y : Me F (CellView S A R)). y.0.trie.stands) stores) at;
+      nodes = stays.keeps.nodes ∙ can.nodes;
+      locks = ap (λ (y : Me F (CellView S A R)). y.0.trie.locks) gets ∙ (ap (λ locks. lock ∷ locks) (ap (λ (y : Me F (CellView S A R)). y.0.trie.locks) stores ∙ can.locks) ∙ ap (λ l. l ∷ []) is_lock);
+      free = can.locks;
+    }
+
+module _ {S A R F : Type 0} {m : Meaning S A R} {digest : Key → ℕ} {layout : Layout} {wanted : Wanted} {point : Point} {a d : Me F (CellView S A R)} (ready : IsReady m digest layout wanted point a d) where
+  -- behind what it comes to under the lock the pass has no other
+  pub only_lock : (step : Step) (e e' : Me F (CellView S A R)) (lock : Lock) → e' ≡ e → lock ≡ lock_of point.place → Comes m digest layout wanted point step d e → e'.0.trie.locks ≡ lock ∷ []
+  only_lock step e e' lock same is came = ap (λ (y : Me F (CellView S A R)). y.0.trie.locks) same ∙ (came.locks ∙ (ready.locks ∙ ap (λ l. l ∷ []) (sym is)))
+
+  -- and frees it
+  pub freed_so : (step step' : Step) (e e' f : Me F (CellView S A R)) → step' ≡ step → e' ≡ e → f ≡ with_trie e' (record e'.0.trie { locks = [] }) → Comes m digest layout wanted point step d e → StepsSo m digest layout wanted point step' a f
+  freed_so step step' e e' f step_is same frees came =
+      let came' : Comes m digest layout wanted point step d e' = subst (λ (y : Me F (CellView S A R)). Comes m digest layout wanted point step d y) (sym same) came in
+      subst (λ (x : Step). StepsSo m digest layout wanted point x a f) (sym step_is) (steps_so m digest layout wanted point step a f
+      (comes_after m digest layout wanted point step a d f ready.stays (comes_then m digest layout wanted point step d e' f _ came'.comes frees refl refl refl))
+      (ap (λ (y : Me F (CellView S A R)). y.0.trie.locks) frees ∙ sym ready.free))
+
+  module _ {aim : Aim} (aimed : aim ≡ Aim.Hold wanted.id wanted.key wanted.way) where
+    abbrev Tells : Cell → Me F (CellView S A R) → Type 0
+    Tells cell e = TellsAim m digest layout aim point.place cell d e
+
+    loads_so : (cell : Cell) (e : Me F (CellView S A R)) → Tells cell e → Loads m digest layout wanted point cell d e
+    loads_so cell e tells = aim_tells m digest layout wanted point aim cell d e aimed tells
+
+    pub came_node : (node : ℕ) (e : Me F (CellView S A R)) → Tells (Node node) e → Comes m digest layout wanted point (Leads node) d e
+    came_node node e tells = node_leads m digest layout wanted point node d e (loads_so (Node node) e tells) ready.at
+
+    pub came_mark : (e : Me F (CellView S A R)) → Tells Mark e → Comes m digest layout wanted point Again d e
+    came_mark e tells = mark_stays m digest layout wanted point d e (loads_so Mark e tells) ready.at
+
+    module _ (slot : ℕ) (way : Way) (e f : Me F (CellView S A R)) (tells : Tells (Leaf slot way) e) (compares : ComparesWords 5 e f) where
+      abbrev pub IsTold : Met → Type 0
+      IsTold met = (leaf : LoadedLeaf) → e.0.trie.leaf ≡ Some leaf → length leaf.key.0 ≡ 5 → TellsMet leaf wanted.key met
+
+      pub came_holder : (found : Found) → IsTold (Holder found) → Comes m digest layout wanted point (Ends (Held.Taken found)) d f
+      came_holder found told = holder_read_ends m digest layout wanted point slot way d e (loads_so (Leaf slot way) e tells) f compares found told
+
+      pub came_other : (other : Key) → IsTold (Other other) → Comes m digest layout wanted point Again d f
+      came_other other told = other_read_stays m digest layout wanted point slot way d e (loads_so (Leaf slot way) e tells) f compares other told ready.at
+
+    -- where nothing stands the leaf may be put there
+    module _ (e : Me F (CellView S A R)) (tells : Tells Empty e) where
+      loads : Loads m digest layout wanted point Empty d e
+      loads = loads_so Empty e tells
+
+      stayed : Comes m digest layout wanted point Again d e
+      stayed = empty_stays m digest layout wanted point d e loads ready.at
+
+      module _ (leaf : Cell) (aim' : Aim) (aimed' : aim' ≡ Aim.Hold wanted.id wanted.key wanted.way) where
+        pub may_fill : leaf ≡ Leaf wanted.id.slot wanted.way → MayPublish m digest layout e.0 point.place leaf (Some aim')
+        may_fill leaf_is = subst (λ (x : Cell). MayPublish m digest layout e.0 point.place x (Some aim')) (sym leaf_is) (subst (λ (x : Aim). MayPublish m digest layout e.0 point.place (Leaf wanted.id.slot wanted.way) (Some x)) (sym aimed') (record {
+          hold = may_after m d e wanted.id wanted.way stayed.comes.0 ready.may;
+          stands = stayed.comes.1.stands;
+          exists = ready.exists;
+          key_stored = subst (λ (y : Me F (CellView S A R)). HasStoredKey layout y.0.pools.stored wanted.id.slot wanted.way wanted.key) (sym (loads.nothing (inl refl))) ready.key_stored;
+          inc_stored = λ inside. ready.stored (subst (λ slots. Contains slots wanted.id.slot) stayed.comes.0.keeps.unstored inside);
+          nodes = [];
+          puts = fills (sees_empty m digest layout wanted point d e [] loads ready.locks);
+        }))
+
+        pub came_empty : (f : Me F (CellView S A R)) → Published m digest layout point.place leaf (Some aim') e f → Comes m digest layout wanted point (Ends Held.Done) d f
+        came_empty f published =
+            let held = subst (λ (x : Aim). Published m digest layout point.place leaf (Some x) e f) aimed' published in
+            let ended = published_ends m digest layout wanted point leaf e f held (stayed.comes.0.keeps.nodes ∙ ready.nodes) in
+            record { comes = comes_after m digest layout wanted point (Ends Held.Done) d e f stayed.comes.0 ended.comes; locks = ended.locks ∙ stayed.locks }

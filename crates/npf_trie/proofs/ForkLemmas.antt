@@ -1,0 +1,143 @@
+-- Nodes that lead two keys on, from the foot up.
+use Rattle.std.proofs.Common.{◌≡◌, ◌≢◌, ℕ, ◌+◌, ◌<◌, ◌≤◌, cond, eqb, eq-eqb, ne_eqb, List, [], ◌∷◌, length, slice_index, zero, suc, refl, sym, ap, ◌∙◌, subst, arith}
+use Rattle.std.specs.Prelude.{Contains}
+use Rattle.std.proofs.lemmas.Grind.{get_or_default_zero}
+use Rattle.npf_types.specs.declared.key.Key.{Key}
+use Rattle.npf_digits.specs.Digits.{digit_of, PartsAt}
+use Rattle.npf_paths.specs.declared.cell.Cell.{Cell}
+use Rattle.npf_paths.specs.declared.cell.Cell.TheVariants as Cells
+use Rattle.npf_paths.specs.declared.place.Place.{Place}
+use Rattle.npf_paths.specs.declared.place.Place.TheVariants.{Node}
+use Rattle.npf_paths.specs.Growing.{IsBranch}
+use Rattle.npf_paths.specs.Growing.IsBranch.{parts, goes_on}
+use Rattle.npf_paths.specs.LevelLaw.{AreApart}
+use Rattle.npf_paths.specs.Paths.{AreDigits}
+use Rattle.npf_paths.proofs.BranchLemmas.{branch_same}
+use Rattle.npf_cells.specs.declared.layout.Layout.{Layout}
+use Rattle.npf_cells.specs.declared.layout.Pool.TheVariants.{Slots, Nodes}
+use Rattle.npf_cells.specs.declared.views.PoolSide.{PoolSide}
+use Rattle.npf_cells.specs.declared.views.StoredWord.{StoredWord}
+use Rattle.npf_cells.specs.Layout.{key_field, field_at}
+use Rattle.npf_cells.specs.PublishKinds.{cell_stored, stored_cell}
+use Rattle.npf_cells.specs.Trie.{digits_of}
+use Rattle.npf_trie.specs.Stores.{HasNewNodes, KeepsStoredKeys, LiesOutside, KeepsOutside, forked_cell}
+
+are_digits : (digest : Key → ℕ) (key : Key) → AreDigits (digits_of digest key)
+are_digits digest key = record { root = grind arith; node = λ level h. grind arith }
+
+-- what stands at the first digit, at the second, and elsewhere
+at_mine : (d d' : ℕ) (leaf other : Cell) (digit : ℕ) → digit ≡ d → forked_cell d leaf d' other digit ≡ leaf
+at_mine d d' leaf other digit e = ap (λ b. cond b leaf (cond (eqb digit d') other Cells.Empty)) (eq-eqb digit d e)
+
+at_theirs : (d d' : ℕ) (leaf other : Cell) (digit : ℕ) → digit ≢ d → digit ≡ d' → forked_cell d leaf d' other digit ≡ other
+at_theirs d d' leaf other digit ne e = ap (λ b. cond b leaf (cond (eqb digit d') other Cells.Empty)) (ne_eqb digit d ne) ∙ ap (λ b. cond b other Cells.Empty) (eq-eqb digit d' e)
+
+at_neither : (d d' : ℕ) (leaf other : Cell) (digit : ℕ) → digit ≢ d → digit ≢ d' → forked_cell d leaf d' other digit ≡ Cells.Empty
+at_neither d d' leaf other digit ne ne' = ap (λ b. cond b leaf (cond (eqb digit d') other Cells.Empty)) (ne_eqb digit d ne) ∙ ap (λ b. cond b other Cells.Empty) (ne_eqb digit d' ne')
+
+module _ (mine theirs : ℕ → ℕ) (cell : Place → Cell) (leaf other : Cell) (level node d : ℕ) (is : d ≡ mine level) (low : mine level < 16) where
+  -- the node at the foot has either leaf
+  foot : (d' : ℕ) → d' ≡ theirs level → theirs level < 16 → mine level ≢ theirs level →
+      ((digit : ℕ) → digit < 16 → cell (Node node digit) ≡ forked_cell d leaf d' other digit) → IsBranch mine theirs cell leaf other level node (node ∷ [])
+  foot d' is' low' apart cells = parts level node apart
+      (cells (mine level) low ∙ at_mine d d' leaf other (mine level) (sym is))
+      (cells (theirs level) low' ∙ at_theirs d d' leaf other (theirs level) (λ e. apart (sym is ∙ sym e)) (sym is'))
+      (λ digit small not_mine not_theirs. cells digit small ∙ at_neither d d' leaf other digit (λ e. not_mine (e ∙ is)) (λ e. not_theirs (e ∙ is')))
+
+  -- one above it has the next
+  above : (next : ℕ) (nodes : List ℕ) → mine level ≡ theirs level →
+      ((digit : ℕ) → digit < 16 → cell (Node node digit) ≡ forked_cell d (Cells.Node next) d (Cells.Node next) digit) → IsBranch mine theirs cell leaf other (level + 1) next nodes →
+      IsBranch mine theirs cell leaf other level node (node ∷ nodes)
+  above next nodes agree cells below = goes_on level node next nodes agree
+      (cells (mine level) low ∙ at_mine d d (Cells.Node next) (Cells.Node next) (mine level) (sym is))
+      (λ digit small not_mine. cells digit small ∙ at_neither d d (Cells.Node next) (Cells.Node next) digit (λ e. not_mine (e ∙ is)) (λ e. not_mine (e ∙ is)))
+      below
+
+-- the first node, and the others
+first_of : (node : ℕ) (rest : List ℕ) → Contains (node ∷ rest) node
+first_of node rest = (0, omega arith, refl)
+
+later_of : (node : ℕ) (rest : List ℕ) (n : ℕ) → Contains rest n → Contains (node ∷ rest) n
+later_of node rest n has = let within = has.1 in (suc has.0, omega arith, has.2)
+
+only_of : (node n : ℕ) → Contains (node ∷ []) n → n ≡ node
+only_of node n (zero, low, e) = sym e
+only_of node n (suc i, low, e) = absurd (omega (arith, low))
+
+none_left : (rest : List ℕ) → length rest ≡ 0 → rest ≡ []
+none_left [] e = refl
+none_left (node ∷ rest) e = absurd (omega (arith, e))
+
+-- none of the others is the first
+others_apart : (node : ℕ) (rest : List ℕ) (n : ℕ) → AreApart (node ∷ rest) → Contains rest n → n ≢ node
+others_apart node rest n apart (i, low, at) e =
+    let there : node ≡ slice_index rest i = sym e ∙ (sym at ∙ get_or_default_zero rest i n low) in
+    let none : 0 ≡ suc i = apart 0 (suc i) (omega arith) (omega (arith, low)) there in
+    omega (arith, none)
+
+-- keys are stored outside of nodes
+pub keys_kept : (layout : Layout) (nodes : List ℕ) (side : PoolSide) (old now : List StoredWord) → HasNewNodes layout side nodes → KeepsOutside layout nodes old now → KeepsStoredKeys layout old now
+keys_kept layout nodes side old now new keeps slot way key has = record {
+  five = has.five;
+  words = λ i low. keeps (field_at layout Slots slot (key_field way + i)) (λ n digit in' small same. let below = new.exist n in' in omega (arith, same, below, small)) ∙ has.words i low;
+}
+
+module _ (layout : Layout) (nodes : List ℕ) (node : ℕ) (rest : List ℕ) (e : nodes ≡ node ∷ rest) where
+  pub first_in : Contains nodes node
+  first_in = subst (λ xs. Contains xs node) (sym e) (first_of node rest)
+
+  pub rest_new : (side : PoolSide) → HasNewNodes layout side nodes → HasNewNodes layout side rest
+  rest_new side new =
+      let all = subst (λ xs. HasNewNodes layout side xs) e new in
+      record {
+        exist = λ n has. all.exist n (later_of node rest n has);
+        owned = λ n has. all.owned n (later_of node rest n has);
+        apart = λ i j low low' same. let one : suc i ≡ suc j = all.apart (suc i) (suc j) (omega (arith, low)) (omega (arith, low')) same in omega (arith, one);
+      }
+
+  -- what is outside all of them is outside the first, and outside the others
+  pub first_outside : (word : ℕ) → LiesOutside layout nodes word → LiesOutside layout (node ∷ []) word
+  first_outside word out n digit has low = out n digit (subst (λ m. Contains nodes m) (sym (only_of node n has)) first_in) low
+
+  pub rest_outside : (word : ℕ) → LiesOutside layout nodes word → LiesOutside layout rest word
+  rest_outside word out n digit has low = out n digit (subst (λ xs. Contains xs n) (sym e) (later_of node rest n has)) low
+
+  -- the places of the others are outside the first
+  places_outside : AreApart nodes → (n digit : ℕ) → Contains rest n → digit < 16 → LiesOutside layout (node ∷ []) (field_at layout Nodes n digit)
+  places_outside apart n digit has low n' digit' has' low' same =
+      others_apart node rest n (subst AreApart e apart) has (let is = only_of node n' has' in omega (arith, same, is, low, low'))
+
+  module _ (digest : Key → ℕ) (key other : Key) (hash hash' level : ℕ) (hashed : hash ≡ digest key) (hashed' : hash' ≡ digest other) (parting : PartsAt hash key hash' other (level + length nodes)) where
+    digit_is : (l : ℕ) → digit_of hash key l ≡ digits_of digest key l
+    digit_is l = ap (λ h. digit_of h key l) hashed
+
+    digit_is' : (l : ℕ) → digit_of hash' other l ≡ digits_of digest other l
+    digit_is' l = ap (λ h. digit_of h other l) hashed'
+
+    -- the branch of one node
+    pub foot_built : (cell : Place → Cell) (leaf other_leaf : Cell) (d d' : ℕ) → d ≡ digit_of hash key (level + 1) → d' ≡ digit_of hash' other (level + 1) → length rest ≡ 0 →
+        ((digit : ℕ) → digit < 16 → cell (Node node digit) ≡ forked_cell d leaf d' other_leaf digit) →
+        IsBranch (digits_of digest key) (digits_of digest other) cell leaf other_leaf (level + 1) (slice_index nodes 0) nodes
+    foot_built cell leaf other_leaf d d' is is' none cells =
+        let one : nodes ≡ node ∷ [] = e ∙ ap (λ xs. node ∷ xs) (none_left rest none) in
+        let at : level + length nodes ≡ level + 1 = ap (λ xs. level + length xs) one in
+        subst (λ xs. IsBranch (digits_of digest key) (digits_of digest other) cell leaf other_leaf (level + 1) (slice_index xs 0) xs) (sym one)
+        (foot (digits_of digest key) (digits_of digest other) cell leaf other_leaf (level + 1) node d (is ∙ digit_is (level + 1)) ((are_digits digest key).node (level + 1) (omega arith)) d' (is' ∙ digit_is' (level + 1))
+        ((are_digits digest other).node (level + 1) (omega arith))
+        (λ same. parting.here (subst (λ l. digit_of hash key l ≡ digit_of hash' other l) (sym at) (digit_is (level + 1) ∙ (same ∙ sym (digit_is' (level + 1))))))
+        cells)
+
+    -- and that of a node over another branch
+    pub above_built : (built now : List StoredWord) (leaf other_leaf : Cell) (d : ℕ) → d ≡ digit_of hash key (level + 1) → 1 ≤ length rest → AreApart nodes →
+        ((digit : ℕ) → digit < 16 → cell_stored layout now (Node node digit) ≡ forked_cell d (Cells.Node (slice_index rest 0)) d (Cells.Node (slice_index rest 0)) digit) →
+        KeepsOutside layout (node ∷ []) built now →
+        IsBranch (digits_of digest key) (digits_of digest other) (cell_stored layout built) leaf other_leaf (level + 1 + 1) (slice_index rest 0) rest →
+        IsBranch (digits_of digest key) (digits_of digest other) (cell_stored layout now) leaf other_leaf (level + 1) (slice_index nodes 0) nodes
+    above_built built now leaf other_leaf d is some apart cells keeps below =
+        let within : level + 1 < level + length nodes = omega (arith, ap length e, some) in
+        let agree = sym (digit_is (level + 1)) ∙ (parting.before (level + 1) within ∙ digit_is' (level + 1)) in
+        let still = branch_same below (are_digits digest key) (are_digits digest other) (omega arith)
+        (λ n digit has low. ap stored_cell (keeps (field_at layout Nodes n digit) (places_outside apart n digit has low))) in
+        subst (λ xs. IsBranch (digits_of digest key) (digits_of digest other) (cell_stored layout now) leaf other_leaf (level + 1) (slice_index xs 0) xs) (sym e)
+        (above (digits_of digest key) (digits_of digest other) (cell_stored layout now) leaf other_leaf (level + 1) node d (is ∙ digit_is (level + 1)) ((are_digits digest key).node (level + 1) (omega arith))
+        (slice_index rest 0) rest agree cells still)

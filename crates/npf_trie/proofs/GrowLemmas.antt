@@ -1,0 +1,258 @@
+-- What a pass has once it built nodes and locked the place where they are to hang, and what it has once it unlocked it.
+use Rattle.std.proofs.Common.{◌≡◌, ◌≢◌, ℕ, ◌+◌, ◌-◌, ◌≤◌, ◌<◌, ◌∷◌, [], ◌++◌, List, slice_index, refl, sym, ap, ◌∙◌, subst, arith}
+use Rattle.atomic_table.specs.Table.{Me}
+use Rattle.npf_types.specs.declared.key.Key.{Key}
+use Rattle.npf_core.specs.declared.entry.Entry.{Entry}
+use Rattle.npf_core.specs.declared.held.Held.{Held}
+use Rattle.npf_core.specs.Meaning.{Meaning}
+use Rattle.npf_connections.specs.Adding.{AddsOwn}
+use Rattle.npf_connections.specs.Entries.{hold_entries}
+use Rattle.npf_connections.specs.Pass.{Pass, IsPass}
+use Rattle.npf_digits.specs.Digits.{PartsAt}
+use Rattle.npf_paths.specs.declared.cell.Cell.{Cell}
+use Rattle.npf_paths.specs.declared.cell.Cell.TheVariants as Cells
+use Rattle.npf_paths.specs.declared.place.Lock.{Lock}
+use Rattle.npf_paths.specs.declared.place.Place.{Place}
+use Rattle.npf_paths.specs.declared.place.Place.TheVariants as Places
+use Rattle.npf_paths.specs.Growing.{IsBranch}
+use Rattle.npf_paths.specs.Paths.{AreDigits}
+use Rattle.npf_paths.specs.Places.{lock_of}
+use Rattle.npf_paths.proofs.BranchLemmas.{branch_same}
+use Rattle.npf_cells.specs.declared.layout.Layout.{Layout}
+use Rattle.npf_cells.specs.declared.views.CellView.{CellView}
+use Rattle.npf_cells.specs.declared.views.PoolSide.{PoolSide}
+use Rattle.npf_cells.specs.declared.views.StoredWord.{StoredWord}
+use Rattle.npf_cells.specs.declared.views.TrieSide.{TrieSide}
+use Rattle.npf_cells.specs.HoldKinds.{MayHoldSo}
+use Rattle.npf_cells.specs.LockKinds.{locking}
+use Rattle.npf_cells.specs.LookKinds.{with_trie}
+use Rattle.npf_cells.specs.Passes.{cell_pass}
+use Rattle.npf_cells.specs.PoolKinds.{with_pools}
+use Rattle.npf_cells.specs.PublishKinds.{HasStoredKey, cell_stored}
+use Rattle.npf_cells.specs.Trie.{IsInTrie, digits_of}
+use Rattle.npf_trie.specs.declared.step.OtherLeaf.{OtherLeaf}
+use Rattle.npf_trie.specs.declared.step.Point.{Point}
+use Rattle.npf_trie.specs.declared.step.Step.{Step}
+use Rattle.npf_trie.specs.declared.step.Step.TheVariants.{Ends, Leads, Again}
+use Rattle.npf_trie.specs.declared.step.Wanted.{Wanted}
+use Rattle.npf_trie.specs.HoldKey.{CanHold, SettlesHold, HoldsOn, IsAtPlace, StepsSo, having_held, HasGrown, HoldsNodes, HasHung, HangsSo, HasMet}
+use Rattle.npf_trie.specs.Nodes.{TakesNodes, FindsTooFew, left_with}
+use Rattle.npf_trie.proofs.HangLemmas.{place_stays}
+
+-- the level at which two keys part, by its distance from this one
+pub parts_below : (hash hash' mine theirs : ℕ) (key other : Key) (parting level long : ℕ) → PartsAt hash key hash' other parting → hash ≡ mine → hash' ≡ theirs → level < parting →
+    long ≡ parting - level → PartsAt mine key theirs other (level + long)
+parts_below hash hash' mine theirs key other parting level long parts is is' below counted =
+    let same : parting ≡ level + long = omega arith in
+    subst (λ l. PartsAt mine key theirs other l) same (subst (λ h. PartsAt h key theirs other parting) is (subst (λ h. PartsAt hash key h other parting) is' parts))
+
+digits_fit : (digest : Key → ℕ) (key : Key) → AreDigits (digits_of digest key)
+digits_fit digest key = record { root = grind arith; node = λ level h. grind arith }
+
+nothing_ends : {E : Type 0} (init : List E) (last : E) → [] ≡ init ++ last ∷ [] → ⊥
+nothing_ends [] last e = cc
+nothing_ends (x ∷ init) last e = cc
+
+all_there : {E : Type 0} (xs : List E) → xs ≡ xs ++ []
+all_there [] = refl
+all_there (x ∷ xs) = ap (λ ys. x ∷ ys) (all_there xs)
+
+-- the branch that was built, as that of the nodes that were taken
+pub branch_so : (mine theirs : ℕ → ℕ) (cell : Place → Cell) (leaf other leaf' other' : Cell) (level : ℕ) (nodes nodes' : List ℕ) → leaf ≡ leaf' → other ≡ other' → nodes ≡ nodes' →
+    IsBranch mine theirs cell leaf other level (slice_index nodes 0) nodes → IsBranch mine theirs cell leaf' other' level (slice_index nodes' 0) nodes'
+branch_so mine theirs cell leaf other leaf' other' level nodes nodes' same same' all branch =
+    subst (λ xs. IsBranch mine theirs cell leaf' other' level (slice_index xs 0) xs) all
+    (subst (λ c. IsBranch mine theirs cell leaf' c level (slice_index nodes 0) nodes) same' (subst (λ c. IsBranch mine theirs cell c other level (slice_index nodes 0) nodes) same branch))
+
+module _ {S A R : Type 0} where
+  -- the pass took nodes, stored in them and in its connection, and got the lock
+  abbrev pub readied : CellView S A R → PoolSide → List StoredWord → Lock → CellView S A R
+  readied v pools stored lock = record v {
+    pools = record v.pools { found = pools.found; row = pools.row; sweeps = pools.sweeps; nodes = pools.nodes; stored = stored };
+    trie = locking lock v.trie;
+  }
+
+  -- and what it has at last
+  abbrev settled : CellView S A R → List (Entry S A R) → PoolSide → ℕ → List ℕ → List StoredWord → List Lock → TrieSide → CellView S A R
+  settled v history pools found nodes stored locks side = record v {
+    seats = record v.seats { history = history };
+    pools = record v.pools { found = found; row = pools.row; sweeps = pools.sweeps; nodes = nodes; stored = stored };
+    trie = record side { locks = locks };
+  }
+
+module _ {S A R F : Type 0} where
+  abbrev freed : Me F (CellView S A R) → Me F (CellView S A R)
+  freed y = with_trie y (record y.0.trie { locks = [] })
+
+  abbrev gave_back : ℕ → List StoredWord → Me F (CellView S A R) → Me F (CellView S A R)
+  gave_back found stored y = with_pools y (record y.0.pools { found = found; nodes = []; stored = stored })
+
+  -- what was taken, and given back, changed of the pass
+  pub took_so : {layout : Layout} {count : ℕ} {nodes : List ℕ} {old took : Me F (CellView S A R)} → TakesNodes layout count nodes old took →
+      took ≡ with_pools old (record old.0.pools { found = took.0.pools.found; row = took.0.pools.row; sweeps = took.0.pools.sweeps; nodes = took.0.pools.nodes })
+  took_so {old = old} {took} takes =
+      let sweeps = ap (λ (y : Me F (CellView S A R)). y.0.pools.sweeps) takes.is in
+      let nodes = ap (λ (y : Me F (CellView S A R)). y.0.pools.nodes) takes.is in
+      takes.is ∙ (λ i. with_pools old (record old.0.pools { found = took.0.pools.found; row = took.0.pools.row; sweeps = sym sweeps i; nodes = sym nodes i }))
+
+  pub took_more : {layout : Layout} {count : ℕ} {nodes : List ℕ} {old took : Me F (CellView S A R)} → TakesNodes layout count nodes old took → old.0.pools.sweeps ≤ took.0.pools.sweeps
+  took_more takes = let same = ap (λ (y : Me F (CellView S A R)). y.0.pools.sweeps) takes.is in omega (arith, same)
+
+  pub gave_all : (unlocked now : Me F (CellView S A R)) → now ≡ with_pools unlocked (left_with [] unlocked.0.pools now.0.pools) → now ≡ gave_back now.0.pools.found now.0.pools.stored unlocked
+  gave_all unlocked now is = is
+
+  pub readies : (lock got : Lock) (old took built filled locked : Me F (CellView S A R)) → got ≡ lock →
+      took ≡ with_pools old (record old.0.pools { found = took.0.pools.found; row = took.0.pools.row; sweeps = took.0.pools.sweeps; nodes = took.0.pools.nodes }) →
+      built ≡ with_pools took (record took.0.pools { stored = built.0.pools.stored }) → filled ≡ with_pools built (record built.0.pools { stored = filled.0.pools.stored }) →
+      locked ≡ with_trie filled (locking got filled.0.trie) → locked ≡ (readied old.0 took.0.pools filled.0.pools.stored lock, old.1)
+  readies lock got old took built filled locked same takes builds fills gets =
+      let first : List StoredWord = built.0.pools.stored in
+      let last : List StoredWord = filled.0.pools.stored in
+      let store = λ (stored : List StoredWord) (y : Me F (CellView S A R)). with_pools y (record y.0.pools { stored = stored }) in
+      gets ∙ ap (λ l. with_trie filled (locking l filled.0.trie)) same ∙ ap (λ (y : Me F (CellView S A R)). with_trie y (locking lock y.0.trie)) (fills ∙ ap (store last) (builds ∙ ap (store first) takes))
+
+  -- it may hold the key as before
+  pub may_still : (m : Meaning S A R) (wanted : Wanted) (old took built : Me F (CellView S A R)) → MayHoldSo m old.0 wanted.id wanted.way →
+      took ≡ with_pools old (record old.0.pools { found = took.0.pools.found; row = took.0.pools.row; sweeps = took.0.pools.sweeps; nodes = took.0.pools.nodes }) →
+      built ≡ with_pools took (record took.0.pools { stored = built.0.pools.stored }) → MayHoldSo m built.0 wanted.id wanted.way
+  may_still m wanted old took built may takes builds =
+      let first : List StoredWord = built.0.pools.stored in
+      let is = builds ∙ ap (λ (y : Me F (CellView S A R)). with_pools y (record y.0.pools { stored = first })) takes in
+      subst (λ (y : Me F (CellView S A R)). MayHoldSo m y.0 wanted.id wanted.way) (sym is) (record { built = may.built; bare = may.bare })
+
+  -- with neither a node nor a lock at last, as at first, only what a hold changes has changed
+  settles : (old now : Me F (CellView S A R)) (history : List (Entry S A R)) (pools : PoolSide) (found : ℕ) (stored : List StoredWord) (side : TrieSide) → old.0.pools.nodes ≡ [] →
+      old.0.trie.locks ≡ [] → now ≡ (settled old.0 history pools found [] stored [] side, old.1) → now ≡ (having_held old.0 now.0, old.1)
+  settles old now history pools found stored side none free is =
+      let nodes = ap (λ ns. (settled old.0 history pools found ns stored [] side, old.1)) (sym none) in
+      let locks = ap (λ ls. (settled old.0 history pools found old.0.pools.nodes stored ls side, old.1)) (sym free) in
+      subst (λ (y : Me F (CellView S A R)). y ≡ (having_held old.0 y.0, old.1)) (sym (is ∙ (nodes ∙ locks))) refl
+
+module _ {S A R F : Type 0} (m : Meaning S A R) (digest : Key → ℕ) (layout : Layout) (wanted : Wanted) (point : Point) (old : Me F (CellView S A R)) (can : CanHold m layout old.0 wanted.id wanted.way) where
+  -- too few nodes were left: no entry
+  pub ends_without : (other : OtherLeaf) (now : Me F (CellView S A R)) → HasMet old.0.trie wanted.key point.level other → FindsTooFew layout old now → SettlesHold m layout wanted.id wanted.key wanted.way Held.NoNode old now
+  ends_without other now met few = record {
+    adds = record {
+      adds = record { rest = []; goes_on = ap (λ (y : Me F (CellView S A R)). y.0.seats.history) few.is ∙ all_there old.0.seats.history; own = refl; listed = λ number has. refl };
+      ends = λ init last e. absurd (nothing_ends init last e);
+    };
+    legal = λ differs. absurd (differs refl);
+    answered = ap (λ (y : Me F (CellView S A R)). y.0.trie.answered) few.is ∙ met.unanswered;
+    is = subst (λ (y : Me F (CellView S A R)). y ≡ (having_held old.0 y.0, old.1)) (sym few.is) refl;
+    sweeps = omega (arith, few.swept);
+    swept = λ e some. omega (arith, few.swept, some);
+    met = λ e. record {
+      meeting = record { key = wanted.key; other = other.key; level = point.level };
+      met = ap (λ (y : Me F (CellView S A R)). y.0.trie.meets) few.is ∙ met.meets;
+      key_is = refl;
+      apart = met.apart;
+    };
+    unpublished = λ e. ap (λ (y : Me F (CellView S A R)). y.0.trie.published) few.is;
+  }
+
+  -- the nodes are built, and the place is locked
+  pub has_grown : (other : OtherLeaf) (count first : ℕ) (nodes : List ℕ) (took locked : Me F (CellView S A R)) (before stored : List StoredWord) → IsAtPlace digest layout old.0 wanted.key point →
+      TakesNodes layout count nodes old took → locked ≡ (readied old.0 took.0.pools stored (lock_of point.place), old.1) → HasStoredKey layout stored wanted.id.slot wanted.way wanted.key →
+      ((p : Place) → IsInTrie layout p → cell_stored layout stored p ≡ cell_stored layout before p) →
+      IsBranch (digits_of digest wanted.key) (digits_of digest other.key) (cell_stored layout before) (Cells.Leaf wanted.id.slot wanted.way) (Cells.Leaf other.slot other.way) (point.level + 1) first nodes →
+      HasGrown m digest layout locked.0 wanted point other first
+  has_grown other count first nodes took locked before stored at takes ready key_stored cells branch =
+      let made : HasGrown m digest layout (readied old.0 took.0.pools stored (lock_of point.place)) wanted point other first = record {
+        may = record { built = can.may.built; bare = can.may.bare };
+        exists = can.exists;
+        stored = can.stored;
+        at = place_stays digest layout old.0 _ wanted.key point refl at;
+        locked = ap (λ ls. lock_of point.place ∷ ls) can.locks;
+        key_stored = key_stored;
+        nodes = nodes;
+        branch = branch_same branch (digits_fit digest wanted.key) (digits_fit digest other.key) (omega arith) (λ node digit has low. cells (Places.Node node digit) (takes.within node has, low));
+        owned = takes.owned;
+        apart = takes.apart;
+        all = takes.all;
+      } in
+      subst (λ (y : Me F (CellView S A R)). HasGrown m digest layout y.0 wanted point other first) (sym ready) made
+
+  module _ (pools : PoolSide) (stored : List StoredWord) (locked hung : Me F (CellView S A R)) (ready : locked ≡ (readied old.0 pools stored (lock_of point.place), old.1))
+      (more : old.0.pools.sweeps ≤ pools.sweeps) where
+    -- what came of it under the lock is the answer
+    answers : (held : Held) (now : Me F (CellView S A R)) → HasHung m wanted held locked hung → cell_pass now.0 ≡ cell_pass hung.0 → now ≡ (having_held old.0 now.0, old.1) →
+        now.0.pools.sweeps ≡ pools.sweeps → SettlesHold m layout wanted.id wanted.key wanted.way held old now
+    answers held now has pass is swept =
+        let history : List (Entry S A R) = hung.0.seats.history in
+        let adds = subst (λ (y : Me F (CellView S A R)). AddsOwn (cell_pass y.0) history (hold_entries (cell_pass y.0) wanted.id wanted.key wanted.way held)) ready has.adds in
+        let mine : AddsOwn (cell_pass old.0) history (hold_entries (cell_pass old.0) wanted.id wanted.key wanted.way held) = record {
+          adds = record { rest = adds.adds.rest; goes_on = adds.adds.goes_on; own = adds.adds.own; listed = adds.adds.listed };
+          ends = adds.ends;
+        } in
+        record {
+          adds = subst (λ (p : Pass (Entry S A R)). AddsOwn (cell_pass old.0) p.history (hold_entries (cell_pass old.0) wanted.id wanted.key wanted.way held)) (sym pass) mine;
+          legal = λ some. subst (λ (p : Pass (Entry S A R)). IsPass m p) (sym pass) has.legal;
+          answered = ap (λ (p : Pass (Entry S A R)). p.answered) pass ∙ has.answered;
+          is = is;
+          sweeps = omega arith;
+          swept = λ e some. absurd (has.some e);
+          met = λ e. absurd (has.some e);
+          unpublished = λ e. absurd (has.some e);
+        }
+
+    -- the nodes hang there
+    pub steps_done : (step : Step) (now : Me F (CellView S A R)) → step ≡ Ends Held.Done → HangsSo m digest layout wanted point step locked hung → now ≡ freed hung →
+        StepsSo m digest layout wanted point step old now
+    steps_done step now is hangs frees =
+        let has : HasHung m wanted Held.Done locked hung = subst (λ s. HangsSo m digest layout wanted point s locked hung) is hangs in
+        let history : List (Entry S A R) = hung.0.seats.history in
+        let words : List StoredWord = hung.0.pools.stored in
+        let side : TrieSide = hung.0.trie in
+        let at_last : now ≡ (settled old.0 history pools pools.found [] words [] side, old.1) = frees ∙ (ap freed (has.done refl) ∙ ap (λ (y : Me F (CellView S A R)). freed (
+          record y.0 {
+            seats = record y.0.seats { history = history };
+            pools = record y.0.pools { nodes = []; stored = words };
+            trie = record side { locks = y.0.trie.locks };
+          },
+          y.1,
+        )) ready) in
+        subst (λ s. StepsSo m digest layout wanted point s old now) (sym is)
+        (answers Held.Done now has (ap (λ (y : Me F (CellView S A R)). cell_pass y.0) frees) (settles old now history pools pools.found words side can.nodes can.locks at_last)
+        (ap (λ (y : Me F (CellView S A R)). y.0.pools.sweeps) at_last))
+
+    -- they don't, and are the pass's still
+    pub owns_still : (unlocked : Me F (CellView S A R)) (step : Step) → step ≢ Ends Held.Done → HangsSo m digest layout wanted point step locked hung → unlocked ≡ freed hung →
+        unlocked.0.pools.nodes ≡ pools.nodes
+    owns_still unlocked step differs hangs frees =
+        ap (λ (y : Me F (CellView S A R)). y.0.pools.nodes) frees ∙ (same step differs hangs ∙ ap (λ (y : Me F (CellView S A R)). y.0.pools.nodes) ready) where
+          same : (s : Step) → s ≢ Ends Held.Done → HangsSo m digest layout wanted point s locked hung → hung.0.pools.nodes ≡ locked.0.pools.nodes
+          same (Ends held) differs' has = ap (λ (y : Me F (CellView S A R)). y.0.pools.nodes) (has.taken (λ e. differs' (ap Ends e)))
+          same (Leads node) differs' hangs' = ap (λ (y : Me F (CellView S A R)). y.0.pools.nodes) hangs'.0.is
+          same Again differs' hangs' = ap (λ (y : Me F (CellView S A R)). y.0.pools.nodes) hangs'.0.is
+
+    -- and then they are given back
+    module _ (unlocked now : Me F (CellView S A R)) (found : ℕ) (left : List StoredWord) (frees : unlocked ≡ freed hung) (gives : now ≡ gave_back found left unlocked) where
+      at_end : (history : List (Entry S A R)) (side : TrieSide) → hung ≡ (record locked.0 { seats = record locked.0.seats { history = history }; trie = record side { locks = locked.0.trie.locks } }, locked.1) →
+          now ≡ (settled old.0 history pools found [] left [] side, old.1)
+      at_end history side stays =
+          gives ∙ ap (gave_back found left) (frees ∙ ap freed (stays ∙ ap (λ (y : Me F (CellView S A R)). (record y.0 { seats = record y.0.seats { history = history }; trie = record side { locks = y.0.trie.locks } }, y.1)) ready))
+
+      same_place : (point' : Point) → IsAtPlace digest layout hung.0 wanted.key point' → IsAtPlace digest layout now.0 wanted.key point'
+      same_place point' at = place_stays digest layout hung.0 now.0 wanted.key point' (ap (λ (y : Me F (CellView S A R)). y.0.trie.stands) (gives ∙ ap (gave_back found left) frees)) at
+
+      goes_on : HoldsNodes locked hung → HoldsOn old now
+      goes_on stays =
+          let at_last = at_end locked.0.seats.history hung.0.trie stays.is in
+          let same : locked.0.seats.history ≡ old.0.seats.history = ap (λ (y : Me F (CellView S A R)). y.0.seats.history) ready in
+          let published : locked.0.trie.published ≡ old.0.trie.published = ap (λ (y : Me F (CellView S A R)). y.0.trie.published) ready in
+          let swept : now.0.pools.sweeps ≡ pools.sweeps = ap (λ (y : Me F (CellView S A R)). y.0.pools.sweeps) at_last in
+          record {
+            is = settles old now locked.0.seats.history pools found left hung.0.trie can.nodes can.locks at_last;
+            history = ap (λ (y : Me F (CellView S A R)). y.0.seats.history) at_last ∙ same;
+            sweeps = omega arith;
+            unpublished = ap (λ (y : Me F (CellView S A R)). y.0.trie.published) at_last ∙ (stays.unpublished ∙ published);
+          }
+
+      pub steps_back : (step : Step) → step ≢ Ends Held.Done → HangsSo m digest layout wanted point step locked hung → StepsSo m digest layout wanted point step old now
+      steps_back (Ends held) differs has =
+          let history : List (Entry S A R) = hung.0.seats.history in
+          let at_last = at_end history hung.0.trie (has.taken (λ e. differs (ap Ends e))) in
+          answers held now has (ap (λ (y : Me F (CellView S A R)). cell_pass y.0) (gives ∙ ap (gave_back found left) frees))
+          (settles old now history pools found left hung.0.trie can.nodes can.locks at_last) (ap (λ (y : Me F (CellView S A R)). y.0.pools.sweeps) at_last)
+      steps_back (Leads node) differs hangs = (goes_on hangs.0, same_place _ hangs.1)
+      steps_back Again differs hangs = (goes_on hangs.0, same_place _ hangs.1)

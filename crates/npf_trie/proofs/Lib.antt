@@ -1,0 +1,10 @@
+mod FillLemmas
+mod ForkLemmas
+mod GrowLemmas
+mod HangLemmas
+mod HoldLemmas
+mod LookUpLemmas
+mod MeetLemmas
+mod NodeLemmas
+mod StepLemmas
+mod StoreLemmas

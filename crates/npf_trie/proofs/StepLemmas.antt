@@ -1,0 +1,231 @@
+-- What the loads and the store of a hold come to.
+use Rattle.std.proofs.Common.{◌≡◌, ◌≢◌, ℕ, ◌+◌, ◌≤◌, ◌<◌, Bool, true, false, Some, List, [], ◌∷◌, length, refl, sym, ap, ◌∙◌, subst, inl, inr, arith}
+use Rattle.std.specs.List.{Contains}
+use Rattle.atomic_table.specs.Table.{Me}
+use Rattle.npf_types.specs.declared.key.Key.{Key}
+use Rattle.npf_types.specs.declared.key.Way.{Way}
+use Rattle.npf_core.specs.declared.found.Found.{Found}
+use Rattle.npf_core.specs.declared.held.Held.{Held}
+use Rattle.npf_core.specs.Machine.{is_key}
+use Rattle.npf_core.specs.Meaning.{Meaning}
+use Rattle.npf_core.proofs.EqualityLemmas.{is_key-Decides}
+use Rattle.npf_paths.specs.declared.cell.Cell.{Cell}
+use Rattle.npf_paths.specs.declared.cell.Cell.TheVariants.{Empty, Leaf, Node, Mark}
+use Rattle.npf_paths.specs.declared.place.Lock.{Lock}
+use Rattle.npf_paths.specs.declared.place.Place.{Place}
+use Rattle.npf_paths.specs.declared.place.Place.TheVariants as Places
+use Rattle.npf_paths.specs.Places.{lock_of}
+use Rattle.npf_cells.specs.declared.layout.Layout.{Layout}
+use Rattle.npf_cells.specs.declared.views.CellView.{CellView}
+use Rattle.npf_cells.specs.declared.views.LoadedLeaf.{LoadedLeaf}
+use Rattle.npf_cells.specs.declared.views.PathPlace.{PathPlace}
+use Rattle.npf_cells.specs.HoldKinds.{HoldsAt, meeting, renewed}
+use Rattle.npf_cells.specs.LookKinds.{IsLeafOf, level_of, level_at, with_trie, sighting}
+use Rattle.npf_cells.specs.Locks.{IsLockOf}
+use Rattle.npf_cells.specs.Passes.{IsProtected}
+use Rattle.npf_cells.specs.PublishKinds.{SeesLocked, HasHeld, nodes_but}
+use Rattle.npf_cells.specs.Trie.{IsInTrie, digits_of}
+use Rattle.npf_trie.specs.declared.step.Met.{Met}
+use Rattle.npf_trie.specs.declared.step.Met.TheVariants.{Holder, Other}
+use Rattle.npf_trie.specs.declared.step.Point.{Point}
+use Rattle.npf_trie.specs.declared.step.Step.{Step}
+use Rattle.npf_trie.specs.declared.step.Step.TheVariants.{Ends, Leads, Again}
+use Rattle.npf_trie.specs.declared.step.Wanted.{Wanted}
+use Rattle.npf_trie.specs.HoldKey.{CanHold, IsAtPlace, StepsSo, TellsMet, HasMet}
+use Rattle.npf_trie.specs.LookUp.{ComparesWords}
+use Rattle.npf_trie.proofs.HoldLemmas.{ComesTo, comes_then, steps_so, steps_after, holds_on, can_after, protected_after, StaysOn, stays_trie, at_after, next_point}
+
+-- the lock of a place of the trie is one that the table has
+pub lock_there : (layout : Layout) (p : Place) → IsInTrie layout p → IsLockOf layout (lock_of p)
+lock_there layout (Places.Root digit) h = h
+lock_there layout (Places.Node node digit) h = h.0
+
+-- digits below the root's are below 16
+deep_digit : (digest : Key → ℕ) (key : Key) (level : ℕ) → 1 ≤ level → digits_of digest key level < 16
+deep_digit digest key level h = grind arith
+
+-- keys that aren't the same fail the test
+keys_apart : (a b : Key) → a ≢ b → is_key a b ≡ false
+keys_apart a b apart = by_test (is_key a b) refl
+  where
+    by_test : (t : Bool) → is_key a b ≡ t → t ≡ false
+    by_test true e = absurd (apart ((is_key-Decides a b).0 e))
+    by_test false e = refl
+
+module _ {S A R F : Type 0} where
+  -- after a load that found a leaf, or none, whatever was seen
+  pub compares_kept : (a b : Me F (CellView S A R)) (most : ℕ) → ComparesWords most a b → StaysOn a b
+  compares_kept a b most compares = stays_trie a b _ compares.is refl
+
+  module _ (m : Meaning S A R) (digest : Key → ℕ) (layout : Layout) (wanted : Wanted) (point : Point) where
+    -- a load of the place, for the key that is wanted
+    abbrev pub Loads : Cell → Me F (CellView S A R) → Me F (CellView S A R) → Type 0
+    Loads cell a b = HoldsAt m digest layout wanted.id wanted.key wanted.way point.place cell a b
+
+    -- a step's outcome, with the same locks
+    pub record Comes (step : Step) (a b : Me F (CellView S A R)) : Type 0 where
+      pub comes : ComesTo m digest layout wanted point step a b
+      pub locks : b.0.trie.locks ≡ a.0.trie.locks
+
+    -- a node leads on
+    pub node_leads : (node : ℕ) (a b : Me F (CellView S A R)) → Loads (Node node) a b → IsAtPlace digest layout a.0 wanted.key point → Comes (Leads node) a b
+    node_leads node a b loads at =
+        let led = loads.leads node refl in
+        let low : point.level + 1 < 95 = let l = led.0 in let e = at.level_is in omega arith in
+        let stands : b.0.trie.stands ≡ Some (record { key = wanted.key; level = point.level + 1; place = (next_point digest wanted point node).place }) =
+        ap (λ (y : Me F (CellView S A R)). y.0.trie.stands) led.1 ∙ ap (λ (l : ℕ). Some (let there : PathPlace = record { key = wanted.key; level = l + 1; place = Places.Node node (digits_of digest wanted.key (l + 1)) } in there)) at.level_is in
+        record {
+          comes = (
+            stays_trie a b _ led.1 refl,
+            record {
+              place = (loads.fits, deep_digit digest wanted.key (point.level + 1) (omega arith));
+              stands = (point.level + 1, stands);
+              level_is = ap level_of stands;
+              within = low;
+            },
+          );
+          locks = ap (λ (y : Me F (CellView S A R)). y.0.trie.locks) led.1;
+        }
+
+    -- where nothing stands, or a mark, the pass is where it was
+    seen_again : (cell : Cell) (a b : Me F (CellView S A R)) → b ≡ with_trie a (sighting wanted.key (level_at a.0.trie point.place) point.place cell (renewed a.0.trie)) → IsAtPlace digest layout a.0 wanted.key point → Comes Again a b
+    seen_again cell a b e at = record {
+      comes = (stays_trie a b _ e refl, at_after digest layout a b wanted.key point (ap (λ (y : Me F (CellView S A R)). y.0.trie.stands) e) at);
+      locks = ap (λ (y : Me F (CellView S A R)). y.0.trie.locks) e;
+    }
+
+    pub empty_stays : (a b : Me F (CellView S A R)) → Loads Empty a b → IsAtPlace digest layout a.0 wanted.key point → Comes Again a b
+    empty_stays a b loads at = seen_again Empty a b (loads.nothing (inl refl)) at
+
+    pub mark_stays : (a b : Me F (CellView S A R)) → Loads Mark a b → IsAtPlace digest layout a.0 wanted.key point → Comes Again a b
+    mark_stays a b loads at = seen_again Mark a b (loads.nothing (inr refl)) at
+
+    -- and under the lock it saw that nothing stands there
+    pub sees_empty : (a b : Me F (CellView S A R)) (rest : List Lock) → Loads Empty a b → a.0.trie.locks ≡ lock_of point.place ∷ rest → SeesLocked b.0.trie point.place Empty
+    sees_empty a b rest loads locked = record {
+      locked = subst (λ locks. Contains locks (lock_of point.place)) (sym (ap (λ (y : Me F (CellView S A R)). y.0.trie.locks) (loads.nothing (inl refl)) ∙ locked)) (0, omega arith, refl);
+      saw = record { key = wanted.key; level = level_at a.0.trie point.place; place = point.place; cell = Empty };
+      seen = ap (λ (y : Me F (CellView S A R)). y.0.trie.seen) (loads.nothing (inl refl));
+      there = refl;
+      was = refl;
+    }
+
+    module _ (slot : ℕ) (leaf_way : Way) (a b : Me F (CellView S A R)) (loads : Loads (Leaf slot leaf_way) a b) where
+      abbrev pub met_leaf : LoadedLeaf
+      met_leaf = (loads.meets slot leaf_way refl).leaf
+
+      leaf_known : b.0.trie.leaf ≡ Some met_leaf
+      leaf_known = by_test (is_key met_leaf.key wanted.key) refl
+        where
+          by_test : (t : Bool) → is_key met_leaf.key wanted.key ≡ t → b.0.trie.leaf ≡ Some met_leaf
+          by_test true e = ap (λ (y : Me F (CellView S A R)). y.0.trie.leaf) ((loads.meets slot leaf_way refl).same e).is
+          by_test false e = ap (λ (y : Me F (CellView S A R)). y.0.trie.leaf) ((loads.meets slot leaf_way refl).other e)
+
+      -- the pass can load the words of the leaf's key
+      pub leaf_loaded : IsLeafOf b.0.trie slot leaf_way
+      leaf_loaded = (met_leaf, leaf_known, (loads.meets slot leaf_way refl).is_leaf.slot_is, (loads.meets slot leaf_way refl).is_leaf.way_is)
+
+      -- what it is told of it
+      abbrev pub Told : Met → Type 0
+      Told met = (leaf : LoadedLeaf) → b.0.trie.leaf ≡ Some leaf → length leaf.key.0 ≡ 5 → TellsMet leaf wanted.key met
+
+      told_of : (met : Met) → Told met → TellsMet met_leaf wanted.key met
+      told_of met told = told met_leaf leaf_known (loads.meets slot leaf_way refl).is_leaf.five
+
+      -- the key's holder ends the hold
+      holder_ends : (found : Found) → Told (Holder found) → Comes (Ends (Held.Taken found)) a b
+      holder_ends found told =
+          let tells = told_of (Holder found) told in
+          let has = (loads.meets slot leaf_way refl).same ((is_key-Decides met_leaf.key wanted.key).1 tells.0) in
+          subst (λ f. Comes (Ends (Held.Taken f)) a b) (sym tells.1) (record {
+            comes = record {
+              some = λ e. cc;
+              adds = has.adds;
+              legal = has.legal;
+              answered = ap (λ (y : Me F (CellView S A R)). y.0.trie.answered) has.is;
+              keeps = record {
+                seats = ap (λ (y : Me F (CellView S A R)). y.0.seats) has.is;
+                epochs = ap (λ (y : Me F (CellView S A R)). y.0.epochs) has.is;
+                nodes = ap (λ (y : Me F (CellView S A R)). y.0.pools.nodes) has.is;
+                builds = ap (λ (y : Me F (CellView S A R)). y.0.pools.builds) has.is;
+                unstored = ap (λ (y : Me F (CellView S A R)). y.0.pools.unstored) has.is;
+                rest = ap (λ (y : Me F (CellView S A R)). y.1) has.is;
+                sweeps = let e : b.0.pools.sweeps ≡ a.0.pools.sweeps = ap (λ (y : Me F (CellView S A R)). y.0.pools.sweeps) has.is in omega arith;
+              };
+            };
+            locks = ap (λ (y : Me F (CellView S A R)). y.0.trie.locks) has.is;
+          })
+
+      met_now : (other : Key) → Told (Other other) → b ≡ with_trie a (meeting wanted.key point.place (Leaf slot leaf_way) (level_at a.0.trie point.place) met_leaf a.0.trie)
+      met_now other told = (loads.meets slot leaf_way refl).other (keys_apart met_leaf.key wanted.key (told_of (Other other) told).0)
+
+      -- at the leaf of another key the pass is where it was
+      other_stays : (other : Key) → Told (Other other) → IsAtPlace digest layout a.0 wanted.key point → Comes Again a b
+      other_stays other told at = let e = met_now other told in record {
+        comes = (stays_trie a b _ e refl, at_after digest layout a b wanted.key point (ap (λ (y : Me F (CellView S A R)). y.0.trie.stands) e) at);
+        locks = ap (λ (y : Me F (CellView S A R)). y.0.trie.locks) e;
+      }
+
+      -- and then words of the leaf's key were loaded
+      module _ (c : Me F (CellView S A R)) (compares : ComparesWords 5 b c) where
+        read_then : (step : Step) → Comes step a b → Comes step a c
+        read_then step came = record {
+          comes = comes_then m digest layout wanted point step a b c _ came.comes compares.is refl refl refl;
+          locks = ap (λ (y : Me F (CellView S A R)). y.0.trie.locks) compares.is ∙ came.locks;
+        }
+
+        pub holder_read_ends : (found : Found) → Told (Holder found) → Comes (Ends (Held.Taken found)) a c
+        holder_read_ends found told = read_then (Ends (Held.Taken found)) (holder_ends found told)
+
+        pub other_read_stays : (other : Key) → Told (Other other) → IsAtPlace digest layout a.0 wanted.key point → Comes Again a c
+        other_read_stays other told at = read_then Again (other_stays other told at)
+
+        -- the pass has met the leaf
+        pub other_met : (other : Key) → Told (Other other) → IsAtPlace digest layout a.0 wanted.key point → HasMet c.0.trie wanted.key point.level (record { slot = slot; way = leaf_way; key = other })
+        other_met other told at =
+            let tells = told_of (Other other) told in
+            let met : b.0.trie.meets ≡ _ = ap (λ (y : Me F (CellView S A R)). y.0.trie.meets) (met_now other told) in
+            record {
+              leaf = met_leaf;
+              known = ap (λ (y : Me F (CellView S A R)). y.0.trie.leaf) compares.is ∙ leaf_known;
+              slot_is = (loads.meets slot leaf_way refl).is_leaf.slot_is;
+              way_is = (loads.meets slot leaf_way refl).is_leaf.way_is;
+              key_is = sym tells.1;
+              apart = λ e. tells.0 (sym tells.1 ∙ e);
+              meets = ap (λ (y : Me F (CellView S A R)). y.0.trie.meets) compares.is ∙ (met ∙ λ i. Some (record { key = wanted.key; other = sym tells.1 i; level = at.level_is i }));
+              unanswered = ap (λ (y : Me F (CellView S A R)). y.0.trie.answered) compares.is ∙ ap (λ (y : Me F (CellView S A R)). y.0.trie.answered) (met_now other told);
+            }
+
+    -- the store of the leaf is the hold
+    pub published_ends : (cell : Cell) (a b : Me F (CellView S A R)) → HasHeld m digest layout wanted.id wanted.key wanted.way point.place cell a b → a.0.pools.nodes ≡ [] → Comes (Ends Held.Done) a b
+    published_ends cell a b held none = record {
+      comes = record {
+        some = λ e. cc;
+        adds = held.adds;
+        legal = held.legal;
+        answered = ap (λ (y : Me F (CellView S A R)). y.0.trie.answered) held.is;
+        keeps = record {
+          seats = ap (λ (y : Me F (CellView S A R)). y.0.seats) held.is;
+          epochs = ap (λ (y : Me F (CellView S A R)). y.0.epochs) held.is;
+          nodes = ap (λ (y : Me F (CellView S A R)). y.0.pools.nodes) held.is ∙ (ap (nodes_but held.nodes) none ∙ sym none);
+          builds = ap (λ (y : Me F (CellView S A R)). y.0.pools.builds) held.is;
+          unstored = ap (λ (y : Me F (CellView S A R)). y.0.pools.unstored) held.is;
+          rest = ap (λ (y : Me F (CellView S A R)). y.1) held.is;
+          sweeps = let e : b.0.pools.sweeps ≡ a.0.pools.sweeps = ap (λ (y : Me F (CellView S A R)). y.0.pools.sweeps) held.is in omega arith;
+        };
+      };
+      locks = ap (λ (y : Me F (CellView S A R)). y.0.trie.locks) held.is;
+    }
+
+    -- the outcome is the step's, alone or behind it
+    pub stepped : (step : Step) (a b : Me F (CellView S A R)) → Comes step a b → StepsSo m digest layout wanted point step a b
+    stepped step a b came = steps_so m digest layout wanted point step a b came.comes came.locks
+
+    pub stepped_after : (step : Step) (a b c : Me F (CellView S A R)) → Comes Again a b → StepsSo m digest layout wanted point step b c → StepsSo m digest layout wanted point step a c
+    stepped_after step a b c came so = steps_after m digest layout wanted point step a b c (holds_on a b came.comes.0 came.locks) so
+
+    pub can_still : (a b : Me F (CellView S A R)) → Comes Again a b → CanHold m layout a.0 wanted.id wanted.way → CanHold m layout b.0 wanted.id wanted.way
+    can_still a b came can = can_after m layout a b wanted.id wanted.way came.comes.0 came.locks can
+
+    pub protected_still : (a b : Me F (CellView S A R)) → Comes Again a b → IsProtected a.0.epochs.pin → IsProtected b.0.epochs.pin
+    protected_still a b came is = protected_after a b came.comes.0.keeps is

@@ -1,0 +1,13 @@
+use Rattle.std.proofs.Common.{ap, ◌∙◌, arith}
+use Rattle.npf_paths.specs.CellWords.{cell_word}
+use Rattle.npf_trie.specs.Stores.{forked_cell}
+use Rattle.npf_trie.proofs.StoreLemmas.{one_place_more}
+use Rattle.npf_trie.proofs.branch.fill_node.Goals as goal
+
+pub loop-digit-preserved : goal.loop-digit-preserved
+loop-digit-preserved g c =
+    let so = c.loop-digit.invariant in
+    record {
+      own = c.store_private.ensures.own;
+      filled = one_place_more c.args.cells.now.table.shared.key c.args.node (forked_cell c.args.mine c.args.leaf c.args.theirs c.args.other) _ _ _ c.loop-digit.digit _ c.cell_law.ensures.said (omega arith) (c.word.ensures ∙ ap cell_word c.forked_cell-cell.ensures) so.filled c.store_private.ensures.next;
+    }

@@ -1,0 +1,149 @@
+-- What a hold changes in a pass's own view, and what it tells.
+use Rattle.std.specs.Prelude.{◌≡◌, ◌≢◌, ℕ, ◌+◌, ◌≤◌, ◌<◌, Some, List, [], ◌∷◌, Contains}
+use Rattle.atomic_table.specs.Table.{Me}
+use Rattle.npf_types.specs.declared.key.Key.{Key}
+use Rattle.npf_types.specs.declared.key.Way.{Way}
+use Rattle.npf_core.specs.declared.conn_id.ConnId.{ConnId}
+use Rattle.npf_core.specs.declared.held.Held.{Held}
+use Rattle.npf_core.specs.Meaning.{Meaning}
+use Rattle.npf_connections.specs.Adding.{AddsOwn}
+use Rattle.npf_connections.specs.Answered.{taken_ids}
+use Rattle.npf_connections.specs.Entries.{hold_entries}
+use Rattle.npf_connections.specs.Pass.{IsPass}
+use Rattle.npf_paths.specs.declared.cell.Cell.TheVariants.{Leaf}
+use Rattle.npf_paths.specs.declared.place.Place.TheVariants as Places
+use Rattle.npf_paths.specs.Growing.{IsBranch}
+use Rattle.npf_paths.specs.LevelLaw.{AreApart}
+use Rattle.npf_paths.specs.Places.{lock_of}
+use Rattle.npf_cells.specs.declared.layout.Layout.{Layout}
+use Rattle.npf_cells.specs.declared.views.CellView.{CellView}
+use Rattle.npf_cells.specs.declared.views.LoadedLeaf.{LoadedLeaf}
+use Rattle.npf_cells.specs.declared.views.Meeting.{Meeting}
+use Rattle.npf_cells.specs.declared.views.TrieSide.{TrieSide}
+use Rattle.npf_cells.specs.HoldKinds.{MayHoldSo, leaf_holder}
+use Rattle.npf_cells.specs.LookKinds.{StandsOnPath, level_at, with_trie}
+use Rattle.npf_cells.specs.Passes.{cell_pass}
+use Rattle.npf_cells.specs.PublishKinds.{HasStoredKey, cell_stored, nodes_but}
+use Rattle.npf_cells.specs.Trie.{IsInTrie, digits_of}
+use Rattle.npf_trie.specs.declared.step.Met.{Met}
+use Rattle.npf_trie.specs.declared.step.Met.TheVariants.{Holder, Other}
+use Rattle.npf_trie.specs.declared.step.OtherLeaf.{OtherLeaf}
+use Rattle.npf_trie.specs.declared.step.Point.{Point}
+use Rattle.npf_trie.specs.declared.step.Step.{Step}
+use Rattle.npf_trie.specs.declared.step.Step.TheVariants.{Ends, Leads, Again}
+use Rattle.npf_trie.specs.declared.step.Wanted.{Wanted}
+
+-- a pass that is to hold a key for a connection: it is building it, has stored its incarnation and seen it take no key of that way, and has
+-- neither a node nor a lock
+pub record CanHold {S A R : Type 0} (m : Meaning S A R) (layout : Layout) (v : CellView S A R) (id : ConnId) (way : Way) : Type 0 where
+  pub may : MayHoldSo m v id way
+  pub exists : id.slot < layout.slots
+  pub stored : ¬ Contains v.pools.unstored id.slot
+  pub nodes : v.pools.nodes ≡ []
+  pub locks : v.trie.locks ≡ []
+
+-- what a hold changes: what the pass loaded and stored, and the history that it has seen
+abbrev pub having_held : {S A R : Type 0} → CellView S A R → CellView S A R → CellView S A R
+having_held old now = record old {
+  seats = record old.seats { history = now.seats.history };
+  pools = record old.pools { found = now.pools.found; row = now.pools.row; sweeps = now.pools.sweeps; stored = now.pools.stored };
+  trie = record now.trie { locks = old.trie.locks };
+}
+
+-- the same without an entry: nothing is held yet, nothing was published, and it has no fewer sweeps
+pub record HoldsOn {S A R F : Type 0} (old now : Me F (CellView S A R)) : Type 0 where
+  pub is : now ≡ (having_held old.0 now.0, old.1)
+  pub history : now.0.seats.history ≡ old.0.seats.history
+  pub sweeps : old.0.pools.sweeps ≤ now.0.pools.sweeps
+  pub unpublished : now.0.trie.published ≡ old.0.trie.published
+
+-- the place that a pass loaded last for a key had the leaf of another
+pub record MeetsAnother (side : TrieSide) (key : Key) : Type 0 where
+  pub meeting : Meeting
+  pub met : side.meets ≡ Some meeting
+  pub key_is : meeting.key ≡ key
+  pub apart : meeting.other ≢ key
+
+-- the hold of the key, with what it is answered, is the pass's one new entry and ends its history; without a node there is none, another
+-- key stood in the way, the sweeps rose where the table has nodes at all, and nothing was published
+pub record SettlesHold {S A R F : Type 0} (m : Meaning S A R) (layout : Layout) (id : ConnId) (key : Key) (way : Way) (held : Held) (old now : Me F (CellView S A R)) : Type 0 where
+  pub adds : AddsOwn (cell_pass old.0) now.0.seats.history (hold_entries (cell_pass old.0) id key way held)
+  pub legal : held ≢ Held.NoNode → IsPass m (cell_pass now.0)
+  pub answered : now.0.trie.answered ≡ taken_ids held
+  pub is : now ≡ (having_held old.0 now.0, old.1)
+  pub sweeps : old.0.pools.sweeps ≤ now.0.pools.sweeps
+  pub swept : held ≡ Held.NoNode → 1 ≤ layout.nodes → old.0.pools.sweeps + 1 ≤ now.0.pools.sweeps
+  pub met : held ≡ Held.NoNode → MeetsAnother now.0.trie key
+  pub unpublished : held ≡ Held.NoNode → now.0.trie.published ≡ old.0.trie.published
+
+-- the place where a pass is on the path of a key that is to be held
+pub record IsAtPlace {S A R : Type 0} (digest : Key → ℕ) (layout : Layout) (v : CellView S A R) (key : Key) (point : Point) : Type 0 where
+  pub place : IsInTrie layout point.place
+  pub stands : StandsOnPath digest v.trie key point.place
+  pub level_is : level_at v.trie point.place ≡ point.level
+  pub within : point.level < 95
+
+-- one step of a hold at that place: it ends with this answer, or a node leads on, or the pass is still there and looks again
+abbrev pub StepsSo : {S A R F : Type 0} → Meaning S A R → (Key → ℕ) → Layout → Wanted → Point → Step → Me F (CellView S A R) → Me F (CellView S A R) → Type 0
+StepsSo m digest layout wanted point (Ends held) old now = SettlesHold m layout wanted.id wanted.key wanted.way held old now
+StepsSo m digest layout wanted point (Leads node) old now = HoldsOn old now ×
+    IsAtPlace digest layout now.0 wanted.key (record { place = Places.Node node (digits_of digest wanted.key (point.level + 1)); level = point.level + 1 })
+StepsSo m digest layout wanted point Again old now = HoldsOn old now × IsAtPlace digest layout now.0 wanted.key point
+
+-- whose key a leaf has: this key, held by its connection, or another
+abbrev pub TellsMet : LoadedLeaf → Key → Met → Type 0
+TellsMet leaf key (Holder found) = (leaf.key ≡ key) × (found ≡ leaf_holder leaf)
+TellsMet leaf key (Other other) = (leaf.key ≢ key) × (other ≡ leaf.key)
+
+-- the pass has just met this leaf of another key, where it is to hold the key: its new stay has no answer yet
+pub record HasMet (side : TrieSide) (key : Key) (level : ℕ) (other : OtherLeaf) : Type 0 where
+  pub leaf : LoadedLeaf
+  pub known : side.leaf ≡ Some leaf
+  pub slot_is : leaf.slot ≡ other.slot
+  pub way_is : leaf.way ≡ other.way
+  pub key_is : leaf.key ≡ other.key
+  pub apart : other.key ≢ key
+  pub meets : side.meets ≡ Some (record { key = key; other = other.key; level = level })
+  pub unanswered : side.answered ≡ []
+
+-- new nodes that the pass owns, built for both leaves, and nothing else: the first of them may be hung in the place, whose lock it has
+pub record HasGrown {S A R : Type 0} (m : Meaning S A R) (digest : Key → ℕ) (layout : Layout) (v : CellView S A R) (wanted : Wanted) (point : Point) (other : OtherLeaf) (first : ℕ) : Type 0 where
+  pub may : MayHoldSo m v wanted.id wanted.way
+  pub exists : wanted.id.slot < layout.slots
+  pub stored : ¬ Contains v.pools.unstored wanted.id.slot
+  pub at : IsAtPlace digest layout v wanted.key point
+  pub locked : v.trie.locks ≡ lock_of point.place ∷ []
+  pub key_stored : HasStoredKey layout v.pools.stored wanted.id.slot wanted.way wanted.key
+  pub nodes : List ℕ
+  pub branch : IsBranch (digits_of digest wanted.key) (digits_of digest other.key) (cell_stored layout v.pools.stored) (Leaf wanted.id.slot wanted.way) (Leaf other.slot other.way) (point.level + 1) first nodes
+  pub owned : (node : ℕ) → Contains nodes node → Contains v.pools.nodes node
+  pub apart : AreApart nodes
+  pub all : nodes_but nodes v.pools.nodes ≡ []
+
+-- the pass loaded a place, under its lock, and has its nodes still
+pub record HoldsNodes {S A R F : Type 0} (old now : Me F (CellView S A R)) : Type 0 where
+  pub is : now ≡ with_trie old (record now.0.trie { locks = old.0.trie.locks })
+  pub unpublished : now.0.trie.published ≡ old.0.trie.published
+
+-- the hold ended: Done by the nodes, or Taken with the nodes still the pass's
+pub record HasHung {S A R F : Type 0} (m : Meaning S A R) (wanted : Wanted) (held : Held) (old now : Me F (CellView S A R)) : Type 0 where
+  pub some : held ≢ Held.NoNode
+  pub adds : AddsOwn (cell_pass old.0) now.0.seats.history (hold_entries (cell_pass old.0) wanted.id wanted.key wanted.way held)
+  pub legal : IsPass m (cell_pass now.0)
+  pub answered : now.0.trie.answered ≡ taken_ids held
+  pub done : held ≡ Held.Done → now ≡ (
+    record old.0 {
+      seats = record old.0.seats { history = now.0.seats.history };
+      pools = record old.0.pools { nodes = []; stored = now.0.pools.stored };
+      trie = record now.0.trie { locks = old.0.trie.locks };
+    },
+    old.1,
+  )
+  pub taken : held ≢ Held.Done → now ≡ (record old.0 { seats = record old.0.seats { history = now.0.seats.history }; trie = record now.0.trie { locks = old.0.trie.locks } }, old.1)
+
+-- what comes of it: the key is held, by the new nodes, which aren't the pass's any more, or is Taken; or nothing was changed
+abbrev pub HangsSo : {S A R F : Type 0} → Meaning S A R → (Key → ℕ) → Layout → Wanted → Point → Step → Me F (CellView S A R) → Me F (CellView S A R) → Type 0
+HangsSo m digest layout wanted point (Ends held) old now = HasHung m wanted held old now
+HangsSo m digest layout wanted point (Leads node) old now = HoldsNodes old now ×
+    IsAtPlace digest layout now.0 wanted.key (record { place = Places.Node node (digits_of digest wanted.key (point.level + 1)); level = point.level + 1 })
+HangsSo m digest layout wanted point Again old now = HoldsNodes old now × IsAtPlace digest layout now.0 wanted.key point

@@ -1,0 +1,4 @@
+pub mod HoldKey
+pub mod LookUp
+pub mod Nodes
+pub mod Stores

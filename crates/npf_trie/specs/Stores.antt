@@ -1,0 +1,46 @@
+-- What a pass stores in its own places before it puts something in the trie, and what it stored before of other words.
+use Rattle.std.specs.Prelude.{◌≡◌, ◌≢◌, ℕ, ◌<◌, ◌==◌, List, Contains, if◌then◌else◌}
+use Rattle.npf_types.specs.declared.key.Key.{Key}
+use Rattle.npf_types.specs.declared.key.Way.{Way}
+use Rattle.npf_core.specs.declared.conn_id.ConnId.{ConnId}
+use Rattle.npf_core.specs.Meaning.{Meaning}
+use Rattle.npf_paths.specs.declared.cell.Cell.{Cell}
+use Rattle.npf_paths.specs.declared.cell.Cell.TheVariants.{Empty}
+use Rattle.npf_paths.specs.LevelLaw.{AreApart}
+use Rattle.npf_cells.specs.declared.layout.Layout.{Layout}
+use Rattle.npf_cells.specs.declared.layout.Pool.TheVariants.{Nodes}
+use Rattle.npf_cells.specs.declared.views.CellView.{CellView}
+use Rattle.npf_cells.specs.declared.views.PoolSide.{PoolSide}
+use Rattle.npf_cells.specs.declared.views.StoredWord.{StoredWord}
+use Rattle.npf_cells.specs.HoldKinds.{MayHoldSo}
+use Rattle.npf_cells.specs.Layout.{field_at}
+use Rattle.npf_cells.specs.PublishKinds.{HasStoredKey}
+use Rattle.npf_cells.specs.Stored.{stored_value}
+
+-- the pass may store a key of that way in the slot: it is building the slot's connection, and has seen it take none
+pub record MayStoreKey {S A R : Type 0} (m : Meaning S A R) (v : CellView S A R) (slot : ℕ) (way : Way) : Type 0 where
+  pub id : ConnId
+  pub there : id.slot ≡ slot
+  pub hold : MayHoldSo m v id way
+
+-- the nodes are nodes of the table that the pass owns, none of them there twice
+pub record HasNewNodes (layout : Layout) (side : PoolSide) (nodes : List ℕ) : Type 0 where
+  pub exist : (node : ℕ) → Contains nodes node → node < layout.nodes
+  pub owned : (node : ℕ) → Contains nodes node → Contains side.nodes node
+  pub apart : AreApart nodes
+
+-- the word is that of no place of these nodes
+abbrev pub LiesOutside : Layout → List ℕ → ℕ → Type 0
+LiesOutside layout nodes word = (node digit : ℕ) → Contains nodes node → digit < 16 → field_at layout Nodes node digit ≢ word
+
+-- what was stored of any word but those of these nodes' places is what it was
+abbrev pub KeepsOutside : Layout → List ℕ → List StoredWord → List StoredWord → Type 0
+KeepsOutside layout nodes old now = (word : ℕ) → LiesOutside layout nodes word → stored_value layout now word ≡ stored_value layout old word
+
+-- keys whose words were stored are stored still
+abbrev pub KeepsStoredKeys : Layout → List StoredWord → List StoredWord → Type 0
+KeepsStoredKeys layout old now = (slot : ℕ) (way : Way) (key : Key) → HasStoredKey layout old slot way key → HasStoredKey layout now slot way key
+
+-- the cell of a digit's place in a node that leads on at two digits, or at one that is both
+abbrev pub forked_cell : ℕ → Cell → ℕ → Cell → ℕ → Cell
+forked_cell mine leaf theirs other digit = if digit == mine then leaf else if digit == theirs then other else Empty

@@ -1,0 +1,129 @@
+ghost use Rattle.std.specs.Prelude.{◌≡◌, ◌+◌, ◌≤◌, ◌<◌, ℕ, [], ◌∷◌, length, slice_index, Contains};
+ghost use Rattle.npf_digits.specs.Digits.{PartsAt};
+ghost use Rattle.npf_paths.specs.declared.place.Place.TheVariants.{Node};
+ghost use Rattle.npf_paths.specs.Growing.{IsBranch};
+ghost use Rattle.npf_cells.specs.Passes.{IsPassOf};
+ghost use Rattle.npf_cells.specs.PoolKinds.{with_pools};
+ghost use Rattle.npf_cells.specs.PublishKinds.{cell_stored};
+ghost use Rattle.npf_cells.specs.Trie.{digits_of};
+ghost use Rattle.npf_trie.specs.Stores.{HasNewNodes, KeepsStoredKeys, KeepsOutside, forked_cell};
+
+use npf_cells::{CellPass, Cells, Pool};
+use npf_core::Law;
+use npf_digits::{KeyHash, NODE_DIGITS, digit};
+use npf_paths::Cell;
+use npf_paths::laws::cell_law;
+use npf_types::Key;
+
+// A leaf at the foot of a branch, and the key that leads there, with its hash.
+#[derive(Clone, Copy)]
+struct Tip {
+    hash: u64,
+    key: Key,
+    leaf: Cell,
+}
+
+/// Stores the places of nodes that the pass owns, so that they lead two keys on: the first is to hang in a place of this level, and
+/// the last is that of the level at which the keys part, with the leaf of either.
+pub(crate) fn build_branch<L: Law, H: KeyHash>(
+    cells: &Cells<L, H>,
+    pass: &mut CellPass<L>,
+    nodes: &[u32],
+    level: u32,
+    key: &Key,
+    other: &Key,
+    leaf: Cell,
+    other_leaf: Cell,
+)
+    requires own { IsPassOf cells.now.table.shared.key cells.now.table.shared.table_id pass.old.seat.table_id pass.old.readers.items pass.old.seat.me }
+    requires some { 1 ≤ length nodes.now }
+    requires nodes { HasNewNodes cells.now.table.shared.key pass.old.seat.me.0.pools nodes.now }
+    requires parts { PartsAt (H.digest key.now) key.now (H.digest other.now) other.now (level + length nodes.now) }
+    ensures own { IsPassOf cells.now.table.shared.key cells.now.table.shared.table_id pass.new.seat.table_id pass.new.readers.items pass.new.seat.me }
+    ensures next { pass.new.seat.me ≡ with_pools pass.old.seat.me (record pass.old.seat.me.0.pools { stored = pass.new.seat.me.0.pools.stored }) }
+    ensures branch { IsBranch (digits_of H.digest key.now) (digits_of H.digest other.now) (cell_stored cells.now.table.shared.key pass.new.seat.me.0.pools.stored) leaf other_leaf (level + 1) (slice_index nodes.now 0) nodes.now }
+    ensures keys { KeepsStoredKeys cells.now.table.shared.key pass.old.seat.me.0.pools.stored pass.new.seat.me.0.pools.stored }
+{
+    let mine = Tip {
+        hash: H::hash(key),
+        key: *key,
+        leaf,
+    };
+    let theirs = Tip {
+        hash: H::hash(other),
+        key: *other,
+        leaf: other_leaf,
+    };
+    build_below(cells, pass, nodes, level, &mine, &theirs);
+}
+
+// Builds the branch from its foot up, where the keys are hashed.
+fn build_below<L: Law, H: KeyHash>(
+    cells: &Cells<L, H>,
+    pass: &mut CellPass<L>,
+    nodes: &[u32],
+    level: u32,
+    mine: &Tip,
+    theirs: &Tip,
+)
+    requires own { IsPassOf cells.now.table.shared.key cells.now.table.shared.table_id pass.old.seat.table_id pass.old.readers.items pass.old.seat.me }
+    requires some { 1 ≤ length nodes.now }
+    requires nodes { HasNewNodes cells.now.table.shared.key pass.old.seat.me.0.pools nodes.now }
+    requires mine { mine.now.hash ≡ H.digest mine.now.key }
+    requires theirs { theirs.now.hash ≡ H.digest theirs.now.key }
+    requires parts { PartsAt mine.now.hash mine.now.key theirs.now.hash theirs.now.key (level + length nodes.now) }
+    ensures own { IsPassOf cells.now.table.shared.key cells.now.table.shared.table_id pass.new.seat.table_id pass.new.readers.items pass.new.seat.me }
+    ensures next { pass.new.seat.me ≡ with_pools pass.old.seat.me (record pass.old.seat.me.0.pools { stored = pass.new.seat.me.0.pools.stored }) }
+    ensures branch { IsBranch (digits_of H.digest mine.now.key) (digits_of H.digest theirs.now.key) (cell_stored cells.now.table.shared.key pass.new.seat.me.0.pools.stored) mine.now.leaf theirs.now.leaf (level + 1) (slice_index nodes.now 0) nodes.now }
+    ensures outside { KeepsOutside cells.now.table.shared.key nodes.now pass.old.seat.me.0.pools.stored pass.new.seat.me.0.pools.stored }
+{
+    if let Some((node, rest)) = nodes.split_first() {
+        let at = digit(mine.hash, &mine.key, level + 1);
+        if rest.is_empty() {
+            let other_at = digit(theirs.hash, &theirs.key, level + 1);
+            fill_node(cells, pass, *node, at, mine.leaf, other_at, theirs.leaf);
+        } else {
+            build_below(cells, pass, rest, level + 1, mine, theirs);
+            let next = Cell::Node(rest[0]);
+            fill_node(cells, pass, *node, at, next, at, next);
+        }
+    }
+}
+
+// Stores the 16 places of a node that the pass owns: it leads on at two digits, or at one that is both.
+fn fill_node<L: Law, H: KeyHash>(
+    cells: &Cells<L, H>,
+    pass: &mut CellPass<L>,
+    node: u32,
+    mine: u32,
+    leaf: Cell,
+    theirs: u32,
+    other: Cell,
+)
+    requires own { IsPassOf cells.now.table.shared.key cells.now.table.shared.table_id pass.old.seat.table_id pass.old.readers.items pass.old.seat.me }
+    requires exists { node < cells.now.table.shared.key.nodes }
+    requires owned { Contains pass.old.seat.me.0.pools.nodes node }
+    ensures own { IsPassOf cells.now.table.shared.key cells.now.table.shared.table_id pass.new.seat.table_id pass.new.readers.items pass.new.seat.me }
+    ensures next { pass.new.seat.me ≡ with_pools pass.old.seat.me (record pass.old.seat.me.0.pools { stored = pass.new.seat.me.0.pools.stored }) }
+    ensures cells { (digit : ℕ) → digit < 16 → cell_stored cells.now.table.shared.key pass.new.seat.me.0.pools.stored (Node node digit) ≡ forked_cell mine leaf theirs other digit }
+    ensures outside { KeepsOutside cells.now.table.shared.key (node ∷ []) pass.old.seat.me.0.pools.stored pass.new.seat.me.0.pools.stored }
+{
+    cell_law();
+    for digit in 0..NODE_DIGITS {
+        let cell = forked_cell(mine, leaf, theirs, other, digit);
+        cells.store_private(pass, Pool::Nodes, node, digit, cell.word());
+    }
+}
+
+// The cell of a digit's place in such a node.
+fn forked_cell(mine: u32, leaf: Cell, theirs: u32, other: Cell, digit: u32) -> Cell
+    ensures { result ≡ forked_cell mine leaf theirs other digit }
+{
+    if digit == mine {
+        leaf
+    } else if digit == theirs {
+        other
+    } else {
+        Cell::Empty
+    }
+}

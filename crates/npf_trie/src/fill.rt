@@ -1,0 +1,46 @@
+ghost use Rattle.std.specs.Prelude.{◌≡◌};
+ghost use Rattle.npf_cells.specs.Passes.{IsPassOf, IsProtected};
+ghost use Rattle.npf_trie.specs.HoldKey.{CanHold, IsAtPlace, StepsSo};
+
+use crate::keys::store_key;
+use crate::lock::{lock, unlock};
+use crate::meet::meet;
+use crate::step::{Met, Point, Step, Wanted};
+use npf_cells::{CellPass, Cells};
+use npf_core::{Held, Law};
+use npf_digits::KeyHash;
+use npf_paths::Cell;
+use std::sync::Wait;
+
+/// Puts the connection's leaf in the place, if nothing stands there under its lock.
+pub(crate) fn fill<L: Law, H: KeyHash>(
+    rt: &impl Wait,
+    cells: &Cells<L, H>,
+    pass: &mut CellPass<L>,
+    wanted: &Wanted,
+    point: Point,
+) -> Step
+    requires own { IsPassOf cells.now.table.shared.key cells.now.table.shared.table_id pass.old.seat.table_id pass.old.readers.items pass.old.seat.me }
+    requires protected { IsProtected pass.old.seat.me.0.epochs.pin }
+    requires can { CanHold L.meaning cells.now.table.shared.key pass.old.seat.me.0 wanted.now.id wanted.now.way }
+    requires at { IsAtPlace H.digest cells.now.table.shared.key pass.old.seat.me.0 wanted.now.key point }
+    ensures own { IsPassOf cells.now.table.shared.key cells.now.table.shared.table_id pass.new.seat.table_id pass.new.readers.items pass.new.seat.me }
+    ensures steps { StepsSo L.meaning H.digest cells.now.table.shared.key wanted.now point result pass.old.seat.me pass.new.seat.me }
+{
+    store_key(cells, pass, wanted.id.slot, wanted.way, &wanted.key);
+    lock(rt, cells, pass, point.place.lock());
+    let step = match cells.load_place(pass, point.place, &wanted.aim()) {
+        Cell::Empty => {
+            cells.publish_place(pass, point.place, wanted.leaf(), Some(&wanted.aim()));
+            Step::Ends(Held::Done)
+        }
+        Cell::Node(node) => Step::Leads(node),
+        Cell::Leaf { slot, way } => match meet(cells, pass, slot, way, &wanted.key) {
+            Met::Holder(found) => Step::Ends(Held::Taken(found)),
+            Met::Other(_) => Step::Again,
+        },
+        Cell::Mark => Step::Again,
+    };
+    unlock(cells, pass, point.place.lock());
+    step
+}

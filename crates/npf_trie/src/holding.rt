@@ -1,0 +1,95 @@
+ghost use Rattle.std.specs.Prelude.{◌≡◌, ◌<◌};
+ghost use Rattle.npf_digits.specs.Digits.{digit_of};
+ghost use Rattle.npf_paths.specs.declared.place.Place.TheVariants as Places;
+ghost use Rattle.npf_cells.specs.Passes.{IsPassOf, IsProtected};
+ghost use Rattle.npf_trie.specs.HoldKey.{CanHold, SettlesHold, IsAtPlace, StepsSo};
+
+use crate::fill::fill;
+use crate::grow::grow;
+use crate::meet::meet;
+use crate::step::{Met, OtherLeaf, Point, Step, Wanted};
+use npf_cells::{CellPass, Cells};
+use npf_core::{ConnId, Held, Law};
+use npf_digits::{KeyHash, digit};
+use npf_paths::{Cell, Place};
+use npf_types::{Key, Way};
+use std::sync::Wait;
+
+/// The key for a connection that the pass is building, as its key of that way: Done, or Taken by its holder. NoNode where it meets another
+/// key and too few nodes are left, as a sweep found. After each answer the pass has neither a node nor a lock. It may wait for a lock.
+pub fn hold<L: Law, H: KeyHash>(
+    rt: &impl Wait,
+    cells: &Cells<L, H>,
+    pass: &mut CellPass<L>,
+    id: ConnId,
+    key: Key,
+    way: Way,
+) -> Held
+    requires own { IsPassOf cells.now.table.shared.key cells.now.table.shared.table_id pass.old.seat.table_id pass.old.readers.items pass.old.seat.me }
+    requires protected { IsProtected pass.old.seat.me.0.epochs.pin }
+    requires can { CanHold L.meaning cells.now.table.shared.key pass.old.seat.me.0 id way }
+    ensures own { IsPassOf cells.now.table.shared.key cells.now.table.shared.table_id pass.new.seat.table_id pass.new.readers.items pass.new.seat.me }
+    ensures answers { SettlesHold L.meaning cells.now.table.shared.key id key way result pass.old.seat.me pass.new.seat.me }
+{
+    let hash = H::hash(&key);
+    let wanted = Wanted { id, key, way };
+    let mut point = Point {
+        place: Place::Root(digit(hash, &key, 0)),
+        level: 0,
+    };
+    for _ in rt.forever() {
+        match step(rt, cells, pass, &wanted, point) {
+            Step::Ends(held) => return held,
+            Step::Leads(node) => point = further(hash, &key, node, point.level + 1),
+            Step::Again => {}
+        }
+    }
+    unreachable!()
+}
+
+// The place of a node at this level of the key's path.
+fn further(hash: u64, key: &Key, node: u32, level: u32) -> Point
+    requires { level < 95 }
+    ensures { result ≡ record { place = Places.Node node (digit_of hash key.now level); level = level } }
+{
+    Point {
+        place: Place::Node {
+            node,
+            digit: digit(hash, key, level),
+        },
+        level,
+    }
+}
+
+// Looks at a place of the key's path, and ends the hold there where that can be.
+fn step<L: Law, H: KeyHash>(
+    rt: &impl Wait,
+    cells: &Cells<L, H>,
+    pass: &mut CellPass<L>,
+    wanted: &Wanted,
+    point: Point,
+) -> Step
+    requires own { IsPassOf cells.now.table.shared.key cells.now.table.shared.table_id pass.old.seat.table_id pass.old.readers.items pass.old.seat.me }
+    requires protected { IsProtected pass.old.seat.me.0.epochs.pin }
+    requires can { CanHold L.meaning cells.now.table.shared.key pass.old.seat.me.0 wanted.now.id wanted.now.way }
+    requires at { IsAtPlace H.digest cells.now.table.shared.key pass.old.seat.me.0 wanted.now.key point }
+    ensures own { IsPassOf cells.now.table.shared.key cells.now.table.shared.table_id pass.new.seat.table_id pass.new.readers.items pass.new.seat.me }
+    ensures steps { StepsSo L.meaning H.digest cells.now.table.shared.key wanted.now point result pass.old.seat.me pass.new.seat.me }
+{
+    match cells.load_place(pass, point.place, &wanted.aim()) {
+        Cell::Node(node) => Step::Leads(node),
+        Cell::Empty => fill(rt, cells, pass, wanted, point),
+        Cell::Leaf { slot, way } => match meet(cells, pass, slot, way, &wanted.key) {
+            Met::Holder(found) => Step::Ends(Held::Taken(found)),
+            Met::Other(key) => grow(
+                rt,
+                cells,
+                pass,
+                wanted,
+                point,
+                &OtherLeaf { slot, way, key },
+            ),
+        },
+        Cell::Mark => Step::Again,
+    }
+}

@@ -1,0 +1,49 @@
+ghost use Rattle.std.specs.Prelude.{◌≡◌, ◌<◌};
+ghost use Rattle.npf_paths.specs.declared.place.Place.{Place};
+ghost use Rattle.npf_cells.specs.Layout.{key_field};
+ghost use Rattle.npf_cells.specs.Passes.{IsPassOf};
+ghost use Rattle.npf_cells.specs.PoolKinds.{with_pools};
+ghost use Rattle.npf_cells.specs.PublishKinds.{HasStoredKey, cell_stored};
+ghost use Rattle.npf_cells.specs.Trie.{IsInTrie};
+ghost use Rattle.npf_trie.specs.Stores.{MayStoreKey};
+
+use npf_cells::{CellPass, Cells, Pool};
+use npf_core::Law;
+use npf_digits::KeyHash;
+use npf_types::{Key, Way};
+
+/// How many words a key has.
+const KEY_WORDS: u32 = 5;
+
+/// Stores the five words of a key in the slot of a connection that the pass is building, which holds no key of that way yet.
+pub(crate) fn store_key<L: Law, H: KeyHash>(
+    cells: &Cells<L, H>,
+    pass: &mut CellPass<L>,
+    slot: u32,
+    way: Way,
+    key: &Key,
+)
+    requires own { IsPassOf cells.now.table.shared.key cells.now.table.shared.table_id pass.old.seat.table_id pass.old.readers.items pass.old.seat.me }
+    requires slot { slot < cells.now.table.shared.key.slots }
+    requires may { MayStoreKey L.meaning pass.old.seat.me.0 slot way }
+    ensures own { IsPassOf cells.now.table.shared.key cells.now.table.shared.table_id pass.new.seat.table_id pass.new.readers.items pass.new.seat.me }
+    ensures next { pass.new.seat.me ≡ with_pools pass.old.seat.me (record pass.old.seat.me.0.pools { stored = pass.new.seat.me.0.pools.stored }) }
+    ensures stores { HasStoredKey cells.now.table.shared.key pass.new.seat.me.0.pools.stored slot way key.now }
+    ensures cells { (p : Place) → IsInTrie cells.now.table.shared.key p → cell_stored cells.now.table.shared.key pass.new.seat.me.0.pools.stored p ≡ cell_stored cells.now.table.shared.key pass.old.seat.me.0.pools.stored p }
+{
+    let first = first_key_field(way);
+    for word in 0..KEY_WORDS {
+        cells.store_private(pass, Pool::Slots, slot, first + word, key.0[word as usize]);
+    }
+}
+
+// The field of the first word of a way's key among a connection's words.
+fn first_key_field(way: Way) -> u32
+    ensures { result ≡ key_field way }
+{
+    match way {
+        Way::Forward => 3,
+        Way::Backward => 8,
+        Way::Port => 13,
+    }
+}

@@ -1,0 +1,46 @@
+ghost use Rattle.std.specs.Prelude.{◌≡◌, [], ◌∷◌};
+ghost use Rattle.npf_cells.specs.LockKinds.{locking};
+ghost use Rattle.npf_cells.specs.Locks.{IsLockOf};
+ghost use Rattle.npf_cells.specs.LookKinds.{with_trie};
+ghost use Rattle.npf_cells.specs.Passes.{IsPassOf, IsProtected};
+
+use npf_cells::{CellPass, Cells};
+use npf_core::Law;
+use npf_digits::KeyHash;
+use npf_paths::Lock;
+use std::sync::Wait;
+
+/// The state that frees a lock.
+const FREE: u64 = 0;
+
+/// Gets a lock, and waits as long as another pass has it.
+pub(crate) fn lock<L: Law, H: KeyHash>(
+    rt: &impl Wait,
+    cells: &Cells<L, H>,
+    pass: &mut CellPass<L>,
+    lock: Lock,
+)
+    requires own { IsPassOf cells.now.table.shared.key cells.now.table.shared.table_id pass.old.seat.table_id pass.old.readers.items pass.old.seat.me }
+    requires lock { IsLockOf cells.now.table.shared.key lock }
+    requires protected { IsProtected pass.old.seat.me.0.epochs.pin }
+    ensures own { IsPassOf cells.now.table.shared.key cells.now.table.shared.table_id pass.new.seat.table_id pass.new.readers.items pass.new.seat.me }
+    ensures gets { pass.new.seat.me ≡ with_trie pass.old.seat.me (locking lock pass.old.seat.me.0.trie) }
+{
+    for _ in rt.forever() {
+        if cells.try_lock(pass, lock) {
+            return;
+        }
+    }
+    unreachable!()
+}
+
+/// Frees the one lock that the pass has.
+pub(crate) fn unlock<L: Law, H: KeyHash>(cells: &Cells<L, H>, pass: &mut CellPass<L>, lock: Lock)
+    requires own { IsPassOf cells.now.table.shared.key cells.now.table.shared.table_id pass.old.seat.table_id pass.old.readers.items pass.old.seat.me }
+    requires lock { IsLockOf cells.now.table.shared.key lock }
+    requires only { pass.old.seat.me.0.trie.locks ≡ lock ∷ [] }
+    ensures own { IsPassOf cells.now.table.shared.key cells.now.table.shared.table_id pass.new.seat.table_id pass.new.readers.items pass.new.seat.me }
+    ensures frees { pass.new.seat.me ≡ with_trie pass.old.seat.me (record pass.old.seat.me.0.trie { locks = [] }) }
+{
+    cells.store_node(pass, lock, FREE);
+}

@@ -1,0 +1,44 @@
+ghost use Rattle.std.specs.Prelude.{◌≡◌, ◌<◌, length, Some};
+ghost use Rattle.npf_cells.specs.declared.views.LoadedLeaf.{LoadedLeaf};
+ghost use Rattle.npf_cells.specs.LookKinds.{IsLeafOf};
+ghost use Rattle.npf_cells.specs.Passes.{IsPassOf};
+ghost use Rattle.npf_trie.specs.HoldKey.{TellsMet};
+ghost use Rattle.npf_trie.specs.LookUp.{ComparesWords};
+
+use crate::step::Met;
+use npf_cells::{CellPass, Cells};
+use npf_core::{ConnId, Found, Law};
+use npf_digits::KeyHash;
+use npf_types::{Key, Way};
+
+/// Whose key the leaf has that the pass loaded last.
+pub(crate) fn meet<L: Law, H: KeyHash>(
+    cells: &Cells<L, H>,
+    pass: &mut CellPass<L>,
+    slot: u32,
+    way: Way,
+    key: &Key,
+) -> Met
+    requires own { IsPassOf cells.now.table.shared.key cells.now.table.shared.table_id pass.old.seat.table_id pass.old.readers.items pass.old.seat.me }
+    requires slot { slot < cells.now.table.shared.key.slots }
+    requires leaf { IsLeafOf pass.old.seat.me.0.trie slot way }
+    ensures own { IsPassOf cells.now.table.shared.key cells.now.table.shared.table_id pass.new.seat.table_id pass.new.readers.items pass.new.seat.me }
+    ensures compares { ComparesWords 5 pass.old.seat.me pass.new.seat.me }
+    ensures met { (leaf : LoadedLeaf) → pass.old.seat.me.0.trie.leaf ≡ Some leaf → length leaf.key.0 ≡ 5 → TellsMet leaf key.now result }
+{
+    let met = Key([
+        cells.load_key(pass, slot, way, 0),
+        cells.load_key(pass, slot, way, 1),
+        cells.load_key(pass, slot, way, 2),
+        cells.load_key(pass, slot, way, 3),
+        cells.load_key(pass, slot, way, 4),
+    ]);
+    if met != *key {
+        return Met::Other(met);
+    }
+    let inc = cells.load_inc(pass, slot);
+    Met::Holder(Found {
+        id: ConnId { slot, inc },
+        way,
+    })
+}

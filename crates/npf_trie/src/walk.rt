@@ -1,0 +1,41 @@
+ghost use Rattle.std.specs.Prelude.{◌≡◌};
+ghost use Rattle.npf_cells.specs.LookKinds.{FitsLayout};
+ghost use Rattle.npf_cells.specs.Passes.{IsPassOf, IsProtected};
+ghost use Rattle.npf_paths.specs.Paths.{IsEnd};
+ghost use Rattle.npf_trie.specs.LookUp.{ComesToEnd};
+
+use npf_cells::{Aim, CellPass, Cells};
+use npf_core::Law;
+use npf_digits::{KeyHash, LEVELS, digit};
+use npf_paths::{Cell, Place};
+use npf_types::Key;
+
+/// Walks the key's path to its end, and answers what stands there: no node. The last load is the look for the packet n.
+pub fn end_of<L: Law, H: KeyHash>(
+    cells: &Cells<L, H>,
+    pass: &mut CellPass<L>,
+    n: u64,
+    key: Key,
+) -> Cell
+    requires own { IsPassOf cells.now.table.shared.key cells.now.table.shared.table_id pass.old.seat.table_id pass.old.readers.items pass.old.seat.me }
+    requires protected { IsProtected pass.old.seat.me.0.epochs.pin }
+    ensures own { IsPassOf cells.now.table.shared.key cells.now.table.shared.table_id pass.new.seat.table_id pass.new.readers.items pass.new.seat.me }
+    ensures fits { FitsLayout cells.now.table.shared.key result }
+    ensures comes { ComesToEnd L.meaning n key result pass.old.seat.me pass.new.seat.me }
+{
+    let hash = H::hash(&key);
+    let mut place = Place::Root(digit(hash, &key, 0));
+    for level in 0..LEVELS {
+        let cell = cells.load_place(pass, place, &Aim::Look { n, key });
+        match cell {
+            Cell::Node(node) => {
+                place = Place::Node {
+                    node,
+                    digit: digit(hash, &key, level + 1),
+                };
+            }
+            end => return end,
+        }
+    }
+    unreachable!()
+}

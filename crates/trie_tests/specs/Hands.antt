@@ -1,0 +1,17 @@
+-- Passes before a call that holds a key.
+use Rattle.std.specs.Prelude.{◌≡◌, []}
+use Rattle.npf_cells.specs.declared.views.CellView.{CellView}
+use Rattle.npf_cells.specs.declared.views.Pin.TheVariants.{Idle}
+use Rattle.npf_cells.specs.Passes.{IsProtected}
+
+-- a pass that rests: it is in no stay, and has neither a node nor a lock
+pub record IsAtRest {S A R : Type 0} (v : CellView S A R) : Type 0 where
+  pub out : v.epochs.pin ≡ Idle
+  pub nodes : v.pools.nodes ≡ []
+  pub locks : v.trie.locks ≡ []
+
+-- a pass in a stay that has neither a node nor a lock
+pub record IsEmptyHanded {S A R : Type 0} (v : CellView S A R) : Type 0 where
+  pub protected : IsProtected v.epochs.pin
+  pub nodes : v.pools.nodes ≡ []
+  pub locks : v.trie.locks ≡ []
