@@ -1,4 +1,4 @@
--- The rule of the table without locks: six parts, each over its own words and its own side of the views, and that a spent seat owns nothing.
+-- The rule of the table without locks: seven parts, over its words and the sides of the views, and that a spent seat owns nothing.
 use Rattle.std.specs.Prelude.{◌≡◌, ℕ, true, None, List, [], map, length}
 use mathlib.Core.Option.{some}
 use lib.ListN.{get_elem?}

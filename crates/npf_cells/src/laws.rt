@@ -21,8 +21,8 @@ pub fn count_law<L: Law>()
     ensures counted { (layout : Layout) → CountsRaises L.meaning layout }
 {}
 
-/// The trie law: what stands where a key's path ends names the key's holder; and what a pass loaded in its stay isn't used again: the words
-/// of its leaf are as they were, whose connection is claimed, and the node in which it stands is no pass's own.
+/// The trie law: what stands where a key's path ends names the key's holder; the words of the leaf that a pass loaded last in its stay are as
+/// they were, and its connection is claimed; and the node to which the last load of the stay led is no pass's own.
 pub fn trie_law<L: Law>()
     ensures ends { (layout : Layout) → EndsNameHolders L.meaning layout }
     ensures leaves { (layout : Layout) → LeavesAreKept L.meaning layout }

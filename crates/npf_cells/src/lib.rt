@@ -5,10 +5,10 @@
 // move: making, splitting and joining passes. Epochs are those of Fraser, "Practical lock-freedom" (2004), section 5.2.3, with the
 // second load of crossbeam-epoch: what a pin protects is fixed by an epoch that is loaded after it.
 //
-// The one contract: the rule of specs/Cells.antt, the conjunction of six parts (seats, epochs, pools, trie, connections, nodes),
-// each over its own words, its own side of the views, and named facts of the others, and that a spent seat owns nothing. A kind of
-// step proves its own part. What the rule says of seats stands in laws.rt: a node has one owner at most and a slot one builder, a
-// protected pass holds the epoch back, and no pass raises it without counting it.
+// The one contract: the rule of specs/Cells.antt, the conjunction of seven parts (seats, epochs, pools, trie, connections, stored
+// words, locks) over words and sides of the views, of which some serve two of them, and that a spent seat owns nothing. A kind of step
+// proves what it changes. What the rule says stands in laws.rt: a node has one owner at most and a slot one builder, a protected pass
+// holds the epoch back, no pass raises it without counting it, and what stands where a key's path ends names the key's holder.
 #![tactic(auto)]
 
 mod aim;

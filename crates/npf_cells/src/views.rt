@@ -70,7 +70,7 @@ pub struct PoolSide {
     pub builds: LinkedList<ConnId>,
     /// Those of their slots whose incarnation it hasn't stored yet.
     pub unstored: LinkedList<u32>,
-    /// What it stored in its places since it last gave a node up, the last first.
+    /// What it stored in its places since it last gave a node back or published anything for a key, the last first.
     pub stored: LinkedList<StoredWord>,
 }
 

@@ -12,7 +12,7 @@ pub fn cell_law()
     ensures fits { WordsFit }
 {}
 
-/// A path has one place a level and one end, and no place behind it. It is the same wherever its own places have the same cells.
+/// A path has at most one place a level and at most one end, and no place behind it. It is the same wherever its own places have the same cells.
 pub fn path_law()
     ensures level { HasOnePlaceALevel }
     ensures one_end { HasOneEnd }

@@ -4,7 +4,7 @@
 // root, and as long as a node stands where it has come, on to that node's place of its next digit. The shape is that of a hash
 // array mapped trie (https://en.wikipedia.org/wiki/Hash_array_mapped_trie) without its compressed nodes.
 //
-// The contract: a word and a cell are one another's code. Otherwise the crate is laws: a path has one place a level and one end;
+// The contract: a cell's word says that cell. Otherwise the crate is laws: a path has at most one place a level and at most one end;
 // a filled place leaves all paths alone; where nodes are grown in the place of a leaf, the paths that came there go on within them,
 // down to the level at which two keys part, while the others stay; and each place keeps the one level at which paths meet it.
 #![tactic(auto)]

@@ -137,6 +137,7 @@ module _ {S A R F : Type 0} (m : Meaning S A R) (digest : Key → ℕ) (layout :
       ends = λ init last e. absurd (nothing_ends init last e);
     };
     legal = λ differs. absurd (differs refl);
+    same = λ e. ap (λ (y : Me F (CellView S A R)). y.0.seats.history) few.is;
     answered = ap (λ (y : Me F (CellView S A R)). y.0.trie.answered) few.is ∙ met.unanswered;
     is = subst (λ (y : Me F (CellView S A R)). y ≡ (having_held old.0 y.0, old.1)) (sym few.is) refl;
     sweeps = omega (arith, few.swept);
@@ -186,6 +187,7 @@ module _ {S A R F : Type 0} (m : Meaning S A R) (digest : Key → ℕ) (layout :
         } in
         record {
           adds = subst (λ (p : Pass (Entry S A R)). AddsOwn (cell_pass old.0) p.history (hold_entries (cell_pass old.0) wanted.id wanted.key wanted.way held)) (sym pass) mine;
+          same = λ e. absurd (has.some e);
           legal = λ some. subst (λ (p : Pass (Entry S A R)). IsPass m p) (sym pass) has.legal;
           answered = ap (λ (p : Pass (Entry S A R)). p.answered) pass ∙ has.answered;
           is = is;

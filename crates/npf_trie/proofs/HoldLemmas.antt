@@ -213,6 +213,7 @@ module _ {S A R F : Type 0} (m : Meaning S A R) where
   answers_so layout old now id key way held ends locks = record {
     adds = ends.adds;
     legal = λ some. ends.legal;
+    same = λ none. absurd (ends.some none);
     answered = ends.answered;
     is = held_so old now ends.keeps locks;
     sweeps = ends.keeps.sweeps;
@@ -229,6 +230,7 @@ module _ {S A R F : Type 0} (m : Meaning S A R) where
       record {
         adds = adds_after a b c.0.seats.history id key way held stays ans.adds;
         legal = ans.legal;
+        same = λ none. ans.same none ∙ on.history;
         answered = ans.answered;
         is = held_so a c (keeps_after a b c stays.keeps (keeps_held b c ans.is ans.sweeps)) (same_locks b c ans.is ∙ same_locks a b on.is);
         sweeps = omega arith;

@@ -64,11 +64,12 @@ pub record MeetsAnother (side : TrieSide) (key : Key) : Type 0 where
   pub key_is : meeting.key ≡ key
   pub apart : meeting.other ≢ key
 
--- the hold of the key, with what it is answered, is the pass's one new entry and ends its history; without a node there is none, another
--- key stood in the way, the sweeps rose where the table has nodes at all, and nothing was published
+-- the hold of the key, with what it is answered, is the pass's one new entry and ends its history; without a node there is none, the history
+-- is what it was, another key stood in the way, the sweeps rose where the table has nodes at all, and nothing was published
 pub record SettlesHold {S A R F : Type 0} (m : Meaning S A R) (layout : Layout) (id : ConnId) (key : Key) (way : Way) (held : Held) (old now : Me F (CellView S A R)) : Type 0 where
   pub adds : AddsOwn (cell_pass old.0) now.0.seats.history (hold_entries (cell_pass old.0) id key way held)
   pub legal : held ≢ Held.NoNode → IsPass m (cell_pass now.0)
+  pub same : held ≡ Held.NoNode → now.0.seats.history ≡ old.0.seats.history
   pub answered : now.0.trie.answered ≡ taken_ids held
   pub is : now ≡ (having_held old.0 now.0, old.1)
   pub sweeps : old.0.pools.sweeps ≤ now.0.pools.sweeps
