@@ -3,8 +3,8 @@
 ghost use Rattle.std.specs.Prelude.{◌<◌};
 
 use npf_packet::{
-    BadPacket, Decoded, decode, decoded_has_fields, decoded_has_places, decoded_is_packet,
-    one_decoding,
+    BadPacket, Decoded, IpExtent, decode, decoded_has_fields, decoded_has_places,
+    decoded_is_packet, ip_extent, one_decoding,
 };
 use npf_types::{Addr, Facts, L4, Link, Segment};
 
@@ -432,6 +432,8 @@ fn a_frame_is_decoded_behind_its_header(rt: HostRuntime) {
         l4: udp(5000),
     };
     assert_eq!(rt; decode(Link::Ethernet, &frame), Decoded::Ip(facts));
+    let extent = IpExtent { at: 14, end: 42 };
+    assert_eq!(rt; ip_extent(Link::Ethernet, &frame), extent);
     assert_eq!(rt; decode(Link::Ethernet, &frame[..13]), cut(13));
     assert_eq!(rt; decode(Link::Ethernet, &frame[..14]), cut(14));
     assert_eq!(rt; decode(Link::Ethernet, &frame[..41]), cut(41));
@@ -453,6 +455,8 @@ fn a_frame_of_ipv6(rt: HostRuntime) {
         l4: icmpv6(128, 0, Some(7)),
     };
     assert_eq!(rt; decode(Link::Ethernet, &frame), Decoded::Ip(facts));
+    let extent = IpExtent { at: 14, end: 62 };
+    assert_eq!(rt; ip_extent(Link::Ethernet, &frame), extent);
     assert_eq!(rt; decode(Link::Ethernet, &frame[..61]), cut(61));
 }
 

@@ -1,6 +1,6 @@
 -- The packets that a capture has at its extents, and what is known of them.
-use Rattle.std.proofs.Common.{ℕ, List, All, map, drop, arith}
-use Rattle.std.proofs.lemmas.List.{length-take}
+use Rattle.std.proofs.Common.{◌≡◌, ◌∙◌, ℕ, List, All, length, map, drop, arith}
+use Rattle.std.proofs.lemmas.List.{length-map, length-take}
 use Rattle.std.proofs.lemmas.List.Elements.{All-map, All-weaker}
 use Rattle.npf_types.specs.declared.direction.Dir.{Dir}
 use Rattle.npf_types.specs.declared.interface.IfId.{IfId}
@@ -18,6 +18,9 @@ module _ (link : Link) (ifid : IfId) (dir : Dir) (bytes : List ℕ) where
 
   abbrev pub packets_at : List Extent → List Packet
   packets_at extents = map (packet_of link ifid dir) (records_at bytes extents)
+
+  pub length-packets_at : (extents : List Extent) → length (packets_at extents) ≡ length extents
+  length-packets_at extents = length-map (records_at bytes extents) (packet_of link ifid dir) ∙ length-map extents (record_at bytes)
 
   -- a fact of each packet, from one of each extent
   each_packet : (P : Packet → Type 0) (extents : List Extent) → All (λ extent. P (packet_at extent)) extents → All P (packets_at extents)

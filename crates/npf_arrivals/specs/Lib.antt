@@ -1,3 +1,4 @@
 pub mod Arrivals
+pub mod Traces
 pub mod Gathering
 pub mod Within

@@ -19,16 +19,26 @@ const SECOND: &[u8] = b"\x4d\x3c\xb2\xa1\x02\0\x04\0\0\0\0\0\0\0\0\0\0\0\x04\0\x
 #[test]
 fn packets_come_by_time_and_as_gathered(rt: HostRuntime) -> Result<(), Fail> {
     let alloc = rt.alloc();
+    let mut captures = Captures::new(alloc);
     let mut arrivals = Arrivals::new(alloc);
     arrivals
-        .add(alloc, "1", IfId(1), Dir::In, FIRST)
+        .add(alloc, "1", IfId(1), Dir::In, Vec::from_slice(alloc, FIRST)?)
         .ok()
         .ok_or("the first")?;
     arrivals
-        .add(alloc, "2", IfId(2), Dir::Out, SECOND)
+        .add(
+            alloc,
+            "2",
+            IfId(2),
+            Dir::Out,
+            Vec::from_slice(alloc, SECOND)?,
+        )
         .ok()
         .ok_or("the second")?;
-    let packets = arrivals.by_time().ok().ok_or("out of memory")?;
+    let packets = arrivals
+        .by_time(alloc, &mut captures)
+        .ok()
+        .ok_or("out of memory")?;
     let said = said(alloc, packets.as_slice())?;
     assert_eq!(rt;
         said.as_str(),
@@ -40,20 +50,25 @@ fn packets_come_by_time_and_as_gathered(rt: HostRuntime) -> Result<(), Fail> {
 #[test]
 fn a_fault_names_its_file(rt: HostRuntime) -> Result<(), Fail> {
     let alloc = rt.alloc();
+    let mut captures = Captures::new(alloc);
     let mut arrivals = Arrivals::new(alloc);
-    match arrivals.add(alloc, "cut.pcap", IfId(1), Dir::In, b"\x4d\x3c\xb2\xa1") {
+    let cut = Vec::from_slice(alloc, b"\x4d\x3c\xb2\xa1")?;
+    match arrivals.add(alloc, "cut.pcap", IfId(1), Dir::In, cut) {
         Err(CommandFault::Capture { file, fault }) => {
             assert_eq!(rt; file.as_slice(), b"cut.pcap".as_slice());
             assert_eq!(rt; fault, CaptureFault::ShortHeader);
         }
         _ => return Err(Fail::from("no fault of a capture")),
     }
-    let packets = arrivals.by_time().ok().ok_or("out of memory")?;
+    let packets = arrivals
+        .by_time(alloc, &mut captures)
+        .ok()
+        .ok_or("out of memory")?;
     assert!(rt; packets.is_empty());
     Ok(())
 }
 
-fn said(alloc: Global, packets: &[Packet]) -> Result<String, Fail> {
+fn said(alloc: Global, packets: &[Packet<'_>]) -> Result<String, Fail> {
     let mut all = String::new(alloc);
     for packet in packets {
         let dir = match packet.dir {

@@ -4,7 +4,7 @@ use Rattle.npf_config.specs.Reading.{OnlyReads}
 use Rattle.npf_input.specs.Around.{Around}
 use Rattle.npf_outside.specs.Files.{FilesMoment, SameFiles, SameOthers, Tree}
 use Rattle.npf_outside.specs.Sink.{Appends, AppendsFront, SinkMoment}
-use Rattle.npf_output.specs.declared.extent.IpExtent.{IpExtent}
+use Rattle.npf_packet.specs.declared.extent.IpExtent.{IpExtent}
 use Rattle.npf_output.specs.Extents.{AreExtentsOf}
 use Rattle.npf_runner.specs.declared.packet.Packet.{Packet}
 use Rattle.npf_outside.proofs.SinkLemmas.{Appends-nothing, IsPutTo-stops}
@@ -60,7 +60,7 @@ pub not_touched : (moment : Moment) → IsUntouched moment moment
 not_touched moment = record { put = nothing_put moment.out; files = same_as_itself moment.files.contents; idle = refl }
 
 -- extents stay those of packets where both are named otherwise
-pub extents_named : (packets sliced : List Packet) (extents lent : List (Option IpExtent)) → sliced ≡ packets → lent ≡ extents → AreExtentsOf sliced extents →
+pub extents_named : (packets sliced : List Packet) (extents lent : List IpExtent) → sliced ≡ packets → lent ≡ extents → AreExtentsOf sliced extents →
     AreExtentsOf packets lent
 extents_named packets sliced extents lent same_packets same_extents are =
-    subst (λ (e : List (Option IpExtent)). AreExtentsOf packets e) (sym same_extents) (subst (λ (p : List Packet). AreExtentsOf p extents) same_packets are)
+    subst (λ (e : List IpExtent). AreExtentsOf packets e) (sym same_extents) (subst (λ (p : List Packet). AreExtentsOf p extents) same_packets are)

@@ -8,6 +8,7 @@ ghost use Rattle.npf_ctl.specs.Ends.{EndsIn, IsLaterPass, IsFresh, PreparesGener
 ghost use Rattle.npf_ctl.specs.Running.{moment};
 
 use crate::generated_files::GeneratedFiles;
+use npf_arrivals::Captures;
 use npf_connections::Connections;
 use npf_flow::FlowLaw;
 use npf_messages::CommandFault;
@@ -15,7 +16,7 @@ use npf_output::put_total;
 use npf_outside::Sink;
 use npf_prepare::laws::contents_decide;
 use npf_prepare::{Prepared, RunFiles, prepare_run};
-use npf_runner::{Gate, Spread, play};
+use npf_runner::{Gate, Played, Spread, play};
 use std::alloc::Global;
 use std::sync::Wait;
 use std::thread::Threads;
@@ -37,7 +38,8 @@ pub(crate) fn run_generated<R: Threads + Wait + Sync, O: Sink, C: Connections<Fl
     ensures own { C.fits conns.now pass.new }
     ensures goes_on { IsLaterPass (C.view pass.old) (C.view pass.new) }
 {
-    let prepared = prepare_generated(alloc, number)?;
+    let mut captures = Captures::new(alloc);
+    let prepared = prepare_generated(alloc, number, &mut captures)?;
     let Prepared {
         ifaces: _,
         configs,
@@ -50,11 +52,18 @@ pub(crate) fn run_generated<R: Threads + Wait + Sync, O: Sink, C: Connections<Fl
     let played = play(
         rt, alloc, packets, phases, configs, 1, spread, conns, pass, gate,
     )?;
-    let outcomes = played.outcomes.as_slice();
-    put_total(alloc, outcomes, out)
+    let Played {
+        outcomes,
+        packets: _packets,
+    } = played;
+    put_total(alloc, outcomes.as_slice(), out)
 }
 
-fn prepare_generated(alloc: Global, number: u64) -> Result<Prepared, CommandFault>
+fn prepare_generated<'a>(
+    alloc: Global,
+    number: u64,
+    captures: &'a mut Captures,
+) -> Result<Prepared<'a>, CommandFault>
     ensures comes { PreparesGenerated number result }
     ensures playable { IfOk result IsPlayable }
 {
@@ -65,5 +74,5 @@ fn prepare_generated(alloc: Global, number: u64) -> Result<Prepared, CommandFaul
         script: "script",
         ifaces: None,
     };
-    prepare_run(alloc, names, &mut files)
+    prepare_run(alloc, names, &mut files, captures)
 }

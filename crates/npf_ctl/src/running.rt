@@ -19,11 +19,13 @@ ghost use Rattle.npf_ctl.specs.Ends.{EndsIn, FailsReport, IsLaterPass, HasReadOn
 ghost use Rattle.npf_ctl.specs.Running.{IsWrittenTo, moment};
 ghost use Rattle.npf_ctl.specs.Top.{KeepsOtherFiles};
 
+use npf_arrivals::Captures;
 use npf_connections::Connections;
 use npf_flow::FlowLaw;
 use npf_messages::CommandFault;
-use npf_output::{IpExtent, ip_extents, put_report, written_capture};
+use npf_output::{ip_extents, put_report, written_capture};
 use npf_outside::{FileFault, Files, Sink};
+use npf_packet::IpExtent;
 use npf_prepare::{Prepared, RunFiles, prepare_run};
 use npf_runner::{Gate, Played, Spread, play};
 use npf_types::{List, NoMemory, Text};
@@ -59,7 +61,8 @@ pub(crate) fn run<R: Threads + Wait + Sync, F: Files, O: Sink, C: Connections<Fl
         script: words.script,
         ifaces: words.ifaces,
     };
-    let prepared = prepare_run(alloc, names, files)?;
+    let mut captures = Captures::new(alloc);
+    let prepared = prepare_run(alloc, names, files, &mut captures)?;
     match words.output {
         None => {
             report_run(rt, alloc, prepared, words, out, conns, pass, gate)?;
@@ -74,27 +77,27 @@ pub(crate) fn run<R: Threads + Wait + Sync, F: Files, O: Sink, C: Connections<Fl
 }
 
 // Plays what is prepared, and puts the report.
-fn report_run<R: Threads + Wait + Sync, O: Sink, C: Connections<FlowLaw>, G: Gate>(
+fn report_run<'a, R: Threads + Wait + Sync, O: Sink, C: Connections<FlowLaw>, G: Gate>(
     rt: &R,
     alloc: Global,
-    prepared: Prepared,
+    prepared: Prepared<'a>,
     words: Run<'_>,
     out: &mut O,
     conns: &C,
     pass: &mut C::Pass,
     gate: &G,
-) -> Result<Played, CommandFault>
+) -> Result<Played<'a>, CommandFault>
     requires own { C.fits conns.now pass.old }
     requires fresh { IsFresh (C.view pass.old) }
     requires workers { (1 ≤ words.workers) × (words.workers ≤ 64) }
     requires playable { IsPlayable prepared }
-    ensures played { IfOk result (λ played. PlaysPhases (run_plan_of prepared).configs words.entry.workers (spread_said words.entry.spread)
-        (C.view pass.old) (C.view pass.new) prepared.phases.items prepared.packets.items played.packets played.outcomes) }
-    ensures outputs { IfOk result (λ played. AreOutputsOf prepared.packets.items played.outcomes played.packets) }
+    ensures played { IfOk result (λ played. PlaysPhases (run_plan_of prepared.entry).configs words.entry.workers (spread_said words.entry.spread)
+        (C.view pass.old) (C.view pass.new) prepared.entry.phases.items prepared.entry.packets.items played.packets played.outcomes) }
+    ensures outputs { IfOk result (λ played. AreOutputsOf prepared.entry.packets.items played.outcomes played.packets) }
     ensures whole { IfOk result (λ played. Appends (O.moment out.old).held (O.moment out.new).held
-        (report_text prepared.ifaces.list prepared.packets.items played.outcomes)) }
+        (report_text prepared.entry.ifaces.list prepared.entry.packets.items played.outcomes)) }
     ensures flushed { OnOk result ((O.moment out.new).waiting ≡ 0) }
-    ensures fails { IfErr result (FailsReport (run_plan_of prepared) words.entry.workers (spread_said words.entry.spread)
+    ensures fails { IfErr result (FailsReport (run_plan_of prepared.entry) words.entry.workers (spread_said words.entry.spread)
         (C.view pass.old) (C.view pass.new) (O.moment out.old) (O.moment out.new)) }
     ensures own { C.fits conns.now pass.new }
     ensures goes_on { IsLaterPass (C.view pass.old) (C.view pass.new) }
@@ -112,10 +115,9 @@ fn report_run<R: Threads + Wait + Sync, O: Sink, C: Connections<FlowLaw>, G: Gat
     let played = play(
         rt, alloc, packets, phases, configs, workers, spread, conns, pass, gate,
     )?;
-    let outputs = played.packets.as_slice();
-    let outcomes = played.outcomes.as_slice();
-    put_report(alloc, &ifaces, outputs, outcomes, out)?;
-    Ok(played)
+    let Played { outcomes, packets } = played;
+    put_report(alloc, &ifaces, packets.as_slice(), outcomes.as_slice(), out)?;
+    Ok(Played { outcomes, packets })
 }
 
 fn spread_of(word: SpreadWord) -> Spread
@@ -131,8 +133,8 @@ fn spread_of(word: SpreadWord) -> Spread
 fn write_passed<F: Files>(
     alloc: Global,
     name: &str,
-    extents: &[Option<IpExtent>],
-    played: &Played,
+    extents: &[IpExtent],
+    played: &Played<'_>,
     files: &mut F,
 ) -> Result<(), CommandFault>
     requires extents { length extents.now ≡ length played.now.packets }

@@ -1,15 +1,15 @@
 -- The capture that is written of a run: the packets that passed, in order, with their times, each as it was sent, from its IP header to the
 -- IP packet's end.
-use Rattle.std.specs.Prelude.{◌≡◌, ℕ, ◌-◌, if◌then◌else◌, true, false, Option, Some, None, List, [], ◌∷◌, ◌++◌, take, drop}
+use Rattle.std.specs.Prelude.{◌≡◌, ℕ, ◌-◌, if◌then◌else◌, true, false, List, [], ◌∷◌, ◌++◌, take, drop}
 use Rattle.npf_types.specs.declared.facts.Facts.{Facts}
 use Rattle.npf_pcap.specs.declared.capture.Record.{Record}
 use Rattle.npf_pcap.specs.Spelling.{record_with}
 use Rattle.npf_packet.specs.declared.decoded.Decoded.TheVariants.{Ip}
+use Rattle.npf_packet.specs.declared.extent.IpExtent.{IpExtent}
 use Rattle.npf_packet.specs.Decoding.{Decodes}
 use Rattle.npf_engine.specs.declared.outcome.Outcome.{Outcome}
 use Rattle.npf_engine.specs.Outcome.{passes}
 use Rattle.npf_runner.specs.declared.packet.Packet.{Packet}
-use Rattle.npf_output.specs.declared.extent.IpExtent.{IpExtent}
 
 -- the bytes of the IP packet that a record with these facts carries
 abbrev pub ip_bytes : Facts → List ℕ → List ℕ
@@ -36,12 +36,11 @@ pub data AreWritten : List Packet → List Packet → List Outcome → List Reco
 abbrev pub record_from : IpExtent → Packet → Record
 record_from extent output = record_with output.time (take (extent.end - extent.at) (drop extent.at output.bytes))
 
--- the record of a packet that passed, if it has one
-abbrev pub records_from : Option IpExtent → Packet → Outcome → List Record
-records_from None output outcome = []
-records_from (Some extent) output outcome = if passes outcome then record_from extent output ∷ [] else []
+-- the record of a packet, if it passed
+abbrev pub records_from : IpExtent → Packet → Outcome → List Record
+records_from extent output outcome = if passes outcome then record_from extent output ∷ [] else []
 
-abbrev pub written_records : List (Option IpExtent) → List Packet → List Outcome → List Record
+abbrev pub written_records : List IpExtent → List Packet → List Outcome → List Record
 written_records (extent ∷ extents) (output ∷ outputs) (outcome ∷ outcomes) =
     records_from extent output outcome ++ written_records extents outputs outcomes
 written_records _ _ _ = []

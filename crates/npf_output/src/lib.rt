@@ -15,7 +15,7 @@ mod putting;
 mod report;
 mod written;
 
-pub use extent::{IpExtent, ip_extents};
+pub use extent::ip_extents;
 pub use laws::played_are_outputs;
 pub use putting::put_text;
 pub use report::{put_report, put_total};

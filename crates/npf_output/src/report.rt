@@ -23,7 +23,7 @@ use std::alloc::Global;
 pub fn put_report<O: Sink>(
     alloc: Global,
     ifaces: &Ifaces,
-    packets: &[Packet],
+    packets: &[Packet<'_>],
     outcomes: &[Outcome],
     out: &mut O,
 ) -> Result<(), CommandFault>
@@ -68,7 +68,7 @@ pub fn put_total<O: Sink>(
 }
 
 // The name of the interface that the packet crossed.
-fn crossed(ifaces: &Ifaces, packet: &Packet) -> Name
+fn crossed(ifaces: &Ifaces, packet: &Packet<'_>) -> Name
     requires { CrossesOneOf (length ifaces.now.list) packet.now }
     ensures { name_bytes result ≡ name_of_interface ifaces.now.list packet.now.ifid }
 {
@@ -81,7 +81,7 @@ fn put_line<O: Sink>(
     text: &mut Vec<u8>,
     n: u64,
     name: Name,
-    packet: &Packet,
+    packet: &Packet<'_>,
     outcome: &Outcome,
     out: &mut O,
 ) -> Result<(), CommandFault>

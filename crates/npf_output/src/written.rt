@@ -9,8 +9,8 @@ ghost use Rattle.npf_output.specs.Extents.{AreExtentsOf, EndsInPacket};
 ghost use Rattle.npf_output.specs.Outputs.{AreOutputsOf};
 ghost use Rattle.npf_output.specs.Written.{AreWritten, records_from, written_records};
 
-use crate::extent::IpExtent;
 use npf_engine::Outcome;
+use npf_packet::IpExtent;
 use npf_pcap::{append_header, append_record};
 use npf_runner::Packet;
 use npf_types::NoMemory;
@@ -20,8 +20,8 @@ use std::alloc::Global;
 /// must have an extent and an outcome, and the seconds of its time 32 bits.
 pub fn written_capture(
     alloc: Global,
-    extents: &[Option<IpExtent>],
-    outputs: &[Packet],
+    extents: &[IpExtent],
+    outputs: &[Packet<'_>],
     outcomes: &[Outcome],
 ) -> Result<Vec<u8>, NoMemory>
     requires extents { length extents.now ≡ length outputs.now }
@@ -38,8 +38,8 @@ pub fn written_capture(
 // The capture, by the extents alone.
 fn write_all(
     alloc: Global,
-    extents: &[Option<IpExtent>],
-    outputs: &[Packet],
+    extents: &[IpExtent],
+    outputs: &[Packet<'_>],
     outcomes: &[Outcome],
 ) -> Result<Vec<u8>, NoMemory>
     requires extents { length extents.now ≡ length outputs.now }
@@ -59,8 +59,8 @@ fn write_all(
 // Appends the record of a packet that passed, and nothing of another.
 fn write_passed(
     written: &mut Vec<u8>,
-    extent: Option<IpExtent>,
-    output: &Packet,
+    extent: IpExtent,
+    output: &Packet<'_>,
     outcome: &Outcome,
 ) -> Result<(), NoMemory>
     requires ends { EndsInPacket extent }
@@ -68,9 +68,6 @@ fn write_passed(
     ensures { OnOk result
         (written.new.items ≡ written.old.items ++ flat_map record_bytes (records_from extent output.now outcome.now)) }
 {
-    let Some(extent) = extent else {
-        return Ok(());
-    };
     if !outcome.passes() {
         return Ok(());
     }

@@ -14,9 +14,10 @@ use Rattle.npf_packet.specs.declared.version.Version.{Version}
 use Rattle.npf_packet.specs.declared.version.Version.TheVariants.{V4, V6}
 use Rattle.npf_packet.specs.declared.packet.Packet.{Packet}
 use Rattle.npf_packet.specs.Decoding.{Decodes, DecodesIp, packet_at, version_behind}
+use Rattle.npf_packet.specs.Extent.{told_end}
 use Rattle.npf_packet.specs.Field.{ipv6_source, ipv6_destination}
 use Rattle.npf_packet.specs.Ipv4.{packet_v4, fields_v4, header_len, total_len}
-use Rattle.npf_packet.specs.Ipv6.{IsPacketV6, IsBehindChain, behind_last, end_v6, first_header, next_header}
+use Rattle.npf_packet.specs.Ipv6.{IsPacketV6, IsBehindChain, behind_last, end_v6, first_header, next_header, payload_len}
 use Rattle.npf_packet.specs.PacketField.{HasIpHeader}
 use Rattle.npf_packet.specs.Place.{least_ip_header}
 use Rattle.npf_packet.specs.Upper.{Carries}
@@ -72,12 +73,14 @@ next-between bytes from to x y here h = grind (arith, nat_tests)
 pub record IsWholeV6 (bytes : List ℕ) (ip_at : ℕ) (packet : Packet) : Type 0 where
   pub last : Header
   pub end : ℕ
+  pub told : ip_at + 40 + payload_len bytes ip_at ≡ end
   pub whole : end ≤ length bytes
   pub place : LiesBetween (ip_at + 40) end last
   pub is : behind_last bytes ip_at end last ≡ Ok packet
 
 ends_v6 : (bytes : List ℕ) (ip_at end : ℕ)
-    → end_v6 bytes ip_at ≡ Ok end → (ip_at + 40 ≤ end) × (end ≤ length bytes)
+    → end_v6 bytes ip_at ≡ Ok end
+    → (ip_at + 40 + payload_len bytes ip_at ≡ end) × (end ≤ length bytes)
 ends_v6 bytes ip_at end h = (grind (arith, nat_tests), grind (arith, nat_tests))
 
 pub whole_v6 : (bytes : List ℕ) (ip_at : ℕ) (packet : Packet)
@@ -91,10 +94,11 @@ whole_v6 bytes ip_at packet h =
     record {
       last = behind.last;
       end = end;
+      told = ends.0;
       whole = ends.1;
       place = chain_keeps (next_header bytes end) (LiesBetween (ip_at + 40) end)
           (next-between bytes (ip_at + 40) end) (first_header bytes ip_at) behind.chain.headers
-          behind.last behind.chain.chain (record { after = omega arith; before = ends.0 });
+          behind.last behind.chain.chain (record { after = omega arith; before = omega (arith, ends.0) });
       is = sym behind.says;
     }
 
@@ -119,6 +123,7 @@ pub record IsIpPacket (link : Link) (bytes : List ℕ) (packet : Packet) : Type 
   pub header : HasIpHeader bytes packet.ip_at packet.l4_at packet.proto packet.src packet.dst
   pub after : packet.ip_at + least_ip_header packet.src ≤ packet.l4_at
   pub before : packet.l4_at ≤ packet.end
+  pub told : told_end bytes packet.ip_at ≡ packet.end
   pub end : packet.end ≤ length bytes
 
 ip_packet_v4 : (link : Link) (bytes : List ℕ) (packet : Packet)
@@ -136,6 +141,7 @@ ip_packet_v4 link bytes packet version whole = subst (IsIpPacket link bytes) who
   };
   after = omega (arith, whole.header);
   before = omega (arith, whole.total);
+  told = rw version refl;
   end = whole.whole;
 })
 
@@ -149,6 +155,7 @@ ip_packet_v6 link bytes packet version whole =
       header = record { version = version; source = refl; destination = refl };
       after = whole.place.after;
       before = whole.place.before;
+      told = rw version whole.told;
       end = whole.whole;
     })
 

@@ -37,10 +37,14 @@ next_header bytes end header =
     else None
 
 module _ (bytes : List ℕ) (ip_at : ℕ) where
+  -- the length in bytes of what follows the header
+  abbrev pub payload_len : ℕ
+  payload_len = number16 bytes (ip_at + ipv6_payload_length)
+
   -- where the packet ends, whose payload's length doesn't count the header
   abbrev pub end_v6 : Result ℕ Decoded
   end_v6 =
-      let end = ip_at + 40 + number16 bytes (ip_at + ipv6_payload_length) in
+      let end = ip_at + 40 + payload_len in
       if nat_lt (length bytes) (ip_at + 40) then Err (cut (length bytes))
       else (if nat_lt (length bytes) end then Err (cut (length bytes)) else Ok end)
 

@@ -3,6 +3,7 @@ pub mod Decoded
 pub mod Decoding
 pub mod DecodingLaw
 pub mod Ethernet
+pub mod Extent
 pub mod Field
 pub mod Icmp
 pub mod Icmpv6

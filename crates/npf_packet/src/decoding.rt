@@ -24,7 +24,7 @@ pub fn decode(link: Link, bytes: &[u8]) -> Decoded
 }
 
 /// Where the IP header begins.
-fn packet_at(link: Link) -> usize
+pub(crate) fn packet_at(link: Link) -> usize
     ensures { result ≡ packet_at link }
 {
     match link {

@@ -1,6 +1,6 @@
 // IPv4 (RFC 791 section 3.1); specs/Ipv4.antt has the picture of its header.
 ghost use Rattle.std.specs.Prelude.{◌≡◌, ◌+◌, ◌*◌, ◌%◌, ◌==◌, ◌≤◌, not, length, IfOk};
-ghost use Rattle.npf_packet.specs.Ipv4.{packet_v4};
+ghost use Rattle.npf_packet.specs.Ipv4.{packet_v4, total_len};
 ghost use Rattle.npf_packet.specs.Packet.{IsPlaced};
 
 use crate::decoded::Decoded;
@@ -40,7 +40,7 @@ pub(crate) fn packet_v4(bytes: &[u8], ip_at: usize) -> Result<Packet, Decoded>
     if header_len < HEADER {
         return Err(Decoded::bad(ip_at));
     }
-    let total_len = get16(bytes, ip_at + field::TOTAL_LEN) as usize;
+    let total_len = total_len(bytes, ip_at);
     if total_len < header_len {
         return Err(Decoded::bad(ip_at + field::TOTAL_LEN));
     }
@@ -65,6 +65,15 @@ fn header_len(first: u8) -> usize
     ensures { result ≡ 4 * (first % 16) }
 {
     4 * (first & 15) as usize
+}
+
+/// The packet's length in bytes, its header with it.
+pub(crate) fn total_len(bytes: &[u8], ip_at: usize) -> usize
+    requires header { ip_at + 4 ≤ length bytes.now }
+    requires size { length bytes.now ≤ MAX_PACKET_BYTES }
+    ensures { result ≡ total_len bytes.now ip_at }
+{
+    get16(bytes, ip_at + field::TOTAL_LEN) as usize
 }
 
 /// Whether more fragments follow or the offset isn't 0.

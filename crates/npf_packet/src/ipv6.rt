@@ -1,6 +1,6 @@
 // IPv6 and its extension headers (RFC 8200 sections 3 and 4); specs/Ipv6.antt has the picture of the header.
 ghost use Rattle.std.specs.Prelude.{◌≡◌, ◌+◌, ◌<◌, ◌≤◌, length, IfOk, IfSome};
-ghost use Rattle.npf_packet.specs.Ipv6.{IsPacketV6, HasLast, end_v6, is_extension, extension_len, next_header};
+ghost use Rattle.npf_packet.specs.Ipv6.{IsPacketV6, HasLast, end_v6, is_extension, extension_len, next_header, payload_len};
 ghost use Rattle.npf_packet.specs.Packet.{IsPlaced};
 
 use crate::decoded::Decoded;
@@ -21,7 +21,7 @@ mod field {
 }
 
 /// The header, in bytes.
-const HEADER: usize = 40;
+pub(crate) const HEADER: usize = 40;
 
 /// The kinds of extension headers (assigned Internet protocol numbers).
 mod kind {
@@ -83,11 +83,20 @@ fn end_v6(bytes: &[u8], ip_at: usize) -> Result<usize, Decoded>
     if size < ip_at + HEADER {
         return Err(Decoded::cut(size));
     }
-    let end = ip_at + HEADER + get16(bytes, ip_at + field::PAYLOAD_LEN) as usize;
+    let end = ip_at + HEADER + payload_len(bytes, ip_at);
     if size < end {
         return Err(Decoded::cut(size));
     }
     Ok(end)
+}
+
+/// The length in bytes of what follows the header.
+pub(crate) fn payload_len(bytes: &[u8], ip_at: usize) -> usize
+    requires header { ip_at + 6 ≤ length bytes.now }
+    requires size { length bytes.now ≤ MAX_PACKET_BYTES }
+    ensures { result ≡ payload_len bytes.now ip_at }
+{
+    get16(bytes, ip_at + field::PAYLOAD_LEN) as usize
 }
 
 /// The last header of the chain that the header at `ip_at` begins.

@@ -9,12 +9,14 @@
 // The contract: `decode` answers exactly what `Decodes` says of the link and the bytes, and for
 // each link and bytes there is one such answer. Each field is the number at a stated offset;
 // extension headers and options are lists in which each follows from the one before. `decode` takes
-// no memory and always returns.
+// no memory and always returns. `ip_extent` tells where a record has its IP packet, by the IP header
+// alone, as `decode` would.
 #![tactic(auto)]
 
 mod decoded;
 mod decoding;
 mod ethernet;
+mod extent;
 mod icmp;
 mod icmpv6;
 mod ipv4;
@@ -29,4 +31,5 @@ mod version;
 
 pub use decoded::{BadPacket, Decoded};
 pub use decoding::decode;
+pub use extent::{IpExtent, ip_extent};
 pub use laws::{decoded_has_fields, decoded_has_places, decoded_is_packet, one_decoding};

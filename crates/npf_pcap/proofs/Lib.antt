@@ -1,3 +1,4 @@
+pub mod ExtentLemmas
 pub mod FormatLemmas
 pub mod RecordLemmas
 pub mod CaptureLemmas

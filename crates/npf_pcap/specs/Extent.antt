@@ -1,5 +1,5 @@
 -- Where a capture's bytes have its packets.
-use Rattle.std.specs.Prelude.{ℕ, ◌+◌, ◌≤◌, List, length, take, drop, map}
+use Rattle.std.specs.Prelude.{ℕ, ◌+◌, ◌≤◌, List, [], ◌∷◌, length, take, drop, map}
 use Rattle.npf_types.specs.declared.limits.TheConstants.{MAX_PACKET_BYTES}
 use Rattle.npf_pcap.specs.declared.capture.Record.{Record}
 use Rattle.npf_pcap.specs.declared.extent.Extent.{Extent}
@@ -19,6 +19,11 @@ records_at bytes = map (record_at bytes)
 -- it ends within so many bytes
 abbrev pub EndsWithin : ℕ → Extent → Type 0
 EndsWithin size extent = extent.at + extent.len ≤ size
+
+-- they stand between two places, one behind the other
+abbrev pub StandApart : ℕ → List Extent → ℕ → Type 0
+StandApart low [] high = low ≤ high
+StandApart low (extent ∷ extents) high = (low ≤ extent.at) × StandApart (extent.at + extent.len) extents high
 
 -- it is no longer than a packet may be
 abbrev pub IsShort : Extent → Type 0

@@ -3,7 +3,7 @@ ghost use Rattle.npf_types.specs.declared.link.Link.{Link as LinkType};
 ghost use Rattle.npf_pcap.specs.declared.capture.Record.{Record as RecordType};
 ghost use Rattle.npf_pcap.specs.declared.fault.CaptureFault.{CaptureFault as FaultType};
 ghost use Rattle.npf_pcap.specs.Capture.{IsCapture, HasCaptureFault, HasHeader, HasVersion};
-ghost use Rattle.npf_pcap.specs.Extent.{record_at, records_at, EndsWithin, IsShort, IsTimely};
+ghost use Rattle.npf_pcap.specs.Extent.{record_at, records_at, EndsWithin, IsShort, IsTimely, StandApart};
 ghost use Rattle.npf_pcap.specs.Format.{link_number};
 ghost use Rattle.npf_pcap.specs.Record.{AreRecords, Spells, record_len, time_of as time_said, HasRecord};
 ghost use Rattle.npf_pcap.specs.Reading.{HasRecordFault, FailsRecord};
@@ -62,6 +62,7 @@ pub fn read_extents(alloc: Global, bytes: &[u8]) -> Result<Extents, CaptureFault
     requires { length bytes.now ≤ MAX_CAPTURE_BYTES }
     ensures read { IfOk result (λ c. IsCapture bytes.now c.link (records_at bytes.now c.extents)) }
     ensures within { IfOk result (λ c. All (EndsWithin (length bytes.now)) c.extents) }
+    ensures apart { IfOk result (λ c. StandApart 0 c.extents (length bytes.now)) }
     ensures short { IfOk result (λ c. All IsShort c.extents) }
     ensures timely { IfOk result (λ c. All IsTimely c.extents) }
     ensures fault { IfErr result (λ e. HasCaptureFault bytes.now e) }
@@ -114,6 +115,7 @@ fn extents_of(alloc: Global, format: Format, bytes: &[u8]) -> Result<List<Extent
     requires header { 24 ≤ length bytes.now }
     ensures read { IfOk result (λ extents. AreRecords format (drop 24 bytes.now) (records_at bytes.now extents)) }
     ensures within { IfOk result (λ extents. All (EndsWithin (length bytes.now)) extents) }
+    ensures apart { IfOk result (λ extents. StandApart 0 extents (length bytes.now)) }
     ensures short { IfOk result (λ extents. All IsShort extents) }
     ensures timely { IfOk result (λ extents. All IsTimely extents) }
     ensures fault { IfErr result (λ e. HasRecordFault format (drop 24 bytes.now) e) }
@@ -136,6 +138,7 @@ fn extent_at(format: Format, bytes: &[u8], at: usize, number: u32) -> Result<Ext
     requires inside { at < length bytes.now }
     ensures read { IfOk result (λ extent. Spells format (drop at bytes.now) (record_at bytes.now extent)) }
     ensures behind { IfOk result (λ extent. extent.at + extent.len ≡ at + record_len format (drop at bytes.now)) }
+    ensures ahead { IfOk result (λ extent. at ≤ extent.at) }
     ensures within { IfOk result (λ extent. EndsWithin (length bytes.now) extent) }
     ensures short { IfOk result IsShort }
     ensures timely { IfOk result IsTimely }

@@ -1,5 +1,5 @@
 -- What holds of a work that is done in two parts.
-use Rattle.std.proofs.Common.{◌≡◌, ◌≤◌, ◌∙◌, ℕ, List, refl, arith}
+use Rattle.std.proofs.Common.{◌∙◌, refl, arith}
 use Rattle.npf_outside.specs.Files.{FilesMoment, SameReadFaults}
 use Rattle.npf_config.specs.Reading.{OnlyReads}
 

@@ -1,5 +1,5 @@
 -- The packets of a run's captures, one line after another.
-use Rattle.std.proofs.Common.{◌≡◌, ◌≢◌, ℕ, Result, Ok, Err, OnOk, IfErr, List, [], ◌∷◌, refl, subst}
+use Rattle.std.proofs.Common.{◌≡◌, ◌≢◌, ℕ, Result, Ok, Err, OnOk, IfErr, List, [], ◌∷◌, length, get_or, refl, subst, arith}
 use Rattle.npf_types.specs.declared.direction.Dir.{Dir}
 use Rattle.npf_types.specs.declared.interface.IfId.{IfId}
 use Rattle.npf_types.specs.declared.limits.TheConstants.{MAX_CAPTURE_BYTES}
@@ -21,6 +21,7 @@ use Rattle.npf_input.specs.File.{ReadsFile}
 use Rattle.npf_input.specs.Source.{Source, Scripted}
 use Rattle.npf_input.specs.Unless.{IfTold, UnlessMemory}
 use Rattle.npf_input.proofs.AroundLemmas.{around_first, around_next}
+use Rattle.npf_input.proofs.UnlessLemmas.{unless_lasts}
 use Rattle.npf_prepare.specs.Captures.{GathersCaptures, GathersLine, ReadsCaptureFile, interface_id}
 use Rattle.npf_prepare.proofs.AroundLemmas.{faultless_none, faultless_on, reads_none, reads_on}
 use Rattle.npf_prepare.proofs.StageLemmas.{told_as, told_unless}
@@ -68,18 +69,40 @@ module _ (source : Source) (ifaces : List Iface) (lines : List (ℕ × ScriptLin
 -- the capture of a line is gathered, whose file has these bytes
 module _ (before after : FilesMoment) (source : Source) (ifaces : List Iface) (name : Name) (dir : Dir) (file : List ℕ) (gathered more : Gathered) (bytes : List ℕ)
     (reads : ReadsCaptureFile before after source ifaces source file (Ok bytes)) (said : List ℕ) (same_file : said ≡ file)
-    (id : IfId) (same_id : id ≡ interface_id ifaces name) (read : List ℕ) (same_bytes : read ≡ bytes) where
-  captured : (result : Result Gathered CommandFault) → GathersCapture gathered said id dir read result → GathersCapture gathered file (interface_id ifaces name) dir bytes result
+    (id : IfId) (same_id : id ≡ interface_id ifaces name) where
+  captured : (result : Result Gathered CommandFault) → GathersCapture gathered said id dir bytes result → GathersCapture gathered file (interface_id ifaces name) dir bytes result
   captured result is =
-      subst (λ f. GathersCapture gathered f (interface_id ifaces name) dir bytes result) same_file
-      (subst (λ i. GathersCapture gathered said i dir bytes result) same_id (subst (λ b. GathersCapture gathered said id dir b result) same_bytes is))
+      subst (λ f. GathersCapture gathered f (interface_id ifaces name) dir bytes result) same_file (subst (λ i. GathersCapture gathered said i dir bytes result) same_id is)
 
-  pub line_done : (answer : Result (Unit {0}) CommandFault) → OnOk answer (GathersCapture gathered said id dir read (Ok more)) →
-      IfErr answer (λ fault. fault ≢ NoMemory → GathersCapture gathered said id dir read (Err fault)) →
+  pub line_done : (answer : Result (Unit {0}) CommandFault) → OnOk answer (GathersCapture gathered said id dir bytes (Ok more)) →
+      IfErr answer (λ fault. fault ≢ NoMemory → GathersCapture gathered said id dir bytes (Err fault)) →
       UnlessMemory (λ _. more) answer (GathersLine before after source ifaces (Capture name dir file) gathered)
   line_done (Ok _) done refused = goes_on reads (captured (Ok more) done)
   line_done (Err fault) done refused =
       told_unless (λ other. GathersLine before after source ifaces (Capture name dir file) gathered (Err other)) fault (λ real. goes_on reads (captured (Err fault) (refused real)))
+
+  -- the same where nothing was gathered before
+  pub first_done : gathered ≡ none_gathered → (answer : Result (Unit {0}) CommandFault) → OnOk answer (GathersCapture gathered said id dir bytes (Ok more)) →
+      IfErr answer (λ fault. fault ≢ NoMemory → GathersCapture gathered said id dir bytes (Err fault)) →
+      UnlessMemory (λ _. more) answer (GathersLine before after source ifaces (Capture name dir file) none_gathered)
+  first_done none answer done refused =
+      subst (λ (old : Gathered). UnlessMemory (λ _. more) answer (GathersLine before after source ifaces (Capture name dir file) old)) none (line_done answer done refused)
+
+-- where there is one line, what it comes to is what all come to
+module _ (before after : FilesMoment) (source : Source) (ifaces : List Iface) where
+  one_gathered : (line : ScriptLine) (gathered : Gathered) (result : Result Gathered CommandFault) →
+      GathersLine before after source ifaces line gathered result → GathersCaptures before after source ifaces (line ∷ []) gathered result
+  one_gathered line gathered (Ok more) is = goes_on is refl
+  one_gathered line gathered (Err fault) is = stops is
+
+  pub only_gathered : (lines : List (ℕ × ScriptLine)) (spare : ℕ × ScriptLine) → length lines ≡ 1 → (answer : Result Arrivals CommandFault) →
+      UnlessMemory gathered_so_far answer (GathersLine before after source ifaces (get_or lines 0 spare).1 none_gathered) →
+      UnlessMemory gathered_so_far answer (GathersCaptures before after source ifaces (unnumbered lines) none_gathered)
+  only_gathered [] spare one answer comes = absurd (omega arith)
+  only_gathered (line ∷ []) spare one answer comes =
+      unless_lasts gathered_so_far (GathersLine before after source ifaces line.1 none_gathered) (GathersCaptures before after source ifaces (line.1 ∷ []) none_gathered)
+      (one_gathered line.1 none_gathered) answer comes
+  only_gathered (line ∷ other ∷ lines) spare one answer comes = absurd (omega arith)
 
 -- the file of the line's capture isn't read
 pub line_unread :

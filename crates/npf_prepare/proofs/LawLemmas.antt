@@ -1,5 +1,5 @@
 -- A run over told contents, of which no read fails, is prepared from the contents alone.
-use Rattle.std.proofs.Common.{◌≡◌, ℕ, Bool, true, false, cond, Some, Result, List, [], ◌∷◌, ◌++◌}
+use Rattle.std.proofs.Common.{◌≡◌, ℕ, cond, Some, Result, List, [], ◌∷◌, ◌++◌}
 use Rattle.npf_stages.specs.Stages.{Stage, ◌andthen◌, stops, goes_on}
 use Rattle.npf_model.specs.declared.iface.Iface.{Iface}
 use Rattle.npf_model.specs.Configuration.{Configuration}
@@ -12,7 +12,7 @@ use Rattle.npf_messages.specs.declared.fault.CommandFault.{CommandFault}
 use Rattle.npf_types.specs.declared.limits.TheConstants.{MAX_CAPTURE_BYTES}
 use Rattle.npf_input.specs.File.{ReadsFile, ReadsWell, told_files}
 use Rattle.npf_input.specs.Interfaces.{ReadsInterfaces}
-use Rattle.npf_input.specs.Laws.{ConfigurationsAreOfContents, FilesAreOfContents, InterfacesAreOfContents, IsOfContents}
+use Rattle.npf_input.specs.Laws.{ConfigurationsAreOfContents, FilesAreOfContents, InterfacesAreOfContents}
 use Rattle.npf_input.specs.Loading.{LoadsFile}
 use Rattle.npf_input.specs.Source.{Source, Alone, Scripted, ReadsSource, lines_of_source}
 use Rattle.npf_prepare.specs.Captures.{GathersCaptures, GathersLine, ReadsCaptureFile, interface_id}

@@ -1,5 +1,5 @@
 -- What is known of the lines of a script.
-use Rattle.std.proofs.Common.{◌≡◌, ◌≤◌, ◌<◌, ◌+◌, ◌∙◌, ℕ, Bool, true, false, cond, ◌||◌, Option, Some, None, Ok, List, [], ◌∷◌, ◌++◌, All, length, drop, get_or, map, refl, sym, subst, ap, arith, true≢false}
+use Rattle.std.proofs.Common.{◌≡◌, ◌≤◌, ◌<◌, ◌+◌, ◌∙◌, ℕ, Bool, true, false, cond, ◌||◌, Option, Some, None, IfSome, Vec, Global, option_map, Ok, List, [], ◌∷◌, ◌++◌, All, length, drop, get_or, refl, sym, subst, ap, arith, true≢false}
 use Rattle.std.specs.List.{list_any}
 use Rattle.std.specs.Str.{bytes_eq}
 use Rattle.std.proofs.lemmas.List.{drop_more}
@@ -7,7 +7,6 @@ use Rattle.std.proofs.lemmas.Bool.{le-leb}
 use Rattle.std.proofs.lemmas.List.Elements.{All-append, All-cons, All-nil, All-weaker}
 use Rattle.std.proofs.lemmas.Slice.Eq.{bytes_eq-Decides}
 use Rattle.std.proofs.lemmas.List.Folds.{list_any-append}
-use Rattle.npf_types.specs.declared.interface.IfId.{IfId}
 use Rattle.npf_types.specs.declared.limits.TheConstants.{MAX_INTERFACES}
 use Rattle.npf_types.specs.declared.name.Name.{Name}
 use Rattle.npf_types.specs.Name.{name_bytes}
@@ -21,9 +20,11 @@ use Rattle.npf_script.specs.Lines.{AreRead, nothing, skipped, told}
 use Rattle.npf_schedule.specs.Schedule.{run_interfaces, unnumbered, with_interface}
 use Rattle.npf_arrivals.specs.Within.{IsInterfaceNumber}
 use Rattle.npf_table.specs.TableFile.{lines as text_lines}
-use Rattle.npf_input.specs.Source.{ReadsSource, Scripted, scripted}
+use Rattle.npf_input.specs.Source.{ReadsSource, Scripted, lines_of_source, scripted}
 use Rattle.npf_prepare.specs.Captures.{interface_id}
 use Rattle.npf_prepare.specs.Known.{NamesKnownInterface, NamesTextFile}
+use Rattle.npf_prepare.specs.View.{source_ordered, source_with}
+use Rattle.npf_prepare.specs.declared.orders.Orders.{Orders}
 
 -- a line that has its form names files by text
 form_names : (line : List ℕ) (said : ScriptLine) → IsForm line said → NamesTextFile said
@@ -129,3 +130,12 @@ line_and_rest lines i line within is = drop_more lines i line within ∙ ap (λ 
 -- the files that a script names are named by text
 pub script_names : (file bytes : List ℕ) (lines : List (ℕ × ScriptLine)) → ReadsSource file bytes (Ok (Scripted lines)) → All (λ line. NamesTextFile line.1) lines
 script_names file bytes lines (scripted not_capture fits is) = read_names (text_lines bytes) lines is
+
+one_if : (script : List ℕ) (lines : List (ℕ × ScriptLine)) (alone : Option (Vec ℕ Global)) →
+    lines ≡ lines_of_source script (source_with (option_map (λ bytes. bytes.items) alone) lines) → IfSome alone (λ _. length lines ≡ 1)
+one_if script lines None are = tt
+one_if script lines (Some bytes) are = ap length are
+
+-- a capture alone stands for one line
+pub one_line : (script : List ℕ) (orders : Orders) → orders.lines ≡ lines_of_source script (source_ordered orders) → IfSome orders.alone (λ _. length orders.lines ≡ 1)
+one_line script orders are = one_if script orders.lines orders.alone are

@@ -1,13 +1,13 @@
 -- The configurations of a run, one of another.
-use Rattle.std.proofs.Common.{◌≡◌, ◌≢◌, ◌≤◌, ◌+◌, ◌-◌, ◌∙◌, ℕ, Bool, true, false, cond, Option, Some, None, Result, Ok, Err, IfOk, IfErr, IfSome, List, [], ◌∷◌, ◌++◌, All, length, map, drop, option_map, unwrap_or, get_or, refl, sym, subst, ap, arith, true≢false}
+use Rattle.std.proofs.Common.{◌≡◌, ◌≢◌, ◌≤◌, ◌+◌, ◌-◌, ◌∙◌, ℕ, Bool, true, false, cond, Option, Some, None, Result, Ok, Err, IfOk, IfErr, IfSome, List, [], ◌∷◌, ◌++◌, All, length, map, get_or, refl, sym, subst, ap, arith, true≢false}
 use Rattle.std.specs.Option.{is_some}
-use Rattle.std.proofs.lemmas.List.{drop_more, get_or_at, length-append, map-append}
+use Rattle.std.proofs.lemmas.List.{get_or_at, length-append, map-append}
 use Rattle.std.proofs.lemmas.List.Elements.{All-weaker}
 use Rattle.std.proofs.lemmas.List.Sums.{sum_by-cons}
 use Rattle.npf_types.specs.declared.limits.TheConstants.{MAX_CHANGES}
 use Rattle.npf_types.specs.declared.name.Name.{Name}
 use Rattle.npf_types.specs.declared.prefix.Prefix.{Prefix}
-use Rattle.npf_stages.specs.Stages.{Stage, ◌andthen◌, stops, goes_on, ◌told_by◌, told, done}
+use Rattle.npf_stages.specs.Stages.{Stage, stops, goes_on, ◌told_by◌, told, done}
 use Rattle.npf_model.specs.declared.group.Group.{Group}
 use Rattle.npf_model.specs.declared.group.Item.{Item}
 use Rattle.npf_model.specs.declared.group.Item.TheVariants.{One, Dynamic}

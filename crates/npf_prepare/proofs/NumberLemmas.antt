@@ -19,7 +19,7 @@ use Rattle.npf_model.specs.Numbering.{numbered, numbered_entry, numbered_group, 
 use Rattle.npf_model.specs.Verdict.{PlacedRule, all_rules, rules_at, rules_of}
 use Rattle.npf_ruleset.specs.declared.config.Config.{Config}
 use Rattle.npf_ruleset.specs.Configuration.{programs}
-use Rattle.npf_ruleset.specs.Flat.{IsCompiled, IsPairwise, instructions}
+use Rattle.npf_ruleset.specs.Flat.{IsCompiled}
 use Rattle.npf_ruleset.specs.Refusal.{AreProgramsOf, IsBuildable, IsCompilable, IsLight, IsWithinLimits}
 use Rattle.npf_ruleset.specs.Tables.{entries}
 use Rattle.npf_config.specs.Tables.{HaveKinds, entry_count}

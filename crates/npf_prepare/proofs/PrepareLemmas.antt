@@ -1,5 +1,5 @@
 -- A run is prepared stage by stage.
-use Rattle.std.proofs.Common.{◌≡◌, ◌+◌, ◌∙◌, ℕ, Result, Ok, Err, List, [], ◌∷◌, length, sym, subst, ap}
+use Rattle.std.proofs.Common.{◌≡◌, ℕ, Result, Ok, Err, List, [], ◌∷◌, length, sym, subst}
 use Rattle.npf_types.specs.declared.limits.TheConstants.{MAX_CAPTURE_BYTES}
 use Rattle.npf_stages.specs.Stages.{Stage, ◌andthen◌, stops, goes_on}
 use Rattle.npf_model.specs.declared.iface.Iface.{Iface}

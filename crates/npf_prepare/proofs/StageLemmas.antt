@@ -1,5 +1,5 @@
 -- What is said of a fault, unless memory ran out.
-use Rattle.std.proofs.Common.{◌≡◌, ◌≢◌, Result, Ok, Err, refl, subst}
+use Rattle.std.proofs.Common.{◌≢◌, subst}
 use Rattle.npf_messages.specs.declared.fault.CommandFault.{CommandFault}
 use Rattle.npf_messages.specs.declared.fault.CommandFault.TheVariants as Fault
 use Rattle.npf_input.specs.Unless.{IfTold}

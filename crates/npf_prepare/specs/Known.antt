@@ -1,5 +1,5 @@
 -- What is known of the lines of a script before they are followed.
-use Rattle.std.specs.Prelude.{ℕ, List, length}
+use Rattle.std.specs.Prelude.{List, length}
 use Rattle.std.specs.Str.{IsUtf8}
 use Rattle.npf_model.specs.declared.iface.Iface.{Iface}
 use Rattle.npf_script.specs.declared.script.ScriptLine.{ScriptLine}

@@ -1,6 +1,6 @@
 -- What a run is prepared from, in the order of the work: the file of interfaces, the configuration, the script or a capture alone, the limits,
 -- the captures, and the changes of the configuration. The first fault that is met ends it.
-use Rattle.std.specs.Prelude.{ℕ, nat_le, Option, Result, Ok, Err, List, [], ◌∷◌, length, map}
+use Rattle.std.specs.Prelude.{ℕ, nat_le, Option, Result, Ok, List, [], ◌∷◌, length}
 use Rattle.npf_types.specs.declared.limits.TheConstants.{MAX_CAPTURE_BYTES}
 use Rattle.npf_stages.specs.Stages.{Stage, ◌andthen◌, gives, asks_that}
 use Rattle.npf_model.specs.declared.iface.Iface.{Iface}

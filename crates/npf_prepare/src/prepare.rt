@@ -18,6 +18,7 @@ use crate::limits::keep_limits;
 use crate::making::make_configurations;
 use crate::numbering::numbered;
 use crate::orders::{Orders, read_orders};
+use npf_arrivals::Captures;
 use npf_input::{load_file, read_file, read_interfaces};
 use npf_messages::CommandFault;
 use npf_model::Ifaces;
@@ -42,26 +43,27 @@ pub struct RunFiles<'a> {
 
 /// A run that can be played.
 #[derive(Drop)]
-pub struct Prepared {
+pub struct Prepared<'a> {
     /// The given interfaces, and behind them those that only captures name.
     pub ifaces: Ifaces,
     /// The first configuration, and behind it one for each change of the script, by their numbers from 0.
     pub configs: Vec<Config>,
     /// The packets of all captures, by time.
-    pub packets: Vec<Packet>,
+    pub packets: Vec<Packet<'a>>,
     /// The phases, which have all packets and publish all changes.
     pub phases: Vec<Phase>,
 }
 
 /// Prepares the run that these files tell, in this order: the interfaces and the configuration are read, and the script; its captures,
 /// phases, changes and interfaces are counted; the packets of its captures are read, one capture after another; and the configurations are
-/// made that its lines reload or change. The first fault ends it. The files are only read, and each capture's bytes are let go once its
-/// packets are gathered.
-pub fn prepare_run<F: Files>(
+/// made that its lines reload or change. The first fault ends it. The files are only read. The packets stand in the bytes of the captures,
+/// which are put where the caller names, in place of what was there.
+pub fn prepare_run<'a, F: Files>(
     alloc: Global,
     names: RunFiles<'_>,
     files: &mut F,
-) -> Result<Prepared, CommandFault>
+    captures: &'a mut Captures,
+) -> Result<Prepared<'a>, CommandFault>
     ensures comes { (before after : FilesMoment) → Around before (F.moment files.old) (F.moment files.new) after
         → UnlessMemory run_plan_of result (PreparesRun before after (names_of names.entry)) }
     ensures playable { IfOk result IsPlayable }
@@ -72,18 +74,19 @@ pub fn prepare_run<F: Files>(
     let first = load_file(alloc, &given, names.conf, files)?;
     let bytes = read_file(alloc, names.script, MAX_CAPTURE_BYTES as u64, files)?;
     let orders = read_orders(alloc, names.script, bytes)?;
-    prepare_orders(alloc, names.script, given, first, orders, files)
+    prepare_orders(alloc, names.script, given, first, orders, files, captures)
 }
 
 /// Prepares the run with these orders, whose script has this name.
-fn prepare_orders<F: Files>(
+fn prepare_orders<'a, F: Files>(
     alloc: Global,
     script: &str,
     given: Ifaces,
     first: Config,
     orders: Orders,
     files: &mut F,
-) -> Result<Prepared, CommandFault>
+    captures: &'a mut Captures,
+) -> Result<Prepared<'a>, CommandFault>
     requires first { IsChangeable 1 first }
     requires lines { orders.lines ≡ lines_of_source script.now (source_ordered orders) }
     requires text { All (λ line. NamesTextFile line.1) orders.lines }
@@ -101,7 +104,7 @@ fn prepare_orders<F: Files>(
     let arrivals = gather_captures(alloc, alone, &ifaces, lines, files)?;
     let first = numbered(first, &ifaces);
     let configs = make_configurations(alloc, &ifaces, script, lines, first, files)?;
-    let packets = arrivals.by_time()?;
+    let packets = arrivals.by_time(alloc, captures)?;
     let phases = schedule(alloc, lines, packets.as_slice().len() as u64)?;
     packets_add_up();
     publications_are_in_order();

@@ -1,3 +1,4 @@
+pub mod Bytes
 pub mod Commands
 pub mod Crew
 pub mod Dealing

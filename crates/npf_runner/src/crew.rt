@@ -13,22 +13,27 @@ use std::collections::VecDeque;
 
 /// Room for the lanes of a phase, for the passes that come back, and for what each worker has done.
 #[derive(Drop)]
-pub struct Room<P: Drop> {
-    pub lanes: Vec<Lane<P>>,
+pub struct Room<'a, P: Drop> {
+    pub lanes: Vec<Lane<'a, P>>,
     pub others: Vec<P>,
-    pub queues: Queues,
+    pub queues: Queues<'a>,
 }
 
 /// What became of each worker's packets: their outcomes, and the packets as they then stand.
 #[derive(Drop)]
-pub struct Queues {
+pub struct Queues<'a> {
     pub outcomes: Vec<VecDeque<Outcome>>,
-    pub packets: Vec<VecDeque<Packet>>,
+    pub packets: Vec<VecDeque<Packet<'a>>>,
 }
 
-impl<P: Drop> Room<P> {
-    /// Room for so many workers and the control task.
-    pub fn for_workers(alloc: Global, workers: u32) -> Result<Room<P>, NoMemory>
+impl<'a, P: Drop> Room<'a, P> {
+    /// Room for so many workers of these packets and the control task.
+    pub fn for_workers(
+        alloc: Global,
+        workers: u32,
+        // They tell how long what the room is for is borrowed, and nothing more.
+        _packets: &[Packet<'a>],
+    ) -> Result<Room<'a, P>, NoMemory>
         requires { workers ≤ 64 }
         ensures { IfOk result (HasRoomFor workers) }
     {
@@ -44,18 +49,18 @@ impl<P: Drop> Room<P> {
 }
 
 /// A worker for each list of packets and of their numbers, with one of the readers, and with room for the packets' outcomes.
-pub fn workers_with(
+pub fn workers_with<'a>(
     alloc: Global,
     numbers: Vec<Vec<u64>>,
-    packets: Vec<Vec<Packet>>,
+    packets: Vec<Vec<Packet<'a>>>,
     mut readers: Vec<ConfReader>,
-) -> Result<Vec<Worker>, NoMemory>
+) -> Result<Vec<Worker<'a>>, NoMemory>
     requires numbered { vec_len numbers ≡ vec_len packets }
     requires enough { vec_len packets ≤ vec_len readers }
     requires few { vec_len packets ≤ 64 }
-    ensures count { IfOk result (λ workers. vec_len workers ≡ vec_len packets) }
+    ensures count { IfOk result (λ workers. vec_len workers ≡ vec_len packets.entry) }
     ensures numbers { IfOk result (λ workers. map numbers_of_worker workers.items ≡ map vec_items numbers.items) }
-    ensures packets { IfOk result (λ workers. map packets_of_worker workers.items ≡ map vec_items packets.items) }
+    ensures packets { IfOk result (λ workers. map packets_of_worker workers.items ≡ map vec_items packets.entry.items) }
     ensures ready { IfOk result (λ workers. All IsEquipped workers.items) }
     ensures readers { IfOk result (λ workers. All (λ worker. Contains readers.items worker.reader) workers.items) }
 {
@@ -78,16 +83,16 @@ pub fn workers_with(
 }
 
 /// Each worker with one of the passes. It takes no memory.
-pub fn lanes_with<P: Drop>(
-    workers: Vec<Worker>,
+pub fn lanes_with<'a, P: Drop>(
+    workers: Vec<Worker<'a>>,
     passes: &mut Vec<P>,
-    mut lanes: Vec<Lane<P>>,
-) -> Vec<Lane<P>>
+    mut lanes: Vec<Lane<'a, P>>,
+) -> Vec<Lane<'a, P>>
     requires enough { vec_len workers ≤ vec_len passes.old }
     requires empty { lanes.items ≡ [] }
     requires room { vec_len workers ≤ vec_capacity lanes }
-    ensures count { vec_len result ≡ vec_len workers }
-    ensures workers { map worker_of_lane result.items ≡ workers.items }
+    ensures count { vec_len result ≡ vec_len workers.entry }
+    ensures workers { map worker_of_lane result.items ≡ workers.entry.items }
     ensures passes { All (λ lane. Contains passes.old.items lane.pass) result.items }
 {
     for worker in workers {
@@ -98,16 +103,20 @@ pub fn lanes_with<P: Drop>(
 }
 
 /// The passes, and what became of each worker's packets. It takes no memory.
-pub fn apart<P: Drop>(lanes: Vec<Lane<P>>, passes: &mut Vec<P>, mut queues: Queues) -> Queues
+pub fn apart<'a, P: Drop>(
+    lanes: Vec<Lane<'a, P>>,
+    passes: &mut Vec<P>,
+    mut queues: Queues<'a>,
+) -> Queues<'a>
     requires no_outcomes { queues.outcomes.items ≡ [] }
     requires no_packets { queues.packets.items ≡ [] }
     requires for_outcomes { vec_len lanes ≤ vec_capacity queues.outcomes }
     requires for_packets { vec_len lanes ≤ vec_capacity queues.packets }
     requires places { vec_len passes.old + vec_len lanes ≤ vec_capacity passes.old }
-    ensures passes { passes.new.items ≡ passes.old.items ++ map pass_of_lane lanes.items }
+    ensures passes { passes.new.items ≡ passes.old.items ++ map pass_of_lane lanes.entry.items }
     ensures capacity { vec_capacity passes.new ≡ vec_capacity passes.old }
-    ensures outcomes { map queue_items result.outcomes.items ≡ map outcomes_of_lane lanes.items }
-    ensures packets { map queue_items result.packets.items ≡ map packets_of_lane lanes.items }
+    ensures outcomes { map queue_items result.outcomes.items ≡ map outcomes_of_lane lanes.entry.items }
+    ensures packets { map queue_items result.packets.items ≡ map packets_of_lane lanes.entry.items }
 {
     for lane in lanes {
         let Lane { pass, worker } = lane;

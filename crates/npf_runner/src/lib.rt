@@ -24,7 +24,7 @@ mod taking;
 mod worker;
 
 pub use gate::{Gate, NoGate};
-pub use packet::Packet;
+pub use packet::{Packet, PacketBytes};
 pub use phase::{Command, Phase, Spread};
 pub use played::Played;
 pub use playing::play;

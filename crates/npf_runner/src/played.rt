@@ -3,15 +3,15 @@ use npf_engine::Outcome;
 use npf_types::List;
 
 /// What a run made of its packets, in their order: each packet's outcome, and its bytes as they then stand.
-#[derive(Debug, Drop)]
-pub struct Played {
+#[derive(Drop)]
+pub struct Played<'a> {
     pub outcomes: List<Outcome>,
-    pub packets: List<Packet>,
+    pub packets: List<Packet<'a>>,
 }
 
 /// The same of the packets so far, with room for those that are to come.
 #[derive(Drop)]
-pub struct Answers {
+pub struct Answers<'a> {
     pub outcomes: Vec<Outcome>,
-    pub packets: Vec<Packet>,
+    pub packets: Vec<Packet<'a>>,
 }

@@ -29,10 +29,10 @@ use std::thread::Threads;
 ///
 /// Want of memory may come before, between and after the phases, or at a publication: then the pass is whole, its history has grown by
 /// what was done, and there are no outcomes.
-pub fn play<R: Threads + Wait + Sync, C: Connections<FlowLaw>, G: Gate>(
+pub fn play<'a, R: Threads + Wait + Sync, C: Connections<FlowLaw>, G: Gate>(
     rt: &R,
     alloc: Global,
-    packets: Vec<Packet>,
+    packets: Vec<Packet<'a>>,
     phases: &[Phase],
     configs: &[Config],
     workers: u32,
@@ -40,7 +40,7 @@ pub fn play<R: Threads + Wait + Sync, C: Connections<FlowLaw>, G: Gate>(
     conns: &C,
     pass: &mut C::Pass,
     gate: &G,
-) -> Result<Played, NoMemory>
+) -> Result<Played<'a>, NoMemory>
     requires own { C.fits conns.now pass.old }
     requires legal { IsPass flow_law (C.view pass.old) }
     requires out { (C.view pass.old).entered ≡ false }
@@ -59,7 +59,7 @@ pub fn play<R: Threads + Wait + Sync, C: Connections<FlowLaw>, G: Gate>(
     ensures begins { IsPrefix (C.view pass.old).history (C.view pass.new).history }
     ensures sweeps { (C.view pass.old).sweeps ≤ (C.view pass.new).sweeps }
     ensures epoch { (C.view pass.old).epoch ≤ (C.view pass.new).epoch }
-    ensures plays { IfOk result (λ played. PlaysPhases (configurations configs.now) workers spread (C.view pass.old) (C.view pass.new) phases.now packets.items played.packets played.outcomes) }
+    ensures plays { IfOk result (λ played. PlaysPhases (configurations configs.now) workers spread (C.view pass.old) (C.view pass.new) phases.now packets.entry.items played.packets played.outcomes) }
 {
     let mut all = Answers {
         outcomes: Vec::with_capacity(alloc, packets.len())?,

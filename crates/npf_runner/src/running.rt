@@ -36,8 +36,8 @@ use std::thread::Threads;
 
 /// A phase's packets, the number of the first, how they are dealt to so many workers, and the last configuration that was published.
 #[derive(Drop)]
-pub struct Task {
-    pub packets: Vec<Packet>,
+pub struct Task<'a> {
+    pub packets: Vec<Packet<'a>>,
     pub first: u64,
     pub workers: u32,
     pub spread: Spread,
@@ -45,24 +45,24 @@ pub struct Task {
 }
 
 /// Which worker each packet goes to, the workers, and the publisher that they read from.
-struct Prepared {
+struct Prepared<'a> {
     order: Vec<u32>,
-    crew: Vec<Worker>,
+    crew: Vec<Worker<'a>>,
     publisher: Publisher,
 }
 
 /// Runs a phase, and adds what became of its packets to all that was there.
-pub fn run_phase<R: Threads + Wait + Sync, C: Connections<FlowLaw>, G: Gate>(
+pub fn run_phase<'a, R: Threads + Wait + Sync, C: Connections<FlowLaw>, G: Gate>(
     rt: &R,
     alloc: Global,
     conns: &C,
     gate: &G,
     configs: &[Config],
     pass: &mut C::Pass,
-    task: Task,
+    task: Task<'a>,
     commands: &[Command],
-    all: Answers,
-) -> Result<Answers, NoMemory>
+    all: Answers<'a>,
+) -> Result<Answers<'a>, NoMemory>
     requires own { C.fits conns.now pass.old }
     requires legal { IsPass flow_law (C.view pass.old) }
     requires out { (C.view pass.old).entered ≡ false }
@@ -76,11 +76,11 @@ pub fn run_phase<R: Threads + Wait + Sync, C: Connections<FlowLaw>, G: Gate>(
     ensures own { C.fits conns.now pass.new }
     ensures legal { IsPass flow_law (C.view pass.new) }
     ensures back { IsBack (C.view pass.old) (C.view pass.new) }
-    ensures runs { IfOk result (λ done. (dones : List _) × (done.outcomes.items ≡ all.outcomes.items ++ outcomes_of dones) × (done.packets.items ≡ all.packets.items ++ outputs_of dones) × RunsPhase C.view (configurations configs.now) task.workers task.spread (C.view pass.old) (C.view pass.new) task.last commands.now (numbered_from task.first task.packets.items) dones) }
-    ensures outcomes_capacity { IfOk result (λ done. vec_capacity all.outcomes ≤ vec_capacity done.outcomes) }
-    ensures packets_capacity { IfOk result (λ done. vec_capacity all.packets ≤ vec_capacity done.packets) }
+    ensures runs { IfOk result (λ done. (dones : List _) × (done.outcomes.items ≡ all.entry.outcomes.items ++ outcomes_of dones) × (done.packets.items ≡ all.entry.packets.items ++ outputs_of dones) × RunsPhase C.view (configurations configs.now) task.entry.workers task.entry.spread (C.view pass.old) (C.view pass.new) task.entry.last commands.now (numbered_from task.entry.first task.entry.packets.items) dones) }
+    ensures outcomes_capacity { IfOk result (λ done. vec_capacity all.entry.outcomes ≤ vec_capacity done.outcomes) }
+    ensures packets_capacity { IfOk result (λ done. vec_capacity all.entry.packets ≤ vec_capacity done.packets) }
 {
-    let room = Room::for_workers(alloc, task.workers)?;
+    let room = Room::for_workers(alloc, task.workers, &task.packets)?;
     let Prepared {
         order,
         crew,
@@ -108,20 +108,25 @@ pub fn run_phase<R: Threads + Wait + Sync, C: Connections<FlowLaw>, G: Gate>(
 }
 
 /// What a phase needs that publishes so many configurations.
-fn prepare<R: Wait>(rt: &R, alloc: Global, task: Task, published: u64) -> Result<Prepared, NoMemory>
+fn prepare<'a, R: Wait>(
+    rt: &R,
+    alloc: Global,
+    task: Task<'a>,
+    published: u64,
+) -> Result<Prepared<'a>, NoMemory>
     requires workers { (1 ≤ task.workers) × (task.workers ≤ 64) }
     requires first { (1 ≤ task.first) × (task.first + vec_len task.packets < 2 ^ 64) }
     requires short { All IsShortPacket task.packets.items }
     requires numbers { task.last + published < 2 ^ 64 }
-    ensures places { IfOk result (λ made. vec_len made.order ≡ vec_len task.packets) }
-    ensures spreads { IfOk result (λ made. AllZip (λ job worker. IsWorkerOf task.spread task.workers (job_arrival job) worker) (numbered_from task.first task.packets.items) made.order.items) }
-    ensures dealt { IfOk result (λ made. IsDealt made.order.items (numbered_from task.first task.packets.items) (map jobs_of made.crew.items)) }
-    ensures count { IfOk result (λ made. vec_len made.crew ≡ task.workers) }
+    ensures places { IfOk result (λ made. vec_len made.order ≡ vec_len task.entry.packets) }
+    ensures spreads { IfOk result (λ made. AllZip (λ job worker. IsWorkerOf task.entry.spread task.entry.workers (job_arrival job) worker) (numbered_from task.entry.first task.entry.packets.items) made.order.items) }
+    ensures dealt { IfOk result (λ made. IsDealt made.order.items (numbered_from task.entry.first task.entry.packets.items) (map jobs_of made.crew.items)) }
+    ensures count { IfOk result (λ made. vec_len made.crew ≡ task.entry.workers) }
     ensures jobs { IfOk result (λ made. All HasJobs made.crew.items) }
     ensures ready { IfOk result (λ made. All IsEquipped made.crew.items) }
-    ensures readers { IfOk result (λ made. All (λ worker. IsNewReader (record { first = task.last; last = task.last + published }) worker.reader) made.crew.items) }
-    ensures number { IfOk result (λ made. published_number made.publisher ≡ task.last) }
-    ensures range { IfOk result (λ made. publisher_range made.publisher ≡ record { first = task.last; last = task.last + published }) }
+    ensures readers { IfOk result (λ made. All (λ worker. IsNewReader (record { first = task.entry.last; last = task.entry.last + published }) worker.reader) made.crew.items) }
+    ensures number { IfOk result (λ made. published_number made.publisher ≡ task.entry.last) }
+    ensures range { IfOk result (λ made. publisher_range made.publisher ≡ record { first = task.entry.last; last = task.entry.last + published }) }
 {
     let Task {
         packets,
@@ -150,18 +155,18 @@ fn prepare<R: Wait>(rt: &R, alloc: Global, task: Task, published: u64) -> Result
 
 /// Runs the workers beside the control task, with passes that are split off the pass and taken in again. Where memory runs out
 /// before they begin, the pass stays whole.
-fn run_crew<R: Threads + Wait + Sync, C: Connections<FlowLaw>, G: Gate>(
+fn run_crew<'a, R: Threads + Wait + Sync, C: Connections<FlowLaw>, G: Gate>(
     rt: &R,
     alloc: Global,
     conns: &C,
     gate: &G,
     configs: &[Config],
     pass: &mut C::Pass,
-    crew: Vec<Worker>,
-    room: Room<C::Pass>,
+    crew: Vec<Worker<'a>>,
+    room: Room<'a, C::Pass>,
     commands: &[Command],
     publisher: &mut Publisher,
-) -> Result<Queues, NoMemory>
+) -> Result<Queues<'a>, NoMemory>
     requires own { C.fits conns.now pass.old }
     requires legal { IsPass flow_law (C.view pass.old) }
     requires out { (C.view pass.old).entered ≡ false }
@@ -175,7 +180,7 @@ fn run_crew<R: Threads + Wait + Sync, C: Connections<FlowLaw>, G: Gate>(
     ensures own { C.fits conns.now pass.new }
     ensures legal { IsPass flow_law (C.view pass.new) }
     ensures back { IsBack (C.view pass.old) (C.view pass.new) }
-    ensures runs { IfOk result (λ queues. (dones : List (List _)) × AreQueuesOf dones queues × RunsCrew C.view (configurations configs.now) (C.view pass.old) (C.view pass.new) commands.now crew.items dones) }
+    ensures runs { IfOk result (λ queues. (dones : List (List _)) × AreQueuesOf dones queues × RunsCrew C.view (configurations configs.now) (C.view pass.old) (C.view pass.new) commands.now crew.entry.items dones) }
 {
     let mut passes = split_off(rt, alloc, conns, pass, crew.len() as u32 + 1)?;
     let own = passes.pop().unwrap();

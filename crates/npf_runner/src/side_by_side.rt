@@ -21,7 +21,7 @@ use std::sync::Wait;
 use std::thread::{Threads, for_each_mut, join};
 
 /// The control task beside all workers, each on a thread of its own.
-pub fn side_by_side<R: Threads + Wait + Sync, C: Connections<FlowLaw>, G: Gate>(
+pub fn side_by_side<'a, R: Threads + Wait + Sync, C: Connections<FlowLaw>, G: Gate>(
     rt: &R,
     conns: &C,
     gate: &G,
@@ -29,8 +29,8 @@ pub fn side_by_side<R: Threads + Wait + Sync, C: Connections<FlowLaw>, G: Gate>(
     pass: C::Pass,
     commands: &[Command],
     publisher: &mut Publisher,
-    mut lanes: Vec<Lane<C::Pass>>,
-) -> ((C::Pass, Result<(), NoMemory>), Vec<Lane<C::Pass>>)
+    mut lanes: Vec<Lane<'a, C::Pass>>,
+) -> ((C::Pass, Result<(), NoMemory>), Vec<Lane<'a, C::Pass>>)
     requires own { C.fits conns.now pass }
     requires legal { IsPass flow_law (C.view pass) }
     requires out { (C.view pass).entered ≡ false }
@@ -42,8 +42,8 @@ pub fn side_by_side<R: Threads + Wait + Sync, C: Connections<FlowLaw>, G: Gate>(
     ensures rested { IsRested (C.view pass) (C.view result.0.0) }
     ensures runs { OnOk result.0.1 (Runs commands.now (C.view pass) (C.view result.0.0)) }
     ensures lanes { All (λ lane. C.fits conns.now lane.pass) result.1.items }
-    ensures count { vec_len result.1 ≡ vec_len lanes }
-    ensures worked { (i : ℕ) (d : _) → i < vec_len lanes → HasWorked C.view (configurations configs.now) (slice_index_or lanes.items i d) (slice_index_or result.1.items i d) }
+    ensures count { vec_len result.1 ≡ vec_len lanes.entry }
+    ensures worked { (i : ℕ) (d : _) → i < vec_len lanes.entry → HasWorked C.view (configurations configs.now) (slice_index_or lanes.entry.items i d) (slice_index_or result.1.items i d) }
 {
     join(
         rt,
@@ -65,7 +65,7 @@ fn work_all<R: Threads + Wait + Sync, C: Connections<FlowLaw>, G: Gate>(
     conns: &C,
     gate: &G,
     configs: &[Config],
-    lanes: &mut [Lane<C::Pass>],
+    lanes: &mut [Lane<'_, C::Pass>],
 )
     requires lanes { All (λ lane. C.fits conns.now lane.pass) lanes.old }
     requires can { All (CanWork C.view (length configs.now)) lanes.old }
@@ -78,7 +78,7 @@ fn work_all<R: Threads + Wait + Sync, C: Connections<FlowLaw>, G: Gate>(
         rt,
         lanes,
         workers,
-        &|_, lane: &mut Lane<C::Pass>|
+        &|_, lane: &mut Lane<'_, C::Pass>|
             requires { C.fits conns.now lane.old.pass × CanWork C.view (length configs.now) lane.old }
         { work(rt, conns, gate, configs, lane) },
     );

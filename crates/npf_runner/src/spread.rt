@@ -16,7 +16,7 @@ use std::alloc::Global;
 /// The worker of each packet, counted from 0, where the packets are numbered from `first` on.
 pub fn workers_of(
     alloc: Global,
-    packets: &[Packet],
+    packets: &[Packet<'_>],
     first: u64,
     spread: Spread,
     workers: u32,
@@ -37,7 +37,7 @@ pub fn workers_of(
     Ok(order)
 }
 
-fn worker_of(number: u64, packet: &Packet, spread: Spread, workers: u32) -> u32
+fn worker_of(number: u64, packet: &Packet<'_>, spread: Spread, workers: u32) -> u32
     requires workers { 1 ≤ workers }
     requires number { 1 ≤ number }
     requires short { IsShortPacket packet.now }
@@ -50,7 +50,7 @@ fn worker_of(number: u64, packet: &Packet, spread: Spread, workers: u32) -> u32
     }
 }
 
-fn worker_by_flow(packet: &Packet, workers: u32) -> u32
+fn worker_by_flow(packet: &Packet<'_>, workers: u32) -> u32
     requires workers { 1 ≤ workers }
     requires short { IsShortPacket packet.now }
     ensures fits { result < workers }

@@ -8,11 +8,11 @@ use std::collections::VecDeque;
 use std::mem::replace;
 
 /// The next so many packets. Where these are all that are left, they stay where they are.
-pub fn next_packets(
+pub fn next_packets<'a>(
     alloc: Global,
-    left: &mut VecDeque<Packet>,
+    left: &mut VecDeque<Packet<'a>>,
     count: usize,
-) -> Result<Vec<Packet>, NoMemory>
+) -> Result<Vec<Packet<'a>>, NoMemory>
     requires { count ≤ length left.old.items }
     ensures count { IfOk result (λ packets. vec_len packets ≡ count) }
     ensures packets { IfOk result (λ packets. packets.items ≡ take count left.old.items) }

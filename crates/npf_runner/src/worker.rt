@@ -18,19 +18,19 @@ use std::sync::Wait;
 
 /// What a worker, counted from 0, needs beside a pass: its reader, its packets in order with their numbers, and room for their outcomes.
 #[derive(Drop)]
-pub struct Worker {
+pub struct Worker<'a> {
     pub number: u32,
     pub reader: ConfReader,
     pub numbers: Vec<u64>,
-    pub packets: Vec<Packet>,
+    pub packets: Vec<Packet<'a>>,
     pub outcomes: Vec<Outcome>,
 }
 
 /// A worker with its pass.
 #[derive(Drop)]
-pub struct Lane<P: Drop> {
+pub struct Lane<'a, P: Drop> {
     pub pass: P,
-    pub worker: Worker,
+    pub worker: Worker<'a>,
 }
 
 /// Handles a worker's packets in order where they stand, `gate` being told of each.
@@ -39,7 +39,7 @@ pub fn work<R: Wait, C: Connections<FlowLaw>, G: Gate>(
     conns: &C,
     gate: &G,
     configs: &[Config],
-    lane: &mut Lane<C::Pass>,
+    lane: &mut Lane<'_, C::Pass>,
 )
     requires own { C.fits conns.now lane.old.pass }
     requires can { CanWork C.view (length configs.now) lane.old }
@@ -70,7 +70,7 @@ fn handle<R: Wait, C: Connections<FlowLaw>>(
     pass: &mut C::Pass,
     reader: &mut ConfReader,
     number: u64,
-    packet: &mut Packet,
+    packet: &mut Packet<'_>,
 ) -> Outcome
     requires own { C.fits conns.now pass.old }
     requires legal { IsPass flow_law (C.view pass.old) }

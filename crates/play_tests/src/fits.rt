@@ -6,7 +6,7 @@ use npf_runner::{Command, Packet, Phase};
 use npf_types::limits::MAX_PACKET_BYTES;
 
 /// Whether no packet is too long, the phases have all packets, and publish the places of so many configurations in order.
-pub fn fits(packets: &[Packet], phases: &[Phase], configs: u64) -> bool
+pub fn fits(packets: &[Packet<'_>], phases: &[Phase], configs: u64) -> bool
     ensures short { IsTrue result → All IsShortPacket packets.now }
     ensures sum { IsTrue result → packets_in phases.now ≡ length packets.now }
     ensures order { IsTrue result → AreInOrder configs phases.now }
@@ -20,7 +20,7 @@ pub fn fits(packets: &[Packet], phases: &[Phase], configs: u64) -> bool
     are_short(packets) && are_in_order(configs, phases)
 }
 
-fn are_short(packets: &[Packet]) -> bool
+fn are_short(packets: &[Packet<'_>]) -> bool
     ensures { IsTrue result → All IsShortPacket packets.now }
 {
     for packet in packets {

@@ -1,6 +1,7 @@
-// Packets of the tests, from the IP header on. Their checksums of TCP and UDP are none, since nothing reads them.
-use npf_runner::Packet;
-use npf_types::{Dir, IfId, Link, List};
+// Packets of the tests, from the IP header on. Their checksums of TCP and UDP are none, since nothing reads them. Their bytes are never let
+// go: no capture has them.
+use npf_runner::{Packet, PacketBytes};
+use npf_types::{Dir, IfId, Link};
 use std::alloc::{AllocError, Global};
 
 /// A millisecond, in nanoseconds.
@@ -19,26 +20,38 @@ const DATAGRAM: [u8; 28] = [
 ];
 
 /// A SYN from 10.0.0.`host`.
-pub fn syn(alloc: Global, time: u64, host: u8) -> Result<Packet, AllocError> {
+pub fn syn<'a>(alloc: Global, time: u64, host: u8) -> Result<Packet<'a>, AllocError> {
     let mut bytes = SYN;
     bytes[15] = host;
     Ok(incoming(time, Vec::from_array(alloc, bytes)?))
 }
 
 /// A datagram from 10.0.`net`.`host`.
-pub fn datagram(alloc: Global, time: u64, net: u8, host: u8) -> Result<Packet, AllocError> {
+pub fn datagram<'a>(alloc: Global, time: u64, net: u8, host: u8) -> Result<Packet<'a>, AllocError> {
     let mut bytes = DATAGRAM;
     bytes[14] = net;
     bytes[15] = host;
     Ok(incoming(time, Vec::from_array(alloc, bytes)?))
 }
 
-fn incoming(time: u64, bytes: Vec<u8>) -> Packet {
+/// The two, one after the other.
+pub fn both<'a>(
+    alloc: Global,
+    first: Packet<'a>,
+    second: Packet<'a>,
+) -> Result<Vec<Packet<'a>>, AllocError> {
+    let mut packets = Vec::new(alloc);
+    packets.push(first)?;
+    packets.push(second)?;
+    Ok(packets)
+}
+
+fn incoming<'a>(time: u64, bytes: Vec<u8>) -> Packet<'a> {
     Packet {
         time,
         link: Link::Raw,
         ifid: IfId(1),
         dir: Dir::In,
-        bytes: List::of_vec(bytes),
+        bytes: PacketBytes::of(bytes.leak()),
     }
 }

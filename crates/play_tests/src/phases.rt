@@ -23,7 +23,7 @@ const ONE_WORKER: Setting = Setting {
 const HOUR: u64 = 3600 * 1000 * MILLISECOND;
 
 // Datagrams from so many hosts, in rising time.
-fn datagrams(alloc: Global, count: u16) -> Result<Vec<Packet>, AllocError> {
+fn datagrams<'a>(alloc: Global, count: u16) -> Result<Vec<Packet<'a>>, AllocError> {
     let mut packets = Vec::new(alloc);
     for n in 0..count {
         let [net, host] = n.to_be_bytes();

@@ -1,7 +1,7 @@
 // Workers are on threads of their own, and meet in one table.
 use crate::gates::HoldUntil;
 use crate::meeting::Meeting;
-use crate::packets::{datagram, syn};
+use crate::packets::{both, datagram, syn};
 use crate::run::{Setting, phase, run, run_over};
 use npf_engine::{Kept, Outcome};
 use npf_flow::FlowLaw;
@@ -19,7 +19,7 @@ const TWO_WORKERS: Setting = Setting {
 #[test]
 fn two_workers_do_not_wait_for_each_other(rt: HostRuntime) -> Result<(), Fail> {
     let alloc = rt.alloc();
-    let packets = vec![in alloc; datagram(alloc, 1, 0, 1)?, datagram(alloc, 2, 0, 2)?]?;
+    let packets = both(alloc, datagram(alloc, 1, 0, 1)?, datagram(alloc, 2, 0, 2)?)?;
     let phases = vec![in alloc; phase(alloc, 2, &[])?]?;
     let gate = HoldUntil::new(1, 2);
     let outcomes = run(
@@ -41,7 +41,7 @@ fn two_workers_do_not_wait_for_each_other(rt: HostRuntime) -> Result<(), Fail> {
 #[test]
 fn two_packets_are_looked_up_at_a_time(rt: HostRuntime) -> Result<(), Fail> {
     let alloc = rt.alloc();
-    let packets = vec![in alloc; datagram(alloc, 1, 0, 1)?, datagram(alloc, 2, 0, 2)?]?;
+    let packets = both(alloc, datagram(alloc, 1, 0, 1)?, datagram(alloc, 2, 0, 2)?)?;
     let phases = vec![in alloc; phase(alloc, 2, &[])?]?;
     let (table, mut pass) = OneTurn::<FlowLaw>::new(alloc, TWO_WORKERS.slots)?;
     let conns = Meeting::new(table);
@@ -66,7 +66,7 @@ fn two_packets_are_looked_up_at_a_time(rt: HostRuntime) -> Result<(), Fail> {
 #[test]
 fn second_worker_finds_the_connection_of_the_first(rt: HostRuntime) -> Result<(), Fail> {
     let alloc = rt.alloc();
-    let packets = vec![in alloc; syn(alloc, 1, 1)?, syn(alloc, 2, 1)?]?;
+    let packets = both(alloc, syn(alloc, 1, 1)?, syn(alloc, 2, 1)?)?;
     let phases = vec![in alloc; phase(alloc, 2, &[])?]?;
     let gate = HoldUntil::new(2, 1);
     let outcomes = run(

@@ -30,6 +30,6 @@ returns-clause-ends g c = λ texts files said.
     let played = c.in_ok-played.played in
     let plays = rw (c.as_slice-configs.ensures.value, c.as_slice-phases.ensures.value) at c.in_ok-played.ensures.plays in
     let told = subst (λ (outcomes : List Outcome). PlaysPhases (run_plan_of prepared).configs 1 Rr before.pass after.pass prepared.phases.items prepared.packets.items played.packets outcomes)
-    (sym c.as_slice-outcomes.ensures) plays in
-    generated_ends texts before after c.args.number said prepared played.packets c.as_slice-outcomes.result.now (same_as_itself files.contents) c.in_ok-prepared.ensures.comes told
+    (sym c.as_slice.ensures) plays in
+    generated_ends texts before after c.args.number said prepared played.packets c.as_slice.result.now (same_as_itself files.contents) c.in_ok-prepared.ensures.comes told
     c.put_total.result c.put_total.ensures.whole c.put_total.ensures.flushed c.put_total.ensures.front c.put_total.ensures.fault

@@ -10,11 +10,11 @@ use Rattle.npf_ctl.proofs.running.report_run.Goals as goal
 pub put_report-requires-clause-count : goal.put_report-requires-clause-count
 put_report-requires-clause-count g c =
     let counts = counts_of_outputs _ _ _ (are_outputs _ _ _ _ _ _ _ _ _ c.in_ok-played.ensures.plays) in
-    rw (c.as_slice-outputs.ensures, c.as_slice-outcomes.ensures) (counts.0 ∙ sym counts.1)
+    rw (c.as_slice.ensures, c.as_slice-2.ensures) (counts.0 ∙ sym counts.1)
 
 pub put_report-requires-clause-interfaces : goal.put_report-requires-clause-interfaces
 put_report-requires-clause-interfaces g c =
-    rw c.as_slice-outputs.ensures
+    rw c.as_slice.ensures
     (outputs_cross (length c.args.prepared.ifaces.list) _ _ _ (are_outputs _ _ _ _ _ _ _ _ _ c.in_ok-played.ensures.plays) c.requires.playable.crosses)
 
 pub returns-in_err-played-clause-fails : goal.returns-in_err-played-clause-fails
@@ -30,8 +30,8 @@ returns-in_err-put_report-clause-fails g c =
     let packets = c.args.prepared.packets.items in
     let outcomes = c.in_ok-played.played.outcomes in
     let are = are_outputs _ _ _ _ _ _ _ _ _ c.in_ok-played.ensures.plays in
-    let text : report_text ifaces c.as_slice-outputs.result.now c.as_slice-outcomes.result.now ≡ report_text ifaces packets outcomes =
-    rw (c.as_slice-outputs.ensures, c.as_slice-outcomes.ensures) (same_report ifaces packets outcomes c.in_ok-played.played.packets are) in
+    let text : report_text ifaces c.as_slice.result.now c.as_slice-2.result.now ≡ report_text ifaces packets outcomes =
+    rw (c.as_slice.ensures, c.as_slice-2.ensures) (same_report ifaces packets outcomes c.in_ok-played.played.packets are) in
     let old = (g.O.Sink.moment c.args.out.now).held in
     let new = (g.O.Sink.moment c.put_report.new.out).held in
     let plays = rw (c.as_slice-configs.ensures.value, c.as_slice-phases.ensures.value, c.spread_of-spread.ensures) at c.in_ok-played.ensures.plays in
@@ -46,8 +46,8 @@ returns-clause-whole g c =
     let packets = c.args.prepared.packets.items in
     let outcomes = c.in_ok-played.played.outcomes in
     let are = are_outputs _ _ _ _ _ _ _ _ _ c.in_ok-played.ensures.plays in
-    let text : report_text ifaces c.as_slice-outputs.result.now c.as_slice-outcomes.result.now ≡ report_text ifaces packets outcomes =
-    rw (c.as_slice-outputs.ensures, c.as_slice-outcomes.ensures) (same_report ifaces packets outcomes c.in_ok-played.played.packets are) in
+    let text : report_text ifaces c.as_slice.result.now c.as_slice-2.result.now ≡ report_text ifaces packets outcomes =
+    rw (c.as_slice.ensures, c.as_slice-2.ensures) (same_report ifaces packets outcomes c.in_ok-played.played.packets are) in
     let old = (g.O.Sink.moment c.args.out.now).held in
     let new = (g.O.Sink.moment c.put_report.new.out).held in
     subst (λ (t : List ℕ). Appends old new t) text c.in_ok-put_report.ensures.whole

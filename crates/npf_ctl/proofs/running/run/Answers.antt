@@ -63,8 +63,8 @@ write_passed-requires-clause-outcomes g c =
 pub write_passed-requires-clause-timely : goal.write_passed-requires-clause-timely
 write_passed-requires-clause-timely g c = outputs_have_time _ _ _ c.in_ok-played-in-Some.ensures.outputs c.in_ok-prepared.ensures.playable.timed
 
-pub returns-in_ok-report_run-in-None-clause-ends : goal.returns-in_ok-report_run-in-None-clause-ends
-returns-in_ok-report_run-in-None-clause-ends g c = λ texts said.
+pub returns-in-None-clause-ends : goal.returns-in-None-clause-ends
+returns-in-None-clause-ends g c = λ texts said.
     let first = g.F.Files.moment c.args.files.now in
     let last = g.F.Files.moment c.prepare_run.new.files in
     let before = moment first (g.O.Sink.moment c.args.out.now) (g.C.Connections.view c.args.pass.now) in
@@ -77,8 +77,8 @@ returns-in_ok-report_run-in-None-clause-ends g c = λ texts said.
       reported = told.whole;
     }) told.flushed (search rules) tt
 
-pub returns-in_ok-played-in-Some-clause-ends : goal.returns-in_ok-played-in-Some-clause-ends
-returns-in_ok-played-in-Some-clause-ends g c = λ texts said.
+pub returns-clause-ends : goal.returns-clause-ends
+returns-clause-ends g c = λ texts said.
     let first = g.F.Files.moment c.args.files.now in
     let read = g.F.Files.moment c.prepare_run.new.files in
     let last = g.F.Files.moment c.write_passed.new.files in
@@ -97,8 +97,8 @@ returns-in_ok-played-in-Some-clause-ends g c = λ texts said.
     (c.write_passed.ensures.written _ (extents_named _ _ _ _ same_packets same_extents c.in_ok-extents-in-Some.ensures.extents) told.outputs)
     (each_unwritten_since first read last name c.prepare_run.ensures.reads.write_faults c.write_passed.result c.write_passed.ensures.fails)
 
-pub returns-in_ok-played-in-Some-clause-files : goal.returns-in_ok-played-in-Some-clause-files
-returns-in_ok-played-in-Some-clause-files g c = λ texts said.
+pub returns-clause-files : goal.returns-clause-files
+returns-clause-files g c = λ texts said.
     let first = g.F.Files.moment c.args.files.now in
     let read = g.F.Files.moment c.prepare_run.new.files in
     let last = g.F.Files.moment c.write_passed.new.files in

@@ -1,4 +1,4 @@
-use Rattle.std.proofs.Common.{◌≡◌, ◌+◌, ◌++◌, ◌∙◌, List, [], ◌∷◌, take, ap, sym, subst, arith}
+use Rattle.std.proofs.Common.{rules, ◌≡◌, ◌+◌, ◌++◌, ◌∙◌, List, [], ◌∷◌, take, ap, sym, subst, arith}
 use Rattle.std.proofs.lemmas.List.{take_all, take_more}
 use Rattle.std.proofs.lemmas.List.Elements.{All-push}
 use Rattle.std.proofs.lemmas.Slice.Zip.{all_zipped_more}
@@ -13,13 +13,14 @@ loop-packet-preserved c =
     let extents = c.loop-packet.extents.items in
     let i = c.loop-packet.packet-index in
     let packet = c.packet-item.result in
-    let extent = c.ip_extent.result in
+    let extent = c.extent_of.result in
     let more : take (i + 1) packets ≡ take i packets ++ packet ∷ [] =
     take_more packets i packet (omega arith) ∙ ap (λ (p : Packet). take i packets ++ p ∷ []) (sym c.packet-item.is) in
-    rw c.in_ok-push.ensures.items (record {
+    rw c.push_reserved.ensures.items (record {
       so_far = subst (λ (ps : List Packet). AllZip IsExtentOf ps (extents ++ extent ∷ [])) (sym more)
-          (all_zipped_more IsExtentOf (take i packets) extents packet extent c.loop-packet.invariant.so_far c.ip_extent.ensures.extent);
-      ends = All-push EndsInPacket extents extent c.loop-packet.invariant.ends c.ip_extent.ensures.ends;
+          (all_zipped_more IsExtentOf (take i packets) extents packet extent c.loop-packet.invariant.so_far c.extent_of.ensures.extent);
+      ends = All-push EndsInPacket extents extent c.loop-packet.invariant.ends c.extent_of.ensures.ends;
+      room = search rules;
     })
 
 pub returns-clause-extents : goal.returns-clause-extents

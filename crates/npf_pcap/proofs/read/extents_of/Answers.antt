@@ -4,6 +4,7 @@ use Rattle.std.proofs.lemmas.List.Elements.{All-push}
 use Rattle.std.proofs.lemmas.Result.{err_from_is_err_and}
 use Rattle.npf_pcap.specs.Extent.{record_at, records_at, EndsWithin, IsShort, IsTimely}
 use Rattle.npf_pcap.specs.Record.{record_len}
+use Rattle.npf_pcap.proofs.ExtentLemmas.{apart_push}
 use Rattle.npf_pcap.proofs.RecordLemmas.{Progress, progress_more, progress_end, progress_fault}
 use Rattle.npf_pcap.proofs.read.extents_of.Goals as goal
 
@@ -32,6 +33,7 @@ loop-at-preserved c =
       progress = subst (Progress format (drop 24 bytes) next (c.loop-at.number + 1)) (sym (map-append (record_at bytes) extents (extent ∷ []))) more;
       inside = c.in_ok-extent.ensures.within;
       within = All-push (EndsWithin (length bytes)) extents extent c.loop-at.invariant.within c.in_ok-extent.ensures.within;
+      apart = apart_push 0 extents c.loop-at.at extent c.loop-at.invariant.apart c.in_ok-extent.ensures.ahead;
       short = All-push IsShort extents extent c.loop-at.invariant.short c.in_ok-extent.ensures.short;
       timely = All-push IsTimely extents extent c.loop-at.invariant.timely c.in_ok-extent.ensures.timely;
     })

@@ -1,10 +1,10 @@
-use Rattle.std.proofs.Common.{◌≡◌, ◌∙◌, Err, List, Ok, ap, length, refl, rules, subst, sym, ℕ}
+use Rattle.std.proofs.Common.{◌≡◌, ◌∙◌, Err, List, Ok, ap, length, rules, subst, sym, ℕ}
 use Rattle.npf_types.specs.declared.limits.TheConstants.{MAX_CAPTURE_BYTES}
 use Rattle.npf_model.specs.declared.iface.Iface.{Iface}
 use Rattle.npf_arrivals.specs.Gathering.{gathered_so_far}
 use Rattle.npf_arrivals.specs.Within.{IsInterfaceNumber}
 use Rattle.npf_input.specs.File.{ReadsFile}
-use Rattle.npf_input.specs.Source.{Alone, Scripted}
+use Rattle.npf_input.specs.Source.{Scripted}
 use Rattle.npf_input.specs.Unless.{IfTold}
 use Rattle.npf_prepare.specs.Captures.{interface_id}
 use Rattle.npf_prepare.specs.Known.{NamesKnownInterface}
@@ -17,44 +17,26 @@ returns-in_err-bytes-clause-comes g c =
     let same : c.from_residual.result ≡ Err fault = search rules in
     let same_file : c.in-Ok.file.now ≡ c.in-Capture.file = search rules in
     λ before after lines around.
-    rw same (rw c.in_default-alone.is (rw c.in-Capture.is
+    rw same (rw c.in-Capture.is
     (line_unread before after lines c.args.ifaces.now.list c.in-Capture.name c.in-Capture.dir c.in-Capture.file (gathered_so_far c.args.arrivals.now) fault
-    (subst (λ (name : List ℕ). IfTold (λ other. ReadsFile before after name MAX_CAPTURE_BYTES (Err other)) fault) same_file (c.in_err-bytes.ensures.comes before after around)))))
-
-pub returns-in_default-alone-clause-comes : goal.returns-in_default-alone-clause-comes
-returns-in_default-alone-clause-comes g c =
-    let same_file : c.in-Ok.file.now ≡ c.in-Capture.file = search rules in
-    let same_id = c.interface_id-ifid.ensures ∙ ap (λ (list : List Iface). interface_id list c.in-Capture.name) c.as_slice.ensures in
-    let bytes = c.in_ok-bytes.bytes.items in
-    λ before after lines around.
-    rw c.in_default-alone.is (rw c.in-Capture.is
-    (line_done before after (Scripted lines) c.args.ifaces.now.list c.in-Capture.name c.in-Capture.dir c.in-Capture.file (gathered_so_far c.args.arrivals.now)
-    (gathered_so_far c.add.new.self) bytes
-    (subst (λ (name : List ℕ). ReadsFile before after name MAX_CAPTURE_BYTES (Ok bytes)) same_file (c.in_ok-bytes.ensures.comes before after around))
-    c.in-Ok.file.now same_file c.interface_id-ifid.result same_id c.as_slice-in_default-alone.result.now c.as_slice-in_default-alone.ensures.value
-    c.add.result c.add.ensures.gathers c.add.ensures.refused))
-
-pub returns-in_default-alone-clause-crosses : goal.returns-in_default-alone-clause-crosses
-returns-in_default-alone-clause-crosses g c =
-    let count = length c.args.ifaces.now.list in
-    let same_id = c.interface_id-ifid.ensures ∙ ap (λ (list : List Iface). interface_id list c.in-Capture.name) c.as_slice.ensures in
-    let known = subst (NamesKnownInterface c.args.ifaces.now.list) c.in-Capture.is c.requires.known in
-    c.add.ensures.crosses count c.requires.crosses (subst (IsInterfaceNumber count) (sym same_id) known)
+    (subst (λ (name : List ℕ). IfTold (λ other. ReadsFile before after name MAX_CAPTURE_BYTES (Err other)) fault) same_file (c.in_err-bytes.ensures.comes before after around))))
 
 pub returns-clause-comes : goal.returns-clause-comes
 returns-clause-comes g c =
     let same_file : c.in-Ok.file.now ≡ c.in-Capture.file = search rules in
     let same_id = c.interface_id-ifid.ensures ∙ ap (λ (list : List Iface). interface_id list c.in-Capture.name) c.as_slice.ensures in
-    let bytes = c.in-Some.bytes.items in
+    let bytes = c.in_ok-bytes.bytes.items in
     λ before after lines around.
-    rw c.in-Some.is (rw c.in-Capture.is
-    (line_done before after (Alone bytes) c.args.ifaces.now.list c.in-Capture.name c.in-Capture.dir c.in-Capture.file (gathered_so_far c.args.arrivals.now)
-    (gathered_so_far c.add-2.new.self) bytes refl c.in-Ok.file.now same_file c.interface_id-ifid.result same_id c.as_slice-3.result.now c.as_slice-3.ensures.value
-    c.add-2.result c.add-2.ensures.gathers c.add-2.ensures.refused))
+    rw c.in-Capture.is
+    (line_done before after (Scripted lines) c.args.ifaces.now.list c.in-Capture.name c.in-Capture.dir c.in-Capture.file (gathered_so_far c.args.arrivals.now)
+    (gathered_so_far c.add.new.self) bytes
+    (subst (λ (name : List ℕ). ReadsFile before after name MAX_CAPTURE_BYTES (Ok bytes)) same_file (c.in_ok-bytes.ensures.comes before after around))
+    c.in-Ok.file.now same_file c.interface_id-ifid.result same_id
+    c.add.result c.add.ensures.gathers c.add.ensures.refused)
 
 pub returns-clause-crosses : goal.returns-clause-crosses
 returns-clause-crosses g c =
     let count = length c.args.ifaces.now.list in
     let same_id = c.interface_id-ifid.ensures ∙ ap (λ (list : List Iface). interface_id list c.in-Capture.name) c.as_slice.ensures in
     let known = subst (NamesKnownInterface c.args.ifaces.now.list) c.in-Capture.is c.requires.known in
-    c.add-2.ensures.crosses count c.requires.crosses (subst (IsInterfaceNumber count) (sym same_id) known)
+    c.add.ensures.crosses count c.requires.crosses (subst (IsInterfaceNumber count) (sym same_id) known)

@@ -1,18 +1,18 @@
-use Rattle.std.proofs.Common.{◌≡◌, ◌+◌, ℕ, All, Err, List, length, [], ◌∷◌, drop, option_map, rules, subst, sym}
+use Rattle.std.proofs.Common.{◌≡◌, ◌+◌, ℕ, All, Err, List, length, drop, rules, subst, sym}
 use Rattle.std.proofs.lemmas.List.{drop_all}
 use Rattle.std.proofs.lemmas.List.Elements.{All-nil}
 use Rattle.npf_script.specs.declared.script.ScriptLine.{ScriptLine}
 use Rattle.npf_arrivals.specs.Arrivals.{Gathered}
 use Rattle.npf_arrivals.specs.Gathering.{gathered_so_far}
 use Rattle.npf_arrivals.specs.Within.{CrossesOneOf}
-use Rattle.npf_prepare.specs.View.{source_with}
+use Rattle.npf_input.specs.Source.{Scripted}
 use Rattle.npf_prepare.proofs.GatherLemmas.{GatheredSoFar, all_gathered, gathered_more, gathered_none, gathering_stops}
 use Rattle.npf_prepare.proofs.LineLemmas.{line_and_rest}
 use Rattle.npf_prepare.proofs.captures.gather_lines.Goals as goal
 
 pub loop-line-init : goal.loop-line-init
 loop-line-init g c =
-    let source = source_with (option_map (λ bytes. bytes.items) c.args.alone.now) c.args.lines.now in
+    let source = Scripted c.args.lines.now in
     let start = g.F.Files.moment c.args.files.now in
     let count = length c.args.ifaces.now.list in
     record {
@@ -29,7 +29,7 @@ returns-in_err-gather_line-clause-comes g c =
     let ifaces = c.args.ifaces.now.list in
     let lines = c.args.lines.now in
     let i = c.loop-line.line-index in
-    let source = source_with (option_map (λ bytes. bytes.items) c.args.alone.now) lines in
+    let source = Scripted lines in
     let so_far = subst (λ (rest : List (ℕ × ScriptLine)). GatheredSoFar source ifaces lines (moment c.args.files.now) (moment c.loop-line.files) rest (gathered_so_far c.loop-line.arrivals))
     (line_and_rest lines i c.line-item.result c.loop-line-test.true c.line-item.is) c.loop-line.invariant.so_far in
     rw same (gathering_stops source ifaces lines (moment c.args.files.now) (moment c.loop-line.files) c.line-item.result (drop (i + 1) lines) (gathered_so_far c.loop-line.arrivals) so_far
@@ -41,7 +41,7 @@ loop-line-preserved g c =
     let ifaces = c.args.ifaces.now.list in
     let lines = c.args.lines.now in
     let i = c.loop-line.line-index in
-    let source = source_with (option_map (λ bytes. bytes.items) c.args.alone.now) lines in
+    let source = Scripted lines in
     let so_far = subst (λ (rest : List (ℕ × ScriptLine)). GatheredSoFar source ifaces lines (moment c.args.files.now) (moment c.loop-line.files) rest (gathered_so_far c.loop-line.arrivals))
     (line_and_rest lines i c.line-item.result c.loop-line-test.true c.line-item.is) c.loop-line.invariant.so_far in
     record {
@@ -57,7 +57,7 @@ returns-clause-comes g c =
     let moment = g.F.Files.moment in
     let ifaces = c.args.ifaces.now.list in
     let lines = c.args.lines.now in
-    let source = source_with (option_map (λ bytes. bytes.items) c.args.alone.now) lines in
+    let source = Scripted lines in
     let so_far = subst (λ (rest : List (ℕ × ScriptLine)). GatheredSoFar source ifaces lines (moment c.args.files.now) (moment c.loop-line.files) rest (gathered_so_far c.loop-line.arrivals))
     (drop_all c.loop-line.line-index lines c.loop-line-test.false) c.loop-line.invariant.so_far in
     all_gathered source ifaces lines (moment c.args.files.now) (moment c.loop-line.files) (gathered_so_far c.loop-line.arrivals) so_far

@@ -1,13 +1,13 @@
-use Rattle.std.proofs.Common.{All, drop, length, option_map}
+use Rattle.std.proofs.Common.{All, drop, length}
 use Rattle.npf_arrivals.specs.Gathering.{gathered_so_far}
 use Rattle.npf_arrivals.specs.Within.{CrossesOneOf, IsWithinRun}
-use Rattle.npf_prepare.specs.View.{source_with}
+use Rattle.npf_input.specs.Source.{Scripted}
 use Rattle.npf_prepare.proofs.GatherLemmas.{GatheredSoFar}
 use Rattle.npf_prepare.proofs.captures.gather_lines.Given as goal
 
 abbrev pub invariant-loop-line : goal.invariant-loop-line
 invariant-loop-line g l = record {
-  so_far : GatheredSoFar (source_with (option_map (λ bytes. bytes.items) l.fn.alone) l.fn.lines) l.fn.ifaces.list l.fn.lines
+  so_far : GatheredSoFar (Scripted l.fn.lines) l.fn.ifaces.list l.fn.lines
       (g.F.Files.moment l.initial.files) (g.F.Files.moment l.files) (drop l.line-index l.fn.lines) (gathered_so_far l.arrivals);
   within : IsWithinRun (gathered_so_far l.arrivals);
   crosses : All (CrossesOneOf (length l.fn.ifaces.list)) (gathered_so_far l.arrivals).packets;

@@ -1,4 +1,4 @@
-use Rattle.std.proofs.Common.{◌≡◌, ◌<◌, ◌+◌, ◌∙◌, ℕ, Bool, true, false, cond, Option, Some, None, List, [], ◌∷◌, length, drop, get_or, bytes_eq, refl, sym, ap, subst, arith}
+use Rattle.std.proofs.Common.{◌≡◌, ◌<◌, ◌+◌, ◌∙◌, ℕ, Bool, true, false, cond, Option, Some, List, [], ◌∷◌, length, drop, get_or, bytes_eq, sym, ap, arith}
 use Rattle.std.proofs.lemmas.List.{drop_all, drop_more}
 use Rattle.npf_types.specs.declared.interface.IfId.{IfId}
 use Rattle.npf_types.specs.Name.{name_bytes}

@@ -1,6 +1,5 @@
-use Rattle.std.proofs.Common.{◌≡◌, ◌+◌, ℕ, Err, List, [], ◌∷◌, drop, length, rules, subst, sym}
+use Rattle.std.proofs.Common.{◌≡◌, ◌+◌, ℕ, Err, List, drop, length, rules, subst}
 use Rattle.std.proofs.lemmas.List.{drop_all}
-use Rattle.npf_ruleset.specs.declared.config.Config.{Config}
 use Rattle.npf_script.specs.declared.script.ScriptLine.{ScriptLine}
 use Rattle.npf_input.proofs.AroundLemmas.{around_itself}
 use Rattle.npf_prepare.proofs.AroundLemmas.{reads_none}

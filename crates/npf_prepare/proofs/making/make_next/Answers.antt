@@ -1,4 +1,4 @@
-use Rattle.std.proofs.Common.{◌≡◌, List, refl, subst, sym, ℕ}
+use Rattle.std.proofs.Common.{List, refl, subst, sym, ℕ}
 use Rattle.npf_stages.specs.Stages.{◌told_by◌}
 use Rattle.npf_ruleset.specs.Configuration.{configuration}
 use Rattle.npf_changes.specs.Changes.{FlushesRules, RemovesRule}

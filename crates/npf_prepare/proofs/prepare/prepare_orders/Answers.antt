@@ -8,7 +8,8 @@ use Rattle.npf_runner.specs.Plays.{AreInOrder, packets_in}
 use Rattle.npf_script.specs.declared.script.ScriptLine.{ScriptLine}
 use Rattle.npf_schedule.specs.Schedule.{changes_in, phases_of, unnumbered}
 use Rattle.npf_prepare.specs.View.{source_ordered}
-use Rattle.npf_prepare.proofs.AroundLemmas.{faultless_on, reads_on}
+use Rattle.npf_prepare.proofs.AroundLemmas.{reads_on}
+use Rattle.npf_prepare.proofs.LineLemmas.{one_line}
 use Rattle.npf_prepare.proofs.PrepareLemmas.{captures_end, limits_end, making_end, planned_at_end, plans_with}
 use Rattle.npf_prepare.proofs.prepare.prepare_orders.Goals as goal
 
@@ -18,6 +19,9 @@ returns-in_err-ifaces-clause-comes g c =
     let same : c.from_residual.result ≡ Err fault = search rules in
     rw same (λ before after around. limits_end before after c.args.script.now c.args.given.list (configuration c.args.first) (source_ordered c.args.orders) c.args.orders.lines
     c.requires.lines fault (rw c.as_slice-lines.ensures at c.in_err-ifaces.ensures.comes))
+
+pub gather_captures-requires-clause-one : goal.gather_captures-requires-clause-one
+gather_captures-requires-clause-one g c = rw c.as_slice-lines.ensures (one_line c.args.script.now c.args.orders c.requires.lines)
 
 pub returns-in_err-arrivals-clause-comes : goal.returns-in_err-arrivals-clause-comes
 returns-in_err-arrivals-clause-comes g c =

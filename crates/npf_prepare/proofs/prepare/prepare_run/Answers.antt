@@ -2,7 +2,7 @@ use Rattle.std.proofs.Common.{◌≡◌, Err, rules}
 use Rattle.npf_input.proofs.AroundLemmas.{around_first, around_next}
 use Rattle.npf_ruleset.specs.Configuration.{configuration}
 use Rattle.npf_prepare.specs.View.{names_of, run_plan_of, source_ordered}
-use Rattle.npf_prepare.proofs.AroundLemmas.{faultless_on, reads_on}
+use Rattle.npf_prepare.proofs.AroundLemmas.{reads_on}
 use Rattle.npf_prepare.proofs.PrepareLemmas.{file_ends, interfaces_end, loading_end, run_goes_on, source_ends}
 use Rattle.npf_prepare.proofs.prepare.prepare_run.Goals as goal
 

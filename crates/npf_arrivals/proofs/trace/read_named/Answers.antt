@@ -1,7 +1,7 @@
 use Rattle.std.proofs.Common.{Err, sym, subst}
 use Rattle.npf_messages.specs.declared.fault.CommandFault.{CommandFault}
 use Rattle.npf_arrivals.specs.Arrivals.{ReadsCapture, spelled, refused}
-use Rattle.npf_arrivals.proofs.capture.read_named.Goals as goal
+use Rattle.npf_arrivals.proofs.trace.read_named.Goals as goal
 
 pub returns-in-Ok-clause-read : goal.returns-in-Ok-clause-read
 returns-in-Ok-clause-read c = spelled c.in-Ok.ensures.read
