@@ -38,7 +38,7 @@ use Rattle.npf_engine.specs.Outcome.{passes, sent_of}
 use Rattle.npf_engine.proofs.SightLemmas.{Turns, later_part, whole_did, whole_sight}
 
 module _ (crossing : Crossing) (config : ℕ) (mapped : Mapping) (ruled : Option Ruling) (answer : Answer) (old : Pass FlowEntry) (unsent : answer.rewriting ≡ None) where
-  pub ruled_by_none : ruled ≡ None → answer.outcome ≡ ByRule config None (Block Nothing) Keeps.Nothing None →
+  pub ruled_by_none : ruled ≡ None → answer.outcome ≡ ByRule (Block Nothing) None None config Keeps.Nothing →
       Does old old (AnswersRuled crossing config mapped ruled answer old old)
   ruled_by_none none outcome = record {
     said = [];

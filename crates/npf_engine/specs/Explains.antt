@@ -80,7 +80,7 @@ by_conn taken = ByConn taken.id taken.reply.opener taken.place taken.reply.pass 
 
 -- the outcome of a packet on which a rule decided
 abbrev pub by_ruling : ℕ → Ruling → Kept → Outcome
-by_ruling config ruled kept = ByRule config (Some ruled.place) ruled.decision kept ruled.action.log
+by_ruling config ruled kept = ByRule ruled.decision ruled.action.log (Some ruled.place) config kept
 
 module _ (bytes : List ℕ) (facts : Facts) where
   -- it is sent: normalised by the action and then translated by the change
@@ -115,7 +115,7 @@ module _ (bytes : List ℕ) (facts : Facts) where
   -- What the configuration of this number made of a packet that no connection took, by what it then asked. No rule decides, and it is
   -- blocked; a rule blocks it; a rule passes it and it opens no connection; or it was to open one.
   pub data IsDecided (sight : Sight) (arrival : Arrival) (config : ℕ) (mapped : Mapping) : Option Ruling → List FlowSaid → Outcome → Option (List ℕ) → Type 0 where
-    unruled : IsDecided sight arrival config mapped None [] (ByRule config None (Block Nothing) Keeps.Nothing None) None
+    unruled : IsDecided sight arrival config mapped None [] (ByRule (Block Nothing) None None config Keeps.Nothing) None
     blocked : {ruled : Ruling} {answer : Return} → ruled.decision ≡ Block answer →
         IsDecided sight arrival config mapped (Some ruled) [] (by_ruling config ruled Keeps.Nothing) None
     passed : {ruled : Ruling} {sent : Option (List ℕ)} → ruled.decision ≡ Pass → ¬ OpensOne ruled mapped →

@@ -15,7 +15,7 @@ abbrev pub passes : Outcome → Bool
 passes Skip = false
 passes (Malformed why at) = false
 passes (ByConn id opener place pass log) = pass
-passes (ByRule config rule decision kept log) = is_pass decision
+passes (ByRule decision log rule config kept) = is_pass decision
 passes (Dropped config rule why) = false
 
 -- the bytes that are sent of a packet that is left with these: none where it doesn't pass
@@ -24,6 +24,6 @@ sent_of outcome bytes = if passes outcome then Some bytes else None
 
 -- the table of connections had no node left for the packet
 abbrev pub lacks_node : Outcome → Bool
-lacks_node (ByRule config rule decision Keeps.NoNode log) = true
+lacks_node (ByRule decision log rule config Keeps.NoNode) = true
 lacks_node (Dropped config rule Drops.NoNode) = true
 lacks_node _ = false

@@ -56,7 +56,7 @@ impl Answer {
 
     /// No rule decides, and the packet is blocked.
     pub(crate) fn unruled(config: u64) -> Answer
-        ensures outcome { result.outcome ≡ Outcome.ByRule config None (Block Nothing) Kept.Nothing None }
+        ensures outcome { result.outcome ≡ Outcome.ByRule (Block Nothing) None None config Kept.Nothing }
         ensures rewriting { result.rewriting ≡ None }
     {
         Answer {

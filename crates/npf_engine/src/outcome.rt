@@ -52,13 +52,14 @@ pub enum Outcome {
         pass: bool,
         log: Option<Name>,
     },
-    /// The configuration of this number, from 0, was asked, and the rule at this place, from 0, decided, None where none did.
+    /// The configuration of this number, from 0, was asked, and the rule at this place, from 0, decided, None where none did. The small
+    /// fields stand first: so an outcome takes 72 bytes.
     ByRule {
-        config: u64,
-        rule: Option<u32>,
         decision: Decision,
-        kept: Kept,
         log: Option<Name>,
+        rule: Option<u32>,
+        config: u64,
+        kept: Kept,
     },
     /// The rule at this place of that configuration passed it, and it couldn't be translated.
     Dropped {

@@ -35,10 +35,11 @@ pub fn step_flow(flow: &Flow, way: Way, arg: FlowArg) -> (Flow, FlowReply)
         change: change_of(flow, way),
         action: flow.action,
     };
-    if !pass {
-        return (*flow, reply);
-    }
-    let last = flow.last.max(arg.now);
+    let (kind, last) = if pass {
+        (kind, flow.last.max(arg.now))
+    } else {
+        (flow.kind, flow.last)
+    };
     (
         Flow {
             kind,

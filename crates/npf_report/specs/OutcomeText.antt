@@ -68,5 +68,5 @@ abbrev pub outcome_text : Outcome → List ℕ
 outcome_text Skip = codes "skip"
 outcome_text (Malformed why at) = malformed_text why at
 outcome_text (ByConn id opener place pass log) = conn_text opener place pass log
-outcome_text (ByRule config rule decision kept log) = verdict_text config rule decision kept ++ log_text log
+outcome_text (ByRule decision log rule config kept) = verdict_text config rule decision kept ++ log_text log
 outcome_text (Dropped config rule why) = dropped_text config rule why

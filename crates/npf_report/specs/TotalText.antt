@@ -9,7 +9,7 @@ use Rattle.npf_report.specs.declared.totals.Counts.{Counts}
 -- a connection refused the packet, or a configuration blocked it
 abbrev pub is_blocked : Outcome → Bool
 is_blocked (ByConn _ _ _ pass _) = not pass
-is_blocked (ByRule _ _ decision _ _) = not (is_pass decision)
+is_blocked (ByRule decision _ _ _ _) = not (is_pass decision)
 is_blocked _ = false
 
 abbrev pub is_dropped : Outcome → Bool

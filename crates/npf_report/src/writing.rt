@@ -6,6 +6,8 @@ ghost use Rattle.npf_report.specs.OutcomeText.{two_numbers};
 use itoa::Buffer;
 use npf_types::NoMemory;
 
+/// Appends a text. Inlined, as are those below, so that a literal is copied in its known size.
+#[inline(always)]
 pub(crate) fn write_text(into: &mut Vec<u8>, text: &str) -> Result<(), NoMemory>
     ensures { OnOk result (into.new.items ≡ into.old.items ++ text.now) }
 {
@@ -13,6 +15,8 @@ pub(crate) fn write_text(into: &mut Vec<u8>, text: &str) -> Result<(), NoMemory>
     Ok(())
 }
 
+/// Appends a number.
+#[inline(always)]
 pub(crate) fn write_number(into: &mut Vec<u8>, number: u64) -> Result<(), NoMemory>
     ensures { OnOk result (into.new.items ≡ into.old.items ++ decimal number) }
 {
@@ -26,6 +30,7 @@ pub(crate) fn write_number(into: &mut Vec<u8>, number: u64) -> Result<(), NoMemo
 }
 
 /// Appends a text and then a number.
+#[inline(always)]
 pub(crate) fn write_counted(into: &mut Vec<u8>, text: &str, number: u64) -> Result<(), NoMemory>
     ensures { OnOk result (into.new.items ≡ into.old.items ++ (text.now ++ decimal number)) }
 {
@@ -34,6 +39,7 @@ pub(crate) fn write_counted(into: &mut Vec<u8>, text: &str, number: u64) -> Resu
 }
 
 /// Appends two numbers, each behind its text.
+#[inline(always)]
 pub(crate) fn write_two(
     into: &mut Vec<u8>,
     first: &str,

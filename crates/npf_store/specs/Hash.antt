@@ -16,6 +16,6 @@ abbrev pub hash_of : Key → ℕ
 hash_of key =
     mixed (mixed (mixed (mixed (mixed SEED (get_or key.0 0 0)) (get_or key.0 1 0)) (get_or key.0 2 0)) (get_or key.0 3 0)) (get_or key.0 4 0)
 
--- its bucket, of so many
+-- its bucket, of so many: the upper half of the hash, from 0 to 2 ^ 32, goes to buckets in proportion
 abbrev pub bucket_of : ℕ → Key → ℕ
-bucket_of buckets key = hash_of key % buckets
+bucket_of buckets key = hash_of key / 2 ^ 32 * buckets / 2 ^ 32

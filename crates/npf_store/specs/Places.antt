@@ -1,5 +1,5 @@
 -- Keys and their holders. Each connection has one place for each way, and what stands there is the key that it holds that way.
-use Rattle.std.specs.Prelude.{◌≡◌, ◌≢◌, ℕ, ◌+◌, ◌*◌, ◌<◌, Bool, false, List, [], ◌∷◌, length, get_or, Option, Some, None, if◌then◌else◌}
+use Rattle.std.specs.Prelude.{◌≡◌, ◌≢◌, ℕ, ◌+◌, ◌*◌, ◌^◌, ◌<◌, Bool, false, List, [], ◌∷◌, length, get_or, Option, Some, None, if◌then◌else◌}
 use Rattle.npf_types.specs.declared.key.Key.{Key}
 use Rattle.npf_types.specs.declared.key.Way.{Way}
 use Rattle.npf_types.specs.declared.key.Way.TheVariants.{Forward, Backward, Port}
@@ -53,6 +53,7 @@ IsUnnamed cells bucket place = (i : ℕ) → i < 16 → get_or cells (bucket * 1
 -- each bucket has 16 cells and a flag, and none before the first key is given
 pub record AreSized (used : Bool) (buckets : ℕ) (cells : List ℕ) (spilled : List Bool) : Type 0 where
   pub some : 0 < buckets
+  pub few : buckets < 2 ^ 32
   pub celled : length cells ≡ (if used then buckets * 16 else 0)
   pub flagged : length spilled ≡ (if used then buckets else 0)
 

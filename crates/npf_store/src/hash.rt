@@ -1,4 +1,4 @@
-ghost use Rattle.std.specs.Prelude.{◌≡◌, ◌<◌};
+ghost use Rattle.std.specs.Prelude.{◌≡◌, ◌<◌, ◌^◌, ◌*◌, ◌/◌};
 ghost use Rattle.npf_store.specs.Hash.{mixed, hash_of, bucket_of};
 
 use npf_types::Key;
@@ -24,11 +24,24 @@ fn hash_of(key: Key) -> u64
     mixed(mixed(ends, words[3]), words[4])
 }
 
-/// The key's bucket, of so many.
+/// The key's bucket, of so many. The upper half of the hash tells it, without a division (Lemire, "Fast Random Integer Generation in an
+/// Interval", 2019).
 pub(crate) fn bucket_of(buckets: usize, key: Key) -> usize
-    requires { 0 < buckets }
+    requires some { 0 < buckets }
+    requires few { buckets < 2 ^ 32 }
     ensures value { result ≡ bucket_of buckets key }
     ensures within { result < buckets }
 {
-    hash_of(key) as usize % buckets
+    scaled(hash_of(key) >> 32, buckets as u64) as usize
+}
+
+/// The number, below 2 ^ 32, scaled to the numbers below a bound.
+fn scaled(number: u64, bound: u64) -> u64
+    requires number { number < 2 ^ 32 }
+    requires some { 0 < bound }
+    requires few { bound < 2 ^ 32 }
+    ensures value { result ≡ number * bound / 2 ^ 32 }
+    ensures within { result < bound }
+{
+    number * bound >> 32
 }

@@ -44,7 +44,7 @@ impl Keys {
         ensures empty { IfOk result (λ keys. length keys.holdings.items ≡ 0) }
         ensures room { IfOk result (λ keys. 3 * slots ≤ vec_capacity keys.holdings) }
     {
-        let buckets = slots.max(1) as usize;
+        let buckets = (slots / 2).max(1) as usize;
         Ok(Keys {
             used: false,
             buckets,
@@ -79,9 +79,20 @@ impl Keys {
         bucket_of(self.buckets, key)
     }
 
+    /// The key's holder. Before the first key no bucket is asked for.
+    pub(crate) fn find(&self, key: Key) -> Option<Found>
+        ensures { result ≡ keeper_of self.now key }
+    {
+        if !self.used {
+            return None;
+        }
+        self.search(self.bucket(key), key)
+    }
+
     /// The key's holder, by the key's bucket.
     pub(crate) fn search(&self, bucket: usize, key: Key) -> Option<Found>
-        requires { bucket ≡ bucket_of self.now.buckets key }
+        requires bucket { bucket ≡ bucket_of self.now.buckets key }
+        requires exists { bucket < self.now.buckets }
         ensures { result ≡ keeper_of self.now key }
     {
         if !self.used {
@@ -198,6 +209,7 @@ impl Keys {
     /// Gives a key that has no holder to this one, by the key's bucket.
     pub(crate) fn give(&mut self, bucket: usize, key: Key, found: Found)
         requires bucket { bucket ≡ bucket_of self.old.buckets key }
+        requires exists { bucket < self.old.buckets }
         requires within { key_place found < length self.old.holdings.items }
         requires none { standing self.old.holdings.items (key_place found) ≡ None }
         requires unheld { keeper_of self.old key ≡ None }

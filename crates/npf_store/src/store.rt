@@ -54,7 +54,7 @@ impl<S: Copy> Store<S> {
     pub fn holder(&self, key: Key) -> Option<Found>
         ensures { result ≡ holder_of self.now key }
     {
-        self.keys.search(self.keys.bucket(key), key)
+        self.keys.find(key)
     }
 
     /// The identity's phase.

@@ -6,5 +6,5 @@ pub returns : goal.returns
 returns c =
     let s = c.args.self.now in
     sym (unnamed_nowhere s.buckets s.holdings.items s.cells.items s.spilled.items s.kept c.args.key
-    (rw (← c.requires) c.in_default.ensures.none)
-    (rw (← c.requires) (flag_read s.spilled.items c.args.bucket c.index.result.now c.index.ensures c.if-index.false)))
+    (rw (← c.requires.bucket) c.in_default.ensures.none)
+    (rw (← c.requires.bucket) (flag_read s.spilled.items c.args.bucket c.index.result.now c.index.ensures c.if-index.false)))
