@@ -1,4 +1,4 @@
-/* The rules and packets of crates/rules_bench, as a C programmer would walk them: each rule a structure, tested field by field, and the
+/* The rules and packets of crates/npf_ruleset_bench, as a C programmer would walk them: each rule a structure, tested field by field, and the
  * last one that matches decides. The argument is how often the 64 packets are walked. */
 #include <inttypes.h>
 #include <stdint.h>

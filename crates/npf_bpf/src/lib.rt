@@ -19,8 +19,6 @@ mod insn;
 mod laws;
 mod operation;
 mod program;
-#[cfg(test)]
-mod tests;
 
 pub use insn::Insn;
 pub use laws::{takes_at_most_one_step_an_instruction, value_behind_others};

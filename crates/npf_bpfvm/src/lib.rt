@@ -14,8 +14,6 @@ mod arithmetic;
 mod cop;
 mod load;
 mod machine;
-#[cfg(test)]
-mod tests;
 
 pub use cop::Cop;
 pub use machine::run;

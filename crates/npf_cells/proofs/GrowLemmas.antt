@@ -10,7 +10,7 @@ use Rattle.npf_types.specs.declared.key.Key.{Key}
 use Rattle.npf_types.specs.declared.key.Way.{Way}
 use Rattle.npf_core.specs.declared.conn_id.ConnId.{ConnId}
 use Rattle.npf_core.specs.Machine.{Machine, is_key}
-use Rattle.npf_digits.specs.Digits.{half_byte_of, digit_of}
+use Rattle.npf_paths.specs.Digits.{half_byte_of, digit_of}
 use Rattle.npf_paths.specs.declared.cell.Cell.{Cell}
 use Rattle.npf_paths.specs.declared.cell.Cell.TheVariants.{Empty, Leaf, Node, Mark}
 use Rattle.npf_paths.specs.declared.place.Place.{Place}

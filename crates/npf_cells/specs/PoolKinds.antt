@@ -6,7 +6,7 @@ use lib.ListN.{get_elem?}
 use Rattle.atomic_table.specs.Table.{Me, State, Step}
 use Rattle.npf_types.specs.declared.key.Key.{Key}
 use Rattle.npf_core.specs.Meaning.{Meaning}
-use Rattle.npf_digits.specs.Digits.{PartsAt}
+use Rattle.npf_paths.specs.Digits.{PartsAt}
 use Rattle.npf_cells.specs.declared.layout.Layout.{Layout}
 use Rattle.npf_cells.specs.declared.layout.Pool.{Pool}
 use Rattle.npf_cells.specs.declared.layout.Pool.TheVariants.{Slots, Nodes}

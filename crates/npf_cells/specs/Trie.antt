@@ -7,7 +7,7 @@ use Rattle.npf_types.specs.declared.key.Way.{Way}
 use Rattle.npf_core.specs.declared.conn_id.ConnId.{ConnId}
 use Rattle.npf_core.specs.declared.found.Found.{Found}
 use Rattle.npf_core.specs.Machine.{Machine, stage_of, IsClaimed, is_key}
-use Rattle.npf_digits.specs.Digits.{digit_of}
+use Rattle.npf_paths.specs.Digits.{digit_of}
 use Rattle.npf_paths.specs.declared.cell.Cell.{Cell}
 use Rattle.npf_paths.specs.declared.cell.Cell.TheVariants.{Empty, Leaf, Node, Mark}
 use Rattle.npf_paths.specs.declared.place.Lock.{Lock}

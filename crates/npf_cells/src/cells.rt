@@ -14,7 +14,7 @@ use crate::views::CellView;
 use arrayvec::ArrayVec;
 use atomic_table::{Refused, Seat, Table};
 use npf_core::Law;
-use npf_digits::KeyHash;
+use npf_paths::KeyHash;
 use npf_types::NoMemory;
 use std::alloc::Global;
 

@@ -5,8 +5,7 @@ use crate::rule::Running;
 use crate::views::CellView;
 use atomic_table::Play;
 use npf_core::{ConnId, Law};
-use npf_digits::KeyHash;
-use npf_paths::{Cell, Place};
+use npf_paths::{Cell, KeyHash, Place};
 use npf_types::{Key, Way};
 use std::marker::{Brand, PhantomData};
 

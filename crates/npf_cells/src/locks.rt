@@ -5,8 +5,7 @@ use crate::rule::Running;
 use crate::views::CellView;
 use atomic_table::Play;
 use npf_core::Law;
-use npf_digits::KeyHash;
-use npf_paths::Lock;
+use npf_paths::{KeyHash, Lock};
 use std::marker::{Brand, PhantomData};
 
 /// The state of what isn't locked, and of what is.

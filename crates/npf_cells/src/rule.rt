@@ -2,7 +2,7 @@ use crate::layout::Layout;
 use crate::views::CellView;
 use atomic_table::TableRule;
 use npf_core::Law;
-use npf_digits::KeyHash;
+use npf_paths::KeyHash;
 use std::marker::PhantomData;
 
 /// A connection's flow and its count of steps, or none where the slot is vacant.

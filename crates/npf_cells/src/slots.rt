@@ -7,7 +7,7 @@ use crate::rule::Running;
 use crate::views::CellView;
 use atomic_table::Play;
 use npf_core::Law;
-use npf_digits::KeyHash;
+use npf_paths::KeyHash;
 use std::marker::{Brand, PhantomData};
 
 // What a step on a slot's bit is told.

@@ -1,8 +1,8 @@
 -- One more name in front of the others.
 use Rattle.std.proofs.Common.{◌≡◌, Bool, Option, List, ◌∷◌, ℕ, sym, ap, ◌∙◌}
 use mathlib.Core.Path.{fun_ext}
-use Rattle.npf_lexer.specs.declared.fault.ConfFault.{ConfFault}
-use Rattle.npf_lexer.specs.declared.fault.Fault.TheVariants.{DuplicateName}
+use Rattle.npf_faults.specs.declared.fault.ConfFault.{ConfFault}
+use Rattle.npf_faults.specs.declared.fault.Fault.TheVariants.{DuplicateName}
 use Rattle.npf_faults.specs.First.{earlier, fault_if, first_fault}
 use Rattle.npf_faults.proofs.FirstLemmas.{earlier-assoc, first_fault-append}
 use Rattle.npf_check.specs.Duplicate.{repeated}

@@ -1,6 +1,6 @@
 -- The first fault of what a statement has, put together from its parts.
 use Rattle.std.proofs.Common.{◌≡◌, Option, List, ◌++◌, sym, ap₂, ◌∙◌}
-use Rattle.npf_lexer.specs.declared.fault.ConfFault.{ConfFault}
+use Rattle.npf_faults.specs.declared.fault.ConfFault.{ConfFault}
 use Rattle.npf_faults.specs.First.{earlier, first_fault}
 use Rattle.npf_faults.proofs.FirstLemmas.{first_fault-append}
 

@@ -2,8 +2,8 @@
 -- the rulesets of all groups together.
 use Rattle.std.specs.Prelude.{ℕ, Bool, Option, List, [], ◌∷◌, ◌++◌}
 use Rattle.std.specs.List.{flat_map}
-use Rattle.npf_lexer.specs.declared.fault.ConfFault.{ConfFault}
-use Rattle.npf_lexer.specs.declared.fault.Fault.TheVariants.{DuplicateName}
+use Rattle.npf_faults.specs.declared.fault.ConfFault.{ConfFault}
+use Rattle.npf_faults.specs.declared.fault.Fault.TheVariants.{DuplicateName}
 use Rattle.npf_syntax.specs.declared.group.Item.{Item}
 use Rattle.npf_syntax.specs.declared.group.Item.TheVariants as ItemIs
 use Rattle.npf_syntax.specs.declared.stmt.Stmt.{Stmt}

@@ -1,7 +1,7 @@
 -- The faults of a configuration that means something and yet can't be used: 40 to 49, in the order of their numbers.
 use Rattle.std.specs.Prelude.{List, ◌++◌}
-use Rattle.npf_lexer.specs.declared.fault.ConfFault.{ConfFault}
-use Rattle.npf_lexer.specs.declared.fault.Refused.{Refused}
+use Rattle.npf_faults.specs.declared.fault.ConfFault.{ConfFault}
+use Rattle.npf_faults.specs.declared.fault.Refused.{Refused}
 use Rattle.npf_syntax.specs.declared.stmt.Tree.{Tree}
 use Rattle.npf_model.specs.declared.model.Model.{Model}
 use Rattle.npf_faults.specs.First.{IsFirstFaultOf}

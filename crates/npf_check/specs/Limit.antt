@@ -4,10 +4,10 @@ use Rattle.std.specs.Prelude.{◌≡◌, ℕ, ◌+◌, Option, Some, None, List,
 use Rattle.std.specs.List.{flat_map}
 use Rattle.npf_types.specs.declared.limits.TheConstants.{MAX_RULES, MAX_TABLES, MAX_MAPS, MAX_PROCEDURES}
 use Rattle.npf_types.specs.declared.span.Span.{Span}
-use Rattle.npf_lexer.specs.declared.fault.ConfFault.{ConfFault}
-use Rattle.npf_lexer.specs.declared.fault.Excess.{Excess}
-use Rattle.npf_lexer.specs.declared.fault.Excess.TheVariants as Of
-use Rattle.npf_lexer.specs.declared.fault.Fault.TheVariants.{TooMany}
+use Rattle.npf_faults.specs.declared.fault.ConfFault.{ConfFault}
+use Rattle.npf_faults.specs.declared.fault.Excess.{Excess}
+use Rattle.npf_faults.specs.declared.fault.Excess.TheVariants as Of
+use Rattle.npf_faults.specs.declared.fault.Fault.TheVariants.{TooMany}
 use Rattle.npf_syntax.specs.declared.group.Item.{Item}
 use Rattle.npf_syntax.specs.declared.group.Item.TheVariants as ItemIs
 use Rattle.npf_syntax.specs.declared.stmt.Stmt.{Stmt}

@@ -1,7 +1,7 @@
 -- Faults of pairs: of what the text says, each beside what it means.
 use Rattle.std.specs.Prelude.{Option, List, zip}
 use Rattle.std.specs.List.{flat_map}
-use Rattle.npf_lexer.specs.declared.fault.ConfFault.{ConfFault}
+use Rattle.npf_faults.specs.declared.fault.ConfFault.{ConfFault}
 use Rattle.npf_faults.specs.First.{earlier, first_fault}
 
 -- the first fault of these pairs and of those before, whose first fault it is given

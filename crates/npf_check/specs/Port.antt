@@ -3,8 +3,8 @@
 use Rattle.std.specs.Prelude.{ℕ, Bool, not, ◌==◌, ◌&&◌, ◌||◌, is_some, List}
 use Rattle.std.specs.List.{list_any}
 use Rattle.npf_types.specs.declared.span.Span.{Span}
-use Rattle.npf_lexer.specs.declared.fault.ConfFault.{ConfFault}
-use Rattle.npf_lexer.specs.declared.fault.Fault.TheVariants.{PortNeedsTcpUdp}
+use Rattle.npf_faults.specs.declared.fault.ConfFault.{ConfFault}
+use Rattle.npf_faults.specs.declared.fault.Fault.TheVariants.{PortNeedsTcpUdp}
 use Rattle.npf_model.specs.declared.rule.Rule.{Rule}
 use Rattle.npf_faults.specs.First.{fault_if}
 

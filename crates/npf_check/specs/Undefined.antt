@@ -3,8 +3,8 @@
 -- isn't, told at the string behind `apply`. No table stands as a port, so ports aren't looked through.
 use Rattle.std.specs.Prelude.{ℕ, Bool, not, Option, Some, None, List, [], ◌++◌}
 use Rattle.std.specs.List.{flat_map}
-use Rattle.npf_lexer.specs.declared.fault.ConfFault.{ConfFault}
-use Rattle.npf_lexer.specs.declared.fault.Fault.TheVariants.{UnknownTable, UnknownProcedure}
+use Rattle.npf_faults.specs.declared.fault.ConfFault.{ConfFault}
+use Rattle.npf_faults.specs.declared.fault.Fault.TheVariants.{UnknownTable, UnknownProcedure}
 use Rattle.npf_syntax.specs.declared.filter.Addresses.{Addresses}
 use Rattle.npf_syntax.specs.declared.filter.Addresses.TheVariants as Written
 use Rattle.npf_syntax.specs.declared.filter.Ends.{Ends}

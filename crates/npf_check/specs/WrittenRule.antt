@@ -3,7 +3,7 @@
 use Rattle.std.specs.Prelude.{Option, Some, List, [], ◌∷◌, ◌++◌, zip}
 use Rattle.std.specs.List.{flat_map}
 use Rattle.npf_types.specs.declared.span.Span.{Span}
-use Rattle.npf_lexer.specs.declared.fault.ConfFault.{ConfFault}
+use Rattle.npf_faults.specs.declared.fault.ConfFault.{ConfFault}
 use Rattle.npf_syntax.specs.declared.filter.Filter.{Filter}
 use Rattle.npf_syntax.specs.declared.group.GroupHead.TheVariants as Head
 use Rattle.npf_syntax.specs.declared.group.Item.{Item as WrittenItem}

@@ -3,8 +3,7 @@ ghost use Rattle.std.specs.Prelude.{◌≡◌, [], ◌∷◌, MatchOption};
 ghost use Rattle.npf_faults.specs.First.{first_fault};
 ghost use Rattle.npf_check.specs.Default.{default_faults, default_place};
 
-use npf_faults::fault_if;
-use npf_lexer::{ConfFault, Fault};
+use npf_faults::{ConfFault, Fault, fault_if};
 use npf_syntax::{GroupHead, Stmt, Tree};
 use npf_types::Span;
 

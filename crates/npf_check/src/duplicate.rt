@@ -6,8 +6,7 @@ ghost use Rattle.npf_check.specs.Duplicate.{duplicate_faults, first_again, repea
 ghost use Rattle.npf_check.specs.Name.{NameAt, as_list, names_given, no_text};
 
 use crate::name::{Given, NameKind, Names};
-use npf_faults::{earlier, fault_if};
-use npf_lexer::{ConfFault, Fault};
+use npf_faults::{ConfFault, Fault, earlier, fault_if};
 use npf_syntax::{Item, Stmt, Tree};
 use npf_types::NoMemory;
 use std::alloc::Global;

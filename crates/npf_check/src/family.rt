@@ -4,8 +4,7 @@ ghost use Rattle.std.specs.List.{list_any};
 ghost use Rattle.npf_faults.specs.First.{first_fault};
 ghost use Rattle.npf_check.specs.Family.{asks_for, family_faults, item_allows, leaves_family, list_allows};
 
-use npf_faults::fault_if;
-use npf_lexer::{ConfFault, Fault};
+use npf_faults::{ConfFault, Fault, fault_if};
 use npf_model::{AddrItem, Rule};
 use npf_types::{Addr, List, Span};
 

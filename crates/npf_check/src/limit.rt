@@ -4,8 +4,7 @@ ghost use Rattle.std.specs.List.{flat_map};
 ghost use Rattle.npf_faults.specs.First.{first_fault};
 ghost use Rattle.npf_check.specs.Limit.{FindsPlace, limited_places, limit_faults, past_faults, rule_place};
 
-use npf_faults::earlier;
-use npf_lexer::{ConfFault, Excess, Fault};
+use npf_faults::{ConfFault, Excess, Fault, earlier};
 use npf_syntax::{Item, Stmt, Tree};
 use npf_types::Span;
 use npf_types::limits::{MAX_MAPS, MAX_PROCEDURES, MAX_RULES, MAX_TABLES};

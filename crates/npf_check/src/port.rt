@@ -3,8 +3,7 @@ ghost use Rattle.std.specs.Prelude.{◌≡◌};
 ghost use Rattle.npf_faults.specs.First.{first_fault};
 ghost use Rattle.npf_check.specs.Port.{carries_ports, lists_other, names_ports, port_faults};
 
-use npf_faults::fault_if;
-use npf_lexer::{ConfFault, Fault};
+use npf_faults::{ConfFault, Fault, fault_if};
 use npf_model::Rule;
 use npf_types::Span;
 

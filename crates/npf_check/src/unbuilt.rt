@@ -3,8 +3,7 @@ ghost use Rattle.std.specs.Prelude.{◌≡◌};
 ghost use Rattle.npf_faults.specs.First.{first_fault};
 ghost use Rattle.npf_check.specs.Unbuilt.{is_built_algo, is_built_kind, is_switch, unbuilt, unbuilt_faults};
 
-use npf_faults::{earlier, fault_if};
-use npf_lexer::{ConfFault, Fault};
+use npf_faults::{ConfFault, Fault, earlier, fault_if};
 use npf_syntax::{MapKind, Setting, Stmt, Tree, Word};
 
 /// The first `Unbuilt`.

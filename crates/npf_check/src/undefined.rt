@@ -6,8 +6,7 @@ ghost use Rattle.npf_check.specs.Name.{holds};
 ghost use Rattle.npf_check.specs.Undefined.{applied_faults, procedures_of_item, procedures_of_stmt, table_faults, tables_of_addresses, tables_of_ends, tables_of_item, tables_of_pass, tables_of_stmt, tables_of_target, tables_of_values, tables_of_where, undefined_procedure_faults, undefined_table_faults};
 
 use crate::name::{NameKind, Names, names_given};
-use npf_faults::{earlier, fault_if};
-use npf_lexer::{ConfFault, Fault};
+use npf_faults::{ConfFault, Fault, earlier, fault_if};
 use npf_syntax::{Addresses, Ends, Filter, Item, Stmt, Str, Tree, Value, Values, Where};
 use npf_types::NoMemory;
 use std::alloc::Global;

@@ -9,8 +9,7 @@ ghost use Rattle.npf_check.specs.WrittenRule.{faults_of_filter, faults_of_group,
 
 use crate::family::family_fault;
 use crate::port::port_fault;
-use npf_faults::earlier;
-use npf_lexer::ConfFault;
+use npf_faults::{ConfFault, earlier};
 use npf_model::{Group, Item as Meant, Map, Model, Rule};
 use npf_syntax::{Filter, GroupHead, Item, Stmt, Tree};
 use npf_types::Span;

@@ -6,8 +6,8 @@ use Rattle.std.proofs.lemmas.Grind.{flat_map-append}
 use Rattle.std.proofs.lemmas.List.{length-append}
 use Rattle.std.proofs.lemmas.Option.{slice_get_cases}
 use Rattle.npf_types.specs.declared.span.Span.{Span}
-use Rattle.npf_lexer.specs.declared.fault.Excess.{Excess}
-use Rattle.npf_lexer.specs.declared.fault.Excess.TheVariants as Of
+use Rattle.npf_faults.specs.declared.fault.Excess.{Excess}
+use Rattle.npf_faults.specs.declared.fault.Excess.TheVariants as Of
 use Rattle.npf_syntax.specs.declared.group.GroupHead.TheVariants as Head
 use Rattle.npf_syntax.specs.declared.group.Item.{Item as WrittenItem}
 use Rattle.npf_syntax.specs.declared.group.Item.TheVariants as ItemIs

@@ -1,10 +1,10 @@
 -- Each stage that refuses a text refuses the configuration.
 use Rattle.std.proofs.Common.{◌≡◌, ℕ, Ok, Err, List, sym, subst}
 use Rattle.npf_types.specs.Reading.{IsOnly}
-use Rattle.npf_lexer.specs.declared.fault.ConfFault.{ConfFault}
-use Rattle.npf_lexer.specs.declared.fault.Fault.{Fault}
-use Rattle.npf_lexer.specs.declared.fault.Fault.TheVariants.{Expected}
-use Rattle.npf_lexer.specs.declared.fault.Refused.{Refused}
+use Rattle.npf_faults.specs.declared.fault.ConfFault.{ConfFault}
+use Rattle.npf_faults.specs.declared.fault.Fault.{Fault}
+use Rattle.npf_faults.specs.declared.fault.Fault.TheVariants.{Expected}
+use Rattle.npf_faults.specs.declared.fault.Refused.{Refused}
 use Rattle.npf_lexer.specs.declared.token.Token.{Token}
 use Rattle.npf_lexer.specs.Lexer.{IfFault, IsLexed}
 use Rattle.npf_syntax.specs.declared.stmt.Tree.{Tree}

@@ -1,7 +1,7 @@
 -- The stages of the language decide on each text once.
 use Rattle.std.proofs.Common.{◌≡◌, ◌<◌, ℕ, Ok, Err, List, [], Contains, length, sym, ap, subst, ◌∙◌, arith}
 use Rattle.npf_types.specs.Reading.{IsOnly}
-use Rattle.npf_lexer.specs.declared.fault.ConfFault.{ConfFault}
+use Rattle.npf_faults.specs.declared.fault.ConfFault.{ConfFault}
 use Rattle.npf_lexer.specs.declared.token.Token.{Token}
 use Rattle.npf_lexer.specs.Lexer.{IsLexed, Lexed}
 use Rattle.npf_syntax.specs.declared.stmt.Tree.{Tree}

@@ -5,7 +5,7 @@ use Rattle.std.proofs.lemmas.List.Elements.{All-append, All-head, All-nil, All-t
 use Rattle.std.proofs.lemmas.Bool.Decides.{nat_tests}
 use Rattle.npf_types.specs.declared.limits.TheConstants.{MAX_LIST_ELEMENTS}
 use Rattle.npf_types.specs.declared.span.Span.{Span}
-use Rattle.npf_lexer.specs.declared.fault.Fault.{Fault}
+use Rattle.npf_faults.specs.declared.fault.Fault.{Fault}
 use Rattle.npf_faults.specs.First.{fault_if}
 use Rattle.npf_expand.specs.Rule.{passing_faults}
 

@@ -4,9 +4,9 @@ use Rattle.std.specs.Prelude.{◌≡◌, ℕ, ◌+◌, ◌<◌, Some, List, leng
 use Rattle.npf_types.specs.declared.limits.TheConstants.{MAX_TABLE_ENTRIES}
 use Rattle.npf_types.specs.declared.prefix.Prefix.{Prefix}
 use Rattle.npf_types.specs.declared.span.Span.{Span}
-use Rattle.npf_lexer.specs.declared.fault.ConfFault.{ConfFault}
-use Rattle.npf_lexer.specs.declared.fault.Excess.TheVariants.{Entries, Weight, Instructions}
-use Rattle.npf_lexer.specs.declared.fault.Fault.TheVariants.{BadTableFile, TooMany}
+use Rattle.npf_faults.specs.declared.fault.ConfFault.{ConfFault}
+use Rattle.npf_faults.specs.declared.fault.Excess.TheVariants.{Entries, Weight, Instructions}
+use Rattle.npf_faults.specs.declared.fault.Fault.TheVariants.{BadTableFile, TooMany}
 use Rattle.npf_syntax.specs.declared.stmt.Tree.{Tree}
 use Rattle.npf_model.specs.declared.iface.Iface.{Iface}
 use Rattle.npf_model.specs.declared.model.Model.{Model}

@@ -1,6 +1,6 @@
 -- What a stage that reads no file answers.
-use Rattle.npf_lexer.specs.declared.fault.ConfFault.{ConfFault}
-use Rattle.npf_lexer.specs.declared.fault.Refused.{Refused}
+use Rattle.npf_faults.specs.declared.fault.ConfFault.{ConfFault}
+use Rattle.npf_faults.specs.declared.fault.Refused.{Refused}
 use Rattle.npf_config.specs.declared.fault.LoadFault.{LoadFault}
 use Rattle.npf_config.specs.declared.fault.LoadFault.TheVariants.{Conf, File, NoMemory}
 

@@ -3,9 +3,9 @@ use Rattle.std.specs.Prelude.{◌≡◌, ℕ, ◌+◌, ◌<◌, Option, Some, Li
 use Rattle.npf_types.specs.declared.limits.TheConstants.{MAX_TABLE_ENTRIES}
 use Rattle.npf_types.specs.declared.prefix.Prefix.{Prefix}
 use Rattle.npf_types.specs.declared.span.Span.{Span}
-use Rattle.npf_lexer.specs.declared.fault.ConfFault.{ConfFault}
-use Rattle.npf_lexer.specs.declared.fault.Excess.TheVariants.{Entries}
-use Rattle.npf_lexer.specs.declared.fault.Fault.TheVariants.{BadTableFile, TooMany}
+use Rattle.npf_faults.specs.declared.fault.ConfFault.{ConfFault}
+use Rattle.npf_faults.specs.declared.fault.Excess.TheVariants.{Entries}
+use Rattle.npf_faults.specs.declared.fault.Fault.TheVariants.{BadTableFile, TooMany}
 use Rattle.npf_model.specs.declared.table.TableDecl.{TableDecl}
 use Rattle.npf_table.specs.declared.table.Table.{Table}
 use Rattle.npf_table.specs.Table.{IsTableOf}

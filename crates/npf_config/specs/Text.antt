@@ -3,8 +3,8 @@
 use Rattle.std.specs.Prelude.{◌≡◌, ℕ, Ok, Err, List, []}
 use Rattle.npf_types.specs.Reading.{IsOnly}
 use Rattle.npf_types.specs.declared.span.Span.{Span}
-use Rattle.npf_lexer.specs.declared.fault.ConfFault.{ConfFault}
-use Rattle.npf_lexer.specs.declared.fault.Fault.TheVariants.{Expected}
+use Rattle.npf_faults.specs.declared.fault.ConfFault.{ConfFault}
+use Rattle.npf_faults.specs.declared.fault.Fault.TheVariants.{Expected}
 use Rattle.npf_lexer.specs.declared.token.Token.{Token}
 use Rattle.npf_lexer.specs.Lexer.{IsLexed}
 use Rattle.npf_syntax.specs.declared.stmt.Tree.{Tree}

@@ -1,6 +1,6 @@
 ghost use Rattle.std.specs.Prelude.{◌≡◌};
 
-use npf_lexer::{ConfFault, Fault, Refused};
+use npf_faults::{ConfFault, Fault, Refused};
 use npf_outside::FileFault;
 use npf_types::{NoMemory, Span, Text};
 use std::alloc::{AllocError, AllocFailed};

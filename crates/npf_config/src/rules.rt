@@ -9,7 +9,7 @@ ghost use Rattle.npf_config.specs.Stage.{IfConf};
 
 use crate::fault::LoadFault;
 use crate::rule_places::inspected_places;
-use npf_lexer::{Excess, Fault};
+use npf_faults::{Excess, Fault};
 use npf_model::Model;
 use npf_ruleset::{BuildFault, Config, build};
 use npf_syntax::Tree;

@@ -9,7 +9,7 @@ ghost use Rattle.npf_config.specs.Tables.{AreFirstTables, HasTextName, HaveKinds
 ghost use Rattle.npf_config.specs.TableSteps.{IsPastLimit, IsReadTable, StopsAtTable, StopsAtTables, StopsReading};
 
 use crate::fault::LoadFault;
-use npf_lexer::{Excess, Fault};
+use npf_faults::{Excess, Fault};
 use npf_model::TableDecl;
 use npf_outside::{FileFault, Files};
 use npf_table::{Table, TableFault};

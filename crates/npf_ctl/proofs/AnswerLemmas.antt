@@ -2,10 +2,10 @@
 use Rattle.std.proofs.Common.{◌≡◌, ◌≢◌, ◌⊎◌, ◌∙◌, inl, inr, ℕ, false, List, [], refl, sym, subst, arith}
 use Rattle.std.proofs.lemmas.Bool.{false≢true}
 use Rattle.npf_outside.specs.Sink.{Appends, SinkMoment}
-use Rattle.npf_messages.specs.declared.fault.CommandFault.{CommandFault}
-use Rattle.npf_messages.specs.declared.fault.CommandFault.TheVariants.{Usage, Configuration, Unread, Long, Capture, Line, Many, Unwritten, OutputUnwritten, NoMemory}
-use Rattle.npf_messages.specs.Message.{status_of_fault}
-use Rattle.npf_words.specs.CommandLine.{is_command_line}
+use Rattle.npf_ctl_messages.specs.declared.fault.CommandFault.{CommandFault}
+use Rattle.npf_ctl_messages.specs.declared.fault.CommandFault.TheVariants.{Usage, Configuration, Unread, Long, Capture, Line, Many, Unwritten, OutputUnwritten, NoMemory}
+use Rattle.npf_ctl_messages.specs.Message.{status_of_fault}
+use Rattle.npf_ctl_words.specs.CommandLine.{is_command_line}
 use Rattle.npf_ctl.specs.Ends.{AnswersWords, SaysFault}
 use Rattle.npf_ctl.specs.Faults.{IsFaulted, IsUntouched, MeetsFault, PutsFront, PutsNothing}
 use Rattle.npf_ctl.specs.Running.{Moment}

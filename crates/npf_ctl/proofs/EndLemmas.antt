@@ -6,17 +6,17 @@ use Rattle.npf_outside.specs.Counts.{Rose}
 use Rattle.npf_outside.specs.Files.{FilesMoment}
 use Rattle.npf_outside.specs.Sink.{Appends, AppendsFront}
 use Rattle.npf_engine.specs.declared.outcome.Outcome.{Outcome}
-use Rattle.npf_messages.specs.declared.fault.CommandFault.{CommandFault}
-use Rattle.npf_messages.specs.declared.fault.CommandFault.TheVariants.{Usage, Configuration, Unread, Long, Capture, Line, Many, Unwritten, OutputUnwritten, NoMemory}
-use Rattle.npf_input.specs.Unless.{IfTold}
-use Rattle.npf_output.specs.Putting.{HasPutFault}
-use Rattle.npf_output.specs.Report.{report_text}
-use Rattle.npf_prepare.specs.Prepares.{RunPlan, PreparesRun}
+use Rattle.npf_ctl_messages.specs.declared.fault.CommandFault.{CommandFault}
+use Rattle.npf_ctl_messages.specs.declared.fault.CommandFault.TheVariants.{Usage, Configuration, Unread, Long, Capture, Line, Many, Unwritten, OutputUnwritten, NoMemory}
+use Rattle.npf_ctl_input.specs.Unless.{IfTold}
+use Rattle.npf_ctl_output.specs.Putting.{HasPutFault}
+use Rattle.npf_ctl_output.specs.Report.{report_text}
+use Rattle.npf_ctl_prepare.specs.Prepares.{RunPlan, PreparesRun}
 use Rattle.npf_runner.specs.declared.packet.Packet.{Packet}
-use Rattle.npf_words.specs.declared.command.Command.{Command}
-use Rattle.npf_words.specs.declared.command.Command.TheVariants.{Run}
-use Rattle.npf_words.specs.declared.command.Run.{Run as RunWords}
-use Rattle.npf_words.specs.CommandLine.{SaysCommand, given_text}
+use Rattle.npf_ctl_words.specs.declared.command.Command.{Command}
+use Rattle.npf_ctl_words.specs.declared.command.Command.TheVariants.{Run}
+use Rattle.npf_ctl_words.specs.declared.command.Run.{Run as RunWords}
+use Rattle.npf_ctl_words.specs.CommandLine.{SaysCommand, given_text}
 use Rattle.npf_ctl.specs.Commands.{names_of_run, spread_said}
 use Rattle.npf_ctl.specs.Ends.{EndsIn, FailsReport, IsUnwritten}
 use Rattle.npf_ctl.specs.Faults.{ChangesNoFile, MeetsFault, PutsFront, PutsNothing}

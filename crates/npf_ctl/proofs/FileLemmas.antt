@@ -1,11 +1,11 @@
 -- Files that were only read, or of which one was written.
 use Rattle.std.proofs.Common.{◌≡◌, ◌∙◌, ℕ, List, [], Option, Some, None, refl, sym, subst, arith, append-nil}
 use Rattle.npf_config.specs.Reading.{OnlyReads}
-use Rattle.npf_input.specs.Around.{Around}
+use Rattle.npf_ctl_input.specs.Around.{Around}
 use Rattle.npf_outside.specs.Files.{FilesMoment, SameFiles, SameOthers, Tree}
 use Rattle.npf_outside.specs.Sink.{Appends, AppendsFront, SinkMoment}
 use Rattle.npf_packet.specs.declared.extent.IpExtent.{IpExtent}
-use Rattle.npf_output.specs.Extents.{AreExtentsOf}
+use Rattle.npf_ctl_output.specs.Extents.{AreExtentsOf}
 use Rattle.npf_runner.specs.declared.packet.Packet.{Packet}
 use Rattle.npf_outside.proofs.SinkLemmas.{Appends-nothing, IsPutTo-stops}
 use Rattle.npf_ctl.specs.Ends.{HasReadOn}

@@ -1,18 +1,18 @@
 -- The run of a generated input.
 use Rattle.std.proofs.Common.{◌≡◌, inl, ℕ, List, Ok, Err, Result, OnOk, IfErr}
 use Rattle.npf_engine.specs.declared.outcome.Outcome.{Outcome}
-use Rattle.npf_messages.specs.declared.fault.CommandFault.{CommandFault}
+use Rattle.npf_ctl_messages.specs.declared.fault.CommandFault.{CommandFault}
 use Rattle.npf_outside.specs.Files.{SameFiles}
 use Rattle.npf_outside.specs.Sink.{Appends, AppendsFront}
-use Rattle.npf_output.specs.Putting.{HasPutFault}
-use Rattle.npf_prepare.specs.declared.prepare.Prepared.{Prepared}
-use Rattle.npf_prepare.specs.View.{run_plan_of}
+use Rattle.npf_ctl_output.specs.Putting.{HasPutFault}
+use Rattle.npf_ctl_prepare.specs.declared.prepare.Prepared.{Prepared}
+use Rattle.npf_ctl_prepare.specs.View.{run_plan_of}
 use Rattle.npf_report.specs.TotalText.{total_text}
 use Rattle.npf_runner.specs.declared.packet.Packet.{Packet}
 use Rattle.npf_runner.specs.declared.phase.Spread.TheVariants.{Rr}
 use Rattle.npf_runner.specs.Plays.{PlaysPhases}
-use Rattle.npf_words.specs.declared.command.Command.TheVariants.{Gen}
-use Rattle.npf_words.specs.CommandLine.{SaysCommand}
+use Rattle.npf_ctl_words.specs.declared.command.Command.TheVariants.{Gen}
+use Rattle.npf_ctl_words.specs.CommandLine.{SaysCommand}
 use Rattle.npf_ctl.specs.Ends.{EndsIn, PreparesGenerated}
 use Rattle.npf_ctl.specs.Faults.{IsUntouched, MeetsFault}
 use Rattle.npf_ctl.specs.Generated.{PreparesOf}

@@ -1,7 +1,7 @@
 -- Commands that only look at a configuration.
 use Rattle.std.proofs.Common.{◌≡◌, ℕ, List, Some, refl, sym, subst}
 use Rattle.npf_model.specs.Configuration.{Configuration}
-use Rattle.npf_words.specs.declared.command.Load.{Load}
+use Rattle.npf_ctl_words.specs.declared.command.Load.{Load}
 use Rattle.npf_ctl.specs.declared.looking.Look.{Look}
 use Rattle.npf_ctl.specs.declared.looking.Look.TheVariants.{Count, Model, Programs}
 use Rattle.npf_ctl.specs.Commands.{loaded_by}

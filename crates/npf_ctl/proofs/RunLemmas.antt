@@ -1,13 +1,13 @@
 -- A run that was reported, and written where a file is named for it.
 use Rattle.std.proofs.Common.{◌≡◌, ℕ, List, Option, Some, None, Ok, Err, Result, IfSome, OnOk, IfErr, sym, subst}
 use Rattle.npf_engine.specs.declared.outcome.Outcome.{Outcome}
-use Rattle.npf_messages.specs.declared.fault.CommandFault.{CommandFault}
-use Rattle.npf_input.specs.Unless.{IfTold}
-use Rattle.npf_prepare.specs.Prepares.{PreparesRun, RunPlan}
+use Rattle.npf_ctl_messages.specs.declared.fault.CommandFault.{CommandFault}
+use Rattle.npf_ctl_input.specs.Unless.{IfTold}
+use Rattle.npf_ctl_prepare.specs.Prepares.{PreparesRun, RunPlan}
 use Rattle.npf_runner.specs.declared.packet.Packet.{Packet}
-use Rattle.npf_words.specs.declared.command.Command.TheVariants.{Run}
-use Rattle.npf_words.specs.declared.command.Run.{Run as RunWords}
-use Rattle.npf_words.specs.CommandLine.{SaysCommand, given_text}
+use Rattle.npf_ctl_words.specs.declared.command.Command.TheVariants.{Run}
+use Rattle.npf_ctl_words.specs.declared.command.Run.{Run as RunWords}
+use Rattle.npf_ctl_words.specs.CommandLine.{SaysCommand, given_text}
 use Rattle.npf_ctl.specs.Commands.{names_of_run}
 use Rattle.npf_ctl.specs.Ends.{EndsIn, IsUnwritten}
 use Rattle.npf_ctl.specs.Faults.{IsUntouched, MeetsFault}

@@ -1,15 +1,15 @@
 -- What the words of a command line name, as the layers below take it.
 use Rattle.std.specs.Prelude.{Option, Some, None}
-use Rattle.npf_prepare.specs.Prepares.{RunNames}
+use Rattle.npf_ctl_prepare.specs.Prepares.{RunNames}
 use Rattle.npf_runner.specs.declared.phase.Spread.{Spread}
 use Rattle.npf_runner.specs.declared.phase.Spread.TheVariants as Dealt
-use Rattle.npf_words.specs.declared.command.Command.{Command}
-use Rattle.npf_words.specs.declared.command.Command.TheVariants.{Run, Validate, Show, Debug, Gen}
-use Rattle.npf_words.specs.declared.command.Load.{Load as LoadWords}
-use Rattle.npf_words.specs.declared.command.Run.{Run as RunWords}
-use Rattle.npf_words.specs.declared.command.Spread.{Spread as SpreadWord}
-use Rattle.npf_words.specs.declared.command.Spread.TheVariants as Said
-use Rattle.npf_words.specs.CommandLine.{given_text}
+use Rattle.npf_ctl_words.specs.declared.command.Command.{Command}
+use Rattle.npf_ctl_words.specs.declared.command.Command.TheVariants.{Run, Validate, Show, Debug, Gen}
+use Rattle.npf_ctl_words.specs.declared.command.Load.{Load as LoadWords}
+use Rattle.npf_ctl_words.specs.declared.command.Run.{Run as RunWords}
+use Rattle.npf_ctl_words.specs.declared.command.Spread.{Spread as SpreadWord}
+use Rattle.npf_ctl_words.specs.declared.command.Spread.TheVariants as Said
+use Rattle.npf_ctl_words.specs.CommandLine.{given_text}
 
 abbrev pub names_of_run : RunWords → RunNames
 names_of_run run = record { conf = run.conf.now; script = run.script.now; ifaces = given_text run.ifaces }

@@ -4,18 +4,18 @@ use Rattle.npf_connections.specs.Pass.{IsPass, Pass, all_places}
 use Rattle.npf_flow.specs.Flows.{flow_law}
 use Rattle.npf_engine.specs.declared.outcome.Outcome.{Outcome}
 use Rattle.npf_engine.specs.Histories.{FlowEntry}
-use Rattle.npf_messages.specs.declared.fault.CommandFault.{CommandFault}
-use Rattle.npf_messages.specs.declared.fault.CommandFault.TheVariants.{NoMemory, Unwritten}
-use Rattle.npf_messages.specs.Message.{message_line, status_of_fault}
-use Rattle.npf_input.specs.Unless.{UnlessMemory}
+use Rattle.npf_ctl_messages.specs.declared.fault.CommandFault.{CommandFault}
+use Rattle.npf_ctl_messages.specs.declared.fault.CommandFault.TheVariants.{NoMemory, Unwritten}
+use Rattle.npf_ctl_messages.specs.Message.{message_line, status_of_fault}
+use Rattle.npf_ctl_input.specs.Unless.{UnlessMemory}
 use Rattle.npf_outside.specs.Counts.{Rose}
 use Rattle.npf_outside.specs.Files.{FilesMoment, SameReadFaults, Tree}
 use Rattle.npf_outside.specs.Sink.{Appends, AppendsFront, SinkMoment}
-use Rattle.npf_output.specs.Putting.{HasPutFault}
-use Rattle.npf_output.specs.Report.{report_text}
-use Rattle.npf_prepare.specs.declared.prepare.Prepared.{Prepared}
-use Rattle.npf_prepare.specs.Prepares.{RunPlan}
-use Rattle.npf_prepare.specs.View.{run_plan_of}
+use Rattle.npf_ctl_output.specs.Putting.{HasPutFault}
+use Rattle.npf_ctl_output.specs.Report.{report_text}
+use Rattle.npf_ctl_prepare.specs.declared.prepare.Prepared.{Prepared}
+use Rattle.npf_ctl_prepare.specs.Prepares.{RunPlan}
+use Rattle.npf_ctl_prepare.specs.View.{run_plan_of}
 use Rattle.npf_runner.specs.declared.packet.Packet.{Packet}
 use Rattle.npf_runner.specs.declared.phase.Spread.{Spread}
 use Rattle.npf_runner.specs.Plays.{PlaysPhases}

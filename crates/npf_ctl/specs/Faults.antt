@@ -4,17 +4,17 @@ use Rattle.npf_outside.specs.Counts.{Rose}
 use Rattle.npf_outside.specs.Files.{SameFiles, Tree}
 use Rattle.npf_outside.specs.Sink.{SinkMoment, Appends, AppendsFront}
 use Rattle.npf_engine.specs.declared.outcome.Outcome.{Outcome}
-use Rattle.npf_input.specs.Loading.{LoadsAlone}
-use Rattle.npf_prepare.specs.Prepares.{RunPlan, PreparesRun}
+use Rattle.npf_ctl_input.specs.Loading.{LoadsAlone}
+use Rattle.npf_ctl_prepare.specs.Prepares.{RunPlan, PreparesRun}
 use Rattle.npf_runner.specs.declared.packet.Packet.{Packet}
-use Rattle.npf_messages.specs.declared.fault.CommandFault.{CommandFault}
-use Rattle.npf_messages.specs.declared.fault.CommandFault.TheVariants.{Usage, Unwritten, OutputUnwritten, NoMemory}
-use Rattle.npf_messages.specs.Message.{message_line, status_of_fault}
-use Rattle.npf_words.specs.declared.command.Command.{Command}
-use Rattle.npf_words.specs.declared.command.Command.TheVariants.{Run, Gen}
-use Rattle.npf_words.specs.declared.command.Load.{Load}
-use Rattle.npf_words.specs.declared.command.Run.{Run as RunWords}
-use Rattle.npf_words.specs.CommandLine.{SaysCommand, given_text, is_command_line}
+use Rattle.npf_ctl_messages.specs.declared.fault.CommandFault.{CommandFault}
+use Rattle.npf_ctl_messages.specs.declared.fault.CommandFault.TheVariants.{Usage, Unwritten, OutputUnwritten, NoMemory}
+use Rattle.npf_ctl_messages.specs.Message.{message_line, status_of_fault}
+use Rattle.npf_ctl_words.specs.declared.command.Command.{Command}
+use Rattle.npf_ctl_words.specs.declared.command.Command.TheVariants.{Run, Gen}
+use Rattle.npf_ctl_words.specs.declared.command.Load.{Load}
+use Rattle.npf_ctl_words.specs.declared.command.Run.{Run as RunWords}
+use Rattle.npf_ctl_words.specs.CommandLine.{SaysCommand, given_text, is_command_line}
 use Rattle.npf_ctl.specs.Commands.{loaded_by, names_of_run}
 use Rattle.npf_ctl.specs.Generated.{HoldsWorkload, PreparesOf}
 use Rattle.npf_ctl.specs.Running.{Moment, IsReported}

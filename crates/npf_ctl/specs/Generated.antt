@@ -5,9 +5,9 @@ use Rattle.npf_outside.specs.Files.{FilesMoment, Tree}
 use Rattle.npf_pcap.specs.Spelling.{capture_bytes}
 use Rattle.npf_gen.specs.declared.workload.Workload.{Workload}
 use Rattle.npf_gen.specs.Workload.{configuration_text, generated_records, packet_count, script_text}
-use Rattle.npf_input.specs.File.{told_files}
-use Rattle.npf_messages.specs.declared.fault.CommandFault.{CommandFault}
-use Rattle.npf_prepare.specs.Prepares.{RunNames, RunPlan, PreparesRun}
+use Rattle.npf_ctl_input.specs.File.{told_files}
+use Rattle.npf_ctl_messages.specs.declared.fault.CommandFault.{CommandFault}
+use Rattle.npf_ctl_prepare.specs.Prepares.{RunNames, RunPlan, PreparesRun}
 use Rattle.npf_ctl.specs.declared.generated_files.GeneratedFiles.{GeneratedFiles}
 
 -- the script names the capture `g.pcap`

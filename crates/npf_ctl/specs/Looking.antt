@@ -5,9 +5,9 @@ use Rattle.npf_model.specs.declared.model.Model.{Model}
 use Rattle.npf_ruleset.specs.Refusal.{IsWithinLimits}
 use Rattle.npf_show.specs.Piece.{spelled}
 use Rattle.npf_show.specs.Model.{model_pieces}
-use Rattle.npf_words.specs.declared.command.Command.{Command}
-use Rattle.npf_words.specs.declared.command.Command.TheVariants.{Validate, Show, Debug}
-use Rattle.npf_words.specs.declared.command.Load.{Load}
+use Rattle.npf_ctl_words.specs.declared.command.Command.{Command}
+use Rattle.npf_ctl_words.specs.declared.command.Command.TheVariants.{Validate, Show, Debug}
+use Rattle.npf_ctl_words.specs.declared.command.Load.{Load}
 use Rattle.npf_ctl.specs.declared.looking.Look.{Look}
 use Rattle.npf_ctl.specs.declared.looking.Look.TheVariants.{Count, Model as Text, Programs}
 use Rattle.npf_ctl.specs.Texts.{programs_text, valid_text}

@@ -10,11 +10,11 @@ use Rattle.npf_pcap.specs.Spelling.{capture_bytes}
 use Rattle.npf_runner.specs.declared.packet.Packet.{Packet}
 use Rattle.npf_runner.specs.declared.phase.Spread.{Spread}
 use Rattle.npf_runner.specs.Plays.{PlaysPhases}
-use Rattle.npf_prepare.specs.Prepares.{RunPlan, PreparesRun, RunNames}
-use Rattle.npf_output.specs.Report.{report_text}
-use Rattle.npf_output.specs.Written.{AreWritten}
-use Rattle.npf_words.specs.declared.command.Run.{Run}
-use Rattle.npf_words.specs.CommandLine.{given_text}
+use Rattle.npf_ctl_prepare.specs.Prepares.{RunPlan, PreparesRun, RunNames}
+use Rattle.npf_ctl_output.specs.Report.{report_text}
+use Rattle.npf_ctl_output.specs.Written.{AreWritten}
+use Rattle.npf_ctl_words.specs.declared.command.Run.{Run}
+use Rattle.npf_ctl_words.specs.CommandLine.{given_text}
 use Rattle.npf_ctl.specs.Commands.{names_of_run, spread_said}
 
 -- what is shown at a moment: the files, the output, and the pass of the table of connections

@@ -5,24 +5,24 @@ use Rattle.std.specs.List.{flat_map}
 use Rattle.npf_bpf.specs.declared.insn.Insn.{Insn}
 use Rattle.npf_engine.specs.declared.outcome.Outcome.{Outcome}
 use Rattle.npf_outside.specs.Files.{Tree}
-use Rattle.npf_input.specs.File.{told_files}
-use Rattle.npf_input.specs.Loading.{LoadsAlone}
-use Rattle.npf_prepare.specs.Prepares.{RunPlan}
+use Rattle.npf_ctl_input.specs.File.{told_files}
+use Rattle.npf_ctl_input.specs.Loading.{LoadsAlone}
+use Rattle.npf_ctl_prepare.specs.Prepares.{RunPlan}
 use Rattle.npf_model.specs.declared.model.Model.{Model}
 use Rattle.npf_model.specs.Configuration.{Configuration}
 use Rattle.npf_model.specs.Verdict.{all_rules}
 use Rattle.npf_report.specs.TotalText.{total_text}
-use Rattle.npf_output.specs.Report.{report_text}
+use Rattle.npf_ctl_output.specs.Report.{report_text}
 use Rattle.npf_ruleset.specs.Refusal.{IsWithinLimits}
 use Rattle.npf_runner.specs.declared.packet.Packet.{Packet}
 use Rattle.npf_runner.specs.declared.phase.Spread.TheVariants.{Rr}
 use Rattle.npf_show.specs.Piece.{spelled}
 use Rattle.npf_show.specs.Model.{model_pieces}
-use Rattle.npf_words.specs.declared.command.Command.{Command}
-use Rattle.npf_words.specs.declared.command.Command.TheVariants as Words
-use Rattle.npf_words.specs.declared.command.Load.{Load}
-use Rattle.npf_words.specs.declared.command.Run.{Run}
-use Rattle.npf_words.specs.CommandLine.{given_text}
+use Rattle.npf_ctl_words.specs.declared.command.Command.{Command}
+use Rattle.npf_ctl_words.specs.declared.command.Command.TheVariants as Words
+use Rattle.npf_ctl_words.specs.declared.command.Load.{Load}
+use Rattle.npf_ctl_words.specs.declared.command.Run.{Run}
+use Rattle.npf_ctl_words.specs.CommandLine.{given_text}
 use Rattle.npf_ctl.specs.Generated.{HoldsWorkload, generated_names}
 use Rattle.npf_ctl.specs.Running.{Moment, PlaysRun, PlaysWords}
 

@@ -3,15 +3,15 @@ use Rattle.std.specs.Prelude.{◌≡◌, ◌≢◌, ◌⊎◌, ℕ, ⊤, Ok, Err
 use Rattle.npf_outside.specs.Files.{Tree}
 use Rattle.npf_outside.specs.Sink.{Appends}
 use Rattle.npf_model.specs.Configuration.{Configuration}
-use Rattle.npf_input.specs.File.{told_files}
-use Rattle.npf_input.specs.Loading.{LoadsAlone}
-use Rattle.npf_prepare.specs.Prepares.{RunPlan, PreparesRun}
-use Rattle.npf_messages.specs.declared.fault.CommandFault.{CommandFault}
-use Rattle.npf_words.specs.declared.command.Command.{Command}
-use Rattle.npf_words.specs.declared.command.Command.TheVariants as Words
-use Rattle.npf_words.specs.declared.command.Load.{Load}
-use Rattle.npf_words.specs.declared.command.Run.{Run}
-use Rattle.npf_words.specs.CommandLine.{SaysCommand, given_text}
+use Rattle.npf_ctl_input.specs.File.{told_files}
+use Rattle.npf_ctl_input.specs.Loading.{LoadsAlone}
+use Rattle.npf_ctl_prepare.specs.Prepares.{RunPlan, PreparesRun}
+use Rattle.npf_ctl_messages.specs.declared.fault.CommandFault.{CommandFault}
+use Rattle.npf_ctl_words.specs.declared.command.Command.{Command}
+use Rattle.npf_ctl_words.specs.declared.command.Command.TheVariants as Words
+use Rattle.npf_ctl_words.specs.declared.command.Load.{Load}
+use Rattle.npf_ctl_words.specs.declared.command.Run.{Run}
+use Rattle.npf_ctl_words.specs.CommandLine.{SaysCommand, given_text}
 use Rattle.npf_ctl.specs.Commands.{loaded_by, names_of_run}
 use Rattle.npf_ctl.specs.Generated.{HoldsWorkload, PreparesOf}
 use Rattle.npf_ctl.specs.Running.{Moment, IsRun}

@@ -1,21 +1,21 @@
 // The run of a generated input.
 ghost use Rattle.std.specs.Prelude.{ℕ, List, IfOk};
 ghost use Rattle.npf_outside.specs.Files.{FilesMoment};
-ghost use Rattle.npf_prepare.specs.Playable.{IsPlayable};
-ghost use Rattle.npf_words.specs.declared.command.Command.{Command as CommandType};
-ghost use Rattle.npf_words.specs.CommandLine.{SaysCommand};
+ghost use Rattle.npf_ctl_prepare.specs.Playable.{IsPlayable};
+ghost use Rattle.npf_ctl_words.specs.declared.command.Command.{Command as CommandType};
+ghost use Rattle.npf_ctl_words.specs.CommandLine.{SaysCommand};
 ghost use Rattle.npf_ctl.specs.Ends.{EndsIn, IsLaterPass, IsFresh, PreparesGenerated};
 ghost use Rattle.npf_ctl.specs.Running.{moment};
 
 use crate::generated_files::GeneratedFiles;
-use npf_arrivals::Captures;
 use npf_connections::Connections;
+use npf_ctl_arrivals::Captures;
+use npf_ctl_messages::CommandFault;
+use npf_ctl_output::put_total;
+use npf_ctl_prepare::laws::contents_decide;
+use npf_ctl_prepare::{Prepared, RunFiles, prepare_run};
 use npf_flow::FlowLaw;
-use npf_messages::CommandFault;
-use npf_output::put_total;
 use npf_outside::Sink;
-use npf_prepare::laws::contents_decide;
-use npf_prepare::{Prepared, RunFiles, prepare_run};
 use npf_runner::{Gate, Played, Spread, play};
 use std::alloc::Global;
 use std::sync::Wait;

@@ -4,20 +4,20 @@ ghost use Rattle.npf_config.specs.Loaded.{IsLoaded};
 ghost use Rattle.npf_outside.specs.Files.{SameFiles};
 ghost use Rattle.npf_connections.specs.Pass.{Pass};
 ghost use Rattle.npf_engine.specs.Histories.{FlowEntry};
-ghost use Rattle.npf_words.specs.CommandLine.{SaysCommand};
+ghost use Rattle.npf_ctl_words.specs.CommandLine.{SaysCommand};
 ghost use Rattle.npf_ctl.specs.Ends.{EndsIn};
 ghost use Rattle.npf_ctl.specs.Looking.{IsLookText, looking_command};
 ghost use Rattle.npf_ctl.specs.Running.{moment};
 
 use crate::listing::{count_text, programs_text};
-use npf_input::load_alone;
-use npf_messages::CommandFault;
-use npf_output::put_text;
+use npf_ctl_input::load_alone;
+use npf_ctl_messages::CommandFault;
+use npf_ctl_output::put_text;
+use npf_ctl_words::Load;
 use npf_outside::{Files, Sink};
 use npf_ruleset::Config;
 use npf_show::show;
 use npf_types::NoMemory;
-use npf_words::Load;
 use std::alloc::Global;
 
 /// What is put of a configuration.

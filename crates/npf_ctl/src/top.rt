@@ -2,13 +2,13 @@
 ghost use Rattle.std.specs.Prelude.{◌≡◌, ◌≢◌, ◌≤◌, ◌⊎◌, ℕ, Some, false, []};
 ghost use Rattle.npf_connections.specs.Pass.{IsPass, all_places};
 ghost use Rattle.npf_flow.specs.Flows.{flow_law};
-ghost use Rattle.npf_messages.specs.declared.fault.CommandFault.{CommandFault as FaultType};
-ghost use Rattle.npf_messages.specs.Message.{status_of_fault};
+ghost use Rattle.npf_ctl_messages.specs.declared.fault.CommandFault.{CommandFault as FaultType};
+ghost use Rattle.npf_ctl_messages.specs.Message.{status_of_fault};
 ghost use Rattle.npf_outside.specs.Counts.{StoodStill};
 ghost use Rattle.npf_outside.specs.Files.{SameFiles, Tree};
 ghost use Rattle.npf_outside.specs.Sink.{Appends};
-ghost use Rattle.npf_words.specs.CommandLine.{is_command_line, word_texts};
-ghost use Rattle.npf_input.specs.File.{ReadsWell};
+ghost use Rattle.npf_ctl_words.specs.CommandLine.{is_command_line, word_texts};
+ghost use Rattle.npf_ctl_input.specs.File.{ReadsWell};
 ghost use Rattle.npf_ctl.specs.Ends.{EndsIn, IsLaterPass, AnswersWords, IsFresh, SaysFault};
 ghost use Rattle.npf_ctl.specs.Faults.{IsFaulted};
 ghost use Rattle.npf_ctl.specs.Running.{moment};
@@ -18,12 +18,12 @@ use crate::generating::run_generated;
 use crate::looking::{Look, look_at};
 use crate::running::run;
 use npf_connections::Connections;
+use npf_ctl_messages::{CommandFault, message};
+use npf_ctl_words::laws::one_command;
+use npf_ctl_words::{Command, WordsFault, read_words};
 use npf_flow::FlowLaw;
-use npf_messages::{CommandFault, message};
 use npf_outside::{Files, Sink, SinkFault};
 use npf_runner::Gate;
-use npf_words::laws::one_command;
-use npf_words::{Command, WordsFault, read_words};
 use std::alloc::Global;
 use std::sync::Wait;
 use std::thread::Threads;
@@ -102,8 +102,8 @@ pub fn npfctl_top<
     ensures epoch { (C.view pass.old).epoch ≤ (C.view pass.new).epoch }
 {
     one_command();
-    npf_input::laws::contents_decide();
-    npf_prepare::laws::contents_decide();
+    npf_ctl_input::laws::contents_decide();
+    npf_ctl_prepare::laws::contents_decide();
     answer(rt, alloc, words, files, out, err, conns, pass, gate)
 }
 

@@ -11,9 +11,9 @@ use Rattle.npf_connections.specs.Said.{Did, Does}
 use Rattle.npf_connections.proofs.SaidLemmas.{did_nothing}
 use Rattle.npf_flow.specs.declared.step.FlowReply.{FlowReply}
 use Rattle.npf_flow.specs.Flows.{flow_law}
-use Rattle.npf_opening.specs.declared.attempt.Attempt.{Attempt}
-use Rattle.npf_opening.specs.declared.attempt.Opened.{Opened}
-use Rattle.npf_opening.specs.Opening.{OpensConnection}
+use Rattle.npf_engine_opening.specs.declared.attempt.Attempt.{Attempt}
+use Rattle.npf_engine_opening.specs.declared.attempt.Opened.{Opened}
+use Rattle.npf_engine_opening.specs.Opening.{OpensConnection}
 use Rattle.npf_engine.specs.declared.answer.Answer.{Answer}
 use Rattle.npf_engine.specs.declared.crossing.Crossing.{Crossing}
 use Rattle.npf_engine.specs.declared.outcome.DropWhy.{DropWhy}

@@ -9,7 +9,7 @@ use Rattle.npf_connections.proofs.SaidLemmas.{did_more}
 use Rattle.npf_flow.specs.declared.step.FlowArg.{FlowArg}
 use Rattle.npf_flow.specs.declared.step.FlowReply.{FlowReply}
 use Rattle.npf_engine.specs.declared.finding.Met.{Met}
-use Rattle.npf_opening.specs.Saying.{step_said}
+use Rattle.npf_engine_opening.specs.Saying.{step_said}
 use Rattle.npf_engine.specs.Finding.{FindsByKey, look_for}
 use Rattle.npf_engine.specs.Histories.{FlowEntry}
 

@@ -13,7 +13,7 @@ use Rattle.npf_connections.proofs.SaidLemmas.{did_more, did_nothing}
 use Rattle.npf_flow.specs.declared.step.FlowArg.{FlowArg}
 use Rattle.npf_key.specs.Key.{key_of}
 use Rattle.npf_model.specs.Configuration.{Configuration}
-use Rattle.npf_opening.specs.Saying.{FlowSaid}
+use Rattle.npf_engine_opening.specs.Saying.{FlowSaid}
 use Rattle.npf_packet.specs.declared.decoded.Decoded.TheVariants.{Ip}
 use Rattle.npf_packet.specs.Decoding.{Decodes}
 use Rattle.npf_publish.specs.declared.conf_reader.ConfReader.{ConfReader}

@@ -3,11 +3,11 @@ use Rattle.std.proofs.Common.{◌≡◌, ◌≢◌, List, [], refl}
 use Rattle.npf_core.specs.declared.conn_id.ConnId.{ConnId}
 use Rattle.npf_nat.specs.declared.map_plan.MapPlan.TheVariants.{Fixed}
 use Rattle.npf_types.specs.declared.change.Change.{Change}
-use Rattle.npf_opening.specs.declared.attempt.Attempt.{Attempt}
-use Rattle.npf_opening.specs.declared.attempt.Opened.{Opened}
-use Rattle.npf_opening.specs.Opening.{Builds, OpensConnection, Translates}
-use Rattle.npf_opening.specs.Saying.{FlowSaid}
-use Rattle.npf_opening.specs.Starting.{StartsConnection}
+use Rattle.npf_engine_opening.specs.declared.attempt.Attempt.{Attempt}
+use Rattle.npf_engine_opening.specs.declared.attempt.Opened.{Opened}
+use Rattle.npf_engine_opening.specs.Opening.{Builds, OpensConnection, Translates}
+use Rattle.npf_engine_opening.specs.Saying.{FlowSaid}
+use Rattle.npf_engine_opening.specs.Starting.{StartsConnection}
 
 module _ {attempt : Attempt} {id : ConnId} where
   starts_with_port : {changes : _} {said : List FlowSaid} {opened : Opened} → StartsConnection attempt id changes said opened → opened ≢ Opened.NoPort

@@ -13,7 +13,7 @@ use Rattle.npf_flow.specs.Flows.{flow_law}
 use Rattle.npf_engine.specs.Answer.{Spans}
 use Rattle.npf_engine.specs.Explains.{Sight, WasFull}
 use Rattle.npf_engine.specs.Handles.{sight_of}
-use Rattle.npf_opening.specs.Saying.{FlowSaid}
+use Rattle.npf_engine_opening.specs.Saying.{FlowSaid}
 use Rattle.npf_engine.specs.Histories.{FlowEntry, History}
 
 nested : (first second third : History) → IsPrefix first second → IsPrefix second third → IsPrefix first third

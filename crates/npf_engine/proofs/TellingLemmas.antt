@@ -18,13 +18,13 @@ use Rattle.npf_connections.specs.Said.{under}
 use Rattle.npf_connections.specs.Ways.{all_ways}
 use Rattle.npf_flow.specs.declared.flow.Flow.{Flow}
 use Rattle.npf_flow.specs.declared.step.FlowArg.{FlowArg}
-use Rattle.npf_opening.specs.declared.attempt.Attempt.{Attempt}
-use Rattle.npf_opening.specs.declared.attempt.Opened.{Opened}
-use Rattle.npf_opening.specs.Drawing.{Draws, TakenPort, taken_said}
-use Rattle.npf_opening.specs.Opening.{Builds, OpensConnection, Translates}
-use Rattle.npf_opening.specs.Saying.{FlowSaid, abandon_said, hold_said, said_by_hold}
-use Rattle.npf_opening.specs.Starting.{HoldsBackward, StartsConnection}
-use Rattle.npf_opening.specs.Ways.{is_one_of, ways_before}
+use Rattle.npf_engine_opening.specs.declared.attempt.Attempt.{Attempt}
+use Rattle.npf_engine_opening.specs.declared.attempt.Opened.{Opened}
+use Rattle.npf_engine_opening.specs.Drawing.{Draws, TakenPort, taken_said}
+use Rattle.npf_engine_opening.specs.Opening.{Builds, OpensConnection, Translates}
+use Rattle.npf_engine_opening.specs.Saying.{FlowSaid, abandon_said, hold_said, said_by_hold}
+use Rattle.npf_engine_opening.specs.Starting.{HoldsBackward, StartsConnection}
+use Rattle.npf_engine_opening.specs.Ways.{is_one_of, ways_before}
 use Rattle.npf_engine.specs.Finding.{FindsByKey, FindsEither}
 use Rattle.npf_engine.specs.Histories.{FlowAct, History, builds, carries, entries_after, is_one_of_ids, is_unhold, told, with_claimed}
 

@@ -6,7 +6,7 @@ use Rattle.npf_connections.specs.Pass.{Pass}
 use Rattle.npf_connections.specs.Said.{Did}
 use Rattle.npf_model.specs.Configuration.{Configuration}
 use Rattle.npf_publish.specs.declared.conf_reader.ConfReader.{ConfReader}
-use Rattle.npf_opening.specs.declared.attempt.Opened.{Opened}
+use Rattle.npf_engine_opening.specs.declared.attempt.Opened.{Opened}
 use Rattle.npf_engine.specs.declared.answer.Answer.{Answer}
 use Rattle.npf_engine.specs.declared.answer.Rewriting.{Rewriting}
 use Rattle.npf_engine.specs.declared.crossing.Crossing.{Crossing}
@@ -21,7 +21,7 @@ use Rattle.npf_engine.specs.declared.trying.Passed.{Passed}
 use Rattle.npf_engine.specs.Arrival.{Arrival, arrival}
 use Rattle.npf_engine.specs.Explains.{Sight, IsSent, IsByConn, IsTried, IsDecided, Explains}
 use Rattle.npf_engine.specs.Handles.{Asks}
-use Rattle.npf_opening.specs.Saying.{FlowSaid}
+use Rattle.npf_engine_opening.specs.Saying.{FlowSaid}
 use Rattle.npf_engine.specs.Histories.{FlowEntry, History}
 use Rattle.npf_engine.specs.Ruling.{mapping_of, ruling_of}
 

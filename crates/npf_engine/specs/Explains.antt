@@ -16,9 +16,9 @@ use Rattle.npf_flow.specs.declared.step.FlowReply.{FlowReply}
 use Rattle.npf_flow.specs.Flows.{flow_law}
 use Rattle.npf_key.specs.Key.{key_of}
 use Rattle.npf_model.specs.Configuration.{Configuration}
-use Rattle.npf_opening.specs.declared.attempt.Opened.{Opened}
-use Rattle.npf_opening.specs.declared.attempt.Opened.TheVariants as Openings
-use Rattle.npf_opening.specs.Opening.{OpensConnection}
+use Rattle.npf_engine_opening.specs.declared.attempt.Opened.{Opened}
+use Rattle.npf_engine_opening.specs.declared.attempt.Opened.TheVariants as Openings
+use Rattle.npf_engine_opening.specs.Opening.{OpensConnection}
 use Rattle.npf_packet.specs.declared.decoded.BadPacket.{BadPacket}
 use Rattle.npf_packet.specs.declared.decoded.Decoded.TheVariants as Says
 use Rattle.npf_packet.specs.Decoding.{Decodes}
@@ -35,7 +35,7 @@ use Rattle.npf_engine.specs.declared.ruling.Mapping.TheVariants.{Unmapped}
 use Rattle.npf_engine.specs.declared.ruling.Ruling.{Ruling}
 use Rattle.npf_engine.specs.Arrival.{Arrival, any_interface, arg_of}
 use Rattle.npf_engine.specs.Finding.{FindsEither, met}
-use Rattle.npf_opening.specs.Saying.{FlowSaid}
+use Rattle.npf_engine_opening.specs.Saying.{FlowSaid}
 use Rattle.npf_engine.specs.Histories.{History}
 use Rattle.npf_engine.specs.Ruling.{ruling_of, mapping_of, unchanged, static_change, OpensOne, attempt_of}
 

@@ -10,7 +10,7 @@ use Rattle.npf_core.specs.declared.stepped.Stepped.TheVariants.{Done, NotLive}
 use Rattle.npf_flow.specs.declared.step.FlowArg.{FlowArg}
 use Rattle.npf_flow.specs.declared.step.FlowReply.{FlowReply}
 use Rattle.npf_engine.specs.declared.finding.Met.{Met}
-use Rattle.npf_opening.specs.Saying.{FlowSaid, step_said}
+use Rattle.npf_engine_opening.specs.Saying.{FlowSaid, step_said}
 
 -- the connection that took a packet, what its law answered, and which of its steps the packet is
 abbrev pub met : Found → FlowReply → ℕ → Met

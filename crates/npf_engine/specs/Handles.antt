@@ -12,7 +12,7 @@ use Rattle.npf_ruleset.specs.Configuration.{configuration}
 use Rattle.npf_engine.specs.declared.outcome.Outcome.{Outcome}
 use Rattle.npf_engine.specs.Arrival.{Arrival}
 use Rattle.npf_engine.specs.Explains.{Explains, Sight}
-use Rattle.npf_opening.specs.Saying.{FlowSaid}
+use Rattle.npf_engine_opening.specs.Saying.{FlowSaid}
 use Rattle.npf_engine.specs.Histories.{FlowEntry, History, carries, entries_of, told}
 
 -- the configurations by their numbers, from 0

@@ -19,7 +19,7 @@ use Rattle.npf_model.specs.Configuration.{Configuration, verdict_of, map_place_o
 use Rattle.npf_nat.specs.declared.map_plan.MapPlan.{MapPlan}
 use Rattle.npf_nat.specs.declared.map_plan.MapPlan.TheVariants.{Fixed, Draw}
 use Rattle.npf_nat.specs.MapPlan.{plan}
-use Rattle.npf_opening.specs.declared.attempt.Attempt.{Attempt}
+use Rattle.npf_engine_opening.specs.declared.attempt.Attempt.{Attempt}
 use Rattle.npf_ruleset.specs.RuleAt.{rule_at}
 use Rattle.npf_engine.specs.declared.ruling.Mapping.{Mapping}
 use Rattle.npf_engine.specs.declared.ruling.Mapping.TheVariants.{Unmapped, Static, Dynamic}

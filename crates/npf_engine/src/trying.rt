@@ -3,7 +3,7 @@ ghost use Rattle.std.specs.Prelude.{◌≡◌, ◌≢◌, ◌≤◌, ◌+◌, tr
 ghost use Rattle.npf_connections.specs.Pass.{IsPass};
 ghost use Rattle.npf_connections.specs.Said.{Does};
 ghost use Rattle.npf_flow.specs.Flows.{flow_law};
-ghost use Rattle.npf_opening.specs.declared.attempt.Opened.{Opened as IsOpened};
+ghost use Rattle.npf_engine_opening.specs.declared.attempt.Opened.{Opened as IsOpened};
 ghost use Rattle.npf_engine.specs.Answer.{AnswersRuled, AnswersTried, arrival_of, unkept_by};
 ghost use Rattle.npf_engine.specs.Arrival.{arg_of};
 ghost use Rattle.npf_engine.specs.Explains.{IsDropped, Sight, WasFull};
@@ -17,8 +17,8 @@ use crate::outcome::{DropWhy, Kept};
 use crate::ruling::{Mapping, Ruling, UNCHANGED, key_interface, opens_one, plan_of, static_change};
 use npf_connections::Connections;
 use npf_core::{Found, Stepped};
+use npf_engine_opening::{Attempt, Opened, open};
 use npf_flow::{FlowArg, FlowLaw, FlowReply};
-use npf_opening::{Attempt, Opened, open};
 use npf_types::Decision;
 use std::sync::Wait;
 

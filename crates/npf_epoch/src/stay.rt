@@ -6,7 +6,7 @@ ghost use Rattle.npf_epoch.specs.Stays.{HasEntered};
 
 use npf_cells::{CellPass, Cells};
 use npf_core::Law;
-use npf_digits::KeyHash;
+use npf_paths::KeyHash;
 
 /// Begins a stay: what can be reached from now on isn't used again before the pass leaves.
 pub fn enter<L: Law, H: KeyHash>(cells: &Cells<L, H>, pass: &mut CellPass<L>)

@@ -7,7 +7,7 @@ ghost use Rattle.npf_epoch.specs.Tries.{CanRaise, scanning_on};
 
 use npf_cells::{CellPass, Cells, LAST_EPOCH, READERS};
 use npf_core::Law;
-use npf_digits::KeyHash;
+use npf_paths::KeyHash;
 
 /// Raises the epoch by one where no reader is pinned in an older one. Answers whether this call did.
 pub fn try_advance<L: Law, H: KeyHash>(cells: &Cells<L, H>, pass: &mut CellPass<L>) -> bool

@@ -5,9 +5,9 @@ use Rattle.std.proofs.lemmas.List.{length-map}
 use Rattle.std.proofs.lemmas.List.Concat.{length-flat_map}
 use Rattle.std.proofs.lemmas.List.Sums.{sum_by-append, sum_by-cons}
 use Rattle.npf_types.specs.declared.span.Span.{Span}
-use Rattle.npf_lexer.specs.declared.fault.ConfFault.{ConfFault}
-use Rattle.npf_lexer.specs.declared.fault.Fault.{Fault}
-use Rattle.npf_lexer.specs.declared.fault.Fault.TheVariants.{Expected, UnknownService}
+use Rattle.npf_faults.specs.declared.fault.ConfFault.{ConfFault}
+use Rattle.npf_faults.specs.declared.fault.Fault.{Fault}
+use Rattle.npf_faults.specs.declared.fault.Fault.TheVariants.{Expected, UnknownService}
 use Rattle.npf_syntax.specs.declared.filter.Addresses.{Addresses}
 use Rattle.npf_syntax.specs.declared.filter.Addresses.TheVariants as Written
 use Rattle.npf_syntax.specs.declared.filter.Ends.{Ends}

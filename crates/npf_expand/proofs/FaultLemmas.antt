@@ -1,7 +1,7 @@
 -- The first fault of two lists of faults.
 use Rattle.std.proofs.Common.{◌≡◌, true, false, is_some, Option, Some, None, List, [], ◌∷◌, ◌++◌, refl, sym, ap, ◌∙◌, true≢false}
 use Rattle.std.specs.Prelude.{Result, Ok, Err, OnOk}
-use Rattle.npf_lexer.specs.declared.fault.ConfFault.{ConfFault}
+use Rattle.npf_faults.specs.declared.fault.ConfFault.{ConfFault}
 use Rattle.npf_model.specs.declared.iface.Iface.{Iface}
 use Rattle.npf_faults.specs.First.{earlier, first_fault}
 use Rattle.npf_faults.proofs.FirstLemmas.{first_fault-append, no_first_fault}

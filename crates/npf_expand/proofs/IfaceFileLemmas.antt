@@ -24,8 +24,8 @@ use Rattle.std.proofs.lemmas.Map.Views.{exact_unsigned_eq}
 use Rattle.std.proofs.lemmas.Slice.Eq.{bytes_eq-Decides}
 use Rattle.std.specs.Str.{bytes_eq}
 use Rattle.npf_model.specs.declared.iface.Iface.{Iface}
-use Rattle.npf_lexer.specs.declared.fault.ConfFault.{ConfFault}
-use Rattle.npf_lexer.specs.declared.fault.Fault.TheVariants.{BadIfaceFile}
+use Rattle.npf_faults.specs.declared.fault.ConfFault.{ConfFault}
+use Rattle.npf_faults.specs.declared.fault.Fault.TheVariants.{BadIfaceFile}
 use Rattle.npf_expand.specs.IfaceFile.{Each, AreInterfaces, IsBadBehind, IsFirstBadIfaceLine, IsInterface, bytes_of_lines, has_some, iface_names, line_words, file_lines, written_lines}
 
 -- the place that `position` finds ends what stands before it

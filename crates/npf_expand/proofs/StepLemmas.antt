@@ -3,9 +3,9 @@ use Rattle.std.proofs.Common.{◌≡◌, ◌≤◌, ◌<◌, ◌+◌, ℕ, ◌&&
 use Rattle.std.proofs.lemmas.List.{drop_more, drop_all}
 use Rattle.npf_types.specs.declared.limits.TheConstants.{MAX_LIST_ELEMENTS}
 use Rattle.npf_types.specs.declared.span.Span.{Span}
-use Rattle.npf_lexer.specs.declared.fault.ConfFault.{ConfFault}
-use Rattle.npf_lexer.specs.declared.fault.Excess.TheVariants.{Elements}
-use Rattle.npf_lexer.specs.declared.fault.Fault.TheVariants.{TooMany}
+use Rattle.npf_faults.specs.declared.fault.ConfFault.{ConfFault}
+use Rattle.npf_faults.specs.declared.fault.Excess.TheVariants.{Elements}
+use Rattle.npf_faults.specs.declared.fault.Fault.TheVariants.{TooMany}
 use Rattle.npf_syntax.specs.declared.group.Item.{Item as WrittenItem}
 use Rattle.npf_syntax.specs.declared.group.Item.TheVariants as ItemIs
 use Rattle.npf_syntax.specs.declared.rule.Direction.{Direction}

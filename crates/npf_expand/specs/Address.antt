@@ -5,7 +5,7 @@ use Rattle.std.specs.Option.{option_map}
 use Rattle.npf_types.specs.declared.address.Addr.{Addr}
 use Rattle.npf_types.specs.Address.{width}
 use Rattle.npf_types.specs.Block.{block}
-use Rattle.npf_lexer.specs.declared.fault.ConfFault.{ConfFault}
+use Rattle.npf_faults.specs.declared.fault.ConfFault.{ConfFault}
 use Rattle.npf_syntax.specs.declared.filter.Addresses.{Addresses}
 use Rattle.npf_syntax.specs.declared.filter.Addresses.TheVariants as Written
 use Rattle.npf_syntax.specs.declared.value.Value.{Value}

@@ -8,8 +8,8 @@ use Rattle.npf_types.specs.declared.span.Span.{Span}
 use Rattle.npf_types.specs.Name.{name_bytes}
 use Rattle.npf_types.specs.Named.{named}
 use Rattle.npf_types.specs.NameText.{is_name}
-use Rattle.npf_lexer.specs.declared.fault.ConfFault.{ConfFault}
-use Rattle.npf_lexer.specs.declared.fault.Fault.TheVariants.{UnknownInterface}
+use Rattle.npf_faults.specs.declared.fault.ConfFault.{ConfFault}
+use Rattle.npf_faults.specs.declared.fault.Fault.TheVariants.{UnknownInterface}
 use Rattle.npf_syntax.specs.declared.value.Function.{Function}
 use Rattle.npf_syntax.specs.declared.value.Iface.{Iface as WrittenIface}
 use Rattle.npf_syntax.specs.declared.value.Iface.TheVariants as IfaceIs

@@ -7,9 +7,9 @@ use Rattle.npf_types.specs.declared.span.Span.{Span}
 use Rattle.npf_types.specs.AddressText.{IsAddressText}
 use Rattle.npf_types.specs.Named.{named}
 use Rattle.npf_types.specs.NameText.{is_name}
-use Rattle.npf_lexer.specs.declared.fault.ConfFault.{ConfFault}
-use Rattle.npf_lexer.specs.declared.fault.Fault.TheVariants.{BadIfaceFile}
-use Rattle.npf_lexer.specs.declared.fault.Refused.{Refused}
+use Rattle.npf_faults.specs.declared.fault.ConfFault.{ConfFault}
+use Rattle.npf_faults.specs.declared.fault.Fault.TheVariants.{BadIfaceFile}
+use Rattle.npf_faults.specs.declared.fault.Refused.{Refused}
 use Rattle.npf_model.specs.declared.iface.Iface.{Iface}
 use Rattle.npf_expand.specs.declared.iface_file.IfaceLine.{IfaceLine}
 use Rattle.npf_expand.specs.declared.iface_file.IfaceLine.TheVariants.{Blank, Interface, Bad}

@@ -1,8 +1,8 @@
 -- What one rule means that stands in no text: no definition stands before it, so every variable in it is unknown, and its tables and
 -- procedures are these.
 use Rattle.std.specs.Prelude.{◌≡◌, ℕ, List, []}
-use Rattle.npf_lexer.specs.declared.fault.ConfFault.{ConfFault}
-use Rattle.npf_lexer.specs.declared.fault.Refused.{Refused}
+use Rattle.npf_faults.specs.declared.fault.ConfFault.{ConfFault}
+use Rattle.npf_faults.specs.declared.fault.Refused.{Refused}
 use Rattle.npf_syntax.specs.declared.rule.RuleTree.{RuleTree}
 use Rattle.npf_model.specs.declared.iface.Iface.{Iface}
 use Rattle.npf_model.specs.declared.rule.Rule.{Rule}

@@ -8,7 +8,7 @@ use Rattle.npf_types.specs.declared.address.Addr.TheVariants.{V4}
 use Rattle.npf_types.specs.declared.prefix.Prefix.{Prefix}
 use Rattle.npf_types.specs.Address.{width}
 use Rattle.npf_types.specs.Block.{block}
-use Rattle.npf_lexer.specs.declared.fault.ConfFault.{ConfFault}
+use Rattle.npf_faults.specs.declared.fault.ConfFault.{ConfFault}
 use Rattle.npf_syntax.specs.declared.filter.Filter.{Filter}
 use Rattle.npf_syntax.specs.declared.map.Arrow.{Arrow as WrittenArrow}
 use Rattle.npf_syntax.specs.declared.map.Arrow.TheVariants as ArrowIs

@@ -1,6 +1,6 @@
 -- What was met so far, and what more is met behind it.
 use Rattle.std.specs.Prelude.{◌≡◌, ◌+◌, ℕ, List}
-use Rattle.npf_lexer.specs.declared.fault.ConfFault.{ConfFault}
+use Rattle.npf_faults.specs.declared.fault.ConfFault.{ConfFault}
 use Rattle.npf_faults.specs.First.{earlier, first_fault}
 use Rattle.npf_expand.specs.declared.met.Met.{Met}
 use Rattle.npf_expand.specs.Summary.{counted}

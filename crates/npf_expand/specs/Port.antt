@@ -1,7 +1,7 @@
 -- The ports of a rule: numbers, ranges and services.
 use Rattle.std.specs.Prelude.{ℕ, ◌||◌, nat_lt, if◌then◌else◌, Option, Some, None, List, [], ◌++◌}
 use Rattle.std.specs.List.{flat_map, filter_map}
-use Rattle.npf_lexer.specs.declared.fault.ConfFault.{ConfFault}
+use Rattle.npf_faults.specs.declared.fault.ConfFault.{ConfFault}
 use Rattle.npf_syntax.specs.declared.value.Values.{Values}
 use Rattle.npf_model.specs.declared.iface.Iface.{Iface}
 use Rattle.npf_expand.specs.declared.role.Role.TheVariants.{AsPort}

@@ -2,7 +2,7 @@
 use Rattle.std.specs.Prelude.{ℕ, false, nat_lt, if◌then◌else◌, Option, Some, None, List, [], ◌∷◌}
 use Rattle.std.specs.List.{flat_map, filter_map}
 use Rattle.npf_types.specs.declared.span.Span.{Span}
-use Rattle.npf_lexer.specs.declared.fault.ConfFault.{ConfFault}
+use Rattle.npf_faults.specs.declared.fault.ConfFault.{ConfFault}
 use Rattle.npf_syntax.specs.declared.filter.Protocols.{Protocols}
 use Rattle.npf_syntax.specs.declared.value.One.{One}
 use Rattle.npf_expand.specs.declared.role.Role.TheVariants.{AsProtocol}

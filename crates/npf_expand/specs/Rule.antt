@@ -9,9 +9,9 @@ use Rattle.npf_types.specs.declared.direction.Dir.{Dir}
 use Rattle.npf_types.specs.declared.direction.Dir.TheVariants.{In, Out}
 use Rattle.npf_types.specs.declared.limits.TheConstants.{MAX_LIST_ELEMENTS}
 use Rattle.npf_types.specs.declared.span.Span.{Span}
-use Rattle.npf_lexer.specs.declared.fault.ConfFault.{ConfFault}
-use Rattle.npf_lexer.specs.declared.fault.Excess.TheVariants.{Elements}
-use Rattle.npf_lexer.specs.declared.fault.Fault.TheVariants.{TooMany}
+use Rattle.npf_faults.specs.declared.fault.ConfFault.{ConfFault}
+use Rattle.npf_faults.specs.declared.fault.Excess.TheVariants.{Elements}
+use Rattle.npf_faults.specs.declared.fault.Fault.TheVariants.{TooMany}
 use Rattle.npf_syntax.specs.declared.filter.Detail.{Detail}
 use Rattle.npf_syntax.specs.declared.filter.Ends.{Ends as WrittenEnds}
 use Rattle.npf_syntax.specs.declared.filter.Ends.TheVariants as EndsAre

@@ -5,8 +5,8 @@ use Rattle.std.specs.Prelude.{ℕ, Bool, length, true, false, not, ◌&&◌, ◌
 use Rattle.std.specs.List.{flat_map, list_any, sum_by}
 use Rattle.npf_types.specs.declared.span.Span.{Span}
 use Rattle.npf_types.specs.NameText.{is_name}
-use Rattle.npf_lexer.specs.declared.fault.ConfFault.{ConfFault}
-use Rattle.npf_lexer.specs.declared.fault.Fault.TheVariants.{Expected, UnknownVariable, UnknownService}
+use Rattle.npf_faults.specs.declared.fault.ConfFault.{ConfFault}
+use Rattle.npf_faults.specs.declared.fault.Fault.TheVariants.{Expected, UnknownVariable, UnknownService}
 use Rattle.npf_faults.specs.First.{fault_at, fault_if}
 use Rattle.npf_expand.specs.declared.role.Role.{Role}
 use Rattle.npf_expand.specs.declared.role.Role.TheVariants.{AsPort, AsAddress, AsProtocol, AsInterface}

@@ -11,8 +11,7 @@ ghost use Rattle.npf_expand.specs.Use.{count_of, is_unfit, word_faults};
 
 use crate::role::Role;
 use crate::service::{protocol_number, service_port};
-use npf_faults::fault_if;
-use npf_lexer::{ConfFault, Fault};
+use npf_faults::{ConfFault, Fault, fault_if};
 use npf_syntax::{Str, Word};
 use npf_types::{Addr, Name};
 

@@ -18,7 +18,7 @@ use crate::procedure::procedure_of;
 use crate::scope::Scope;
 use crate::table::table_of;
 use crate::variable::Variables;
-use npf_lexer::Refused;
+use npf_faults::Refused;
 use npf_model::{Group, Ifaces, Map, Model, Procedure, TableDecl};
 use npf_syntax::{GroupHead, Item, Stmt, Tree, Values, Var};
 use npf_types::{List, NoMemory, Span};

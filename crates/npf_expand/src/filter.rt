@@ -20,8 +20,7 @@ use crate::rule::{flags_of, icmp_of, is_inet6};
 use crate::scope::{Scope, one_span, undefined};
 use crate::summary::counted_both;
 use crate::uses::{empty_fault, listed_values};
-use npf_faults::earlier;
-use npf_lexer::ConfFault;
+use npf_faults::{ConfFault, earlier};
 use npf_model::{AddrItem, Ends as ModelEnds, Rule, StateOpt};
 use npf_syntax::{
     Addresses, Detail, Ends, Filter, One, ProtoPart, Protocols, Value, Values, Where,

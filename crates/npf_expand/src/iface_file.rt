@@ -4,7 +4,7 @@ ghost use Rattle.std.specs.List.{before_first, filter, slice_split};
 ghost use Rattle.npf_types.specs.AddressText.{IsAddressText};
 ghost use Rattle.npf_expand.specs.IfaceFile.{Each, IsIfaceFile, IsIfaceLine, RefusesIfaces, has_some, is_hash, is_space, line_words};
 
-use npf_lexer::{ConfFault, Fault, Refused};
+use npf_faults::{ConfFault, Fault, Refused};
 use npf_model::{Iface, Ifaces};
 use npf_types::limits::MAX_TEXT_BYTES;
 use npf_types::{Addr, List, Name, NoMemory, Span};

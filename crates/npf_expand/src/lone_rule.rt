@@ -8,7 +8,7 @@ use crate::declarations::Declarations;
 use crate::iface::Interfaces;
 use crate::scope::Scope;
 use crate::variable::Variables;
-use npf_lexer::Refused;
+use npf_faults::Refused;
 use npf_model::{Ifaces, Model, Rule};
 use npf_syntax::RuleTree;
 use std::alloc::Global;

@@ -1,14 +1,13 @@
 // What was met of a text so far.
 ghost use Rattle.std.specs.Prelude.{◌≡◌, ◌++◌, ℕ, List, [], None};
-ghost use Rattle.npf_lexer.specs.declared.fault.ConfFault.{ConfFault};
+ghost use Rattle.npf_faults.specs.declared.fault.ConfFault.{ConfFault};
 ghost use Rattle.npf_faults.specs.First.{first_fault};
 ghost use Rattle.npf_expand.specs.Meets.{Meets};
 ghost use Rattle.npf_expand.specs.Rule.{passing_faults};
 ghost use Rattle.npf_expand.specs.Summary.{counted};
 
 use crate::summary::counted_both;
-use npf_faults::{earlier, fault_if};
-use npf_lexer::{ConfFault, Excess, Fault};
+use npf_faults::{ConfFault, Excess, Fault, earlier, fault_if};
 use npf_types::Span;
 use npf_types::limits::MAX_LIST_ELEMENTS;
 

@@ -7,8 +7,7 @@ ghost use Rattle.npf_expand.specs.Use.{use_faults};
 
 use crate::atom::Atom;
 use crate::role::Role;
-use npf_faults::{earlier, fault_if};
-use npf_lexer::{ConfFault, Fault};
+use npf_faults::{ConfFault, Fault, earlier, fault_if};
 use npf_types::Span;
 use npf_types::limits::MAX_LIST_ELEMENTS;
 

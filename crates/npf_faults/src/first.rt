@@ -1,7 +1,7 @@
 ghost use Rattle.std.specs.Prelude.{◌≡◌};
 ghost use Rattle.npf_faults.specs.First.{earlier, fault_if, first_fault, precedes};
 
-use npf_lexer::{ConfFault, Fault};
+use crate::fault::{ConfFault, Fault};
 use npf_types::Span;
 
 /// The one of two faults that is answered: that which stands first, and of two at one place that with the smaller number.

@@ -14,6 +14,3 @@ mod field;
 
 pub use checksum::sum_adjust;
 pub use field::{get16, get32, get128, put16, put32, put128};
-
-#[cfg(test)]
-mod tests;

@@ -2,7 +2,7 @@
 use Rattle.std.proofs.Common.{◌≡◌, ℕ, ◌==◌, Bool, true, false, MatchBool, Ok, Err, List, [], ◌∷◌, ◌++◌, drop, take, refl, sym, ap, subst, ◌∙◌, append_assoc}
 use Rattle.npf_lexer.specs.declared.byte_class.ByteClass.{ByteClass}
 use Rattle.npf_lexer.specs.declared.byte_class.ByteClass.TheVariants.{Blank, LineFeed, Semicolon, Backslash, Comment, Quote, Dollar, Run, Other}
-use Rattle.npf_lexer.specs.declared.fault.ConfFault.{ConfFault}
+use Rattle.npf_faults.specs.declared.fault.ConfFault.{ConfFault}
 use Rattle.npf_lexer.specs.declared.front.Front.{Front}
 use Rattle.npf_lexer.specs.declared.front.Front.TheVariants.{End, Skipped, Found, Faulty}
 use Rattle.npf_lexer.specs.declared.place.Place.{Place}

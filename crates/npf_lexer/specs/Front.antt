@@ -4,8 +4,8 @@ use Rattle.std.specs.List.{prefix_len}
 use Rattle.npf_types.specs.declared.limits.TheConstants.{MAX_TEXT_BYTES}
 use Rattle.npf_lexer.specs.declared.byte_class.ByteClass.{ByteClass}
 use Rattle.npf_lexer.specs.declared.byte_class.ByteClass.TheVariants.{Blank, LineFeed, Semicolon, Backslash, Comment, Quote, Dollar, Run, Other}
-use Rattle.npf_lexer.specs.declared.fault.Fault.{Fault}
-use Rattle.npf_lexer.specs.declared.fault.Fault.TheVariants.{BadByte, OpenString, NumberTooLarge}
+use Rattle.npf_faults.specs.declared.fault.Fault.{Fault}
+use Rattle.npf_faults.specs.declared.fault.Fault.TheVariants.{BadByte, OpenString, NumberTooLarge}
 use Rattle.npf_lexer.specs.declared.front.Front.{Front}
 use Rattle.npf_lexer.specs.declared.front.Front.TheVariants.{End, Skipped, Found, Faulty}
 use Rattle.npf_lexer.specs.declared.place.Place.{Place}

@@ -1,8 +1,8 @@
 -- Which tokens a text of npf.conf(5) spells, or which fault it has first.
 use Rattle.std.specs.Prelude.{ℕ, ⊤, Result, Ok, Err, List, [], ◌∷◌, drop}
-use Rattle.npf_lexer.specs.declared.fault.ConfFault.{ConfFault}
-use Rattle.npf_lexer.specs.declared.fault.Refused.{Refused}
-use Rattle.npf_lexer.specs.declared.fault.Refused.TheVariants.{Fault, NoMemory}
+use Rattle.npf_faults.specs.declared.fault.ConfFault.{ConfFault}
+use Rattle.npf_faults.specs.declared.fault.Refused.{Refused}
+use Rattle.npf_faults.specs.declared.fault.Refused.TheVariants.{Fault, NoMemory}
 use Rattle.npf_lexer.specs.declared.front.Front.TheVariants.{End, Skipped, Found, Faulty}
 use Rattle.npf_lexer.specs.declared.place.Place.{Place}
 use Rattle.npf_lexer.specs.declared.token.Token.{Token}

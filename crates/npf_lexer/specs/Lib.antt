@@ -1,5 +1,4 @@
 pub mod ByteClass
-pub mod Fault
 pub mod Front
 pub mod Lexer
 pub mod Place

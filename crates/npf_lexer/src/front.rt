@@ -9,11 +9,11 @@ ghost use Rattle.npf_lexer.specs.Sign.{sign_at};
 use crate::byte_class::{
     ByteClass, byte_class, is_line_byte, is_string_byte, is_variable_byte, is_variable_start,
 };
-use crate::fault::{ConfFault, Fault};
 use crate::place::Place;
 use crate::run::{Run, run_len, run_of};
 use crate::sign::sign_at;
 use crate::token::{Sign, Token, TokenKind};
+use npf_faults::{ConfFault, Fault};
 use npf_types::limits::MAX_TEXT_BYTES;
 use npf_types::{List, NoMemory};
 use std::alloc::Global;

@@ -2,10 +2,10 @@ ghost use Rattle.std.specs.Prelude.{◌≡◌, ◌≤◌, Ok, Err, IfOk, IfErr, 
 ghost use Rattle.npf_types.specs.Reading.{IsOnly};
 ghost use Rattle.npf_lexer.specs.Lexer.{IsLexed, IfFault, end_token};
 
-use crate::fault::Refused;
 use crate::front::{Front, front_at};
 use crate::place::Place;
 use crate::token::{Token, TokenKind};
+use npf_faults::Refused;
 use npf_types::limits::MAX_TEXT_BYTES;
 use std::alloc::Global;
 

@@ -1,4 +1,4 @@
-// The tokens of npf.conf(5), each with its place in the text, and the faults that a configuration can have.
+// The tokens of npf.conf(5), each with its place in the text.
 //
 // A text is read from its front on. What begins at a place is a blank, a comment, a separator, a string, a variable, a
 // sign or a run: a number, an address (RFC 4291 section 2.2 for IPv6) or a word. Runs, comments and signs go on as
@@ -10,7 +10,6 @@
 #![tactic(auto)]
 
 mod byte_class;
-mod fault;
 mod front;
 mod lexer;
 mod place;
@@ -18,6 +17,5 @@ mod run;
 mod sign;
 mod token;
 
-pub use fault::{ConfFault, Excess, Fault, Refused};
 pub use lexer::lex;
 pub use token::{Sign, Token, TokenKind};

@@ -29,7 +29,7 @@ use Rattle.npf_connections.specs.Adding.{AddsOwn}
 use Rattle.npf_connections.specs.Entries.{entry_of, hold_entries}
 use Rattle.npf_connections.specs.Pass.{Pass, IsPass, IsOwn, Knows, all_places}
 use Rattle.npf_connections.specs.StayLaw.{Holding}
-use Rattle.npf_store.specs.Represents.{Represents}
+use Rattle.npf_oneturn_store.specs.Represents.{Represents}
 use Rattle.npf_oneturn.specs.declared.contents.Contents.{Contents}
 use Rattle.npf_oneturn.specs.declared.rule.Ending.{Ending}
 use Rattle.npf_oneturn.specs.declared.rule.Ending.TheVariants.{Asks}

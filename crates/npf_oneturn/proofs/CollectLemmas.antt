@@ -22,12 +22,12 @@ use Rattle.npf_connections.specs.Adding.{AddsOwn}
 use Rattle.npf_connections.specs.Collecting.{FreesAlone, IsClean}
 use Rattle.npf_connections.specs.Entries.{free_entries, entry_of}
 use Rattle.npf_connections.specs.Pass.{Pass, IsPass}
-use Rattle.npf_store.specs.declared.phase.Phase.{Phase}
-use Rattle.npf_store.specs.declared.store.Store.{Store}
-use Rattle.npf_store.specs.Represents.{Represents}
-use Rattle.npf_store.specs.Store.{phase_of}
-use Rattle.npf_store.proofs.ConnectionLemmas.{claimed_within}
-use Rattle.npf_store.proofs.RepresentLemmas.{shows_dead}
+use Rattle.npf_oneturn_store.specs.declared.phase.Phase.{Phase}
+use Rattle.npf_oneturn_store.specs.declared.store.Store.{Store}
+use Rattle.npf_oneturn_store.specs.Represents.{Represents}
+use Rattle.npf_oneturn_store.specs.Store.{phase_of}
+use Rattle.npf_oneturn_store.proofs.ConnectionLemmas.{claimed_within}
+use Rattle.npf_oneturn_store.proofs.RepresentLemmas.{shows_dead}
 use Rattle.npf_oneturn.specs.declared.contents.Contents.{Contents}
 use Rattle.npf_oneturn.specs.declared.rule.Ending.TheVariants as ending
 use Rattle.npf_oneturn.specs.declared.view.View.{View}

@@ -15,13 +15,13 @@ use Rattle.npf_core.proofs.HistoryLemmas.{state_from-append, IsPrefix-append}
 use Rattle.npf_connections.specs.Adding.{Adds}
 use Rattle.npf_connections.specs.Expiring.{Killed, Expires, expiry_entries}
 use Rattle.npf_connections.specs.Pass.{Pass, IsPass}
-use Rattle.npf_store.specs.declared.phase.Phase.TheVariants as phase
-use Rattle.npf_store.specs.declared.phase.Phase.{Phase}
-use Rattle.npf_store.specs.declared.store.Store.{Store}
-use Rattle.npf_store.specs.Represents.{Represents}
-use Rattle.npf_store.specs.Store.{phase_of, IsDuePhase}
-use Rattle.npf_store.proofs.ConnectionLemmas.{claimed_within}
-use Rattle.npf_store.proofs.RepresentLemmas.{shows_due}
+use Rattle.npf_oneturn_store.specs.declared.phase.Phase.TheVariants as phase
+use Rattle.npf_oneturn_store.specs.declared.phase.Phase.{Phase}
+use Rattle.npf_oneturn_store.specs.declared.store.Store.{Store}
+use Rattle.npf_oneturn_store.specs.Represents.{Represents}
+use Rattle.npf_oneturn_store.specs.Store.{phase_of, IsDuePhase}
+use Rattle.npf_oneturn_store.proofs.ConnectionLemmas.{claimed_within}
+use Rattle.npf_oneturn_store.proofs.RepresentLemmas.{shows_due}
 use Rattle.npf_oneturn.specs.declared.contents.Contents.{Contents}
 use Rattle.npf_oneturn.specs.declared.rule.Ending.TheVariants as ending
 use Rattle.npf_oneturn.specs.declared.view.View.{View}

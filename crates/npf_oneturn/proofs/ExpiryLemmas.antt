@@ -19,12 +19,12 @@ use Rattle.npf_core.proofs.EqualityLemmas.{same_conn_id}
 use Rattle.npf_core.proofs.HistoryLemmas.{frees-append}
 use Rattle.npf_core.proofs.LifeLemmas.{IsClaimed-last}
 use Rattle.npf_connections.specs.Expiring.{Killed}
-use Rattle.npf_store.specs.declared.connection.Connection.{Connection}
-use Rattle.npf_store.specs.declared.phase.Phase.TheVariants as phase
-use Rattle.npf_store.specs.Store.{IsDuePhase}
-use Rattle.npf_store.specs.Connection.{phase_at}
-use Rattle.npf_store.specs.declared.store.Store.{Store}
-use Rattle.npf_store.specs.Represents.{Represents}
+use Rattle.npf_oneturn_store.specs.declared.connection.Connection.{Connection}
+use Rattle.npf_oneturn_store.specs.declared.phase.Phase.TheVariants as phase
+use Rattle.npf_oneturn_store.specs.Store.{IsDuePhase}
+use Rattle.npf_oneturn_store.specs.Connection.{phase_at}
+use Rattle.npf_oneturn_store.specs.declared.store.Store.{Store}
+use Rattle.npf_oneturn_store.specs.Represents.{Represents}
 use Rattle.npf_oneturn.specs.Endings.{entries_from, end_acts, expiry_acts}
 use Rattle.npf_oneturn.specs.Rule.{DeadHoldNone}
 use Rattle.npf_oneturn.specs.Working.{worked, Works, EndsConnection, ExpiresAt, ExpiresBelow}

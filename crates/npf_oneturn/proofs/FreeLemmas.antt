@@ -11,8 +11,8 @@ use Rattle.npf_core.specs.Machine.{Machine, stage_of}
 use Rattle.npf_core.specs.Meaning.{Meaning}
 use Rattle.npf_core.specs.NextState.{after_act}
 use Rattle.npf_core.proofs.LifeLemmas.{stage_of-is, moves}
-use Rattle.npf_store.specs.declared.store.Store.{Store}
-use Rattle.npf_store.specs.Represents.{Represents}
+use Rattle.npf_oneturn_store.specs.declared.store.Store.{Store}
+use Rattle.npf_oneturn_store.specs.Represents.{Represents}
 use Rattle.npf_oneturn.specs.Working.{worked, Works, FreesAt, FreesBelow}
 use Rattle.npf_oneturn.proofs.StayLemmas.{dead_move}
 use Rattle.npf_oneturn.proofs.WorkLemmas.{works_none, works_one, works_more, worked-append}

@@ -17,7 +17,7 @@ use Rattle.npf_core.specs.Meaning.{Meaning}
 use Rattle.npf_core.proofs.HistoryLemmas.{Legal-prefix, by-append}
 use Rattle.npf_connections.specs.Pass.{IsPass, all_places}
 use Rattle.npf_connections.specs.Joining.{IsSplit}
-use Rattle.npf_store.specs.Represents.{Represents}
+use Rattle.npf_oneturn_store.specs.Represents.{Represents}
 use Rattle.npf_oneturn.specs.declared.contents.Contents.{Contents}
 use Rattle.npf_oneturn.specs.declared.view.View.{View}
 use Rattle.npf_oneturn.specs.Passing.{giver, newcomer, GetsNumber}

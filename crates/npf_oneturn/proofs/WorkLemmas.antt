@@ -23,8 +23,8 @@ use Rattle.npf_core.proofs.EqualityLemmas.{is_found-Decides, is_id-Decides}
 use Rattle.npf_core.proofs.HistoryLemmas.{state_from-append, LegalFrom-append}
 use Rattle.npf_oneturn.proofs.EndLemmas.{is_false}
 use Rattle.npf_connections.specs.Ways.{all_ways, HoldsThese}
-use Rattle.npf_store.specs.declared.store.Store.{Store}
-use Rattle.npf_store.specs.Represents.{Represents}
+use Rattle.npf_oneturn_store.specs.declared.store.Store.{Store}
+use Rattle.npf_oneturn_store.specs.Represents.{Represents}
 use Rattle.npf_oneturn.proofs.StayLemmas.{claimed_next, built_next, dead_move, none_next}
 use Rattle.npf_core.proofs.LifeLemmas.{stage_of-is, moves}
 use Rattle.npf_oneturn.specs.Endings.{entries_from, end_acts}

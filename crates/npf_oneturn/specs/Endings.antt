@@ -20,7 +20,7 @@ use Rattle.npf_core.specs.declared.stage.Stage.TheVariants.{Dead}
 use Rattle.npf_core.specs.Allowed.{IsDue}
 use Rattle.npf_connections.specs.Expiring.{Killed, IsOneOf}
 use Rattle.npf_connections.specs.Ways.{all_ways, HoldsThese}
-use Rattle.npf_store.specs.Represents.{Represents}
+use Rattle.npf_oneturn_store.specs.Represents.{Represents}
 use Rattle.npf_oneturn.specs.declared.contents.Contents.{Contents}
 use Rattle.npf_oneturn.specs.declared.view.View.{View}
 use Rattle.npf_oneturn.specs.declared.rule.Ending.{Ending}

@@ -5,7 +5,7 @@ use Rattle.npf_core.specs.declared.entry.Entry.{Entry}
 use Rattle.npf_core.specs.History.{Legal, state_of, IsPrefix, by}
 use Rattle.npf_core.specs.Meaning.{Meaning}
 use Rattle.npf_connections.specs.Pass.{IsOwn, all_places}
-use Rattle.npf_store.specs.Represents.{Represents}
+use Rattle.npf_oneturn_store.specs.Represents.{Represents}
 use Rattle.npf_oneturn.specs.declared.contents.Contents.{Contents}
 use Rattle.npf_oneturn.specs.declared.view.View.{View}
 use Rattle.npf_oneturn.specs.Rule.{DeadHoldNone}

@@ -9,11 +9,11 @@ use Rattle.npf_core.specs.History.{LegalFrom, state_from, frees}
 use Rattle.npf_core.specs.Machine.{Machine, stage_of, HoldsSome, HoldsNone}
 use Rattle.npf_core.specs.Meaning.{Meaning}
 use Rattle.npf_connections.specs.Ways.{HoldsThese}
-use Rattle.npf_store.specs.declared.store.Store.{Store}
+use Rattle.npf_oneturn_store.specs.declared.store.Store.{Store}
 use Rattle.npf_core.specs.declared.stage.Stage.TheVariants.{Dead}
-use Rattle.npf_store.specs.declared.phase.Phase.{Phase}
-use Rattle.npf_store.specs.Store.{phase_of, HoldsNoKey}
-use Rattle.npf_store.specs.Represents.{Represents}
+use Rattle.npf_oneturn_store.specs.declared.phase.Phase.{Phase}
+use Rattle.npf_oneturn_store.specs.Store.{phase_of, HoldsNoKey}
+use Rattle.npf_oneturn_store.specs.Represents.{Represents}
 use Rattle.npf_oneturn.specs.Endings.{entries_from, end_acts, expiry_acts}
 use Rattle.npf_oneturn.specs.Rule.{DeadHoldNone}
 use Rattle.npf_connections.specs.Expiring.{Killed, IsOneOf}

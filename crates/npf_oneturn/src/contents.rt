@@ -1,4 +1,4 @@
-use npf_store::Store;
+use npf_oneturn_store::Store;
 
 /// What lies in the table's slot: the connections, and how many passes are entered.
 #[derive(Drop)]

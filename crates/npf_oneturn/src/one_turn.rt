@@ -7,7 +7,7 @@ use crate::working::{collect_contents, end_connection, expire_all};
 use atomic_table::{Refused, Seat, Table};
 use npf_connections::Connections;
 use npf_core::{Act, ConnId, Found, Held, Law, Stepped};
-use npf_store::{Store, step};
+use npf_oneturn_store::{Store, step};
 use npf_types::{Key, NoMemory, Way};
 use std::alloc::Global;
 use std::sync::Wait;

@@ -4,14 +4,14 @@ ghost use Rattle.npf_core.specs.declared.act.Why.{Why};
 ghost use Rattle.npf_core.specs.declared.stage.Stage.TheVariants.{Dead};
 ghost use Rattle.npf_core.specs.Allowed.{Allows};
 ghost use Rattle.npf_core.specs.Machine.{Machine, stage_of};
-ghost use Rattle.npf_store.specs.Represents.{Represents};
-ghost use Rattle.npf_store.specs.Store.{phase_of, IsAlivePhase, HoldsNoKey};
+ghost use Rattle.npf_oneturn_store.specs.Represents.{Represents};
+ghost use Rattle.npf_oneturn_store.specs.Store.{phase_of, IsAlivePhase, HoldsNoKey};
 ghost use Rattle.npf_oneturn.specs.Working.{GivesUp, EndsConnection, FreesAt, FreesBelow, DeadAreBare, ExpiresAt, ExpiresBelow};
 ghost use Rattle.npf_types.specs.declared.key.Way.{Way};
 
 use crate::contents::Contents;
 use npf_core::{ConnId, Law};
-use npf_store::{Store, due};
+use npf_oneturn_store::{Store, due};
 use npf_types::Way;
 
 /// Gives up the key that a Dead connection holds that way. Tells whether it held one.

@@ -24,6 +24,3 @@ pub use mem_files::MemFiles;
 pub use mem_sink::MemSink;
 pub use sink::{Sink, SinkFault};
 pub use streams::{StderrSink, StdoutSink};
-
-#[cfg(test)]
-mod tests;

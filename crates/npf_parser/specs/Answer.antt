@@ -1,8 +1,8 @@
 -- What the code answers.
 use Rattle.std.specs.Prelude.{◌≡◌, ⊤, true, false, Option, Some, None, Result, Ok, Err, List}
 use Rattle.std.specs.Borrow.{Bor}
-use Rattle.npf_lexer.specs.declared.fault.Fault.TheVariants.{Expected}
-use Rattle.npf_lexer.specs.declared.fault.Refused.{Refused}
+use Rattle.npf_faults.specs.declared.fault.Fault.TheVariants.{Expected}
+use Rattle.npf_faults.specs.declared.fault.Refused.{Refused}
 use Rattle.npf_lexer.specs.declared.token.Token.{Token}
 use Rattle.npf_phrase.specs.Phrase.{Reading, head}
 use Rattle.npf_phrase.specs.Grammar.{Grammar, meaning}

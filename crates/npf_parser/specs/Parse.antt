@@ -1,9 +1,9 @@
 -- How `parse` and `parse_rule` answer to a grammar.
 use Rattle.std.specs.Prelude.{◌≡◌, ◌⊎◌, ⊤, Result, Ok, Err, List, [], ◌++◌}
 use Rattle.npf_types.specs.declared.span.Span.{Span}
-use Rattle.npf_lexer.specs.declared.fault.ConfFault.{ConfFault}
-use Rattle.npf_lexer.specs.declared.fault.Refused.{Refused}
-use Rattle.npf_lexer.specs.declared.fault.Refused.TheVariants.{Fault, NoMemory}
+use Rattle.npf_faults.specs.declared.fault.ConfFault.{ConfFault}
+use Rattle.npf_faults.specs.declared.fault.Refused.{Refused}
+use Rattle.npf_faults.specs.declared.fault.Refused.TheVariants.{Fault, NoMemory}
 use Rattle.npf_lexer.specs.declared.token.Token.{Token}
 use Rattle.npf_syntax.specs.declared.stmt.Tree.{Tree}
 use Rattle.npf_phrase.specs.Phrase.{head}

@@ -1,7 +1,7 @@
 // Statements and files: a function for each line of the grammar.
 ghost use Rattle.std.specs.Prelude.{◌≡◌, codes, IfOk};
 ghost use Rattle.npf_types.specs.declared.span.Span.{Span};
-ghost use Rattle.npf_lexer.specs.declared.fault.Fault.TheVariants.{Expected};
+ghost use Rattle.npf_faults.specs.declared.fault.Fault.TheVariants.{Expected};
 ghost use Rattle.npf_syntax.specs.declared.rule.RuleTree.{RuleTree};
 ghost use Rattle.npf_syntax.specs.declared.stmt.Tree.{Tree};
 ghost use Rattle.npf_phrase.specs.Grammar.{meaning, optional, preceded};
@@ -22,7 +22,8 @@ use crate::stop::{Stop, refused_by};
 use crate::text::span_to;
 use crate::tokens::{after_sign, after_word, behind_separator, behind_word, ends_stmt, read_end};
 use crate::value::read_values;
-use npf_lexer::{Refused, Sign, Token, TokenKind};
+use npf_faults::Refused;
+use npf_lexer::{Sign, Token, TokenKind};
 use npf_syntax::{RuleTree, Setting, Stmt, Str, TableType, Tree};
 use npf_types::List;
 use std::alloc::Global;

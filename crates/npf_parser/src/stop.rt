@@ -3,7 +3,8 @@ ghost use Rattle.std.specs.Prelude.{◌≡◌};
 ghost use Rattle.npf_parser.specs.Answer.{refused_by};
 ghost use Rattle.npf_parser.specs.Token.{place_of};
 
-use npf_lexer::{ConfFault, Fault, Refused, Token};
+use npf_faults::{ConfFault, Fault, Refused};
+use npf_lexer::Token;
 use npf_types::Span;
 use std::alloc::AllocFailed;
 

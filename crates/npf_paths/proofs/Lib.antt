@@ -1,4 +1,5 @@
 pub mod BranchLemmas
+mod DigitsLemmas
 pub mod FillingLemmas
 pub mod GrowingLemmas
 pub mod HomeLemmas

@@ -1,8 +1,11 @@
 pub mod CellLaw
 pub mod CellWords
+pub mod DigitLaw
+pub mod Digits
 pub mod FillingLaw
 pub mod Growing
 pub mod GrowingLaw
+pub mod Hash
 pub mod LevelLaw
 pub mod PathLaw
 pub mod Paths

@@ -1,9 +1,12 @@
 // What holds of every trie, of every key and at every change of these kinds. The functions do nothing: each is a theorem.
 ghost use Rattle.npf_paths.specs.CellLaw.{WordsSayCells, WordsFit};
+ghost use Rattle.npf_paths.specs.DigitLaw.{FitsWords, HalfBytesTellKeys, KeysPart, RootDigitsFit, NodeDigitsFit};
 ghost use Rattle.npf_paths.specs.FillingLaw.{FillsKeepPlaces, FillsKeepEnds};
 ghost use Rattle.npf_paths.specs.GrowingLaw.{BranchesPart, BranchStays, GrowthIsTold, KeysGoDown, GrownLeavesAreHome};
 ghost use Rattle.npf_paths.specs.LevelLaw.{BareHasLevels, FillsKeepLevels, GrowthKeepsLevels};
 ghost use Rattle.npf_paths.specs.PathLaw.{HasOnePlaceALevel, HasOneEnd, HasNoneBehindEnd, HasSamePlaces, HasSameEnd};
+
+use npf_types::Key;
 
 /// The word of a cell says that cell; and where its slot or node is a number of 32 bits, the word is one of 64 from which the cell
 /// can be made.
@@ -44,4 +47,18 @@ pub fn level_law()
     ensures bare { BareHasLevels }
     ensures filled { FillsKeepLevels }
     ensures grown { GrowthKeepsLevels }
+{}
+
+/// The digit law: the digits of levels 15 to 94 tell keys apart, so keys that differ part at some level, whatever their hashes.
+/// A root's digit is below 64, and each further one below 16.
+pub fn digit_law()
+    ensures told { HalfBytesTellKeys }
+    ensures parted { KeysPart }
+    ensures root { RootDigitsFit }
+    ensures node { NodeDigitsFit }
+{}
+
+/// A program's key is what the digit law asks for: five words of 64 bits.
+pub fn words_fit(key: Key)
+    ensures { FitsWords key }
 {}

@@ -9,7 +9,7 @@ ghost use Rattle.npf_pool.specs.Take.{searching, taking, having_swept, CountsSwe
 
 use npf_cells::{CellPass, Cells, Pool};
 use npf_core::Law;
-use npf_digits::KeyHash;
+use npf_paths::KeyHash;
 use std::sync::Wait;
 
 /// Takes a node, or claims a slot for the packet n. None only after a sweep that found each word of that pool full.

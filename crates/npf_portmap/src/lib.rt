@@ -13,6 +13,3 @@ pub mod laws;
 mod run;
 
 pub use draw::{PortDraw, candidates};
-
-#[cfg(test)]
-mod tests;

@@ -8,6 +8,3 @@
 mod action;
 
 pub use action::action_of;
-
-#[cfg(test)]
-mod tests;

@@ -20,6 +20,3 @@ pub use conf_reader::ConfReader;
 pub use number_range::NumberRange;
 pub use publisher::Publisher;
 pub use told::Told;
-
-#[cfg(test)]
-mod tests;

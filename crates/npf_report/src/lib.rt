@@ -16,6 +16,3 @@ mod writing;
 
 pub use lines::{line, write_line};
 pub use totals::{total, write_total};
-
-#[cfg(test)]
-mod tests;

@@ -4,7 +4,7 @@ use Rattle.std.specs.List.{AllZip}
 use Rattle.std.specs.List.Sorted.{IsNonDecreasing}
 use Rattle.std.proofs.lemmas.List.Elements.{All-nil, All-cons, All-head, All-tail}
 use Rattle.npf_model.specs.Configuration.{Configuration}
-use Rattle.npf_dealing.specs.Dealing.{of_lane}
+use Rattle.npf_runner_dealing.specs.Dealing.{of_lane}
 use Rattle.npf_engine.specs.Histories.{History}
 use Rattle.npf_runner.specs.declared.packet.Packet.{Packet}
 use Rattle.npf_runner.specs.declared.phase.Spread.{Spread}

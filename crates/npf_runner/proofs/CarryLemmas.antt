@@ -4,10 +4,10 @@ use Rattle.std.specs.List.{Contains, filter}
 use Rattle.std.proofs.lemmas.List.Elements.{Contains-append_cases}
 use Rattle.npf_core.specs.declared.act.Act.TheVariants.{Free}
 use Rattle.npf_connections.specs.Said.{under}
-use Rattle.npf_opening.specs.Saying.{FlowSaid}
+use Rattle.npf_engine_opening.specs.Saying.{FlowSaid}
 use Rattle.npf_engine.specs.Handles.{carried}
 use Rattle.npf_engine.specs.Histories.{FlowAct, FlowEntry, History, carries}
-use Rattle.npf_passes.proofs.NumberLemmas.{in_none, first_of, later_of, first_or_later}
+use Rattle.npf_runner_passes.proofs.NumberLemmas.{in_none, first_of, later_of, first_or_later}
 
 -- none of the entries carries one of these numbers
 abbrev pub CarryNone : (ℕ → Type 0) → History → Type 0

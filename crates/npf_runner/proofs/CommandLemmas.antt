@@ -15,7 +15,7 @@ use Rattle.npf_connections.specs.Expiring.{Killed, IsOneOf, expiry_entries}
 use Rattle.npf_connections.specs.Pass.{Pass}
 use Rattle.npf_connections.specs.Ways.{all_ways}
 use Rattle.npf_engine.specs.Histories.{FlowEntry, History, carries}
-use Rattle.npf_passes.proofs.NumberLemmas.{in_none, first_of, later_of, first_or_later}
+use Rattle.npf_runner_passes.proofs.NumberLemmas.{in_none, first_of, later_of, first_or_later}
 use Rattle.npf_runner.specs.declared.phase.Command.{Command}
 use Rattle.npf_runner.specs.declared.phase.Command.TheVariants.{Publish, Expire}
 use Rattle.npf_runner.specs.Commands.{Collects, ExpiresDue, Runs}

@@ -2,8 +2,8 @@
 use Rattle.std.proofs.Common.{◌≡◌, ℕ, ◌==◌, ◌≤◌, ◌<◌, ◌+◌, Bool, true, false, List, [], ◌∷◌, All, cond, map, get_or, length, refl, sym, ap, subst, ◌∙◌, arith, suc, zero}
 use Rattle.std.specs.List.{range_with_len}
 use Rattle.std.proofs.lemmas.List.{length-map}
-use Rattle.npf_dealing.specs.Dealing.{of_lane, IsDealt}
-use Rattle.npf_dealing.proofs.LaneLemmas.{get_or-map}
+use Rattle.npf_runner_dealing.specs.Dealing.{of_lane, IsDealt}
+use Rattle.npf_runner_dealing.proofs.LaneLemmas.{get_or-map}
 use Rattle.npf_runner.specs.declared.packet.Packet.{Packet}
 use Rattle.npf_runner.specs.declared.worker.Worker.{Worker}
 use Rattle.npf_runner.specs.Crew.{HasJobs, numbers_of_worker, packets_of_worker, jobs_of}

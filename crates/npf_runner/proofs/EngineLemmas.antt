@@ -4,11 +4,11 @@ use Rattle.std.specs.List.{Contains}
 use Rattle.std.proofs.lemmas.Bool.Decides.{Decides-eqb}
 use Rattle.npf_core.specs.declared.act.Act.TheVariants.{Claim, Look, Hold, Start, Step, Kill, Unhold, Free}
 use Rattle.npf_core.specs.declared.conn_id.ConnId.{ConnId}
-use Rattle.npf_opening.specs.Saying.{FlowSaid}
+use Rattle.npf_engine_opening.specs.Saying.{FlowSaid}
 use Rattle.npf_engine.specs.Histories.{FlowAct, builds, carries, is_unhold}
 use Rattle.npf_engine.proofs.LongerLemmas.{entries_in_longer, explained_told, explains_in_longer}
 use Rattle.npf_engine.proofs.TellingLemmas.{IsTold as Telling, nothing, carried, built, given_back}
-use Rattle.npf_passes.proofs.NumberLemmas.{in_none, first_or_later}
+use Rattle.npf_runner_passes.proofs.NumberLemmas.{in_none, first_or_later}
 use Rattle.npf_runner.proofs.WorksLemmas.{SaysOwn, TellsInLonger}
 
 -- an act carries one number at most

@@ -16,7 +16,7 @@ use Rattle.npf_core.specs.NextState.{after_act}
 use Rattle.npf_core.proofs.HistoryLemmas.{LegalFrom-front, LegalFrom-rest, state_from-append}
 use Rattle.npf_core.proofs.EqualityLemmas.{is_id-Decides}
 use Rattle.npf_core.proofs.LifeLemmas.{Life, Moves, Touch, life_in, life_of, stage_in, stage_of-is, touch, entry_moves}
-use Rattle.npf_passes.proofs.NumberLemmas.{in_none, first_or_later}
+use Rattle.npf_runner_passes.proofs.NumberLemmas.{in_none, first_or_later}
 
 -- killed or freed
 abbrev Ended : {S : Type 0} → Life S → Type 0

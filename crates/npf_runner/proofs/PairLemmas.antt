@@ -2,7 +2,7 @@
 use Rattle.std.proofs.Common.{◌≡◌, ℕ, ◌<◌, List, [], ◌∷◌, All, map, get_or, length, refl, sym, ap, subst, ◌∙◌, ⊎_elim, arith, suc, zero}
 use Rattle.std.specs.List.{AllZip, Contains}
 use Rattle.std.proofs.lemmas.List.Elements.{All-head, All-tail}
-use Rattle.npf_passes.proofs.NumberLemmas.{in_none, first_or_later}
+use Rattle.npf_runner_passes.proofs.NumberLemmas.{in_none, first_or_later}
 
 -- these stand at the place in the one list and in the other
 abbrev pub At : {X Y : Type 0} → List X → List Y → ℕ → X → Y → Type 0

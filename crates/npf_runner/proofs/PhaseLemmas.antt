@@ -17,10 +17,10 @@ use Rattle.npf_connections.specs.Worn.{ClaimsLast, last_epoch}
 use Rattle.npf_flow.specs.Flows.{flow_law}
 use Rattle.npf_model.specs.Configuration.{Configuration}
 use Rattle.npf_publish.specs.ConfReader.{IsNewReader, least_number}
-use Rattle.npf_passes.specs.Gathering.{IsTakenIn}
-use Rattle.npf_passes.specs.Spreading.{IsGiven}
-use Rattle.npf_passes.proofs.NumberLemmas.{in_none, first_or_later}
-use Rattle.npf_dealing.specs.Dealing.{of_lane}
+use Rattle.npf_runner_passes.specs.Gathering.{IsTakenIn}
+use Rattle.npf_runner_passes.specs.Spreading.{IsGiven}
+use Rattle.npf_runner_passes.proofs.NumberLemmas.{in_none, first_or_later}
+use Rattle.npf_runner_dealing.specs.Dealing.{of_lane}
 use Rattle.npf_engine.specs.Histories.{FlowEntry, History, entries_of}
 use Rattle.npf_runner.specs.declared.packet.Packet.{Packet}
 use Rattle.npf_runner.specs.declared.phase.Command.{Command}

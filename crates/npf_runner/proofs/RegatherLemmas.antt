@@ -8,8 +8,8 @@ use Rattle.std.proofs.lemmas.Slice.Zip.{AllZip-long}
 use Rattle.npf_connections.specs.Pass.{Pass}
 use Rattle.npf_model.specs.Configuration.{Configuration}
 use Rattle.npf_publish.specs.declared.conf_reader.ConfReader.{ConfReader}
-use Rattle.npf_dealing.specs.Dealing.{of_lane, queue_items, IsDealt}
-use Rattle.npf_dealing.proofs.LaneLemmas.{of_lane-no, get_or-map}
+use Rattle.npf_runner_dealing.specs.Dealing.{of_lane, queue_items, IsDealt}
+use Rattle.npf_runner_dealing.proofs.LaneLemmas.{of_lane-no, get_or-map}
 use Rattle.npf_engine.specs.Histories.{FlowEntry}
 use Rattle.npf_runner.specs.declared.crew.Queues.{Queues}
 use Rattle.npf_runner.specs.declared.phase.Command.{Command}

@@ -11,9 +11,9 @@ use Rattle.npf_flow.specs.Flows.{flow_law}
 use Rattle.npf_model.specs.Configuration.{Configuration}
 use Rattle.npf_publish.specs.declared.conf_reader.ConfReader.{ConfReader}
 use Rattle.npf_publish.specs.ConfReader.{reader_range}
-use Rattle.npf_passes.specs.Gathering.{Gathers, IsWhole}
-use Rattle.npf_passes.specs.Spreading.{IsGiven, Spreads}
-use Rattle.npf_passes.proofs.GatheringLemmas.{gathers_all}
+use Rattle.npf_runner_passes.specs.Gathering.{Gathers, IsWhole}
+use Rattle.npf_runner_passes.specs.Spreading.{IsGiven, Spreads}
+use Rattle.npf_runner_passes.proofs.GatheringLemmas.{gathers_all}
 use Rattle.npf_engine.specs.Histories.{FlowEntry}
 use Rattle.npf_runner.specs.declared.worker.Lane.{Lane}
 use Rattle.npf_runner.specs.declared.worker.Worker.{Worker}

@@ -10,12 +10,12 @@ use Rattle.npf_connections.specs.Pass.{Pass, IsPass, all_places}
 use Rattle.npf_connections.proofs.AddLemmas.{adds_alone}
 use Rattle.npf_flow.specs.Flows.{flow_law}
 use Rattle.npf_model.specs.Configuration.{Configuration}
-use Rattle.npf_dealing.specs.Dealing.{of_lane}
-use Rattle.npf_dealing.proofs.LaneLemmas.{get_or-map}
+use Rattle.npf_runner_dealing.specs.Dealing.{of_lane}
+use Rattle.npf_runner_dealing.proofs.LaneLemmas.{get_or-map}
 use Rattle.npf_publish.specs.ConfReader.{reader_range, least_number}
-use Rattle.npf_passes.specs.Gathering.{IsTakenIn}
-use Rattle.npf_passes.specs.Spreading.{IsGiven}
-use Rattle.npf_passes.proofs.NumberLemmas.{in_none, none_added}
+use Rattle.npf_runner_passes.specs.Gathering.{IsTakenIn}
+use Rattle.npf_runner_passes.specs.Spreading.{IsGiven}
+use Rattle.npf_runner_passes.proofs.NumberLemmas.{in_none, none_added}
 use Rattle.npf_engine.specs.Histories.{FlowEntry, History, carries}
 use Rattle.npf_runner.specs.declared.packet.Packet.{Packet}
 use Rattle.npf_runner.specs.declared.phase.Command.{Command}

@@ -4,9 +4,9 @@ use Rattle.std.specs.List.{Contains}
 use Rattle.std.proofs.lemmas.List.Elements.{All-head, All-tail, Contains-append_cases, Contains-append_right}
 use Rattle.npf_connections.specs.Pass.{Pass}
 use Rattle.npf_model.specs.Configuration.{Configuration}
-use Rattle.npf_passes.specs.Gathering.{numbers, IsTakenIn}
-use Rattle.npf_passes.specs.Spreading.{IsGiven}
-use Rattle.npf_passes.proofs.NumberLemmas.{in_none, first_of, later_of, first_or_later}
+use Rattle.npf_runner_passes.specs.Gathering.{numbers, IsTakenIn}
+use Rattle.npf_runner_passes.specs.Spreading.{IsGiven}
+use Rattle.npf_runner_passes.proofs.NumberLemmas.{in_none, first_of, later_of, first_or_later}
 use Rattle.npf_engine.specs.Histories.{FlowEntry, History}
 use Rattle.npf_runner.specs.declared.phase.Command.{Command}
 use Rattle.npf_runner.specs.declared.worker.Lane.{Lane}

@@ -15,14 +15,14 @@ use Rattle.npf_publish.specs.declared.conf_reader.ConfReader.{ConfReader}
 use Rattle.npf_publish.specs.declared.number_range.NumberRange.{NumberRange}
 use Rattle.npf_publish.specs.ConfReader.{reader_range, least_number}
 use Rattle.npf_publish.specs.NumberRange.{IsInRange}
-use Rattle.npf_opening.specs.Saying.{FlowSaid}
+use Rattle.npf_engine_opening.specs.Saying.{FlowSaid}
 use Rattle.npf_engine.specs.declared.outcome.Outcome.{Outcome}
 use Rattle.npf_engine.specs.Arrival.{Arrival}
 use Rattle.npf_engine.specs.Explains.{Explains, Sight}
 use Rattle.npf_engine.specs.Handles.{Asks, Handles, IsExplained, CarryHereAlone}
 use Rattle.npf_engine.specs.Histories.{FlowAct, FlowEntry, History, carries, entries_of, is_unhold, told}
 use Rattle.npf_engine.specs.Outcome.{passes, sent_of}
-use Rattle.npf_passes.proofs.NumberLemmas.{in_none, first_of, later_of, first_or_later, stands_by}
+use Rattle.npf_runner_passes.proofs.NumberLemmas.{in_none, first_of, later_of, first_or_later, stands_by}
 use Rattle.npf_runner.specs.Job.{Handled, Job, job_arrival}
 use Rattle.npf_runner.specs.Plays.{GivesBack}
 use Rattle.npf_runner.specs.Works.{IsHandled, WorksThrough}

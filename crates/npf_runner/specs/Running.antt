@@ -5,10 +5,10 @@ use Rattle.npf_core.specs.History.{IsPrefix}
 use Rattle.npf_connections.specs.Pass.{Pass, IsPass}
 use Rattle.npf_flow.specs.Flows.{flow_law}
 use Rattle.npf_model.specs.Configuration.{Configuration}
-use Rattle.npf_passes.specs.Gathering.{IsWhole}
-use Rattle.npf_passes.specs.Spreading.{IsGiven}
+use Rattle.npf_runner_passes.specs.Gathering.{IsWhole}
+use Rattle.npf_runner_passes.specs.Spreading.{IsGiven}
 use Rattle.npf_publish.specs.ConfReader.{IsNewReader}
-use Rattle.npf_dealing.specs.Dealing.{IsDealt}
+use Rattle.npf_runner_dealing.specs.Dealing.{IsDealt}
 use Rattle.npf_engine.specs.Histories.{FlowEntry}
 use Rattle.npf_runner.specs.declared.packet.Packet.{Packet}
 use Rattle.npf_runner.specs.declared.phase.Command.{Command}

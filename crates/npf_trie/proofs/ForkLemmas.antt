@@ -3,7 +3,7 @@ use Rattle.std.proofs.Common.{◌≡◌, ◌≢◌, ℕ, ◌+◌, ◌<◌, ◌�
 use Rattle.std.specs.Prelude.{Contains}
 use Rattle.std.proofs.lemmas.Grind.{get_or_default_zero}
 use Rattle.npf_types.specs.declared.key.Key.{Key}
-use Rattle.npf_digits.specs.Digits.{digit_of, PartsAt}
+use Rattle.npf_paths.specs.Digits.{digit_of, PartsAt}
 use Rattle.npf_paths.specs.declared.cell.Cell.{Cell}
 use Rattle.npf_paths.specs.declared.cell.Cell.TheVariants as Cells
 use Rattle.npf_paths.specs.declared.place.Place.{Place}

@@ -8,7 +8,7 @@ use Rattle.npf_core.specs.Meaning.{Meaning}
 use Rattle.npf_connections.specs.Adding.{AddsOwn}
 use Rattle.npf_connections.specs.Entries.{hold_entries}
 use Rattle.npf_connections.specs.Pass.{Pass, IsPass}
-use Rattle.npf_digits.specs.Digits.{PartsAt}
+use Rattle.npf_paths.specs.Digits.{PartsAt}
 use Rattle.npf_paths.specs.declared.cell.Cell.{Cell}
 use Rattle.npf_paths.specs.declared.cell.Cell.TheVariants as Cells
 use Rattle.npf_paths.specs.declared.place.Lock.{Lock}

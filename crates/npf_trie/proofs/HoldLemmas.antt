@@ -16,7 +16,7 @@ use Rattle.npf_connections.specs.Adding.{AddsOwn, EndsWith}
 use Rattle.npf_connections.specs.Answered.{taken_ids}
 use Rattle.npf_connections.specs.Entries.{hold_entries}
 use Rattle.npf_connections.specs.Pass.{Pass, IsPass}
-use Rattle.npf_digits.specs.Digits.{digit_of}
+use Rattle.npf_paths.specs.Digits.{digit_of}
 use Rattle.npf_paths.specs.declared.place.Place.{Place}
 use Rattle.npf_paths.specs.declared.place.Place.TheVariants as Places
 use Rattle.npf_cells.specs.declared.layout.Layout.{Layout}

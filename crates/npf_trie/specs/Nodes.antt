@@ -2,7 +2,7 @@
 use Rattle.std.specs.Prelude.{◌≡◌, ◌⊎◌, ℕ, ◌+◌, ◌<◌, min, Some, List, [], length, reverse, Contains}
 use Rattle.atomic_table.specs.Table.{Me}
 use Rattle.npf_types.specs.declared.key.Key.{Key}
-use Rattle.npf_digits.specs.Digits.{PartsAt}
+use Rattle.npf_paths.specs.Digits.{PartsAt}
 use Rattle.npf_paths.specs.LevelLaw.{AreApart}
 use Rattle.npf_cells.specs.declared.layout.Layout.{Layout}
 use Rattle.npf_cells.specs.declared.views.CellView.{CellView}

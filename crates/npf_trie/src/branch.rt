@@ -1,5 +1,5 @@
 ghost use Rattle.std.specs.Prelude.{◌≡◌, ◌+◌, ◌≤◌, ◌<◌, ℕ, [], ◌∷◌, length, slice_index, Contains};
-ghost use Rattle.npf_digits.specs.Digits.{PartsAt};
+ghost use Rattle.npf_paths.specs.Digits.{PartsAt};
 ghost use Rattle.npf_paths.specs.declared.place.Place.TheVariants.{Node};
 ghost use Rattle.npf_paths.specs.Growing.{IsBranch};
 ghost use Rattle.npf_cells.specs.Passes.{IsPassOf};
@@ -10,9 +10,8 @@ ghost use Rattle.npf_trie.specs.Stores.{HasNewNodes, KeepsStoredKeys, KeepsOutsi
 
 use npf_cells::{CellPass, Cells, Pool};
 use npf_core::Law;
-use npf_digits::{KeyHash, NODE_DIGITS, digit};
-use npf_paths::Cell;
 use npf_paths::laws::cell_law;
+use npf_paths::{Cell, KeyHash, NODE_DIGITS, digit};
 use npf_types::Key;
 
 // A leaf at the foot of a branch, and the key that leads there, with its hash.

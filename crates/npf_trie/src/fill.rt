@@ -8,8 +8,7 @@ use crate::meet::meet;
 use crate::step::{Met, Point, Step, Wanted};
 use npf_cells::{CellPass, Cells};
 use npf_core::{Held, Law};
-use npf_digits::KeyHash;
-use npf_paths::Cell;
+use npf_paths::{Cell, KeyHash};
 use std::sync::Wait;
 
 /// Puts the connection's leaf in the place, if nothing stands there under its lock.

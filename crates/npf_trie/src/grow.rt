@@ -11,8 +11,7 @@ use crate::step::{Met, OtherLeaf, Point, Step, Wanted};
 use arrayvec::ArrayVec;
 use npf_cells::{CellPass, Cells};
 use npf_core::{Held, Law};
-use npf_digits::{KeyHash, parting_level};
-use npf_paths::Cell;
+use npf_paths::{Cell, KeyHash, parting_level};
 use std::sync::Wait;
 
 /// Grows nodes in the place of the leaf of another key that the pass met there, down to the level at which the two part, if that leaf

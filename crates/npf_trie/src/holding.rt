@@ -1,5 +1,5 @@
 ghost use Rattle.std.specs.Prelude.{◌≡◌, ◌<◌};
-ghost use Rattle.npf_digits.specs.Digits.{digit_of};
+ghost use Rattle.npf_paths.specs.Digits.{digit_of};
 ghost use Rattle.npf_paths.specs.declared.place.Place.TheVariants as Places;
 ghost use Rattle.npf_cells.specs.Passes.{IsPassOf, IsProtected};
 ghost use Rattle.npf_trie.specs.HoldKey.{CanHold, SettlesHold, IsAtPlace, StepsSo};
@@ -10,8 +10,7 @@ use crate::meet::meet;
 use crate::step::{Met, OtherLeaf, Point, Step, Wanted};
 use npf_cells::{CellPass, Cells};
 use npf_core::{ConnId, Held, Law};
-use npf_digits::{KeyHash, digit};
-use npf_paths::{Cell, Place};
+use npf_paths::{Cell, KeyHash, Place, digit};
 use npf_types::{Key, Way};
 use std::sync::Wait;
 

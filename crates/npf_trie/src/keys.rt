@@ -9,7 +9,7 @@ ghost use Rattle.npf_trie.specs.Stores.{MayStoreKey};
 
 use npf_cells::{CellPass, Cells, Pool};
 use npf_core::Law;
-use npf_digits::KeyHash;
+use npf_paths::KeyHash;
 use npf_types::{Key, Way};
 
 /// How many words a key has.

@@ -6,8 +6,7 @@ ghost use Rattle.npf_cells.specs.Passes.{IsPassOf, IsProtected};
 
 use npf_cells::{CellPass, Cells};
 use npf_core::Law;
-use npf_digits::KeyHash;
-use npf_paths::Lock;
+use npf_paths::{KeyHash, Lock};
 use std::sync::Wait;
 
 /// The state that frees a lock.

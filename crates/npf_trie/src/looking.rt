@@ -6,8 +6,7 @@ ghost use Rattle.npf_trie.specs.LookUp.{RoseBy, LooksUpKey, ComparesWords, Names
 use crate::walk::end_of;
 use npf_cells::{CellPass, Cells};
 use npf_core::{ConnId, Found, Law};
-use npf_digits::KeyHash;
-use npf_paths::Cell;
+use npf_paths::{Cell, KeyHash};
 use npf_types::{Key, Way};
 
 /// How many words a key has.

@@ -8,7 +8,7 @@ ghost use Rattle.npf_trie.specs.LookUp.{ComparesWords};
 use crate::step::Met;
 use npf_cells::{CellPass, Cells};
 use npf_core::{ConnId, Found, Law};
-use npf_digits::KeyHash;
+use npf_paths::KeyHash;
 use npf_types::{Key, Way};
 
 /// Whose key the leaf has that the pass loaded last.

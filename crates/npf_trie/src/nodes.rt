@@ -8,7 +8,7 @@ ghost use Rattle.npf_trie.specs.Nodes.{NeedsNodes, TakesNodes, FindsTooFew, left
 use arrayvec::ArrayVec;
 use npf_cells::{CellPass, Cells, Pool};
 use npf_core::Law;
-use npf_digits::KeyHash;
+use npf_paths::KeyHash;
 use npf_pool::take;
 use std::sync::Wait;
 

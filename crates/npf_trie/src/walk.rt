@@ -6,8 +6,7 @@ ghost use Rattle.npf_trie.specs.LookUp.{ComesToEnd};
 
 use npf_cells::{Aim, CellPass, Cells};
 use npf_core::Law;
-use npf_digits::{KeyHash, LEVELS, digit};
-use npf_paths::{Cell, Place};
+use npf_paths::{Cell, KeyHash, LEVELS, Place, digit};
 use npf_types::Key;
 
 /// Walks the key's path to its end, and answers what stands there: no node. The last load is the look for the packet n.

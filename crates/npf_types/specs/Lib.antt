@@ -5,5 +5,7 @@ pub mod Name
 pub mod NameText
 pub mod Prefix
 pub mod Reading
+pub mod Settled
+pub mod Stages
 pub mod Block
 pub mod Named

@@ -8,6 +8,10 @@
 // and its host bits are zero; the address of a text is the one that it writes; a `Name` is 1 to 15 bytes that
 // npf.conf may use as a name; a `List` is the list of its items. All other types are records that say no more
 // than their fields.
+//
+// Work that is done in stages is a definition alone (specs/Stages): a stage is a relation, `stage (Ok a)` says that it may come to `a`,
+// `stage (Err fault)` that it may end with this fault, and two stages, one behind the other, are one. proofs/StageLemmas has what holds
+// of all stages.
 #![tactic(auto)]
 
 mod action;
@@ -40,6 +44,3 @@ pub use memory::NoMemory;
 pub use name::Name;
 pub use prefix::Prefix;
 pub use span::Span;
-
-#[cfg(test)]
-mod tests;

@@ -1,9 +1,9 @@
 use Rattle.std.proofs.Common.{rules, ◌≡◌, Err, Some, refl, arith}
-use Rattle.npf_messages.specs.declared.fault.CommandFault.TheVariants.{NoMemory}
+use Rattle.npf_ctl_messages.specs.declared.fault.CommandFault.TheVariants.{NoMemory}
 use Rattle.npf_outside.specs.Files.{Tree}
-use Rattle.npf_prepare.specs.View.{run_plan_of}
-use Rattle.npf_input.proofs.UnlessLemmas.{unless_lasts}
-use Rattle.npf_prepare.specs.Prepares.{PreparesRun}
+use Rattle.npf_ctl_prepare.specs.View.{run_plan_of}
+use Rattle.npf_ctl_input.proofs.UnlessLemmas.{unless_lasts}
+use Rattle.npf_ctl_prepare.specs.Prepares.{PreparesRun}
 use Rattle.npf_ctl.specs.Ends.{PreparesGenerated}
 use Rattle.npf_ctl.specs.Generated.{PreparesOf, contents_of, generated_moment, generated_names}
 use Rattle.npf_ctl.proofs.FileLemmas.{around_work, read_on}

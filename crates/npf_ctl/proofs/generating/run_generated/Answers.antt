@@ -1,7 +1,7 @@
 use Rattle.std.proofs.Common.{rules, ◌≡◌, List, Err, inl, subst, sym}
 use Rattle.npf_engine.specs.declared.outcome.Outcome.{Outcome}
-use Rattle.npf_messages.specs.declared.fault.CommandFault.TheVariants.{NoMemory}
-use Rattle.npf_prepare.specs.View.{run_plan_of}
+use Rattle.npf_ctl_messages.specs.declared.fault.CommandFault.TheVariants.{NoMemory}
+use Rattle.npf_ctl_prepare.specs.View.{run_plan_of}
 use Rattle.npf_runner.specs.declared.phase.Spread.TheVariants.{Rr}
 use Rattle.npf_runner.specs.Plays.{PlaysPhases}
 use Rattle.npf_ctl.specs.Faults.{MeetsFault}

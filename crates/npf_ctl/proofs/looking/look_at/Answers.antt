@@ -1,8 +1,8 @@
 use Rattle.std.proofs.Common.{rules, ◌≡◌, Err, inl, refl, subst, sym}
-use Rattle.npf_input.specs.Loading.{LoadsAlone}
-use Rattle.npf_messages.specs.declared.fault.CommandFault.TheVariants.{NoMemory}
+use Rattle.npf_ctl_input.specs.Loading.{LoadsAlone}
+use Rattle.npf_ctl_messages.specs.declared.fault.CommandFault.TheVariants.{NoMemory}
 use Rattle.npf_ruleset.specs.Configuration.{configuration}
-use Rattle.npf_words.specs.CommandLine.{given_text}
+use Rattle.npf_ctl_words.specs.CommandLine.{given_text}
 use Rattle.npf_ctl.specs.Faults.{MeetsFault}
 use Rattle.npf_ctl.specs.Looking.{IsLookText, looking_command}
 use Rattle.npf_ctl.specs.Running.{moment}

@@ -1,8 +1,8 @@
 use Rattle.std.proofs.Common.{rules, ◌≡◌, ◌∙◌, ℕ, List, Err, length, subst, sym}
-use Rattle.npf_messages.specs.declared.fault.CommandFault.TheVariants.{NoMemory}
+use Rattle.npf_ctl_messages.specs.declared.fault.CommandFault.TheVariants.{NoMemory}
 use Rattle.npf_outside.specs.Sink.{Appends, AppendsFront}
-use Rattle.npf_output.proofs.OutputLemmas.{are_outputs, counts_of_outputs, outputs_cross, same_report}
-use Rattle.npf_output.specs.Report.{report_text}
+use Rattle.npf_ctl_output.proofs.OutputLemmas.{are_outputs, counts_of_outputs, outputs_cross, same_report}
+use Rattle.npf_ctl_output.specs.Report.{report_text}
 use Rattle.npf_ctl.specs.Ends.{FailsReport}
 use Rattle.npf_ctl.proofs.FileLemmas.{nothing_put}
 use Rattle.npf_ctl.proofs.running.report_run.Goals as goal

@@ -1,9 +1,9 @@
 use Rattle.std.proofs.Common.{rules, ◌≡◌, ◌∙◌, Err, inl, refl, sym}
-use Rattle.npf_messages.specs.declared.fault.CommandFault.TheVariants.{NoMemory}
+use Rattle.npf_ctl_messages.specs.declared.fault.CommandFault.TheVariants.{NoMemory}
 use Rattle.std.proofs.lemmas.Slice.Zip.{AllZip-long}
-use Rattle.npf_output.specs.Extents.{IsExtentOf}
-use Rattle.npf_output.proofs.OutputLemmas.{counts_of_outputs, outputs_have_time}
-use Rattle.npf_prepare.specs.View.{run_plan_of}
+use Rattle.npf_ctl_output.specs.Extents.{IsExtentOf}
+use Rattle.npf_ctl_output.proofs.OutputLemmas.{counts_of_outputs, outputs_have_time}
+use Rattle.npf_ctl_prepare.specs.View.{run_plan_of}
 use Rattle.npf_ctl.specs.Faults.{MeetsFault}
 use Rattle.npf_ctl.specs.Running.{moment}
 use Rattle.npf_ctl.proofs.EndLemmas.{each_unwritten_since, unreported}

@@ -1,5 +1,5 @@
 use Rattle.std.proofs.Common.{refl}
-use Rattle.npf_words.specs.CommandLine.{word_texts}
+use Rattle.npf_ctl_words.specs.CommandLine.{word_texts}
 use Rattle.npf_ctl.specs.Ends.{AnswersWords}
 use Rattle.npf_ctl.specs.Running.{moment}
 use Rattle.npf_ctl.proofs.AnswerLemmas.{said_fault}

@@ -1,5 +1,5 @@
 use Rattle.std.proofs.Common.{rules, inl, subst}
-use Rattle.npf_words.specs.CommandLine.{SaysCommand, word_texts}
+use Rattle.npf_ctl_words.specs.CommandLine.{SaysCommand, word_texts}
 use Rattle.npf_ctl.specs.Faults.{MeetsFault}
 use Rattle.npf_ctl.specs.Running.{moment}
 use Rattle.npf_ctl.proofs.FileLemmas.{not_touched, nothing_put}

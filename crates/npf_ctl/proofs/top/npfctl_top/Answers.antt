@@ -1,4 +1,4 @@
-use Rattle.npf_words.specs.CommandLine.{word_texts}
+use Rattle.npf_ctl_words.specs.CommandLine.{word_texts}
 use Rattle.npf_ctl.specs.Running.{moment}
 use Rattle.npf_ctl.proofs.AnswerLemmas.{refuses_usage, was_done, was_quiet, was_refused}
 use Rattle.npf_ctl.proofs.LawLemmas.{does_all, refuses_fault}

@@ -1,5 +1,5 @@
 use Rattle.std.proofs.Common.{refl}
-use Rattle.npf_opening.specs.declared.attempt.Opened.{Opened}
+use Rattle.npf_engine_opening.specs.declared.attempt.Opened.{Opened}
 use Rattle.npf_engine.specs.Explains.{IsDropped}
 use Rattle.npf_engine.proofs.AnswerLemmas.{tried_known}
 use Rattle.npf_engine.proofs.trying.answer_known.Goals as goal

@@ -1,6 +1,6 @@
 use Rattle.std.proofs.Common.{Some, ap, ◌∙◌, rules}
 use Rattle.npf_types.specs.declared.change.Change.{Change}
-use Rattle.npf_opening.specs.declared.attempt.Attempt.{Attempt}
+use Rattle.npf_engine_opening.specs.declared.attempt.Attempt.{Attempt}
 use Rattle.npf_engine.specs.Ruling.{plan_of, unchanged}
 use Rattle.npf_engine.proofs.AnswerLemmas.{ruled_passed, ruled_tried}
 use Rattle.npf_engine.proofs.OpeningLemmas.{opens_with_port}

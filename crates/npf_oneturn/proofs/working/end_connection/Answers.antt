@@ -1,8 +1,8 @@
 use Rattle.std.proofs.Common.{◌≡◌, true, ◌==◌, refl}
 use Rattle.std.proofs.lemmas.Bool.Decides.{Decides-eqb}
-use Rattle.npf_store.specs.declared.phase.Phase.{Phase}
-use Rattle.npf_store.specs.Store.{phase_of}
-use Rattle.npf_store.proofs.RepresentLemmas.{kill_is_act, shows_dead}
+use Rattle.npf_oneturn_store.specs.declared.phase.Phase.{Phase}
+use Rattle.npf_oneturn_store.specs.Store.{phase_of}
+use Rattle.npf_oneturn_store.proofs.RepresentLemmas.{kill_is_act, shows_dead}
 use Rattle.npf_oneturn.proofs.WorkLemmas.{ends_connection, kill_alive, dead_after}
 use Rattle.npf_oneturn.proofs.working.end_connection.Goals as goal
 

@@ -1,6 +1,6 @@
 use Rattle.std.proofs.Common.{ℕ, ◌≤◌}
 use Rattle.npf_core.specs.Machine.{Machine}
-use Rattle.npf_store.specs.Represents.{Represents}
+use Rattle.npf_oneturn_store.specs.Represents.{Represents}
 use Rattle.npf_oneturn.specs.Working.{ExpiresBelow}
 use Rattle.npf_oneturn.proofs.working.expire_all.Given as goal
 

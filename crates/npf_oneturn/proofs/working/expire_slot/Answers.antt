@@ -1,9 +1,9 @@
 use Rattle.std.proofs.Common.{subst}
 use Rattle.npf_types.specs.declared.key.Way.{Way}
 use Rattle.npf_core.specs.declared.act.Why.TheVariants.{Expired}
-use Rattle.npf_store.specs.Store.{IsDuePhase, slot_of}
-use Rattle.npf_store.specs.Connection.{phase_at}
-use Rattle.npf_store.proofs.RepresentLemmas.{shows_due, shows_bare}
+use Rattle.npf_oneturn_store.specs.Store.{IsDuePhase, slot_of}
+use Rattle.npf_oneturn_store.specs.Connection.{phase_at}
+use Rattle.npf_oneturn_store.proofs.RepresentLemmas.{shows_due, shows_bare}
 use Rattle.npf_oneturn.proofs.ExpiryLemmas.{expires_at, expires_none, idle_phase}
 use Rattle.npf_oneturn.proofs.working.expire_slot.Goals as goal
 

@@ -2,7 +2,7 @@ use Rattle.std.proofs.Common.{◌≡◌, rules}
 use Rattle.npf_types.specs.declared.key.Way.{Way}
 use Rattle.npf_core.specs.declared.stage.Stage.TheVariants.{Dead}
 use Rattle.npf_core.specs.Machine.{stage_of, HoldsNone}
-use Rattle.npf_store.proofs.RepresentLemmas.{free_is_act, shows_dead, shows_bare}
+use Rattle.npf_oneturn_store.proofs.RepresentLemmas.{free_is_act, shows_dead, shows_bare}
 use Rattle.npf_oneturn.proofs.FreeLemmas.{frees_at}
 use Rattle.npf_oneturn.proofs.working.free_dead.Goals as goal
 

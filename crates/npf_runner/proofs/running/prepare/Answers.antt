@@ -1,7 +1,7 @@
 use Rattle.std.proofs.Common.{rules, ◌≡◌, ◌+◌, All, length, map, subst}
 use Rattle.std.specs.List.{AllZip, Contains, range_with_len}
 use Rattle.std.proofs.lemmas.List.Elements.{All-weaker, All-contains}
-use Rattle.npf_dealing.specs.Dealing.{IsDealt}
+use Rattle.npf_runner_dealing.specs.Dealing.{IsDealt}
 use Rattle.npf_publish.specs.ConfReader.{IsNewReader}
 use Rattle.npf_runner.specs.declared.worker.Worker.{Worker}
 use Rattle.npf_runner.specs.Crew.{HasJobs, numbers_of_worker, packets_of_worker, jobs_of}

@@ -3,7 +3,7 @@ use Rattle.std.proofs.lemmas.List.{length-append, length-map}
 use Rattle.std.proofs.lemmas.List.Elements.{All-pop, All-weaker}
 use Rattle.npf_connections.specs.Pass.{Pass, IsPass}
 use Rattle.npf_flow.specs.Flows.{flow_law}
-use Rattle.npf_passes.specs.Spreading.{IsGiven}
+use Rattle.npf_runner_passes.specs.Spreading.{IsGiven}
 use Rattle.npf_publish.specs.ConfReader.{reader_range}
 use Rattle.npf_engine.specs.Handles.{configurations}
 use Rattle.npf_engine.specs.Histories.{FlowEntry}

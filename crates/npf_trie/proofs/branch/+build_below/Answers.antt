@@ -1,6 +1,6 @@
 use Rattle.std.proofs.Common.{rules, ◌≡◌, ◌+◌, ◌≤◌, length, sym, ◌∙◌, subst, arith}
 use Rattle.std.specs.Prelude.{Contains}
-use Rattle.npf_digits.specs.Digits.{PartsAt}
+use Rattle.npf_paths.specs.Digits.{PartsAt}
 use Rattle.npf_trie.proofs.ForkLemmas.{first_in, rest_new, first_outside, rest_outside, foot_built, above_built}
 use Rattle.npf_trie.proofs.branch.+build_below.Goals as goal
 

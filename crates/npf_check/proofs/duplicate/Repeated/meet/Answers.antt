@@ -1,5 +1,5 @@
 use Rattle.std.proofs.Common.{ap, ◌∙◌}
-use Rattle.npf_lexer.specs.declared.fault.Fault.TheVariants.{DuplicateName}
+use Rattle.npf_faults.specs.declared.fault.Fault.TheVariants.{DuplicateName}
 use Rattle.npf_faults.specs.First.{earlier, fault_if, first_fault}
 use Rattle.npf_check.specs.Name.{holds}
 use Rattle.npf_check.proofs.DuplicateLemmas.{repeated_step}

@@ -1,5 +1,5 @@
 use Rattle.std.proofs.Common.{◌∷◌, [], refl, ap, ◌∙◌}
-use Rattle.npf_lexer.specs.declared.fault.Fault.TheVariants.{BadMap}
+use Rattle.npf_faults.specs.declared.fault.Fault.TheVariants.{BadMap}
 use Rattle.npf_faults.specs.First.{earlier, fault_if, first_fault}
 use Rattle.npf_check.specs.Map.{bad_map}
 use Rattle.npf_check.specs.WrittenMap.{WrittenMap}

@@ -1,5 +1,5 @@
 use Rattle.std.proofs.Common.{refl}
-use Rattle.npf_store.proofs.RepresentLemmas.{new_is_opening}
+use Rattle.npf_oneturn_store.proofs.RepresentLemmas.{new_is_opening}
 use Rattle.npf_oneturn.proofs.SplitLemmas.{opens}
 use Rattle.npf_oneturn.proofs.one_turn.OneTurn.new.Goals as goal
 

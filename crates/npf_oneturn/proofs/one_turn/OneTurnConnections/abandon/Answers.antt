@@ -1,6 +1,6 @@
 use Rattle.npf_core.specs.declared.act.Why.TheVariants.{Abandoned}
 use Rattle.npf_oneturn.proofs.AbandonLemmas.{may_abandon, abandoned}
-use Rattle.npf_store.proofs.RepresentLemmas.{shows_alive, shows_bare}
+use Rattle.npf_oneturn_store.proofs.RepresentLemmas.{shows_alive, shows_bare}
 use Rattle.npf_oneturn.proofs.CallLemmas.{has_slot, represents_here, entered_here}
 use Rattle.npf_oneturn.proofs.one_turn.OneTurnConnections.abandon.Goals as goal
 

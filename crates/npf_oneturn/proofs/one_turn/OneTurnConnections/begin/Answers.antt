@@ -7,7 +7,7 @@ use Rattle.npf_oneturn.specs.Endings.{Plan}
 use Rattle.npf_oneturn.specs.Views.{show}
 use Rattle.npf_oneturn.specs.declared.rule.Ending.TheVariants.{Full}
 use Rattle.std.proofs.Common.{arith, [], ◌∷◌}
-use Rattle.npf_store.proofs.RepresentLemmas.{claim_is_act, stays_same}
+use Rattle.npf_oneturn_store.proofs.RepresentLemmas.{claim_is_act, stays_same}
 use Rattle.npf_connections.proofs.StayLemmas.{claimed_holds_none}
 use Rattle.npf_oneturn.proofs.CallLemmas.{has_slot, represents_here, entered_here, may_ask, may_rest, asked, rested}
 use Rattle.npf_oneturn.proofs.one_turn.OneTurnConnections.begin.Goals as goal

@@ -1,5 +1,5 @@
 use Rattle.npf_oneturn.proofs.CollectLemmas.{may_collect, collected}
-use Rattle.npf_store.proofs.RepresentLemmas.{shows_dead, shows_bare}
+use Rattle.npf_oneturn_store.proofs.RepresentLemmas.{shows_dead, shows_bare}
 use Rattle.npf_oneturn.proofs.CallLemmas.{has_slot, represents_here, entered_here}
 use Rattle.npf_oneturn.proofs.one_turn.OneTurnConnections.collect.Goals as goal
 

@@ -1,5 +1,5 @@
 use Rattle.npf_core.specs.declared.act.Act.TheVariants.{Hold}
-use Rattle.npf_store.proofs.RepresentLemmas.{hold_is_act, shows_bare}
+use Rattle.npf_oneturn_store.proofs.RepresentLemmas.{hold_is_act, shows_bare}
 use Rattle.npf_connections.proofs.StayLemmas.{holding_keeps_ways, holding_keeps_bare}
 use Rattle.npf_oneturn.proofs.CallLemmas.{has_slot, represents_here, entered_here, may_ask, asked, still_none, held_so}
 use Rattle.npf_oneturn.proofs.one_turn.OneTurnConnections.hold.Goals as goal

@@ -1,5 +1,5 @@
 use Rattle.npf_core.specs.declared.act.Act.TheVariants.{Start}
-use Rattle.npf_store.proofs.RepresentLemmas.{start_is_act}
+use Rattle.npf_oneturn_store.proofs.RepresentLemmas.{start_is_act}
 use Rattle.npf_oneturn.proofs.CallLemmas.{has_slot, represents_here, entered_here, may_ask, asked}
 use Rattle.npf_oneturn.proofs.one_turn.OneTurnConnections.start.Goals as goal
 

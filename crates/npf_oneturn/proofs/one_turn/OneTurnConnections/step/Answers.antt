@@ -1,5 +1,5 @@
 use Rattle.npf_core.specs.declared.act.Act.TheVariants.{Step}
-use Rattle.npf_store.proofs.RepresentLemmas.{step_is_act}
+use Rattle.npf_oneturn_store.proofs.RepresentLemmas.{step_is_act}
 use Rattle.npf_oneturn.proofs.CallLemmas.{has_slot, represents_here, entered_here, may_ask, asked, known_claimed}
 use Rattle.npf_oneturn.proofs.one_turn.OneTurnConnections.step.Goals as goal
 

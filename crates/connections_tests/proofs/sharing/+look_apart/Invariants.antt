@@ -1,5 +1,0 @@
-use Rattle.std.proofs.Common.{ℕ}
-use Rattle.connections_tests.proofs.sharing.+look_apart.Given as goal
-
-abbrev pub decreases-look_apart : goal.decreases-look_apart
-decreases-look_apart g l = l.count

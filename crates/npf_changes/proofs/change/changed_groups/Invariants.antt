@@ -1,7 +1,0 @@
-use Rattle.std.proofs.Common.{◌≡◌, map, take}
-use Rattle.npf_changes.specs.Kept.{ruleset_change}
-use Rattle.npf_changes.specs.Rulesets.{group_with_ruleset}
-use Rattle.npf_changes.proofs.change.changed_groups.Given as goal
-
-abbrev pub invariant-loop-group : goal.invariant-loop-group
-invariant-loop-group l = l.next.items ≡ map (group_with_ruleset l.name (ruleset_change l.change)) (take l.group-index l.groups)

@@ -1,7 +1,0 @@
-use Rattle.std.proofs.Common.{◌≡◌, map, take}
-use Rattle.npf_changes.specs.Kept.{ruleset_change}
-use Rattle.npf_changes.specs.Rulesets.{item_with_ruleset}
-use Rattle.npf_changes.proofs.change.changed_items.Given as goal
-
-abbrev pub invariant-loop-item : goal.invariant-loop-item
-invariant-loop-item l = l.next.items ≡ map (item_with_ruleset l.name (ruleset_change l.change)) (take l.item-index l.items)

@@ -1,5 +1,0 @@
-use Rattle.npf_changes.proofs.AnswerLemmas.{one_addition}
-use Rattle.npf_changes.proofs.laws.one_addition.Goals as goal
-
-pub returns : goal.returns
-returns c = one_addition

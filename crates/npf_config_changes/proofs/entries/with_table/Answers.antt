@@ -1,0 +1,13 @@
+use Rattle.std.proofs.Common.{map, set, ap, ◌∙◌}
+use Rattle.std.specs.Arc.{arc_value}
+use Rattle.std.proofs.lemmas.List.{map-set}
+use Rattle.std.proofs.lemmas.Result.{IfOk-weaker}
+use Rattle.npf_config_changes.proofs.entries.with_table.Goals as goal
+
+pub returns-clause-tables : goal.returns-clause-tables
+returns-clause-tables c =
+    let old = map arc_value c.args.config.now.tables.items in
+    IfOk-weaker c.with_tables.result _ _ (λ next is.
+    ap (λ tables. map arc_value tables.items) is ∙ map-set arc_value c.in_ok-tables.tables.items c.args.at c.in_ok-tables-2.field-0
+    ∙ ap (λ all. set all c.args.at (arc_value c.in_ok-tables-2.field-0)) (c.in_ok-tables.ensures ∙ ap (map arc_value) c.tables.ensures)
+    ∙ ap (set old c.args.at) c.in_ok-tables-2.ensures.ok) c.with_tables.ensures.tables

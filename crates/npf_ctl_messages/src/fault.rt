@@ -1,0 +1,132 @@
+ghost use Rattle.std.specs.Prelude.{◌≡◌};
+ghost use Rattle.npf_ctl_messages.specs.Message.{status_of_fault};
+
+use npf_faults::ConfFault;
+use npf_pcap::CaptureFault;
+use npf_table::TableFault;
+use npf_types::{NoMemory, Text};
+use std::alloc::{AllocError, AllocFailed};
+
+/// The first fault that a command met.
+#[derive(Debug, Drop)]
+pub enum CommandFault {
+    /// The words are no command line.
+    Usage,
+    /// The file is refused at a place: a configuration, a file of interfaces, or for a line of a table's file the configuration that
+    /// names it.
+    Configuration {
+        file: Text,
+        fault: ConfFault,
+    },
+    /// The file can't be read.
+    Unread {
+        file: Text,
+    },
+    /// The file has more bytes than its kind may have, and how many those are.
+    Long {
+        file: Text,
+        most: u64,
+    },
+    /// The file is no capture.
+    Capture {
+        file: Text,
+        fault: CaptureFault,
+    },
+    /// A line of the script, counted from 1, is refused.
+    Line {
+        script: Text,
+        line: u32,
+        fault: LineFault,
+    },
+    /// The run has more of it than it may have.
+    Many {
+        what: Quantity,
+        count: u64,
+    },
+    /// The file can't be written.
+    Unwritten {
+        file: Text,
+    },
+    /// The standard output can't be written.
+    OutputUnwritten,
+    /// Memory ran out, which says nothing of the words or the files.
+    NoMemory,
+}
+
+/// Why a line of a script is refused.
+#[derive(Clone, Copy, Debug, PartialEq, Eq)]
+pub enum LineFault {
+    /// It is no command, or stands where its command may not.
+    BadLine,
+    /// The rule that it adds is refused, or a limit of the configuration is passed.
+    Conf(ConfFault),
+    /// No table has the name.
+    UnknownTable,
+    /// The table's change is refused.
+    Table(TableFault),
+    /// No ruleset has the name.
+    UnknownRuleset,
+    /// No rule of the ruleset has the number.
+    UnknownRule,
+}
+
+/// What a run may have only so many of.
+#[derive(Clone, Copy, Debug, PartialEq, Eq)]
+pub enum Quantity {
+    Captures,
+    Phases,
+    /// Changes of the configuration.
+    Changes,
+    Interfaces,
+    /// Bytes of all captures.
+    CaptureBytes,
+    Packets,
+}
+
+impl CommandFault {
+    /// The status that the program ends with, from 1 on.
+    pub fn status(&self) -> u8
+        ensures { result ≡ status_of_fault self.now }
+    {
+        match self {
+            CommandFault::NoMemory => 1,
+            CommandFault::Usage => 2,
+            CommandFault::Configuration { .. } => 3,
+            CommandFault::Unread { .. } => 4,
+            CommandFault::Unwritten { .. } | CommandFault::OutputUnwritten => 5,
+            CommandFault::Capture { .. } => 7,
+            CommandFault::Line { .. } => 8,
+            CommandFault::Long { .. } | CommandFault::Many { .. } => 9,
+        }
+    }
+}
+
+impl From<NoMemory> for CommandFault {
+    ghost use Rattle.npf_ctl_messages.specs.declared.fault.CommandFault.{CommandFault};
+
+    ghost from_gives = { λ _ fault. fault ≡ CommandFault.NoMemory };
+
+    fn from(_error: NoMemory) -> CommandFault {
+        CommandFault::NoMemory
+    }
+}
+
+impl From<AllocError> for CommandFault {
+    ghost use Rattle.npf_ctl_messages.specs.declared.fault.CommandFault.{CommandFault};
+
+    ghost from_gives = { λ _ fault. fault ≡ CommandFault.NoMemory };
+
+    fn from(_error: AllocError) -> CommandFault {
+        CommandFault::NoMemory
+    }
+}
+
+impl<T: Drop> From<AllocFailed<T>> for CommandFault {
+    ghost use Rattle.npf_ctl_messages.specs.declared.fault.CommandFault.{CommandFault};
+
+    ghost from_gives = { λ _ fault. fault ≡ CommandFault.NoMemory };
+
+    fn from(_error: AllocFailed<T>) -> CommandFault {
+        CommandFault::NoMemory
+    }
+}

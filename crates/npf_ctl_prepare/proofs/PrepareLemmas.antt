@@ -1,0 +1,100 @@
+-- A run is prepared stage by stage.
+use Rattle.std.proofs.Common.{◌≡◌, ℕ, Result, Ok, Err, List, [], ◌∷◌, length, sym, subst}
+use Rattle.npf_types.specs.declared.limits.TheConstants.{MAX_CAPTURE_BYTES}
+use Rattle.npf_types.specs.Stages.{Stage, ◌andthen◌, stops, goes_on}
+use Rattle.npf_model.specs.declared.iface.Iface.{Iface}
+use Rattle.npf_model.specs.Configuration.{Configuration}
+use Rattle.npf_outside.specs.Files.{FilesMoment}
+use Rattle.npf_ctl_arrivals.specs.Arrivals.{AreByTime, Gathered, none_gathered}
+use Rattle.npf_ctl_schedule.specs.Schedule.{phases_of, unnumbered}
+use Rattle.npf_ctl_script.specs.declared.script.ScriptLine.{ScriptLine}
+use Rattle.npf_runner.specs.declared.packet.Packet.{Packet}
+use Rattle.npf_runner.specs.declared.phase.Phase.{Phase}
+use Rattle.npf_ctl_messages.specs.declared.fault.CommandFault.{CommandFault}
+use Rattle.npf_ctl_input.specs.File.{ReadsFile}
+use Rattle.npf_ctl_input.specs.Interfaces.{ReadsInterfaces}
+use Rattle.npf_ctl_input.specs.Loading.{LoadsFile}
+use Rattle.npf_ctl_input.specs.Source.{Source, ReadsSource, lines_of_source}
+use Rattle.npf_ctl_input.specs.Unless.{IfTold, UnlessMemory}
+use Rattle.npf_ctl_input.proofs.UnlessLemmas.{unless_lasts}
+use Rattle.npf_ctl_prepare.specs.Captures.{GathersCaptures}
+use Rattle.npf_ctl_prepare.specs.Making.{MakesConfigurations}
+use Rattle.npf_ctl_prepare.specs.Prepares.{KeepsScriptLimits, RunPlan, Plans, planned, PreparesRun, PreparesSource, RunNames, numbered_by}
+use Rattle.npf_ctl_prepare.proofs.StageLemmas.{told_as}
+
+-- the stage ends with a fault, unless memory ran out
+abbrev pub Ends : {A : Type 0} → Stage A CommandFault → CommandFault → Type 0
+Ends stage fault = IfTold (λ other. stage (Err other)) fault
+
+-- the plan with these parts
+pub plans_with : (ifaces : List Iface) (configs : List Configuration) (gathered : Gathered) (lines : List ScriptLine) (packets : List Packet) (phases : List Phase) →
+    AreByTime gathered.packets packets → phases ≡ phases_of lines (length packets) →
+    Plans ifaces configs gathered lines (Ok (record { ifaces = ifaces; configs = configs; packets = packets; phases = phases }))
+plans_with ifaces configs gathered lines packets phases by_time are =
+    subst (λ (list : List Phase). Plans ifaces configs gathered lines (Ok (record { ifaces = ifaces; configs = configs; packets = packets; phases = list }))) (sym are)
+    (planned by_time)
+
+module _ (before after : FilesMoment) (script : List ℕ) (given : List Iface) (first : Configuration) (source : Source) (numbered_lines : List (ℕ × ScriptLine))
+    (lines_are : numbered_lines ≡ lines_of_source script source) where
+  abbrev Prepares : Result RunPlan CommandFault → Type 0
+  Prepares = PreparesSource before after script given first source
+
+  abbrev With : List (ℕ × ScriptLine) → Stage RunPlan CommandFault
+  With lines =
+      KeepsScriptLimits given (unnumbered lines) andthen λ ifaces.
+      GathersCaptures before after source ifaces (unnumbered lines) none_gathered andthen λ gathered.
+      MakesConfigurations before after ifaces script lines (numbered_by ifaces first ∷ []) (numbered_by ifaces first) andthen λ configs.
+      Plans ifaces configs gathered (unnumbered lines)
+
+  here : (result : Result RunPlan CommandFault) → With numbered_lines result → Prepares result
+  here result is = subst (λ (lines : List (ℕ × ScriptLine)). With lines result) lines_are is
+
+  pub limits_end : (fault : CommandFault) → Ends (KeepsScriptLimits given (unnumbered numbered_lines)) fault → Ends Prepares fault
+  limits_end fault is = told_as (λ other. KeepsScriptLimits given (unnumbered numbered_lines) (Err other)) (λ other. Prepares (Err other))
+      (λ other ends. here (Err other) (stops ends)) fault is
+
+  module _ (ifaces : List Iface) (kept : KeepsScriptLimits given (unnumbered numbered_lines) (Ok ifaces)) where
+    pub captures_end : (fault : CommandFault) → Ends (GathersCaptures before after source ifaces (unnumbered numbered_lines) none_gathered) fault → Ends Prepares fault
+    captures_end fault is = told_as (λ other. GathersCaptures before after source ifaces (unnumbered numbered_lines) none_gathered (Err other)) (λ other. Prepares (Err other))
+        (λ other ends. here (Err other) (goes_on kept (stops ends))) fault is
+
+    module _ (gathered : Gathered) (gathers : GathersCaptures before after source ifaces (unnumbered numbered_lines) none_gathered (Ok gathered)) where
+      abbrev pub Making : Configuration → Stage (List Configuration) CommandFault
+      Making config = MakesConfigurations before after ifaces script numbered_lines (config ∷ []) config
+
+      module _ (config : Configuration) (numbered : config ≡ numbered_by ifaces first) where
+        pub making_end : (fault : CommandFault) → Ends (Making config) fault → Ends Prepares fault
+        making_end fault is = told_as (λ other. Making config (Err other)) (λ other. Prepares (Err other))
+            (λ other ends. here (Err other) (goes_on kept (goes_on gathers (stops (subst (λ (c : Configuration). Making c (Err other)) numbered ends))))) fault is
+
+        pub planned_at_end : (configs : List Configuration) (plan : RunPlan) → Making config (Ok configs) →
+            Plans ifaces configs gathered (unnumbered numbered_lines) (Ok plan) → Prepares (Ok plan)
+        planned_at_end configs plan makes plans = here (Ok plan)
+            (goes_on kept (goes_on gathers (goes_on (subst (λ (c : Configuration). Making c (Ok configs)) numbered makes) plans)))
+
+module _ (before after : FilesMoment) (names : RunNames) where
+  abbrev Runs : Result RunPlan CommandFault → Type 0
+  Runs = PreparesRun before after names
+
+  pub interfaces_end : (fault : CommandFault) → Ends (ReadsInterfaces before after names.ifaces) fault → Ends Runs fault
+  interfaces_end fault is = told_as (λ other. ReadsInterfaces before after names.ifaces (Err other)) (λ other. Runs (Err other)) (λ other ends. stops ends) fault is
+
+  module _ (given : List Iface) (reads : ReadsInterfaces before after names.ifaces (Ok given)) where
+    pub loading_end : (fault : CommandFault) → Ends (LoadsFile before after given names.conf) fault → Ends Runs fault
+    loading_end fault is = told_as (λ other. LoadsFile before after given names.conf (Err other)) (λ other. Runs (Err other)) (λ other ends. goes_on reads (stops ends)) fault is
+
+    module _ (first : Configuration) (loads : LoadsFile before after given names.conf (Ok first)) where
+      pub file_ends : (fault : CommandFault) → Ends (ReadsFile before after names.script MAX_CAPTURE_BYTES) fault → Ends Runs fault
+      file_ends fault is = told_as (λ other. ReadsFile before after names.script MAX_CAPTURE_BYTES (Err other)) (λ other. Runs (Err other))
+          (λ other ends. goes_on reads (goes_on loads (stops ends))) fault is
+
+      module _ (bytes : List ℕ) (file : ReadsFile before after names.script MAX_CAPTURE_BYTES (Ok bytes)) where
+        pub source_ends : (fault : CommandFault) → Ends (ReadsSource names.script bytes) fault → Ends Runs fault
+        source_ends fault is = told_as (λ other. ReadsSource names.script bytes (Err other)) (λ other. Runs (Err other))
+            (λ other ends. goes_on reads (goes_on loads (goes_on file (stops ends)))) fault is
+
+        pub run_goes_on : {A : Type 0} (value : A → RunPlan) (answer : Result A CommandFault) (source : Source) → ReadsSource names.script bytes (Ok source) →
+            UnlessMemory value answer (PreparesSource before after names.script given first source) → UnlessMemory value answer Runs
+        run_goes_on value answer source is told =
+            unless_lasts value (PreparesSource before after names.script given first source) Runs
+            (λ result then_is. goes_on reads (goes_on loads (goes_on file (goes_on is then_is)))) answer told

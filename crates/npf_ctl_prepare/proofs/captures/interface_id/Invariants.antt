@@ -1,0 +1,10 @@
+use Rattle.std.proofs.Common.{◌≡◌, ◌+◌, drop}
+use Rattle.npf_model.specs.Numbering.{is_named}
+use Rattle.npf_model.specs.Verdict.{first_where}
+use Rattle.npf_ctl_prepare.proofs.captures.interface_id.Given as goal
+
+abbrev pub invariant-loop-iface : goal.invariant-loop-iface
+invariant-loop-iface l = record {
+  counted : l.place ≡ l.iface-index + 1;
+  behind : first_where (is_named l.fn.name) 1 l.fn.ifaces ≡ first_where (is_named l.fn.name) l.place (drop l.iface-index l.fn.ifaces);
+}

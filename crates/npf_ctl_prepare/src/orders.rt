@@ -1,0 +1,54 @@
+// What a run is to do.
+ghost use Rattle.std.specs.Prelude.{◌≡◌, ◌≤◌, [], All, IfOk, IfSome, length};
+ghost use Rattle.npf_ctl_input.specs.Rules.{AddsShortRule};
+ghost use Rattle.npf_ctl_input.specs.Source.{Alone, ReadsSource, lines_of_source};
+ghost use Rattle.npf_ctl_input.specs.Unless.{UnlessMemory};
+ghost use Rattle.npf_ctl_prepare.specs.Known.{NamesTextFile};
+ghost use Rattle.npf_ctl_prepare.specs.View.{source_ordered};
+
+use npf_ctl_input::{Source, read_source};
+use npf_ctl_messages::CommandFault;
+use npf_ctl_script::{Script, ScriptLine};
+use npf_types::limits::MAX_CAPTURE_BYTES;
+use npf_types::{Dir, List, Name, NoMemory};
+use std::alloc::Global;
+
+/// The lines of a script, or the line that a capture alone stands for with the bytes of that capture.
+#[derive(Drop)]
+pub(crate) struct Orders {
+    pub(crate) lines: List<(u32, ScriptLine)>,
+    pub(crate) alone: Option<Vec<u8>>,
+}
+
+/// What the file of this name orders, whose bytes these are.
+pub(crate) fn read_orders(alloc: Global, file: &str, bytes: Vec<u8>) -> Result<Orders, CommandFault>
+    requires { length bytes.items ≤ MAX_CAPTURE_BYTES }
+    ensures comes { UnlessMemory source_ordered result (ReadsSource file.now bytes.items) }
+    ensures lines { IfOk result (λ orders. orders.lines ≡ lines_of_source file.now (source_ordered orders)) }
+    ensures text { IfOk result (λ orders. All (λ line. NamesTextFile line.1) orders.lines) }
+    ensures rules { IfOk result (λ orders. All (λ line. AddsShortRule line.1) orders.lines) }
+    ensures fits { IfOk result (λ orders. IfSome orders.alone (λ bytes. length bytes.items ≤ MAX_CAPTURE_BYTES)) }
+{
+    match read_source(alloc, file, bytes)? {
+        Source::Alone(bytes) => Ok(Orders {
+            lines: List::of_vec(line_of_capture(alloc, file)?),
+            alone: Some(bytes),
+        }),
+        Source::Scripted(Script { lines }) => Ok(Orders { lines, alone: None }),
+    }
+}
+
+/// The line that a capture alone stands for, which has this name.
+fn line_of_capture(alloc: Global, file: &str) -> Result<Vec<(u32, ScriptLine)>, NoMemory>
+    ensures value { IfOk result (λ lines. lines.items ≡ lines_of_source file.now (Alone [])) }
+    ensures text { IfOk result (λ lines. All (λ line. NamesTextFile line.1) lines.items) }
+{
+    let Some(name) = Name::of(b"cap0") else {
+        unreachable!()
+    };
+    let file = List::of_vec(Vec::from_slice(alloc, file.as_bytes())?);
+    let mut lines = Vec::new(alloc);
+    let dir = Dir::In;
+    lines.push((1, ScriptLine::Capture { name, dir, file }))?;
+    Ok(lines)
+}

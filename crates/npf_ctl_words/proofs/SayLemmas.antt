@@ -1,0 +1,125 @@
+-- What the values of a definition's arguments are to the command that is read of them.
+use Rattle.std.proofs.Common.{◌≡◌, ◌∙◌, ◌≤◌, ◌&&◌, Bool, true, false, List, [], ◌∷◌, Option, Some, None, Result, Ok, Err, is_some, refl, sym, ap, subst, arith, codes}
+use Rattle.std.specs.Prelude.{pos, unwrap_or}
+use Rattle.std.specs.Option.{option_map_or}
+use Rattle.std.specs.Str.Parse.{IsNumeral, starts_with_minus, without_leading_plus}
+use Rattle.std.proofs.lemmas.Bool.{ne_eqb}
+use Rattle.std.proofs.lemmas.Int.{ints}
+use Rattle.clap.specs.Kinds.{IsAmong, Kinds}
+use Rattle.clap.specs.Walk.{is_empty}
+use Rattle.clap.specs.Words.{IsSignedIn, IsUnsignedIn, Row, Rule, Text, first_of, found_of, rows_of}
+use Rattle.clap.specs.declared.error.kind.ErrorKind.{ErrorKind}
+use Rattle.clap.specs.declared.parser.matches.ArgMatches.{ArgMatches}
+use Rattle.npf_ctl_words.specs.CommandLine.{SaysCommand, TellsCommand, command_name, is_command_line, knows_spread, name_in, rows_in, signed_number, takes_words}
+use Rattle.npf_ctl_words.specs.Definitions.{definition_of, gen_command, loading_command, number_parser, number_rule, run_command, spread_rule, word_rule, workers_parser, workers_rule}
+use Rattle.npf_ctl_words.specs.Values.{HasEachValue, HasValue, IsMatched}
+use Rattle.npf_ctl_words.specs.declared.command.Command.{Command}
+use Rattle.npf_ctl_words.specs.declared.command.CommandName.{CommandName}
+use Rattle.npf_ctl_words.specs.declared.fault.WordsFault.{WordsFault}
+
+pub among_some : (k : ErrorKind) (ks : Kinds) → IsAmong k ks → is_empty ks ≡ false
+among_some k [] h = absurd h
+among_some k (x ∷ xs) h = ne_eqb _ _ (λ e. omega arith)
+
+abbrev pub err_fault : {T : Type 0} → Result T WordsFault → WordsFault → WordsFault
+err_fault (Err e) other = e
+err_fault (Ok v) other = other
+
+-- ---- words that are refused, and the command of the others
+
+abbrev pub is_line_of : List Text → Option CommandName → Bool
+is_line_of words o = option_map_or (λ n. takes_words n words && knows_spread n (rows_in n words)) o false
+
+pub refused_unnamed : (words : List Text) → name_in words ≡ None → is_command_line words ≡ false
+refused_unnamed words none = ap (is_line_of words) none
+
+pub refused_words : (words : List Text) (n : CommandName) → name_in words ≡ Some n → takes_words n words ≡ false → is_command_line words ≡ false
+refused_words words n named refused = ap (is_line_of words) named ∙ ap (λ b. b && knows_spread n (rows_in n words)) refused
+
+-- what is known of the words of a command once `clap` has taken them
+pub record IsTaken (words : List Text) (n : CommandName) (m : ArgMatches) : Type 0 where
+  pub named : name_in words ≡ Some n
+  pub taken : takes_words n words ≡ true
+  pub found : IsMatched (definition_of n) words m
+
+line_knows : (words : List Text) (n : CommandName) (m : ArgMatches) (b : Bool) → IsTaken words n m
+    → knows_spread n (rows_of (found_of m)) ≡ b → is_command_line words ≡ b
+line_knows words n m b t knows = ap (is_line_of words) t.named
+    ∙ (ap (λ x. x && knows_spread n (rows_in n words)) t.taken
+    ∙ (ap (knows_spread n) (sym t.found.rows) ∙ knows))
+
+pub refused_spread : (words : List Text) (n : CommandName) (m : ArgMatches) → IsTaken words n m
+    → knows_spread n (rows_of (found_of m)) ≡ false → is_command_line words ≡ false
+refused_spread words n m t unknown = line_knows words n m false t unknown
+
+pub says : (words : List Text) (n : CommandName) (m : ArgMatches) (c : Command) → IsTaken words n m
+    → knows_spread n (rows_of (found_of m)) ≡ true → command_name c ≡ n → TellsCommand (rows_of (found_of m)) c → SaysCommand words c
+says words n m c t knows name told = record {
+  taken = line_knows words n m true t knows;
+  name = t.named ∙ ap Some (sym name);
+  told = subst (λ (rows : List Row). TellsCommand rows c) (t.found.rows ∙ ap (λ k. rows_in k words) (sym name)) told;
+}
+
+-- ---- the values
+
+some_value : (r : Rule) (rows : List Row) → HasValue r rows → is_some (first_of r.id rows) ≡ true
+some_value r rows h = ap is_some h.1
+
+pub conf_of_run : (rows : List Row) → HasEachValue run_command rows → is_some (first_of (codes "conf") rows) ≡ true
+conf_of_run rows h = some_value (word_rule (codes "conf")) rows (h 0 _ refl refl)
+
+pub script_of_run : (rows : List Row) → HasEachValue run_command rows → is_some (first_of (codes "script") rows) ≡ true
+script_of_run rows h = some_value (word_rule (codes "script")) rows (h 1 _ refl refl)
+
+workers_value : (rows : List Row) → HasEachValue run_command rows → HasValue workers_rule rows
+workers_value rows h = h 3 _ refl refl
+
+pub workers_of_run : (rows : List Row) → HasEachValue run_command rows → is_some (first_of (codes "workers") rows) ≡ true
+workers_of_run rows h = some_value workers_rule rows (workers_value rows h)
+
+pub few_of_run : (rows : List Row) (t : Text) → HasEachValue run_command rows
+    → first_of (codes "workers") rows ≡ Some t → IsSignedIn (pos 1) (pos 64) t
+few_of_run rows t h found =
+    let v = workers_value rows h in
+    let same : v.0 ≡ t = ap (λ o. unwrap_or o t) (sym v.1 ∙ found) in
+    subst (IsSignedIn (pos 1) (pos 64)) same (v.2 workers_parser refl)
+
+pub spread_of_run : (rows : List Row) → HasEachValue run_command rows → is_some (first_of (codes "spread") rows) ≡ true
+spread_of_run rows h = some_value spread_rule rows (h 4 _ refl refl)
+
+pub conf_of_load : (id : Text) (rows : List Row) → HasEachValue (loading_command id) rows → is_some (first_of (codes "conf") rows) ≡ true
+conf_of_load id rows h = some_value (word_rule (codes "conf")) rows (h 0 _ refl refl)
+
+number_value : (rows : List Row) → HasEachValue gen_command rows → HasValue number_rule rows
+number_value rows h = h 0 _ refl refl
+
+pub number_of_gen : (rows : List Row) → HasEachValue gen_command rows → is_some (first_of (codes "number") rows) ≡ true
+number_of_gen rows h = some_value number_rule rows (number_value rows h)
+
+pub in_range_of_gen : (rows : List Row) (t : Text) → HasEachValue gen_command rows → first_of (codes "number") rows ≡ Some t → IsUnsignedIn 0 18446744073709551615 t
+in_range_of_gen rows t h found =
+    let v = number_value rows h in
+    let same : v.0 ≡ t = ap (λ o. unwrap_or o t) (sym v.1 ∙ found) in
+    subst (IsUnsignedIn 0 18446744073709551615) same (v.2 number_parser refl)
+
+-- a number from 1 to 64 has no minus sign
+pub few_digits : (t : Text) → IsSignedIn (pos 1) (pos 64) t → IsNumeral 10 (without_leading_plus t) × (1 ≤ signed_number t) × (signed_number t ≤ 64)
+few_digits t h = go (starts_with_minus t) refl
+  where
+    go : (b : Bool) → starts_with_minus t ≡ b → IsNumeral 10 (without_leading_plus t) × (1 ≤ signed_number t) × (signed_number t ≤ 64)
+    go true minus =
+        let low = rw minus at h.2 in
+        absurd (omega (arith, ints))
+    go false minus =
+        let numeral : IsNumeral 10 (without_leading_plus t) = rw minus at h.0 in
+        let low = rw minus at h.2 in
+        let high = rw minus at h.3 in
+        (numeral, omega (arith, ints), omega (arith, ints))
+
+-- ---- the definition of a name that is known
+
+pub known : (n k : CommandName) (rows : List Row) → n ≡ k → HasEachValue (definition_of n) rows → HasEachValue (definition_of k) rows
+known n k rows is h = subst (λ (z : CommandName). HasEachValue (definition_of z) rows) is h
+
+pub needless : (n k : CommandName) (rows : List Row) → n ≡ k → knows_spread k rows ≡ true → knows_spread n rows ≡ true
+needless n k rows is h = ap (λ z. knows_spread z rows) is ∙ h

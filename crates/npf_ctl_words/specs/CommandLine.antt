@@ -1,0 +1,109 @@
+-- The words of a command line, and the command that they say.
+use Rattle.std.specs.Prelude.{◌≡◌, ◌≤◌, ◌&&◌, ℕ, Bool, true, false, codes, if◌then◌else◌, List, [], ◌∷◌, Option, Some, None, String, is_some, map, option_and_then, option_map, string_bytes}
+use Rattle.std.specs.Option.{option_map_or}
+use Rattle.std.specs.Borrow.{Bor}
+use Rattle.std.specs.Global.{Global}
+use Rattle.std.specs.Str.{bytes_eq}
+use Rattle.std.specs.Str.Parse.{digits_value, without_leading_plus}
+use Rattle.clap.specs.Words.{Row, Text, fault_of, first_of, matches_of}
+use Rattle.clap.specs.Walk.{is_empty}
+use Rattle.npf_ctl_words.specs.Definitions.{definition_of}
+use Rattle.npf_ctl_words.specs.declared.command.CommandName.{CommandName}
+use Rattle.npf_ctl_words.specs.declared.command.CommandName.TheVariants as name
+use Rattle.npf_ctl_words.specs.declared.command.Command.{Command}
+use Rattle.npf_ctl_words.specs.declared.command.Command.TheVariants as command
+use Rattle.npf_ctl_words.specs.declared.command.Run.{Run}
+use Rattle.npf_ctl_words.specs.declared.command.Load.{Load}
+use Rattle.npf_ctl_words.specs.declared.command.Spread.{Spread}
+use Rattle.npf_ctl_words.specs.declared.command.Spread.TheVariants as spread
+
+-- the bytes of each word
+abbrev pub word_texts : List (String Global) → List Text
+word_texts = map string_bytes
+
+-- the command that a word names, byte for byte
+abbrev pub command_named : Text → Option CommandName
+command_named word =
+    if bytes_eq word (codes "run") then Some name.Run
+    else (if bytes_eq word (codes "validate") then Some name.Validate
+    else (if bytes_eq word (codes "show") then Some name.Show
+    else (if bytes_eq word (codes "debug") then Some name.Debug
+    else (if bytes_eq word (codes "gen") then Some name.Gen else None))))
+
+-- the command that the first word names
+abbrev pub name_in : List Text → Option CommandName
+name_in [] = None
+name_in (word ∷ _) = command_named word
+
+-- the spread that a text names, byte for byte
+abbrev pub spread_named : Text → Option Spread
+spread_named text =
+    if bytes_eq text (codes "rr") then Some spread.Rr
+    else (if bytes_eq text (codes "flow") then Some spread.Flow else None)
+
+-- the spread of what `clap` found for `run`
+abbrev pub spread_in : List Row → Option Spread
+spread_in rows = option_and_then spread_named (first_of (codes "spread") rows)
+
+-- `run` deals its packets by one of the two spreads
+abbrev pub knows_spread : CommandName → List Row → Bool
+knows_spread name.Run rows = is_some (spread_in rows)
+knows_spread _ rows = true
+
+-- `clap`'s definition of the command takes the words behind its name; words that ask for help or a version are refused there
+abbrev pub takes_words : CommandName → List Text → Bool
+takes_words n words = is_empty (fault_of (definition_of n) words)
+
+-- what `clap` finds for the words of a command
+abbrev pub rows_in : CommandName → List Text → List Row
+rows_in n words = matches_of (definition_of n) words
+
+-- the first word names a command, its definition takes the words behind it, and the spread is known
+abbrev pub is_command_line : List Text → Bool
+is_command_line words = option_map_or (λ n. takes_words n words && knows_spread n (rows_in n words)) (name_in words) false
+
+abbrev pub command_name : Command → CommandName
+command_name (command.Run _) = name.Run
+command_name (command.Validate _) = name.Validate
+command_name (command.Show _) = name.Show
+command_name (command.Debug _) = name.Debug
+command_name (command.Gen _) = name.Gen
+
+-- the number of digits that may have a plus sign before them
+abbrev pub signed_number : Text → ℕ
+signed_number text = digits_value 10 (without_leading_plus text)
+
+abbrev pub given_text : Option (Bor Text) → Option Text
+given_text = option_map (λ text. text.now)
+
+-- what `clap` found for each word and option of `run`; the options `workers` and `spread` have their defaults
+pub record TellsRun (rows : List Row) (run : Run) : Type 0 where
+  pub conf : first_of (codes "conf") rows ≡ Some run.conf.now
+  pub script : first_of (codes "script") rows ≡ Some run.script.now
+  pub ifaces : first_of (codes "ifaces") rows ≡ given_text run.ifaces
+  pub workers : option_map signed_number (first_of (codes "workers") rows) ≡ Some run.workers
+  pub some : 1 ≤ run.workers
+  pub few : run.workers ≤ 64
+  pub spread : spread_in rows ≡ Some run.spread
+  pub output : first_of (codes "write") rows ≡ given_text run.output
+
+-- and of a command that loads a configuration
+pub record TellsLoad (rows : List Row) (load : Load) : Type 0 where
+  pub conf : first_of (codes "conf") rows ≡ Some load.conf.now
+  pub ifaces : first_of (codes "ifaces") rows ≡ given_text load.ifaces
+
+abbrev pub TellsNumber : List Row → ℕ → Type 0
+TellsNumber rows number = option_map signed_number (first_of (codes "number") rows) ≡ Some number
+
+abbrev pub TellsCommand : List Row → Command → Type 0
+TellsCommand rows (command.Run run) = TellsRun rows run
+TellsCommand rows (command.Validate load) = TellsLoad rows load
+TellsCommand rows (command.Show load) = TellsLoad rows load
+TellsCommand rows (command.Debug load) = TellsLoad rows load
+TellsCommand rows (command.Gen number) = TellsNumber rows number
+
+-- the command that the words say: it is the first word's, and what `clap` found by its definition is in it
+pub record SaysCommand (words : List Text) (c : Command) : Type 0 where
+  pub taken : is_command_line words ≡ true
+  pub name : name_in words ≡ Some (command_name c)
+  pub told : TellsCommand (rows_in (command_name c) words) c

@@ -1,5 +1,0 @@
-use Rattle.npf_digits.specs.Digits.{SharesDigits}
-use Rattle.npf_digits.proofs.digits.parting_level.Given as goal
-
-abbrev pub invariant-loop-level : goal.invariant-loop-level
-invariant-loop-level l = SharesDigits l.hash l.key l.other_hash l.other l.level

@@ -1,6 +1,0 @@
-use Rattle.std.proofs.Common.{◌≡◌, fold, take}
-use Rattle.npf_digits.specs.Hash.{fnv_round}
-use Rattle.npf_digits.proofs.hash.with_word.Given as goal
-
-abbrev pub invariant-loop-byte : goal.invariant-loop-byte
-invariant-loop-byte l = l.hash ≡ fold fnv_round l.fn.before (take l.byte-index l.byte-items)

@@ -1,0 +1,13 @@
+use Rattle.std.proofs.Common.{◌≡◌, ◌≤◌, ◌<◌, false, length}
+use Rattle.npf_connections.specs.Pass.{IsPass}
+use Rattle.npf_flow.specs.Flows.{flow_law}
+use Rattle.npf_publish.specs.ConfReader.{reader_range}
+use Rattle.npf_engine_tests.proofs.run.take_all.Given as goal
+
+abbrev pub invariant-loop-at : goal.invariant-loop-at
+invariant-loop-at g l =
+    g.C.Connections.fits l.conns l.pass
+    × IsPass flow_law (g.C.Connections.view l.pass)
+    × ((g.C.Connections.view l.pass).entered ≡ false)
+    × (1 ≤ (g.C.Connections.view l.pass).places)
+    × ((reader_range l.reader).last < length l.configs)

@@ -1,5 +1,0 @@
-use Rattle.npf_output.proofs.OutputLemmas.{are_outputs}
-use Rattle.npf_output.proofs.laws.played_are_outputs.Goals as goal
-
-pub returns : goal.returns
-returns c = are_outputs

@@ -1,5 +1,0 @@
-use Rattle.npf_passes.proofs.GatheringLemmas.{gathers_all}
-use Rattle.npf_passes.proofs.laws.gathering_law.Goals as goal
-
-pub returns : goal.returns
-returns g c = gathers_all g.L.Law.meaning

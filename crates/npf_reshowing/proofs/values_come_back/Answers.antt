@@ -1,5 +1,0 @@
-use Rattle.npf_reshowing.proofs.Values.{values_come_back_lem}
-use Rattle.npf_reshowing.proofs.values_come_back.Goals as goal
-
-pub returns : goal.returns
-returns c = values_come_back_lem

@@ -1,5 +1,0 @@
-use Rattle.npf_script.proofs.OneScriptLemmas.{none_refused}
-use Rattle.npf_script.proofs.laws.no_script_is_refused.Goals as goal
-
-pub returns : goal.returns
-returns c = none_refused

@@ -1,5 +1,0 @@
-use Rattle.npf_script.proofs.OneScriptLemmas as lemmas
-use Rattle.npf_script.proofs.laws.one_script.Goals as goal
-
-pub returns : goal.returns
-returns c = lemmas.one_script

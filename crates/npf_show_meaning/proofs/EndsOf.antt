@@ -1,0 +1,311 @@
+-- The ends of a rule, written and read again.
+use Rattle.std.proofs.Common.{◌≡◌, ◌<◌, inl, inr, ℕ, Bool, true, false, is_some, ◌||◌, if◌then◌else◌, Option, Some, None, IfSome, List, [], ◌∷◌, ◌++◌, length, flat_map, filter_map, codes, refl, sym, ap, ap₂, subst, ◌∙◌, arith, append-nil}
+use Rattle.std.proofs.lemmas.Grind.{flat_map-append}
+use Rattle.std.proofs.lemmas.List.Elements.{filter_map-append}
+use Rattle.std.specs.List.{All}
+use Rattle.std.specs.Prelude.{slice_get}
+use Rattle.npf_types.specs.declared.span.Span.{Span}
+use Rattle.npf_lexer.specs.declared.token.Sign.TheVariants as Signs
+use Rattle.npf_lexer.specs.declared.token.TokenKind.{TokenKind}
+use Rattle.npf_lexer.specs.declared.token.TokenKind.TheVariants as Kind
+use Rattle.npf_syntax.specs.declared.filter.Addresses.{Addresses}
+use Rattle.npf_syntax.specs.declared.filter.Ends.{Ends as WrittenEnds}
+use Rattle.npf_syntax.specs.declared.filter.Where.{Where}
+use Rattle.npf_syntax.specs.declared.value.Value.{Value}
+use Rattle.npf_syntax.specs.declared.value.ValueList.{ValueList}
+use Rattle.npf_syntax.specs.declared.value.Values.{Values}
+use Rattle.npf_syntax.specs.declared.word.Address.{Address}
+use Rattle.npf_syntax.specs.declared.word.Number.{Number}
+use Rattle.npf_syntax.specs.declared.word.Word.{Word}
+use Rattle.npf_model.specs.declared.ends.AddrItem.{AddrItem}
+use Rattle.npf_model.specs.declared.ends.AddrItem.TheVariants.{Net, InTable}
+use Rattle.npf_model.specs.declared.ends.Ends.{Ends}
+use Rattle.npf_model.specs.declared.iface.Iface.{Iface}
+use Rattle.npf_model.specs.declared.model.Model.{Model}
+use Rattle.npf_phrase.specs.Grammar.{meaning, optional, preceded}
+use Rattle.npf_parser.specs.Token.{quoted, span_of}
+use Rattle.npf_parser.specs.Value.{value, values, can_stand, is_port, is_port_end}
+use Rattle.npf_parser.specs.Filter.{addresses, ports, ends, the_ends}
+use Rattle.npf_expand.specs.Address.{items_of, addresses_faults, addresses_count, address_items}
+use Rattle.npf_expand.specs.Atom.{Atom}
+use Rattle.npf_expand.specs.Port.{atom_ports, ports_faults, ports_count, ports_of}
+use Rattle.npf_expand.specs.Rule.{ends_faults, ends_of_written, ends_count, source_ends, destination_ends}
+use Rattle.npf_expand.specs.Variable.{empty_list_at}
+use Rattle.npf_show.specs.Ends.{name_of_table, item_pieces, range_pieces, ports_pieces, ends_pieces, is_said, where_pieces}
+use Rattle.npf_show.specs.Piece.{Piece, spaced, optional_pieces, list_pieces}
+use Rattle.npf_show.specs.Piece as Pieces
+use Rattle.npf_show_meaning.specs.Regular.{names_of_model, IsRegularItem, ends_elements}
+use Rattle.npf_show_meaning.proofs.Goes.{Goes, Sees, HeadIn, make, turn, keep, pick_first, pick_second, said, absent, present, it_is, none_is, says_goes}
+use Rattle.npf_show_meaning.proofs.Lists.{onto, onto_both, Each}
+use Rattle.npf_show_meaning.proofs.Says.{nameless, address_list_faults, port_list_faults, IsElement, net_element, table_element, range_element, elements_faults, elements_give, elements_count}
+use Rattle.npf_show_meaning.proofs.Values.{Behind, keyword, IsRange, net_goes, table_goes, range_goes}
+use Rattle.npf_show_meaning.proofs.ValueLists.{HasHead, either_goes, list_head}
+
+each_some : {A : Type 0} (S : Value → A → Type 0) (span : Span) (values : List Value) (x : A) (xs : List A) → Each S values (x ∷ xs) → empty_list_at span values ≡ []
+each_some S span [] x xs each = absurd each
+each_some S span (v ∷ values) x xs each = refl
+
+-- what stands behind an end
+abbrev pub end_stops : List TokenKind
+end_stops = keyword (codes "to") ∷ keyword (codes "apply") ∷ Kind.LineFeed ∷ []
+
+-- what stands behind a filter
+abbrev pub where_stops : List TokenKind
+where_stops = keyword (codes "apply") ∷ Kind.LineFeed ∷ []
+
+-- what stands first of both ends
+abbrev pub where_starts : List TokenKind
+where_starts = keyword (codes "all") ∷ keyword (codes "from") ∷ keyword (codes "to") ∷ []
+
+end_behind : (ks : List TokenKind) → HeadIn end_stops ks → Behind false ks
+end_behind ks (inl here) = inr (inl here)
+end_behind ks (inr (inl here)) = inr (inr (inr (inl here)))
+end_behind ks (inr (inr (inl here))) = inr (inr (inr (inr (inl here))))
+end_behind ks (inr (inr (inr never))) = absurd never
+
+module _ (ifaces : List Iface) (model : Model) where
+  abbrev tables : List (List ℕ)
+  tables = (names_of_model model).tables
+
+  abbrev IsItem : Value → AddrItem → Type 0
+  IsItem = IsElement ifaces (address_list_faults ifaces) (flat_map (items_of tables))
+
+  item_goes : (role : _) → ((a : Address) (o : Option Number) (span : Span) → can_stand role (Value.Address a o span) ≡ true) → ((w : Word) (span : Span) → can_stand role (Value.Table w span) ≡ true) → (inside : Bool) (item : AddrItem) → IsRegularItem model item → (to : List TokenKind) → Behind inside to
+      → Goes (value role inside) (λ v. IsItem v item) (onto (item_pieces model item) to) to
+  item_goes role stands tables_stand inside (Net prefix) is to here = keep (net_element ifaces tables prefix) (net_goes ifaces role stands inside prefix to here)
+  item_goes role stands tables_stand inside (InTable number) is to here =
+      let name = name_of_table (slice_get model.tables number) in
+      keep (λ v says. table_element ifaces tables name number v is.place says) (table_goes ifaces role tables_stand inside name to is.name here)
+
+  item_head : (item : AddrItem) → IsRegularItem model item → (to : List TokenKind) → HasHead (onto (item_pieces model item) to)
+  item_head (Net prefix) is to = record {
+    kind = Kind.Address prefix.addr;
+    rest = _;
+    is = refl;
+    feed = λ s. refl;
+    opening = λ s. refl;
+    closing = λ s. refl;
+    any = λ s. refl;
+    port = λ s. refl;
+  }
+  item_head (InTable number) is to = record {
+    kind = Kind.Sign Signs.Less;
+    rest = _;
+    is = refl;
+    feed = λ s. refl;
+    opening = λ s. refl;
+    closing = λ s. refl;
+    any = λ s. refl;
+    port = λ s. refl;
+  }
+
+  record SaysAddresses (items : List AddrItem) (a : Addresses) : Type 0 where
+    faults : addresses_faults ifaces (nameless ifaces) a ≡ []
+    gives : address_items ifaces (nameless ifaces) tables a ≡ Some items
+    count : addresses_count ifaces (nameless ifaces) a ≡ length items
+
+  abbrev addresses_give : List Atom → List AddrItem
+  addresses_give = flat_map (items_of tables)
+
+  addresses_both : (xs ys : List Atom) → addresses_give (xs ++ ys) ≡ addresses_give xs ++ addresses_give ys
+  addresses_both xs ys = flat_map-append (items_of tables) xs ys
+
+  says_list : (span : Span) (list : ValueList) (x : AddrItem) (xs : List AddrItem) → Each IsItem list.values (x ∷ xs) → SaysAddresses (x ∷ xs) (Addresses.List list span)
+  says_list span list x xs each = record {
+    faults = rw (each_some IsItem list.span list.values x xs each, elements_faults ifaces (address_list_faults ifaces) addresses_give refl refl addresses_both list.values (x ∷ xs) each) refl;
+    gives = ap Some (elements_give ifaces (address_list_faults ifaces) addresses_give refl refl addresses_both list.values (x ∷ xs) each);
+    count = elements_count ifaces (address_list_faults ifaces) addresses_give refl refl addresses_both list.values (x ∷ xs) each;
+  }
+
+  says_one : (span : Span) (v : Value) (x : AddrItem) → IsItem v x → SaysAddresses (x ∷ []) (Addresses.One v span)
+  says_one span v x is = record {
+    faults = sym (append-nil _) ∙ is.faults [] refl;
+    gives = ap Some (elements_give ifaces (address_list_faults ifaces) addresses_give refl refl addresses_both (v ∷ []) (x ∷ []) (is, tt));
+    count = elements_count ifaces (address_list_faults ifaces) addresses_give refl refl addresses_both (v ∷ []) (x ∷ []) (is, tt);
+  }
+
+  addresses_go : (x : AddrItem) (xs : List AddrItem) → All (IsRegularItem model) (x ∷ xs) → (to : List TokenKind) → Behind false to
+      → Goes addresses (SaysAddresses (x ∷ xs)) (onto (list_pieces (item_pieces model) (x ∷ xs)) to) to
+  unfolding addresses
+  addresses_go x xs all to here =
+      pick_second (list_head (IsRegularItem model) (item_pieces model) item_head x xs all to (meaning (quoted (codes "any"))).starts (λ ks head s. head.any s) (λ s. refl))
+      (either_goes _ IsItem (IsRegularItem model) (item_pieces model) (item_goes _ (λ a o s. refl) (λ w s. refl)) item_head SaysAddresses (λ ts list. Addresses.List list (span_of ts)) (λ ts v. Addresses.One v (span_of ts))
+      (λ ts list x xs each. says_list (span_of ts) list x xs each) (λ ts v x is. says_one (span_of ts) v x is) x xs all to here)
+
+  -- ports
+  abbrev IsPort : Value → ℕ × ℕ → Type 0
+  IsPort = IsElement ifaces (port_list_faults ifaces) (filter_map atom_ports)
+
+  port_goes : (role : _) → ((first : Number) (last : Option Number) (span : Span) → is_port first ≡ true → is_port_end last ≡ true → can_stand role (Value.Number first last span) ≡ true) → (inside : Bool) (range : ℕ × ℕ) → IsRange ifaces range → (to : List TokenKind) → Behind inside to
+      → Goes (value role inside) (λ v. IsPort v range) (onto (range_pieces range) to) to
+  port_goes role stands inside range is to here = keep (range_element ifaces range) (range_goes ifaces role stands inside range is to here)
+
+  port_head : (range : ℕ × ℕ) → IsRange ifaces range → (to : List TokenKind) → HasHead (onto (range_pieces range) to)
+  port_head range is to = record {
+    kind = Kind.Number range.0;
+    rest = _;
+    is = refl;
+    feed = λ s. refl;
+    opening = λ s. refl;
+    closing = λ s. refl;
+    any = λ s. refl;
+    port = λ s. refl;
+  }
+
+  record SaysPorts (ranges : List (ℕ × ℕ)) (v : Values) : Type 0 where
+    faults : ports_faults ifaces (nameless ifaces) (Some v) ≡ []
+    gives : ports_of ifaces (nameless ifaces) (Some v) ≡ Some ranges
+    count : ports_count ifaces (nameless ifaces) (Some v) ≡ length ranges
+
+  ports_both : (xs ys : List Atom) → filter_map atom_ports (xs ++ ys) ≡ filter_map atom_ports xs ++ filter_map atom_ports ys
+  ports_both xs ys = filter_map-append atom_ports xs ys
+
+  says_ports : (span : Span) (list : ValueList) (x : ℕ × ℕ) (xs : List (ℕ × ℕ)) → Each IsPort list.values (x ∷ xs) → SaysPorts (x ∷ xs) (Values.List list span)
+  says_ports span list x xs each = record {
+    faults = rw (each_some IsPort list.span list.values x xs each, elements_faults ifaces (port_list_faults ifaces) (filter_map atom_ports) refl refl ports_both list.values (x ∷ xs) each) refl;
+    gives = ap Some (elements_give ifaces (port_list_faults ifaces) (filter_map atom_ports) refl refl ports_both list.values (x ∷ xs) each);
+    count = elements_count ifaces (port_list_faults ifaces) (filter_map atom_ports) refl refl ports_both list.values (x ∷ xs) each;
+  }
+
+  says_port : (span : Span) (v : Value) (x : ℕ × ℕ) → IsPort v x → SaysPorts (x ∷ []) (Values.One v span)
+  says_port span v x is = record {
+    faults = is.faults [] refl;
+    gives = ap Some (elements_give ifaces (port_list_faults ifaces) (filter_map atom_ports) refl refl ports_both (v ∷ []) (x ∷ []) (is, tt));
+    count = elements_count ifaces (port_list_faults ifaces) (filter_map atom_ports) refl refl ports_both (v ∷ []) (x ∷ []) (is, tt);
+  }
+
+  ports_go : (x : ℕ × ℕ) (xs : List (ℕ × ℕ)) → All (IsRange ifaces) (x ∷ xs) → (to : List TokenKind) → Behind false to
+      → Goes ports (SaysPorts (x ∷ xs)) (onto (ports_pieces (x ∷ xs)) to) to
+  unfolding ports values
+  ports_go x xs all to here =
+      said (either_goes _ IsPort (IsRange ifaces) range_pieces (port_goes _ (λ f l s p q. rw (p, q) refl)) port_head SaysPorts (λ ts list. Values.List list (span_of ts)) (λ ts v. Values.One v (span_of ts))
+      (λ ts list x xs each. says_ports (span_of ts) list x xs each) (λ ts v x is. says_port (span_of ts) v x is) x xs all to here)
+
+  -- an end
+  pub record SaysEnds (e : Ends) (o : Option WrittenEnds) : Type 0 where
+    pub faults : ends_faults ifaces (nameless ifaces) o ≡ []
+    pub gives : ends_of_written ifaces (nameless ifaces) tables o ≡ e
+    pub count : ends_count ifaces (nameless ifaces) o ≡ ends_elements e
+
+  pub record AreFine (e : Ends) : Type 0 where
+    pub addrs : IfSome e.addrs (λ items. (0 < length items) × All (IsRegularItem model) items)
+    pub ports : IfSome e.ports (λ ports. (0 < length ports) × All (IsRange ifaces) ports)
+
+  no_elements : {R : Type 0} → 0 < 0 → R
+  no_elements some = absurd (let none : ⊥ = omega (arith, some) in none)
+
+  abbrev GoesEnds : Option (List AddrItem) → Option (List (ℕ × ℕ)) → List TokenKind → Type 0
+  GoesEnds addrs those to =
+      Goes ends (λ e. SaysEnds (record { addrs = addrs; ports = those }) (Some e)) (onto (optional_pieces (list_pieces (item_pieces model)) addrs ++ optional_pieces ports_pieces those) to) to
+
+  no_port : (x : AddrItem) (xs : List AddrItem) → All (IsRegularItem model) (x ∷ xs) → (to : List TokenKind) → Sees false (meaning ports).starts (onto (list_pieces (item_pieces model) (x ∷ xs)) to)
+  unfolding ports
+  no_port x xs all to =
+      list_head (IsRegularItem model) (item_pieces model) item_head x xs all to (meaning ports).starts (λ ks head s. ap (λ b. b || false) (head.port s)) (λ s. refl)
+
+  says_alone : (span : Span) (x : AddrItem) (xs : List AddrItem) (a : Addresses) (o : Option Values) → SaysAddresses (x ∷ xs) a → o ≡ None
+      → SaysEnds (record { addrs = Some (x ∷ xs); ports = None }) (Some (WrittenEnds.Addresses a o span))
+  says_alone span x xs a o is none = record {
+    faults = rw (is.faults, none) refl;
+    gives = rw (is.gives, none) refl;
+    count = rw (is.count, none) refl;
+  }
+
+  says_both : (span : Span) (x : AddrItem) (xs : List AddrItem) (y : ℕ × ℕ) (ys : List (ℕ × ℕ)) (a : Addresses) (v : Values) → SaysAddresses (x ∷ xs) a → SaysPorts (y ∷ ys) v
+      → SaysEnds (record { addrs = Some (x ∷ xs); ports = Some (y ∷ ys) }) (Some (WrittenEnds.Addresses a (Some v) span))
+  says_both span x xs y ys a v is those = record {
+    faults = rw (is.faults, those.faults) refl;
+    gives = ap₂ (λ a p. record { addrs = a; ports = p }) is.gives those.gives;
+    count = rw (is.count, those.count) refl;
+  }
+
+  -- ports that stand behind addresses
+  abbrev AreListed : List (ℕ × ℕ) → Option Values → Type 0
+  AreListed ranges None = ⊥
+  AreListed ranges (Some v) = SaysPorts ranges v
+
+  says_listed : (span : Span) (x : AddrItem) (xs : List AddrItem) (y : ℕ × ℕ) (ys : List (ℕ × ℕ)) (a : Addresses) (o : Option Values) → SaysAddresses (x ∷ xs) a → AreListed (y ∷ ys) o
+      → SaysEnds (record { addrs = Some (x ∷ xs); ports = Some (y ∷ ys) }) (Some (WrittenEnds.Addresses a o span))
+  says_listed span x xs y ys a None is those = absurd those
+  says_listed span x xs y ys a (Some v) is those = says_both span x xs y ys a v is those
+
+  ends_by : (addrs : Option (List AddrItem)) (those : Option (List (ℕ × ℕ))) → AreFine (record { addrs = addrs; ports = those }) → (is_some addrs || is_some those) ≡ true
+      → (to : List TokenKind) → HeadIn end_stops to → GoesEnds addrs those to
+  unfolding ends ports
+  ends_by None None fine said_some to here = cc
+  ends_by None (Some []) fine said_some to here = no_elements fine.ports.0
+  ends_by None (Some (y ∷ ys)) fine said_some to here =
+      pick_first (it_is (λ s. refl))
+      (make (λ ts v is. record { faults = is.faults; gives = ap (λ o. record { addrs = None; ports = o }) is.gives; count = is.count ∙ omega arith }) (ports_go y ys fine.ports.1 to (end_behind to here)))
+  ends_by (Some []) those fine said_some to here = no_elements fine.addrs.0
+  ends_by (Some (x ∷ xs)) None fine said_some to here =
+      subst (λ from. Goes ends (λ e. SaysEnds (record { addrs = Some (x ∷ xs); ports = None }) (Some e)) from to) (sym (onto_both (list_pieces (item_pieces model) (x ∷ xs)) [] to))
+      (pick_second (no_port x xs fine.addrs.1 to)
+      (make {P = λ a. SaysAddresses (x ∷ xs) a.0 × (a.1 ≡ None)} (λ ts a is. says_alone (span_of ts) x xs a.0 a.1 is.0 is.1)
+      (turn (addresses_go x xs fine.addrs.1 to (end_behind to here)) (absent {g = ports} {P = λ o. o ≡ None} (none_is end_stops (λ s. refl) here) refl))))
+  ends_by (Some (x ∷ xs)) (Some []) fine said_some to here = no_elements fine.ports.0
+  ends_by (Some (x ∷ xs)) (Some (y ∷ ys)) fine said_some to here =
+      let behind = onto (ports_pieces (y ∷ ys)) to in
+      subst (λ from. Goes ends (λ e. SaysEnds (record { addrs = Some (x ∷ xs); ports = Some (y ∷ ys) }) (Some e)) from to) (sym (onto_both (list_pieces (item_pieces model) (x ∷ xs)) (ports_pieces (y ∷ ys)) to))
+      (pick_second (no_port x xs fine.addrs.1 behind)
+      (make {P = λ a. SaysAddresses (x ∷ xs) a.0 × AreListed (y ∷ ys) a.1} (λ ts a is. says_listed (span_of ts) x xs y ys a.0 a.1 is.0 is.1)
+      (turn (addresses_go x xs fine.addrs.1 behind (inl (_, refl))) (present {P = AreListed (y ∷ ys)} (it_is (λ s. refl)) (ports_go y ys fine.ports.1 to (end_behind to here))))))
+
+  pub ends_go : (e : Ends) → AreFine e → is_said e ≡ true → (to : List TokenKind) → HeadIn end_stops to → Goes ends (λ tree. SaysEnds e (Some tree)) (onto (ends_pieces model e) to) to
+  ends_go e fine said_some to here = ends_by e.addrs e.ports fine said_some to here
+
+  -- an end that says nothing
+  unsaid_by : (addrs : Option (List AddrItem)) (those : Option (List (ℕ × ℕ))) → (is_some addrs || is_some those) ≡ false → SaysEnds (record { addrs = addrs; ports = those }) None
+  unsaid_by None None none = record { faults = refl; gives = refl; count = refl }
+  unsaid_by (Some items) those none = cc
+  unsaid_by None (Some ranges) none = cc
+
+  unsaid : (e : Ends) → is_said e ≡ false → SaysEnds e None
+  unsaid e none = unsaid_by e.addrs e.ports none
+
+  -- both ends
+  abbrev pub SaysWhere : Ends → Ends → Where → Type 0
+  SaysWhere from to tree = SaysEnds from (source_ends tree) × SaysEnds to (destination_ends tree)
+
+  abbrev target : Bool → Ends → List Piece
+  target t to = if t then spaced (Pieces.Word (codes "to")) ++ ends_pieces model to else []
+
+  abbrev source : Bool → Ends → List Piece
+  source f from = if f then spaced (Pieces.Word (codes "from")) ++ ends_pieces model from else []
+
+  target_goes : (t : Bool) (to : Ends) → is_said to ≡ t → AreFine to → (behind : List TokenKind) → HeadIn where_stops behind
+      → Goes (optional (preceded (quoted (codes "to")) ends)) (SaysEnds to) (onto (target t to) behind) behind
+  target_goes true to is fine behind here = present (it_is (λ s. refl)) (said (ends_go to fine is behind (inr here)))
+  target_goes false to is fine behind here = absent {g = preceded (quoted (codes "to")) ends} (none_is where_stops (λ s. refl) here) (unsaid to is)
+
+  target_head : (t : Bool) (to : Ends) (behind : List TokenKind) → HeadIn where_stops behind → HeadIn end_stops (onto (target t to) behind)
+  target_head true to behind here = inl (_, refl)
+  target_head false to behind here = inr here
+
+  where_by : (f t : Bool) (from to : Ends) → is_said from ≡ f → is_said to ≡ t → AreFine from → AreFine to → (behind : List TokenKind) → HeadIn where_stops behind
+      → Goes the_ends (SaysWhere from to) (onto (if f || t then source f from ++ target t to else spaced (Pieces.Word (codes "all"))) behind) behind
+  unfolding the_ends
+  where_by true t from to is it fine fair behind here =
+      let rest = onto (target t to) behind in
+      subst (λ ks. Goes the_ends (SaysWhere from to) (keyword (codes "from") ∷ ks) behind) (sym (onto_both (ends_pieces model from) (target t to) behind))
+      (pick_second (it_is (λ s. refl)) (pick_first (it_is (λ s. refl))
+      (make {P = λ a. SaysEnds from (Some a.0) × SaysEnds to a.1} (λ ts a says. says)
+      (said (turn (ends_go from fine is rest (target_head t to behind here)) (target_goes t to it fair behind here))))))
+  where_by false true from to is it fine fair behind here =
+      pick_second (it_is (λ s. refl)) (pick_second (it_is (λ s. refl))
+      (make {P = λ a. SaysEnds to (Some a)} (λ ts a says. (unsaid from is, says)) (said (ends_go to fair it behind (inr here)))))
+  where_by false false from to is it fine fair behind here =
+      pick_first (it_is (λ s. refl)) (says_goes (codes "all") Where.All (SaysWhere from to) behind (λ s. (unsaid from is, unsaid to it)))
+
+  pub where_goes : (from to : Ends) → AreFine from → AreFine to → (behind : List TokenKind) → HeadIn where_stops behind
+      → Goes the_ends (SaysWhere from to) (onto (where_pieces model from to) behind) behind
+  where_goes from to fine fair behind here = where_by (is_said from) (is_said to) from to refl refl fine fair behind here
+
+  where_first : (f t : Bool) (from to : Ends) (behind : List TokenKind)
+      → HeadIn where_starts (onto (if f || t then source f from ++ target t to else spaced (Pieces.Word (codes "all"))) behind)
+  where_first true t from to behind = inr (inl (_, refl))
+  where_first false true from to behind = inr (inr (inl (_, refl)))
+  where_first false false from to behind = inl (_, refl)
+
+  pub where_head : (from to : Ends) (behind : List TokenKind) → HeadIn where_starts (onto (where_pieces model from to) behind)
+  where_head from to behind = where_first (is_said from) (is_said to) from to behind

@@ -1,5 +1,0 @@
-use Rattle.npf_showlaw.proofs.ShownText.{shown_text_means_lem}
-use Rattle.npf_showlaw.proofs.shown_text_means.Goals as goal
-
-pub returns : goal.returns
-returns c = shown_text_means_lem

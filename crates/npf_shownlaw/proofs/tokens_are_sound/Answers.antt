@@ -1,5 +1,0 @@
-use Rattle.npf_shownlaw.proofs.Lexed.{text_sound}
-use Rattle.npf_shownlaw.proofs.tokens_are_sound.Goals as goal
-
-pub returns : goal.returns
-returns c = text_sound

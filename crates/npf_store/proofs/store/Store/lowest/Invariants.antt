@@ -1,7 +1,0 @@
-use Rattle.std.proofs.Common.{◌≢◌, ℕ, ◌<◌}
-use Rattle.npf_store.specs.Connection.{connection_in}
-use Rattle.npf_store.specs.declared.phase.Phase.TheVariants.{Vacant}
-use Rattle.npf_store.proofs.store.Store.lowest.Given as goal
-
-abbrev pub invariant-loop-slot : goal.invariant-loop-slot
-invariant-loop-slot g l = (s : ℕ) → s < l.slot → (connection_in l.self.connections.items s).phase ≢ Vacant

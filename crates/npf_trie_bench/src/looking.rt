@@ -1,0 +1,95 @@
+// Look-ups in the trie, in one thread and in several.
+ghost use Rattle.std.specs.Prelude.{◌≡◌, ◌≤◌, ◌<◌, [], length};
+ghost use Rattle.std.specs.Thread.{IsSync};
+ghost use Rattle.npf_cells.specs.Passes.{IsPassOf, IsProtected};
+ghost use Rattle.npf_trie_bench.specs.Rests.{HasNothing};
+
+use crate::drawn::{Draws, Order};
+use npf_cells::{CellPass, Cells};
+use npf_epoch::{enter, leave};
+use npf_flow::FlowLaw;
+use npf_paths::Fnv;
+use npf_trie::look;
+use std::sync::Wait;
+use std::thread::{Threads, join};
+
+// How many look-ups there are in a stay.
+const STAY: u64 = 100;
+
+/// So many hundred look-ups, each hundred in a stay of its own. Answers how many keys were found.
+pub fn look_often(
+    cells: &Cells<FlowLaw, Fnv>,
+    pass: CellPass<FlowLaw>,
+    seed: u64,
+    stays: u64,
+    order: Order,
+) -> u64
+    requires own { IsPassOf cells.now.table.shared.key cells.now.table.shared.table_id pass.seat.table_id pass.readers.items pass.seat.me }
+    requires rests { HasNothing pass.seat.me.0 }
+{
+    let mut pass = pass;
+    let mut draws = Draws::new(seed);
+    let mut found = 0u64;
+    for _ in 0..stays {
+        enter(cells, &mut pass);
+        found = found.wrapping_add(look_some(cells, &mut pass, &mut draws, order));
+        leave(cells, &mut pass);
+    }
+    found
+}
+
+// The look-ups of a stay.
+fn look_some(
+    cells: &Cells<FlowLaw, Fnv>,
+    pass: &mut CellPass<FlowLaw>,
+    draws: &mut Draws,
+    order: Order,
+) -> u64
+    requires own { IsPassOf cells.now.table.shared.key cells.now.table.shared.table_id pass.old.seat.table_id pass.old.readers.items pass.old.seat.me }
+    requires protected { IsProtected pass.old.seat.me.0.epochs.pin }
+    ensures own { IsPassOf cells.now.table.shared.key cells.now.table.shared.table_id pass.new.seat.table_id pass.new.readers.items pass.new.seat.me }
+    ensures epochs { pass.new.seat.me.0.epochs ≡ pass.old.seat.me.0.epochs }
+    ensures pools { pass.new.seat.me.0.pools ≡ pass.old.seat.me.0.pools }
+    ensures locks { pass.new.seat.me.0.trie.locks ≡ pass.old.seat.me.0.trie.locks }
+    ensures readers { pass.new.seat.me.0.seats.readers ≡ pass.old.seat.me.0.seats.readers }
+{
+    let mut found = 0u64;
+    for n in 0..STAY {
+        if let Some(holder) = look(cells, pass, n, draws.key()) {
+            found = found.wrapping_add(1);
+            if order == Order::Chained {
+                draws.wait_for(&holder);
+            }
+        }
+    }
+    found
+}
+
+/// The pass's look-ups, beside those of so many others that are split off. Answers how many keys were found by all.
+pub fn look_beside<R: Threads + Wait + Sync>(
+    rt: &R,
+    cells: &Cells<FlowLaw, Fnv>,
+    pass: CellPass<FlowLaw>,
+    others: u64,
+    stays: u64,
+) -> u64
+    requires own { IsPassOf cells.now.table.shared.key cells.now.table.shared.table_id pass.seat.table_id pass.readers.items pass.seat.me }
+    requires rests { HasNothing pass.seat.me.0 }
+    requires places { others < length pass.seat.me.0.seats.readers }
+{
+    if others == 0 {
+        return look_often(cells, pass, 0, stays, Order::Free);
+    }
+    let mut pass = pass;
+    let other = cells.split(&mut pass);
+    let (found, more) = join(
+        rt,
+        move ||
+            requires { IsPassOf cells.now.table.shared.key cells.now.table.shared.table_id other.seat.table_id other.readers.items other.seat.me × HasNothing other.seat.me.0 }
+        { look_often(cells, other, others, stays, Order::Free) },
+        move ||
+            requires { IsSync R.row × IsPassOf cells.now.table.shared.key cells.now.table.shared.table_id pass.seat.table_id pass.readers.items pass.seat.me × HasNothing pass.seat.me.0 × (0 < others) × (others ≤ length pass.seat.me.0.seats.readers) }
+        { look_beside(rt, cells, pass, others - 1, stays) },
+    );
+    found.wrapping_add(more)
+}

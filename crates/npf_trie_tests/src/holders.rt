@@ -1,0 +1,55 @@
+// Connections that are being built and hold a key.
+ghost use Rattle.npf_cells.specs.Passes.{IsPassOf};
+ghost use Rattle.npf_trie_tests.specs.Hands.{IsEmptyHanded};
+
+use npf_cells::{CellPass, Cells};
+use npf_cells_tests::beginning::begin;
+use npf_core::{ConnId, Found, Held, Law};
+use npf_paths::KeyHash;
+use npf_trie::{hold, look};
+use npf_types::{Key, Way};
+use std::sync::Wait;
+
+/// The first connection in a slot.
+pub(crate) fn first_in(slot: u32) -> ConnId {
+    ConnId { slot, inc: 1 }
+}
+
+/// The same as the holder of a key that it opened with.
+pub(crate) fn holder_in(slot: u32) -> Found {
+    Found {
+        id: first_in(slot),
+        way: Way::Forward,
+    }
+}
+
+/// Begins a connection and holds the key for it. None where no slot is left.
+pub(crate) fn open<L: Law, H: KeyHash>(
+    rt: &impl Wait,
+    cells: &Cells<L, H>,
+    pass: &mut CellPass<L>,
+    key: Key,
+) -> Option<(ConnId, Held)>
+    requires own { IsPassOf cells.now.table.shared.key cells.now.table.shared.table_id pass.old.seat.table_id pass.old.readers.items pass.old.seat.me }
+    requires hands { IsEmptyHanded pass.old.seat.me.0 }
+    ensures own { IsPassOf cells.now.table.shared.key cells.now.table.shared.table_id pass.new.seat.table_id pass.new.readers.items pass.new.seat.me }
+    ensures hands { IsEmptyHanded pass.new.seat.me.0 }
+{
+    let id = begin(rt, cells, pass)?;
+    let held = hold(rt, cells, pass, id, key, Way::Forward);
+    Some((id, held))
+}
+
+/// Who holds the key.
+pub(crate) fn find<L: Law, H: KeyHash>(
+    cells: &Cells<L, H>,
+    pass: &mut CellPass<L>,
+    key: Key,
+) -> Option<Found>
+    requires own { IsPassOf cells.now.table.shared.key cells.now.table.shared.table_id pass.old.seat.table_id pass.old.readers.items pass.old.seat.me }
+    requires hands { IsEmptyHanded pass.old.seat.me.0 }
+    ensures own { IsPassOf cells.now.table.shared.key cells.now.table.shared.table_id pass.new.seat.table_id pass.new.readers.items pass.new.seat.me }
+    ensures hands { IsEmptyHanded pass.new.seat.me.0 }
+{
+    look(cells, pass, 9, key)
+}
