@@ -1,6 +1,7 @@
 // What is answered to a text, from its tokens to its checks.
 use npf_check::{check, check_rule};
-use npf_expand::{expand, expand_rule, read_ifaces};
+use npf_expand::{expand, expand_rule};
+use npf_expand_interfaces::read_ifaces;
 use npf_faults::Refused;
 use npf_lexer::lex;
 use npf_model::{Model, Rule};

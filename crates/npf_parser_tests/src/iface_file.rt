@@ -1,4 +1,4 @@
-use npf_expand::read_ifaces;
+use npf_expand_interfaces::read_ifaces;
 use npf_faults::{Fault, Refused};
 use npf_model::Ifaces;
 use npf_types::Addr;

@@ -1,6 +1,7 @@
 // Texts, from their tokens to their checks and back.
 use npf_check::check;
-use npf_expand::{expand, read_ifaces};
+use npf_expand::expand;
+use npf_expand_interfaces::read_ifaces;
 use npf_faults::Refused;
 use npf_lexer::lex;
 use npf_model::Model;
