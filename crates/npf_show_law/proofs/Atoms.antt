@@ -24,7 +24,7 @@ use Rattle.npf_expand_values.specs.Atom.{Atom, NumberAtom, RangeAtom, WordAtom, 
 use Rattle.npf_expand_values.specs.Iface.{iface_binding, iface_span, iface_faults, name_text, only_name, bound_name, iface_name, addresses_of_first, addresses_of, is_of, has_none, address_faults}
 use Rattle.npf_expand_values.specs.Use.{atoms_of, undefined_faults}
 use Rattle.npf_expand_values.specs.Variable.{Definition, number_atom, length_of_block, empty_list_at, binding_of, own_faults, spliced, definition_faults, is_bound_to_list, is_list, unless_refused, defined, env_of}
-use Rattle.npf_parser.specs.Value.{is_range}
+use Rattle.npf_parser_values.specs.Value.{is_range}
 use Rattle.npf_show_tokens.specs.Showable.{FitsAddr}
 use Rattle.npf_show_tokens.specs.Tokens.{is_run_word}
 use Rattle.npf_show_law.proofs.Gives.{Every}

@@ -38,7 +38,7 @@ use Rattle.npf_expand_values.specs.Protocol.{one_span, one_binding, protocol_of,
 use Rattle.npf_expand_values.specs.Use.{undefined_faults, atoms_of}
 use Rattle.npf_expand_values.specs.Variable.{value_span, empty_list_at, binding_of, own_faults, spliced}
 use Rattle.npf_expand.specs.Rule.{flag_bit, flag_bits, mask_bits, flags_of_detail, as_byte, icmp_of_detail, detail_of_part, source_ends, destination_ends, ends_faults, part_faults, filter_faults, part_protocols, ends_of_written, filter_rule}
-use Rattle.npf_parser.specs.Token.{nowhere, is_flag}
+use Rattle.npf_parser_values.specs.Token.{nowhere, is_flag}
 use Rattle.npf_show.specs.Filter.{flag_text}
 use Rattle.npf_show_tokens.specs.Showable.{FitsByte, FitsAddr, IsShowableRange, IsShowableItem, AreShowableEnds, AreShowableFlags, IsShowableFilter}
 use Rattle.npf_show_tokens.specs.Tokens.{is_run_word}

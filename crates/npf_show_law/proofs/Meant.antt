@@ -28,7 +28,7 @@ use Rattle.npf_expand_values.specs.Port.{atom_ports, same_port}
 use Rattle.npf_expand_values.specs.Protocol.{protocol_of, one_protocol_faults}
 use Rattle.npf_expand_values.specs.Service.{Names, services, protocols, number_named}
 use Rattle.npf_expand.specs.Map.{side_port_faults}
-use Rattle.npf_parser.specs.Token.{nowhere}
+use Rattle.npf_parser_values.specs.Token.{nowhere}
 use Rattle.npf_show_tokens.specs.Showable.{FitsByte, FitsAddr, IsShowablePrefix, IsShowableRange}
 use Rattle.npf_show_tokens.specs.Tokens.{is_run_word}
 use Rattle.npf_show_meaning.specs.Regular.{IsForward}

@@ -23,8 +23,8 @@ use Rattle.npf_model.specs.declared.ends.Ends.{Ends}
 use Rattle.npf_model.specs.declared.iface.Iface.{Iface}
 use Rattle.npf_model.specs.declared.model.Model.{Model}
 use Rattle.npf_phrase.specs.Grammar.{meaning, optional, preceded}
-use Rattle.npf_parser.specs.Token.{quoted, span_of}
-use Rattle.npf_parser.specs.Value.{value, values, can_stand, is_port, is_port_end}
+use Rattle.npf_parser_values.specs.Token.{quoted, span_of}
+use Rattle.npf_parser_values.specs.Value.{value, values, can_stand, is_port, is_port_end}
 use Rattle.npf_parser.specs.Filter.{addresses, ports, ends, the_ends}
 use Rattle.npf_expand_values.specs.Address.{items_of, addresses_faults, addresses_count, address_items}
 use Rattle.npf_expand_values.specs.Atom.{Atom}

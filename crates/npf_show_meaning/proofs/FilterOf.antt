@@ -26,8 +26,8 @@ use Rattle.npf_model.specs.declared.model.Model.{Model}
 use Rattle.npf_model.specs.declared.rule.Rule.{Rule}
 use Rattle.npf_model.specs.declared.rule.StateOpt.TheVariants.{Not}
 use Rattle.npf_phrase.specs.Grammar.{optional, preceded}
-use Rattle.npf_parser.specs.Token.{sign, number, number_to, flags, is_flag, quoted, span_of}
-use Rattle.npf_parser.specs.Value.{one, ones, one_list, protocols}
+use Rattle.npf_parser_values.specs.Token.{sign, number, number_to, flags, is_flag, quoted, span_of}
+use Rattle.npf_parser_values.specs.Value.{one, ones, one_list, protocols}
 use Rattle.npf_parser.specs.Filter.{family, detail, proto_part, filter}
 use Rattle.npf_expand_values.specs.Atom.{Atom, NumberAtom}
 use Rattle.npf_expand_values.specs.Protocol.{one_binding, protocol_of, protocol_faults, protocols_faults, spliced_ones, protocols_of}

@@ -27,8 +27,8 @@ use Rattle.npf_model.specs.declared.map.Side.{Side}
 use Rattle.npf_model.specs.declared.model.Model.{Model}
 use Rattle.npf_model.specs.declared.rule.Rule.{Rule}
 use Rattle.npf_phrase.specs.Grammar.{optional, preceded}
-use Rattle.npf_parser.specs.Token.{word, quoted, span_of}
-use Rattle.npf_parser.specs.Value.{one, value, can_stand, is_port, is_port_end}
+use Rattle.npf_parser_values.specs.Token.{word, quoted, span_of}
+use Rattle.npf_parser_values.specs.Value.{one, value, can_stand, is_port, is_port_end}
 use Rattle.npf_parser.specs.Filter.{filter}
 use Rattle.npf_parser.specs.Map.{map_kind, arrow, side}
 use Rattle.npf_parser.specs.Stmt.{map}

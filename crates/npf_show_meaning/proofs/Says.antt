@@ -14,8 +14,8 @@ use Rattle.npf_syntax.specs.declared.word.Number.{Number}
 use Rattle.npf_syntax.specs.declared.word.Word.{Word}
 use Rattle.npf_model.specs.declared.ends.AddrItem.TheVariants.{Net, InTable}
 use Rattle.npf_model.specs.declared.iface.Iface.{Iface}
-use Rattle.npf_parser.specs.Token.{nowhere}
-use Rattle.npf_parser.specs.Value.{is_port, is_port_end}
+use Rattle.npf_parser_values.specs.Token.{nowhere}
+use Rattle.npf_parser_values.specs.Value.{is_port, is_port_end}
 use Rattle.npf_expand_values.specs.Address.{items_of, addresses_faults}
 use Rattle.npf_expand_values.specs.Atom.{Atom, Env}
 use Rattle.npf_expand_values.specs.Declarations.{table_number}

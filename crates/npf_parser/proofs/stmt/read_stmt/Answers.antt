@@ -4,9 +4,9 @@ use Rattle.std.proofs.Common.{◌≡◌, Bool, true, false, ◌||◌, if◌then�
 use Rattle.npf_lexer.specs.declared.token.Token.{Token}
 use Rattle.npf_phrase.specs.Phrase.{head}
 use Rattle.npf_phrase.specs.Grammar.{Grammar, meaning, ◌or◌}
-use Rattle.npf_parser.specs.Answer.{Answers, Begins}
+use Rattle.npf_parser_values.specs.Answer.{Answers, Begins}
 use Rattle.npf_parser.specs.Stmt.{stmt, set, alg, table, map, group, procedure, define}
-use Rattle.npf_parser.specs.Token.{quoted}
+use Rattle.npf_parser_values.specs.Token.{quoted}
 use Rattle.npf_parser.proofs.stmt.read_stmt.Goals as goal
 
 starts_by : (g : Grammar Token ⊤) (ts : List Token) (found : Option (Bor (List Token))) → Begins g ts found → (meaning g).starts (head ts) ≡ is_some found
