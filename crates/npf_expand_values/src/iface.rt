@@ -33,6 +33,7 @@ pub struct Interfaces<'a> {
 }
 
 impl<'a> Interfaces<'a> {
+    /// Those of this list.
     pub fn new(alloc: Global, list: &'a [Iface]) -> Result<Interfaces<'a>, NoMemory>
         ensures { IfOk result (λ interfaces. interfaces.list.now ≡ list.now) }
     {

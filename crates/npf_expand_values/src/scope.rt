@@ -96,6 +96,7 @@ impl<'a> Scope<'_, 'a, '_> {
         }
     }
 
+    /// The first fault of an interface where it is named.
     pub fn iface_fault(&self, iface: &'a Iface) -> Option<ConfFault>
         requires { AreSound self.now.variables.now }
         ensures { result ≡ first_fault (iface_faults (env_of_scope self.now) iface.now) }

@@ -40,6 +40,7 @@ impl<'a> Scope<'_, 'a, '_> {
         earlier(self.own_fault(value), self.use_fault(role, value))
     }
 
+    /// The first fault of the values of a list that is used in this place.
     pub fn each_fault(&self, role: Role, values: &'a [Value]) -> Option<ConfFault>
         requires { AreSound self.now.variables.now }
         ensures { result ≡ first_fault (flat_map (each_value_faults (ifaces_of_scope self.now) (env_of_scope self.now) role) values.now) }
@@ -51,6 +52,7 @@ impl<'a> Scope<'_, 'a, '_> {
         first
     }
 
+    /// The first fault of values that are used in this place, an empty list among them.
     #[tactic(auto, using(crate::proofs::FaultLemmas::both_faults))]
     pub fn values_fault(&self, role: Role, values: &'a Values) -> Option<ConfFault>
         requires { AreSound self.now.variables.now }
@@ -225,6 +227,7 @@ impl<'a> Scope<'_, 'a, '_> {
     }
 }
 
+/// The values, one or many.
 pub fn listed_values(values: &Values) -> &[Value]
     ensures { result.now ≡ listed_values values.now }
 {

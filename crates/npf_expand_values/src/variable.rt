@@ -139,6 +139,7 @@ impl<'a> Spliced<'a> {
 }
 
 impl<'a> Variables<'a> {
+    /// No definitions.
     pub fn new(alloc: Global) -> Variables<'a>
         ensures sound { AreSound result }
         ensures none { (text : List ℕ) → env_in result text ≡ None }
