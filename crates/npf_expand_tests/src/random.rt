@@ -73,7 +73,7 @@ group \"g\" in on \"wm1\" {
 ";
 
 /// A configuration with twenty rules of random shapes.
-pub fn text(alloc: Global, draws: &mut Draws) -> Result<String, AllocError> {
+pub fn text_of(alloc: Global, draws: &mut Draws) -> Result<String, AllocError> {
     let mut text = String::from_str(alloc, HEAD)?;
     for _ in 0..20 {
         push_rule(alloc, draws, &mut text)?;
