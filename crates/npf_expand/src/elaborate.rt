@@ -10,7 +10,8 @@ ghost use Rattle.npf_expand.specs.Elaborates.{Elaborates, RefusesTree, procedure
 ghost use Rattle.npf_expand.specs.Step.{Adding, IsStmtRead};
 ghost use Rattle.npf_expand.specs.Table.{tables_of};
 
-use crate::map::MapLine;
+use crate::group::read_group;
+use crate::map::{MapLine, map_fault, map_of, pass_count};
 use crate::met::Met;
 use crate::procedure::procedure_of;
 use crate::table::table_of;

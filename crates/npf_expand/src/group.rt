@@ -11,6 +11,7 @@ ghost use Rattle.npf_expand.specs.Rule.{dir_of, on_faults, rule_faults, rule_of_
 ghost use Rattle.npf_types.specs.Named.{named};
 ghost use Rattle.npf_expand_values.specs.Scope.{declared_of_scope, env_of_scope, ifaces_of_scope};
 
+use crate::filter::{filter_count, filter_fault, filter_rule};
 use crate::met::Met;
 use crate::rule::{decision_of, dir_of, state_of};
 use crate::text::text_of;

@@ -4,6 +4,7 @@ ghost use Rattle.npf_model.specs.Count.{elements_of};
 ghost use Rattle.npf_expand_values.specs.Source.{declared_of};
 ghost use Rattle.npf_expand.specs.LoneRule.{ElaboratesRule, RefusesRule, elements_alone};
 
+use crate::group::{rule_fault, rule_of};
 use npf_expand_values::{Declarations, Interfaces, Scope, Variables};
 use npf_faults::Refused;
 use npf_model::{Ifaces, Model, Rule};

@@ -13,6 +13,7 @@ ghost use Rattle.npf_expand.specs.Elaborates.{filter_elements};
 ghost use Rattle.npf_expand.specs.Map.{algo_named, algo_of, arrow_of_sign, every_v4, first_block, first_host, map_faults, map_filter_faults, map_of_tree, side_block, side_faults, side_of, side_port, side_port_faults};
 ghost use Rattle.npf_expand.specs.Rule.{filter_rule};
 
+use crate::filter::{filter_count, filter_fault, filter_rule};
 use npf_expand_values::{Atom, Role, Scope, block_of};
 use npf_faults::{ConfFault, earlier};
 use npf_model::{Algo, Arrow, Map, Rule, Side as ModelSide};
