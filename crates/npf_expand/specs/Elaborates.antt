@@ -15,7 +15,7 @@ use Rattle.npf_model.specs.declared.model.Model.{Model}
 use Rattle.npf_model.specs.declared.procedure.Procedure.{Procedure}
 use Rattle.npf_faults.specs.First.{IsFirstFaultOf}
 use Rattle.npf_expand_values.specs.Atom.{Env}
-use Rattle.npf_expand_values.specs.Declarations.{Declared}
+use Rattle.npf_expand_values.specs.Declarations.{Declared, declared_in}
 use Rattle.npf_expand_values.specs.Variable.{Definition, definition_faults, env_of}
 use Rattle.npf_expand.specs.Group.{group_of_tree, head_faults, items_elements, items_faults}
 use Rattle.npf_expand.specs.Map.{map_faults, map_of_tree}

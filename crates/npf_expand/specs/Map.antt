@@ -29,7 +29,7 @@ use Rattle.npf_expand_values.specs.Iface.{iface_faults, on_iface}
 use Rattle.npf_expand_values.specs.Port.{atom_ports}
 use Rattle.npf_expand_values.specs.Protocol.{one_protocol, one_protocol_faults}
 use Rattle.npf_expand_values.specs.Use.{atoms_of}
-use Rattle.npf_expand_values.specs.Variable.{binding_of}
+use Rattle.npf_expand_values.specs.Variable.{binding_of, single_value_faults}
 use Rattle.npf_expand.specs.Rule.{filter_faults, filter_rule}
 
 abbrev pub algo_named : Option Word → Algo

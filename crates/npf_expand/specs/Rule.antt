@@ -35,7 +35,7 @@ use Rattle.npf_model.specs.declared.rule.StateOpt.TheVariants.{Not, OnInterface,
 use Rattle.npf_faults.specs.First.{fault_if}
 use Rattle.npf_expand_values.specs.Address.{addresses_count, addresses_faults, address_items}
 use Rattle.npf_expand_values.specs.Atom.{Env}
-use Rattle.npf_expand_values.specs.Declarations.{table_number}
+use Rattle.npf_expand_values.specs.Declarations.{Declared, table_number}
 use Rattle.npf_expand_values.specs.Iface.{iface_faults, on_iface}
 use Rattle.npf_expand_values.specs.Port.{ports_count, ports_faults, ports_of}
 use Rattle.npf_expand_values.specs.Protocol.{protocols_faults, protocols_of, spliced_ones}
