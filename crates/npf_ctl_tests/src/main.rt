@@ -1,18 +1,14 @@
-// Whole runs of npfctl, and what the crates at its top read and write, row by row. Standard input has a row a line, and its head tells
-// which there are; each row that asks something is printed with its answer. What stdout wants is written out by hand from docs/npfctl.8
-// and docs/FORMATS.md, and packets are made with sums of their own.
+// Whole runs of npfctl, row by row. Standard input has a row a line, and its head tells which there are; each row that asks something is
+// printed with its answer. What stdout wants is written out by hand from docs/npfctl.8 and docs/FORMATS.md, and packets are made with
+// sums of their own.
 #![tactic(auto)]
 
 mod captures;
 mod folder;
-mod generated;
-mod outcomes;
 mod packets;
 mod preparing;
 mod rows;
 mod runs;
-mod schedules;
-mod scripts;
 mod setting;
 mod texts;
 

@@ -1,18 +1,8 @@
 // Rows that prepare a run: files, the calls that fail, and the slots of the table of connections.
 use crate::captures::{addresses, capture_header, frame, record};
-use crate::generated::generate_files;
 use crate::setting::Setting;
 use crate::texts::{hex_bytes, unescaped};
 use anyhow::{Context, Result, bail};
-
-/// Whether a row that begins with this word prepares something.
-pub fn prepares(word: &str) -> bool {
-    match word {
-        "slots" | "fail" | "generate" | "file" | "capture" => true,
-        "|" | "+" | "x" | "addresses" | ">" | "frame" => true,
-        _ => false,
-    }
-}
 
 /// Prepares what a row says so many times, with the number of the time in place of `%`.
 pub fn prepare_times(setting: &mut Setting, text: &str) -> Result<()> {
@@ -35,7 +25,6 @@ pub fn prepare(setting: &mut Setting, word: &str, text: &str) -> Result<()> {
             Ok(())
         }
         "fail" => plan_fault(setting, text),
-        "generate" => generate_files(setting, text),
         "file" => begin_file(setting, text),
         "capture" => begin_capture(setting, text),
         _ => append(setting, word, text),

@@ -1,6 +1,5 @@
 // What the rows before have prepared.
 use crate::folder::Folder;
-use npf_engine::Outcome;
 use std::alloc::Global;
 
 /// The slots of a table of connections that is small.
@@ -27,8 +26,6 @@ pub struct Setting {
     /// The slots of the table of connections.
     pub slots: u32,
     pub failing: Failing,
-    /// The outcomes that the next total counts.
-    pub outcomes: Vec<Outcome>,
 }
 
 impl Setting {
@@ -39,7 +36,6 @@ impl Setting {
             folder: Folder::new(alloc),
             slots: FEW_SLOTS,
             failing: NOTHING,
-            outcomes: Vec::new(alloc),
         }
     }
 }

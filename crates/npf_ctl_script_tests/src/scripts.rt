@@ -1,19 +1,45 @@
-// What is read of a text, as text.
+// What the text of a script is read to.
+use crate::texts::{print_lines, unescaped};
+use anyhow::{Result, bail};
 use npf_ctl_script::{Script, ScriptFault, ScriptLine, read_script};
 use npf_types::limits::MAX_TEXT_BYTES;
 use npf_types::{Addr, Dir, Name, Prefix};
 use std::alloc::{AllocError, Global};
 use std::str;
 
-/// Each command, with its line's number in front and a line feed behind, or the number of the line that is refused.
-pub(crate) fn shown(alloc: Global, text: &[u8]) -> Result<String, AllocError> {
+/// Prints what this text is read to.
+pub fn print_script(rt: &(impl Print + AllocGlobal), text: &str) -> Result<()> {
+    println!(rt)?;
+    let shown = shown(rt.alloc(), &unescaped(rt.alloc(), text)?)?;
+    print_lines(rt, shown.as_bytes())
+}
+
+/// Prints what a script is read to whose third line is this one, and whose fourth has no form.
+pub fn print_line(rt: &(impl Print + AllocGlobal), text: &str) -> Result<()> {
+    println!(rt)?;
+    let script = format!(in rt.alloc(); "# comment\nphase\n{text}\nfly\n")?;
+    let shown = shown(rt.alloc(), &unescaped(rt.alloc(), &script)?)?;
+    print_lines(rt, shown.as_bytes())
+}
+
+/// The script of a text.
+pub fn script_of(alloc: Global, text: &str) -> Result<Script> {
+    let text = unescaped(alloc, text)?;
     if text.len() > MAX_TEXT_BYTES {
-        return String::from_str(alloc, "long");
+        bail!("a long script");
+    }
+    Ok(read_script(alloc, &text)?)
+}
+
+/// Each command, with its line's number in front, or the number of the line that is refused.
+fn shown(alloc: Global, text: &[u8]) -> Result<String> {
+    if text.len() > MAX_TEXT_BYTES {
+        bail!("a long script");
     }
     match read_script(alloc, text) {
-        Ok(script) => commands(alloc, &script),
-        Err(ScriptFault::BadLine { line }) => format!(in alloc; "70 at {line}"),
-        Err(ScriptFault::NoMemory) => Err(AllocError),
+        Ok(script) => Ok(commands(alloc, &script)?),
+        Err(ScriptFault::BadLine { line }) => Ok(format!(in alloc; "70 at {line}\n")?),
+        Err(ScriptFault::NoMemory) => bail!("out of memory"),
     }
 }
 
@@ -35,7 +61,7 @@ fn command(alloc: Global, line: &ScriptLine) -> Result<String, AllocError> {
                 Dir::Out => "out",
             };
             format!(in alloc;
-                "capture {} {dir} <{}>",
+                "capture {} {dir} {:?}",
                 word(name),
                 string(file.as_slice())
             )
@@ -43,9 +69,9 @@ fn command(alloc: Global, line: &ScriptLine) -> Result<String, AllocError> {
         ScriptLine::Phase => String::from_str(alloc, "phase"),
         ScriptLine::Packets(None) => String::from_str(alloc, "packets, all"),
         ScriptLine::Packets(Some(count)) => format!(in alloc; "packets, {count}"),
-        ScriptLine::Reload { file } => format!(in alloc; "reload <{}>", string(file.as_slice())),
+        ScriptLine::Reload { file } => format!(in alloc; "reload {:?}", string(file.as_slice())),
         ScriptLine::RuleAdd { name, text } => {
-            format!(in alloc; "add to {} <{}>", word(name), string(text.as_slice()))
+            format!(in alloc; "add to {} {:?}", word(name), string(text.as_slice()))
         }
         ScriptLine::RuleRem { name, id } => format!(in alloc; "take {id} of {}", word(name)),
         ScriptLine::RuleFlush { name } => format!(in alloc; "take all of {}", word(name)),

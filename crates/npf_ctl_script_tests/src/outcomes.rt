@@ -1,7 +1,7 @@
 // The lines of a report, of outcomes that are written in words.
 use crate::setting::Setting;
 use crate::texts::print_lines;
-use anyhow::{Context, Result, anyhow, bail};
+use anyhow::{Context, Result, bail};
 use npf_core::{ConnId, Found};
 use npf_ctl_output::put_total;
 use npf_engine::{DropWhy, Kept, Outcome};
@@ -28,21 +28,22 @@ pub fn print_outcome(
     let iface = parse_name("wm0")?;
     println!(rt)?;
     let first = line(rt.alloc(), 1, iface, Dir::In, &outcome)?;
-    print_lines(rt, "", first.as_slice())?;
+    print_lines(rt, first.as_slice())?;
     let last = line(rt.alloc(), 1_000_000, iface, Dir::Out, &outcome)?;
-    print_lines(rt, "", last.as_slice())?;
+    print_lines(rt, last.as_slice())?;
     setting.outcomes.push(outcome)?;
     Ok(())
 }
 
-/// Prints the total line of the outcomes of this subject.
-pub fn print_total(rt: &(impl Print + AllocGlobal), setting: &Setting) -> Result<()> {
+/// Prints the total line of the outcomes behind the last one.
+pub fn print_total(rt: &(impl Print + AllocGlobal), setting: &mut Setting) -> Result<()> {
     println!(rt)?;
     let mut sink = MemSink::new(rt.alloc())?;
-    match put_total(rt.alloc(), setting.outcomes.as_slice(), &mut sink) {
-        Ok(()) => print_lines(rt, "", sink.bytes()),
-        Err(_) => Err(anyhow!("no total")),
+    if put_total(rt.alloc(), setting.outcomes.as_slice(), &mut sink).is_err() {
+        bail!("no total");
     }
+    setting.outcomes.clear();
+    print_lines(rt, sink.bytes())
 }
 
 /// `skip`, `cut AT`, `bad AT`, `conn OPENER PLACE pass|block [LOG]`, `none CONFIG [LOG]`, `pass CONFIG RULE KEPT [LOG]`, `block CONFIG RULE
@@ -75,30 +76,28 @@ fn parse_outcome(words: &[&str]) -> Result<Outcome> {
 }
 
 fn parse_verdict(words: &[&str]) -> Result<Outcome> {
-    let (decision, config, rule, kept, log) = match *words {
-        ["none", config, ref log @ ..] => (
-            Decision::Block(Return::Nothing),
-            config,
-            None,
-            Kept::Nothing,
-            log,
-        ),
-        ["pass", config, rule, kept, ref log @ ..] => (
-            Decision::Pass,
-            config,
-            Some(rule.parse()?),
-            parse_kept(kept)?,
-            log,
-        ),
-        ["block", config, rule, answer, ref log @ ..] => (
-            Decision::Block(parse_return(answer)?),
-            config,
-            Some(rule.parse()?),
-            Kept::Nothing,
-            log,
-        ),
+    let blocked = Decision::Block(Return::Nothing);
+    match *words {
+        ["none", config, ref log @ ..] => by_rule(config, None, blocked, Kept::Nothing, log),
+        ["pass", config, rule, kept, ref log @ ..] => {
+            let kept = parse_kept(kept)?;
+            by_rule(config, Some(rule.parse()?), Decision::Pass, kept, log)
+        }
+        ["block", config, rule, answer, ref log @ ..] => {
+            let blocked = Decision::Block(parse_return(answer)?);
+            by_rule(config, Some(rule.parse()?), blocked, Kept::Nothing, log)
+        }
         _ => bail!("no such outcome"),
-    };
+    }
+}
+
+fn by_rule(
+    config: &str,
+    rule: Option<u32>,
+    decision: Decision,
+    kept: Kept,
+    log: &[&str],
+) -> Result<Outcome> {
     Ok(Outcome::ByRule {
         config: config.parse()?,
         rule,
