@@ -1,4 +1,5 @@
-// Texts of random shapes that are shown and read again: a text that was shown means the same model, and is shown the same.
+// Texts of random shapes that are shown and read again. npf_show_law proves that a text that was shown means the same model; no clause says
+// that the checks accept it, too.
 use crate::answer::Answer;
 use crate::random::{Draws, text_of};
 use crate::reading::{model_of, shown};

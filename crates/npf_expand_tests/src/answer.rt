@@ -33,7 +33,7 @@ pub enum Answer {
     /// Why a table isn't changed, if it isn't, and how many entries it has then.
     Changed(Option<TableFault>, u64),
     Faults,
-    /// What happened to so many random texts.
+    /// How many random texts are kept, or what happened to the first that isn't.
     Kept(u32),
     NotKept(Again, String),
 }

@@ -2,7 +2,7 @@
 //
 // Standard input has rows, as row.rt says, grouped by subject, and each is printed with its answer. The program serves the crates from a
 // text's bytes to its canonical text, which are npf_lexer, npf_parser, npf_expand, npf_check and npf_show, and the tables' one, npf_table.
-// What stdout wants comes from npf.conf(5), RFC 791, 4291, 4632 and 5952, docs/FORMATS.md and counting by hand, not from this program.
+// What stdout wants comes from npf.conf(5), npfctl(8), RFC 791, 4291 and 4632 and counting by hand, not from this program.
 #![tactic(auto)]
 
 mod again;

@@ -70,7 +70,7 @@ fn parts(line: &str) -> (&str, &str) {
     }
 }
 
-// Every second piece of what backslashes part begins with an escape, but behind an escaped backslash.
+// A piece behind a backslash begins with the escape; where it is empty the backslash is doubled, and the next piece stands as it is.
 fn push_written(text: &mut Vec<u8>, written: &str) -> Result<()> {
     let mut plain = true;
     for piece in written.split('\\') {
