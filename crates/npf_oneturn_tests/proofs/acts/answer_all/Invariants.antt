@@ -1,7 +1,7 @@
 use Rattle.std.proofs.Common.{◌≡◌, false}
 use Rattle.npf_oneturn_tests.specs.Sum.{sum_law}
 use Rattle.npf_connections.specs.Pass.{IsPass}
-use Rattle.npf_oneturn_tests.proofs.full.fill.Given as goal
+use Rattle.npf_oneturn_tests.proofs.acts.answer_all.Given as goal
 
 abbrev pub invariant-loop-n : goal.invariant-loop-n
 invariant-loop-n g l =
