@@ -3,18 +3,17 @@ ghost use Rattle.std.specs.Prelude.{◌≡◌, ◌≤◌, false};
 ghost use Rattle.npf_connections.specs.Pass.{IsPass};
 ghost use Rattle.npf_oneturn_tests.specs.Sum.{sum_law};
 
-use crate::answers::{put, same};
+use crate::answers::put;
 use crate::asking::{Then, ask, step};
-use crate::sum::{KEY, OTHER_KEY, Sum};
+use crate::sum::Sum;
 use npf_connections::Connections;
 use npf_core::Held;
-use npf_oneturn::OneTurn;
 use npf_types::Key;
 use std::sync::Wait;
 use std::test::Fail;
 
 #[derive(Clone, Copy)]
-enum Act {
+pub(crate) enum Act {
     /// A connection asks for the key, and starts.
     Ask(Key),
     /// A connection asks for the key, and is abandoned.
@@ -26,59 +25,6 @@ enum Act {
     Expire(u64),
     Collect,
 }
-
-// A table's slots, what is done with it, and the answers.
-const CASES: [(u32, &[Act], &str); 3] = [
-    // the slot's next connection comes after the first one was due, at 107, and was collected
-    (
-        1,
-        &[
-            Act::Ask(KEY),
-            Act::Ask(OTHER_KEY),
-            Act::Step(KEY),
-            Act::Step(OTHER_KEY),
-            Act::Expire(106),
-            Act::Expire(107),
-            Act::Step(KEY),
-            Act::Collect,
-            Act::Ask(KEY),
-        ],
-        "Some((ConnId { slot: 0, inc: 1 }, Done))
-None
-Some(Done { reply: 100, place: 1 })
-None
-0
-1
-None
-Some((ConnId { slot: 0, inc: 2 }, Done))
-",
-    ),
-    // an abandoned connection gives its key up at once, and its slot by a collection
-    (
-        1,
-        &[
-            Act::Abandon(KEY),
-            Act::Step(KEY),
-            Act::Ask(KEY),
-            Act::Collect,
-            Act::Ask(KEY),
-        ],
-        "Some((ConnId { slot: 0, inc: 1 }, Done))
-None
-None
-Some((ConnId { slot: 0, inc: 2 }, Done))
-",
-    ),
-    // the 65th flow of 64 slots is refused
-    (
-        64,
-        &[Act::Fill(65), Act::Abandon(KEY), Act::Expire(100)],
-        "64
-None
-64
-",
-    ),
-];
 
 // How many of so many flows, each with a key of its own, are opened before one is refused.
 fn fill<C: Connections<Sum>>(rt: &impl Wait, conns: &C, pass: &mut C::Pass, flows: u64) -> u64
@@ -131,8 +77,8 @@ fn answer<C: Connections<Sum>>(
     }
 }
 
-// Does the acts, and tells what each was answered.
-fn answer_all<C: Connections<Sum>>(
+/// Does the acts, and tells what each was answered.
+pub(crate) fn answer_all<C: Connections<Sum>>(
     rt: &impl Wait,
     conns: &C,
     pass: &mut C::Pass,
@@ -146,17 +92,6 @@ fn answer_all<C: Connections<Sum>>(
 {
     for (n, act) in acts.iter().enumerate() {
         answer(rt, conns, pass, n as u64, *act, told)?;
-    }
-    Ok(())
-}
-
-#[test]
-fn one_turn_answers_each_act(rt: HostRuntime) -> Result<(), Fail> {
-    for (slots, acts, wanted) in &CASES {
-        let (conns, mut pass) = OneTurn::<Sum>::new(rt.alloc(), *slots)?;
-        let mut told = String::new(rt.alloc());
-        answer_all(&rt, &conns, &mut pass, acts, &mut told)?;
-        same(&rt, told.as_str(), wanted);
     }
     Ok(())
 }

@@ -9,6 +9,8 @@ mod answers;
 #[cfg(test)]
 mod asking;
 #[cfg(test)]
+mod cases;
+#[cfg(test)]
 mod second_pass;
 #[cfg(test)]
 mod sharing;

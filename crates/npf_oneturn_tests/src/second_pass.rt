@@ -3,19 +3,16 @@ ghost use Rattle.std.specs.Prelude.{◌≡◌, ◌≤◌, false};
 ghost use Rattle.npf_connections.specs.Pass.{IsPass};
 ghost use Rattle.npf_oneturn_tests.specs.Sum.{sum_law};
 
-use crate::answers::{put, same};
 use crate::asking::{Asked, Then, ask};
 use crate::sum::{KEY, Sum};
 use npf_connections::Connections;
 use npf_core::Stepped;
-use npf_oneturn::OneTurn;
 use npf_types::Way;
 use std::sync::Wait;
-use std::test::Fail;
 
-// While the second pass is in the stay in which it looked the connection up, the slot isn't freed, and its step finds the
-// connection not Live; once it left, the slot is freed.
-fn known_is_not_freed<C: Connections<Sum>>(
+/// While the second pass is in the stay in which it looked the connection up, the slot isn't freed, and its step finds the
+/// connection not Live; once it left, the slot is freed.
+pub(crate) fn known_is_not_freed<C: Connections<Sum>>(
     rt: &impl Wait,
     conns: &C,
     pass: &mut C::Pass,
@@ -43,9 +40,9 @@ fn known_is_not_freed<C: Connections<Sum>>(
     (killed, kept, stale, freed)
 }
 
-// A connection is killed while a second pass rests outside any stay: after three collections its slot comes again. The second
-// pass is joined at last.
-fn freed_beside_a_resting_pass<C: Connections<Sum>>(
+/// A connection is killed while a second pass rests outside any stay: after three collections its slot comes again. The second
+/// pass is joined at last.
+pub(crate) fn freed_beside_a_resting_pass<C: Connections<Sum>>(
     rt: &impl Wait,
     conns: &C,
     pass: &mut C::Pass,
@@ -64,24 +61,4 @@ fn freed_beside_a_resting_pass<C: Connections<Sum>>(
     let again = ask(rt, conns, pass, 2, KEY, Then::Starts);
     conns.join(rt, pass, second);
     again
-}
-
-#[test]
-fn slot_of_one_turn_comes_again_beside_a_second_pass(rt: HostRuntime) -> Result<(), Fail> {
-    let mut told = String::new(rt.alloc());
-    let (conns, mut pass) = OneTurn::<Sum>::new(rt.alloc(), 1)?;
-    put(&mut told, &known_is_not_freed(&rt, &conns, &mut pass))?;
-    let (conns, mut pass) = OneTurn::<Sum>::new(rt.alloc(), 1)?;
-    put(
-        &mut told,
-        &freed_beside_a_resting_pass(&rt, &conns, &mut pass),
-    )?;
-    same(
-        &rt,
-        told.as_str(),
-        "(1, None, Some(NotLive), Some((ConnId { slot: 0, inc: 2 }, Done)))
-Some((ConnId { slot: 0, inc: 2 }, Done))
-",
-    );
-    Ok(())
 }

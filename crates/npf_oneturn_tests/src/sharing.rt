@@ -9,15 +9,12 @@ ghost use Rattle.npf_connections.specs.Said.{Did};
 ghost use Rattle.npf_oneturn_tests.specs.Joined.{TookInLook, HasHold};
 ghost use Rattle.npf_oneturn_tests.specs.Sum.{sum_law};
 
-use crate::answers::{put, same};
 use crate::asking::{Asked, Then, ask};
 use crate::sum::{KEY, OTHER_KEY, Sum};
 use npf_connections::Connections;
 use npf_core::{Found, Held};
-use npf_oneturn::OneTurn;
 use npf_types::{Key, Way};
 use std::sync::Wait;
-use std::test::Fail;
 use std::thread::{Threads, join};
 
 // Looks the key up, and does nothing else.
@@ -129,9 +126,9 @@ fn is_taken_by(one: Asked, other: Asked) -> bool {
         }
 }
 
-// How many of 64 passes find a connection that was opened before, and whether of two threads that ask for another key at once the
-// one got it and the other was told so.
-fn shared<R: Threads + Wait + Sync, C: Connections<Sum>>(
+/// How many of 64 passes find a connection that was opened before, and whether of two threads that ask for another key at once the
+/// one got it and the other was told so.
+pub(crate) fn shared<R: Threads + Wait + Sync, C: Connections<Sum>>(
     rt: &R,
     conns: &C,
     pass: &mut C::Pass,
@@ -145,13 +142,4 @@ fn shared<R: Threads + Wait + Sync, C: Connections<Sum>>(
     let found = look_apart(rt, conns, pass, 64, KEY);
     let (one, other) = ask_at_once(rt, conns, pass, OTHER_KEY);
     (found, is_taken_by(one, other) || is_taken_by(other, one))
-}
-
-#[test]
-fn passes_of_one_turn_share_it(rt: HostRuntime) -> Result<(), Fail> {
-    let (conns, mut pass) = OneTurn::<Sum>::new(rt.alloc(), 3)?;
-    let mut told = String::new(rt.alloc());
-    put(&mut told, &shared(&rt, &conns, &mut pass))?;
-    same(&rt, told.as_str(), "(64, true)\n");
-    Ok(())
 }
