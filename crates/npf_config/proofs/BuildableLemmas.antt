@@ -9,8 +9,9 @@ use Rattle.npf_syntax.specs.declared.stmt.Tree.{Tree}
 use Rattle.npf_model.specs.declared.iface.Iface.{Iface}
 use Rattle.npf_model.specs.declared.model.Model.{Model}
 use Rattle.npf_model.specs.Verdict.{all_rules}
-use Rattle.npf_expand.specs.Elaborates.{declared_in, model_of}
-use Rattle.npf_expand.specs.Table.{table_names, tables_of}
+use Rattle.npf_expand_values.specs.Declarations.{declared_in, table_names}
+use Rattle.npf_expand.specs.Elaborates.{model_of}
+use Rattle.npf_expand.specs.Table.{tables_of}
 use Rattle.npf_check.specs.Default.{default_faults}
 use Rattle.npf_check.specs.Duplicate.{duplicate_faults}
 use Rattle.npf_check.specs.Fault.{check_faults}

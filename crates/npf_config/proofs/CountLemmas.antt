@@ -15,12 +15,11 @@ use Rattle.npf_syntax.specs.declared.stmt.Stmt.{Stmt}
 use Rattle.npf_model.specs.declared.group.Group.{Group}
 use Rattle.npf_model.specs.declared.iface.Iface.{Iface}
 use Rattle.npf_model.specs.Verdict.{all_rules, rules_at, rules_of}
-use Rattle.npf_expand.specs.Atom.{Env}
+use Rattle.npf_expand_values.specs.Atom.{Env}
+use Rattle.npf_expand_values.specs.Declarations.{Declared, table_name, table_names}
+use Rattle.npf_expand_values.specs.Variable.{Definition, env_of}
 use Rattle.npf_expand.specs.Elaborates.{behind, default_group, gathered, maps_of, named_group}
 use Rattle.npf_expand.specs.Group.{item_of_tree}
-use Rattle.npf_expand.specs.Rule.{Declared}
-use Rattle.npf_expand.specs.Table.{table_name, table_names}
-use Rattle.npf_expand.specs.Variable.{Definition, env_of}
 use Rattle.npf_check.specs.Limit.{limited_places, past_faults, past_limit, rule_place}
 use Rattle.npf_config.specs.RulePlaces.{default_rule_places, inspected_places, named_rule_places}
 

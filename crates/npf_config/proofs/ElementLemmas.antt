@@ -14,13 +14,14 @@ use Rattle.npf_syntax.specs.declared.rule.RuleTree.{RuleTree}
 use Rattle.npf_syntax.specs.declared.value.Values.{Values}
 use Rattle.npf_model.specs.declared.iface.Iface.{Iface}
 use Rattle.npf_model.specs.Count.{listed}
-use Rattle.npf_expand.specs.Address.{addresses_count, address_items, host_item, items_of, listed_addresses}
-use Rattle.npf_expand.specs.Atom.{Atom, NumberAtom, RangeAtom, WordAtom, StringAtom, BlockAtom, TableAtom, AddressesAtom, Env}
-use Rattle.npf_expand.specs.Port.{atom_ports, ports_count, ports_of}
-use Rattle.npf_expand.specs.Protocol.{protocol_of, spliced_ones}
-use Rattle.npf_expand.specs.Rule.{Declared, ends_count, ends_of_written, filter_count, part_count, part_protocols, rule_of_tree, source_ends, destination_ends}
-use Rattle.npf_expand.specs.Use.{count_of, element_count}
-use Rattle.npf_expand.specs.Variable.{listed_values, spliced}
+use Rattle.npf_expand_values.specs.Address.{addresses_count, address_items, host_item, items_of, listed_addresses}
+use Rattle.npf_expand_values.specs.Atom.{Atom, NumberAtom, RangeAtom, WordAtom, StringAtom, BlockAtom, TableAtom, AddressesAtom, Env}
+use Rattle.npf_expand_values.specs.Declarations.{Declared}
+use Rattle.npf_expand_values.specs.Port.{atom_ports, ports_count, ports_of}
+use Rattle.npf_expand_values.specs.Protocol.{protocol_of, spliced_ones}
+use Rattle.npf_expand_values.specs.Use.{count_of, element_count}
+use Rattle.npf_expand_values.specs.Variable.{listed_values, spliced}
+use Rattle.npf_expand.specs.Rule.{ends_count, ends_of_written, filter_count, part_count, part_protocols, rule_of_tree, source_ends, destination_ends}
 use Rattle.npf_bpfgen.specs.RuleWeight.{HasShortEnds, HasShortLists}
 
 kept_one : {Y : Type 0} (kept : Option Y) (ys : List Y) (n m : ℕ) → ((y : Y) → kept ≡ Some y → 1 ≤ n) → length ys ≤ m → length (cons_option kept ys) ≤ n + m

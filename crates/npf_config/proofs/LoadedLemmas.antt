@@ -18,12 +18,12 @@ use Rattle.npf_model.specs.declared.group.Item.TheVariants.{One, Dynamic}
 use Rattle.npf_model.specs.declared.iface.Iface.{Iface}
 use Rattle.npf_model.specs.declared.model.Model.{Model}
 use Rattle.npf_model.specs.declared.table.TableDecl.{TableDecl}
-use Rattle.npf_expand.specs.Atom.{Env}
-use Rattle.npf_expand.specs.Elaborates.{behind, declared_in, default_group, gathered, model_of, named_group}
+use Rattle.npf_expand_values.specs.Atom.{Env}
+use Rattle.npf_expand_values.specs.Declarations.{Declared, declared_in, table_name, table_names}
+use Rattle.npf_expand_values.specs.Variable.{Definition, env_of}
+use Rattle.npf_expand.specs.Elaborates.{behind, default_group, gathered, model_of, named_group}
 use Rattle.npf_expand.specs.Group.{group_of_tree, item_of_tree}
-use Rattle.npf_expand.specs.Rule.{Declared}
-use Rattle.npf_expand.specs.Table.{table_name, table_names, tables_of}
-use Rattle.npf_expand.specs.Variable.{Definition, env_of}
+use Rattle.npf_expand.specs.Table.{tables_of}
 use Rattle.npf_ruleset.specs.declared.config.Config.{Config}
 use Rattle.npf_ruleset.specs.Configuration.{programs}
 use Rattle.npf_ruleset.specs.Refusal.{IsBuildable, IsWithinLimits}

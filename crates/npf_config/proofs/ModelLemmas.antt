@@ -14,13 +14,13 @@ use Rattle.npf_syntax.specs.declared.stmt.Stmt.{Stmt}
 use Rattle.npf_model.specs.declared.group.Group.{Group}
 use Rattle.npf_model.specs.declared.iface.Iface.{Iface}
 use Rattle.npf_model.specs.Verdict.{PlacedRule, all_rules, rules_at, rules_of}
-use Rattle.npf_expand.specs.Atom.{Env}
-use Rattle.npf_expand.specs.Elaborates.{behind, declared_in, default_group, filter_elements, gathered, named_group, stmt_elements, stmt_faults, stmts_faults}
+use Rattle.npf_expand_values.specs.Atom.{Env}
+use Rattle.npf_expand_values.specs.Declarations.{declared_in, table_names}
+use Rattle.npf_expand_values.specs.Variable.{Definition, env_of}
+use Rattle.npf_expand.specs.Elaborates.{behind, default_group, filter_elements, gathered, named_group, stmt_elements, stmt_faults, stmts_faults}
 use Rattle.npf_expand.specs.Group.{head_faults, item_elements, item_faults, item_of_tree, items_elements, items_faults}
 use Rattle.npf_expand.specs.Map.{map_faults}
 use Rattle.npf_expand.specs.Rule.{filter_count, passing_faults, rule_faults, rule_of_tree}
-use Rattle.npf_expand.specs.Table.{table_names}
-use Rattle.npf_expand.specs.Variable.{Definition, env_of}
 use Rattle.npf_check.specs.Undefined.{is_table_in, tables_of_item, tables_of_stmt, tables_of_where}
 use Rattle.npf_ruleset.specs.Refusal.{IsCompilable}
 use Rattle.npf_config.proofs.ElementLemmas.{rule_short}

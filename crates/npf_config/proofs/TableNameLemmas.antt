@@ -22,13 +22,13 @@ use Rattle.npf_syntax.specs.declared.word.Number.{Number}
 use Rattle.npf_model.specs.declared.ends.AddrItem.TheVariants.{Net, InTable}
 use Rattle.npf_model.specs.declared.iface.Iface.{Iface}
 use Rattle.npf_model.specs.Verdict.{first_where}
-use Rattle.npf_expand.specs.Address.{address_items, host_item, items_of}
-use Rattle.npf_expand.specs.Atom.{Atom, NumberAtom, RangeAtom, WordAtom, StringAtom, BlockAtom, TableAtom, AddressesAtom, Binding, Env}
-use Rattle.npf_expand.specs.Iface.{addresses_of, iface_name}
-use Rattle.npf_expand.specs.Rule.{Declared, ends_of_written, rule_of_tree, source_ends, destination_ends}
-use Rattle.npf_expand.specs.Table.{no_number, table_names, table_number}
-use Rattle.npf_expand.specs.Use.{atoms_of}
-use Rattle.npf_expand.specs.Variable.{Definition, binding_of, defined, definition_faults, env_of, length_of_block, listed_values, number_atom, spliced, unless_refused}
+use Rattle.npf_expand_values.specs.Address.{address_items, host_item, items_of}
+use Rattle.npf_expand_values.specs.Atom.{Atom, NumberAtom, RangeAtom, WordAtom, StringAtom, BlockAtom, TableAtom, AddressesAtom, Binding, Env}
+use Rattle.npf_expand_values.specs.Declarations.{Declared, no_number, table_names, table_number}
+use Rattle.npf_expand_values.specs.Iface.{addresses_of, iface_name}
+use Rattle.npf_expand_values.specs.Use.{atoms_of}
+use Rattle.npf_expand_values.specs.Variable.{Definition, binding_of, defined, definition_faults, env_of, length_of_block, listed_values, number_atom, spliced, unless_refused}
+use Rattle.npf_expand.specs.Rule.{ends_of_written, rule_of_tree, source_ends, destination_ends}
 use Rattle.npf_check.specs.Undefined.{is_table_in, table_faults, tables_of_addresses, tables_of_ends, tables_of_target, tables_of_values, tables_of_where}
 use Rattle.npf_bpfgen.specs.Condition.{HasItemNumber, HasItemNumbers, HasTableNumbers}
 use Rattle.npf_config.proofs.NoneLemmas.{back, front, untold}

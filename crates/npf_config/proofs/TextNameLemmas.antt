@@ -14,7 +14,7 @@ use Rattle.npf_phrase.specs.Phrase.{chosen, are_items}
 use Rattle.npf_phrase.specs.Grammar.{Grammar, meaning, making, ◌or◌, optional, preceded, unless, those_there}
 use Rattle.npf_parser.specs.Parse.{Parses}
 use Rattle.npf_parser.specs.Stmt.{define, set, alg, table, map, group, procedure, stmt, stmts, ends_stmt, file}
-use Rattle.npf_parser.specs.Token.{quoted, separator, text_string}
+use Rattle.npf_parser_values.specs.Token.{quoted, separator, text_string}
 use Rattle.npf_expand.specs.Table.{tables_of}
 use Rattle.npf_config.specs.Tables.{HasTextName}
 

@@ -26,8 +26,8 @@ use Rattle.npf_model.specs.Verdict.{PlacedRule, all_rules}
 use Rattle.npf_bpf.specs.declared.insn.Insn.{Insn}
 use Rattle.npf_bpfgen.specs.Condition.{HasTableNumbers}
 use Rattle.npf_bpfgen.specs.RuleWeight.{HasShortLists, weight_of}
-use Rattle.npf_expand.specs.Source.{declared_of}
-use Rattle.npf_expand.specs.Variable.{env_of}
+use Rattle.npf_expand_values.specs.Source.{declared_of}
+use Rattle.npf_expand_values.specs.Variable.{env_of}
 use Rattle.npf_check.specs.LoneRule.{is_procedure_of, is_table_of}
 use Rattle.npf_check.specs.Undefined.{applied_faults, tables_of_where}
 use Rattle.npf_check.specs.WrittenRule.{faults_of_rule}

@@ -12,8 +12,8 @@ use Rattle.npf_parser.specs.Stmt.{lone_rule}
 use Rattle.npf_model.specs.declared.iface.Iface.{Iface}
 use Rattle.npf_model.specs.declared.model.Model.{Model}
 use Rattle.npf_model.specs.declared.rule.Rule.{Rule}
+use Rattle.npf_expand_values.specs.Source.{declared_of}
 use Rattle.npf_expand.specs.LoneRule.{ElaboratesRule, RefusesRule}
-use Rattle.npf_expand.specs.Source.{declared_of}
 use Rattle.npf_check.specs.Fault.{RefusedByFirst}
 use Rattle.npf_check.specs.LoneRule.{lone_faults}
 use Rattle.npf_config_changes.specs.declared.fault.ChangeFault.TheVariants.{Conf}

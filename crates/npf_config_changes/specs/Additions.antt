@@ -27,8 +27,8 @@ use Rattle.npf_model.specs.Count.{elements_of}
 use Rattle.npf_model.specs.Verdict.{all_rules}
 use Rattle.npf_bpf.specs.declared.insn.Insn.{Insn}
 use Rattle.npf_bpfgen.specs.RuleWeight.{weight_of}
+use Rattle.npf_expand_values.specs.Source.{declared_of}
 use Rattle.npf_expand.specs.LoneRule.{ElaboratesRule, RefusesRule}
-use Rattle.npf_expand.specs.Source.{declared_of}
 use Rattle.npf_check.specs.LoneRule.{lone_faults}
 use Rattle.npf_ruleset.specs.Flat.{instructions}
 use Rattle.npf_ruleset.specs.Refusal.{AreProgramsOf}

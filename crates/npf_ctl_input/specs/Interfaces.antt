@@ -6,7 +6,7 @@ use Rattle.npf_faults.specs.declared.fault.ConfFault.{ConfFault}
 use Rattle.npf_faults.specs.declared.fault.Refused.TheVariants.{Fault as ARefusal}
 use Rattle.npf_model.specs.declared.iface.Iface.{Iface}
 use Rattle.npf_outside.specs.Files.{FilesMoment}
-use Rattle.npf_expand.specs.IfaceFile.{IsIfaceFile, RefusesIfaces}
+use Rattle.npf_expand_interfaces.specs.IfaceFile.{IsIfaceFile, RefusesIfaces}
 use Rattle.npf_ctl_messages.specs.declared.fault.CommandFault.{CommandFault}
 use Rattle.npf_ctl_messages.specs.declared.fault.CommandFault.TheVariants.{Configuration}
 use Rattle.npf_ctl_input.specs.File.{ReadsFile}

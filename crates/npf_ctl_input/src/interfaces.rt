@@ -8,7 +8,7 @@ ghost use Rattle.npf_ctl_input.specs.Unless.{UnlessMemory};
 
 use crate::file::{read_file, text_of};
 use npf_ctl_messages::CommandFault;
-use npf_expand::read_ifaces;
+use npf_expand_interfaces::read_ifaces;
 use npf_faults::Refused;
 use npf_model::Ifaces;
 use npf_outside::Files;

@@ -1,7 +1,7 @@
 // A configuration from its text.
 use anyhow::{Error, anyhow};
 use npf_config::load;
-use npf_expand::read_ifaces;
+use npf_expand_interfaces::read_ifaces;
 use npf_model::Ifaces;
 use npf_outside::Files;
 use npf_ruleset::Config;

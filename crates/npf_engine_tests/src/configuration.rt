@@ -1,6 +1,6 @@
 // A configuration from its text.
 use npf_config::load;
-use npf_expand::read_ifaces;
+use npf_expand_interfaces::read_ifaces;
 use npf_outside::MemFiles;
 use npf_ruleset::Config;
 use npf_types::limits::MAX_TEXT_BYTES;

@@ -20,17 +20,18 @@ use Rattle.npf_model.specs.declared.iface.Iface.{Iface}
 use Rattle.npf_model.specs.declared.rule.Rule.{Rule}
 use Rattle.npf_model.specs.Count.{elements_of, elements_of_ends, listed}
 use Rattle.npf_faults.specs.First.{fault_if}
-use Rattle.npf_expand.specs.declared.role.Role.{Role}
-use Rattle.npf_expand.specs.declared.role.Role.TheVariants.{AsPort, AsAddress, AsProtocol}
-use Rattle.npf_expand.specs.Address.{address_items, addresses_count, addresses_faults, host_item, items_of}
-use Rattle.npf_expand.specs.Atom.{Atom, NumberAtom, RangeAtom, WordAtom, StringAtom, BlockAtom, TableAtom, AddressesAtom, Env}
+use Rattle.npf_expand_values.specs.declared.role.Role.{Role}
+use Rattle.npf_expand_values.specs.declared.role.Role.TheVariants.{AsPort, AsAddress, AsProtocol}
+use Rattle.npf_expand_values.specs.Address.{address_items, addresses_count, addresses_faults, host_item, items_of}
+use Rattle.npf_expand_values.specs.Atom.{Atom, NumberAtom, RangeAtom, WordAtom, StringAtom, BlockAtom, TableAtom, AddressesAtom, Env}
+use Rattle.npf_expand_values.specs.Declarations.{Declared}
+use Rattle.npf_expand_values.specs.Port.{atom_ports, ports_count, ports_faults, ports_of, same_port}
+use Rattle.npf_expand_values.specs.Protocol.{one_binding, one_span, protocol_faults, protocol_of, spliced_ones, written_ones}
+use Rattle.npf_expand_values.specs.Service.{number_named, protocols, services}
+use Rattle.npf_expand_values.specs.Use.{atoms_of, count_of, element_count, is_unfit, undefined_faults, use_faults, word_faults}
+use Rattle.npf_expand_values.specs.Variable.{binding_of, each_value_faults, empty_list_at, empty_list_faults, env_of, listed_values, own_faults, spliced, value_span}
 use Rattle.npf_expand.specs.LoneRule.{ElaboratesRule, elements_alone}
-use Rattle.npf_expand.specs.Port.{atom_ports, ports_count, ports_faults, ports_of, same_port}
-use Rattle.npf_expand.specs.Protocol.{one_binding, one_span, protocol_faults, protocol_of, spliced_ones, written_ones}
-use Rattle.npf_expand.specs.Rule.{Declared, ends_count, ends_faults, ends_of_written, filter_count, filter_faults, on_faults, part_count, part_faults, part_protocols, rule_faults, rule_of_tree, source_ends, destination_ends}
-use Rattle.npf_expand.specs.Service.{number_named, protocols, services}
-use Rattle.npf_expand.specs.Use.{atoms_of, count_of, element_count, is_unfit, undefined_faults, use_faults, word_faults}
-use Rattle.npf_expand.specs.Variable.{binding_of, each_value_faults, empty_list_at, empty_list_faults, env_of, listed_values, own_faults, spliced, value_span}
+use Rattle.npf_expand.specs.Rule.{ends_count, ends_faults, ends_of_written, filter_count, filter_faults, on_faults, part_count, part_faults, part_protocols, rule_faults, rule_of_tree, source_ends, destination_ends}
 
 front : {X : Type 0} (xs ys : List X) → xs ++ ys ≡ [] → xs ≡ []
 front [] ys none = refl

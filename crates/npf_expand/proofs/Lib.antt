@@ -1,12 +1,4 @@
 pub mod ElementLemmas
-pub mod FaultLemmas
 pub mod FirstAtom
-pub mod IfaceFileLemmas
-pub mod IfaceLemmas
-pub mod KeptLemmas
-pub mod NameLemmas
-pub mod PartSize
-pub mod PlaceLemmas
 pub mod ReadLemmas
 pub mod StepLemmas
-pub mod SummaryLemmas

@@ -11,18 +11,18 @@ use Rattle.npf_model.specs.declared.map.Map.{Map}
 use Rattle.npf_model.specs.declared.model.Model.{Model}
 use Rattle.npf_faults.specs.First.{earlier, first_fault}
 use Rattle.npf_faults.proofs.FirstLemmas.{earlier-assoc, earlier-none, first_fault-append, no_first_fault, none_of_earlier}
+use Rattle.npf_expand_values.specs.Atom.{Env}
+use Rattle.npf_expand_values.specs.Declarations.{Declared, declared_in}
+use Rattle.npf_expand_values.specs.Kept.{AreSound, env_in}
+use Rattle.npf_expand_values.specs.Summary.{counted}
+use Rattle.npf_expand_values.specs.Variable.{Definition, env_of}
 use Rattle.npf_expand.specs.declared.elaborate.State.{State}
 use Rattle.npf_expand.specs.declared.met.Met.{Met}
-use Rattle.npf_expand.specs.Atom.{Env}
-use Rattle.npf_expand.specs.Elaborates.{Elaborates, behind, declared_in, default_group, gathered, maps_of, named_group, procedures_of, stmt_elements, stmt_faults, stmts_faults, tree_faults}
+use Rattle.npf_expand.specs.Elaborates.{Elaborates, behind, default_group, gathered, maps_of, named_group, procedures_of, stmt_elements, stmt_faults, stmts_faults, tree_faults}
 use Rattle.npf_expand.specs.Group.{head_faults}
-use Rattle.npf_expand.specs.Kept.{AreSound, env_in}
 use Rattle.npf_expand.specs.Map.{map_faults}
-use Rattle.npf_expand.specs.Rule.{Declared}
 use Rattle.npf_expand.specs.Step.{Adding, AddsToModel, IsStmtRead, env_behind}
-use Rattle.npf_expand.specs.Summary.{counted}
 use Rattle.npf_expand.specs.Table.{tables_of}
-use Rattle.npf_expand.specs.Variable.{Definition, env_of}
 use Rattle.npf_expand.proofs.StepLemmas.{counted-more, items_faults-counted, passing_faults-counted}
 
 -- the definitions behind statements

@@ -18,14 +18,15 @@ use Rattle.npf_model.specs.declared.group.Item.{Item}
 use Rattle.npf_model.specs.declared.iface.Iface.{Iface}
 use Rattle.npf_faults.specs.First.{earlier, fault_if, first_fault}
 use Rattle.npf_faults.proofs.FirstLemmas.{earlier-assoc, earlier-none, first_fault-append, none_of_earlier}
+use Rattle.npf_expand_values.specs.Atom.{Env}
+use Rattle.npf_expand_values.specs.Declarations.{Declared}
+use Rattle.npf_expand_values.specs.Summary.{counted}
 use Rattle.npf_expand.specs.declared.met.Met.{Met}
-use Rattle.npf_expand.specs.Atom.{Env}
 use Rattle.npf_expand.specs.Elaborates.{default_group, named_group}
 use Rattle.npf_expand.specs.Group.{group_of_tree, item_elements, item_faults, item_of_tree, items_elements, items_faults}
 use Rattle.npf_expand.specs.Meets.{Meets}
-use Rattle.npf_expand.specs.Rule.{Declared, passing_faults, rule_faults}
-use Rattle.npf_expand.specs.Summary.{counted}
-use Rattle.npf_expand.proofs.FaultLemmas.{first_of_both}
+use Rattle.npf_expand.specs.Rule.{passing_faults, rule_faults}
+use Rattle.npf_expand_values.proofs.FaultLemmas.{first_of_both}
 
 same_passing : (a b m n : ℕ) → counted a ≡ counted b → counted m ≡ counted n → (nat_le a MAX_LIST_ELEMENTS && nat_lt MAX_LIST_ELEMENTS (a + m)) ≡ (nat_le b MAX_LIST_ELEMENTS && nat_lt MAX_LIST_ELEMENTS (b + n))
 same_passing a b m n one other = grind arith

@@ -14,17 +14,14 @@ use Rattle.npf_model.specs.declared.map.Map.{Map}
 use Rattle.npf_model.specs.declared.model.Model.{Model}
 use Rattle.npf_model.specs.declared.procedure.Procedure.{Procedure}
 use Rattle.npf_faults.specs.First.{IsFirstFaultOf}
-use Rattle.npf_expand.specs.Atom.{Env}
+use Rattle.npf_expand_values.specs.Atom.{Env}
+use Rattle.npf_expand_values.specs.Declarations.{Declared, declared_in}
+use Rattle.npf_expand_values.specs.Variable.{Definition, definition_faults, env_of}
 use Rattle.npf_expand.specs.Group.{group_of_tree, head_faults, items_elements, items_faults}
 use Rattle.npf_expand.specs.Map.{map_faults, map_of_tree}
 use Rattle.npf_expand.specs.Procedure.{procedure_of}
-use Rattle.npf_expand.specs.Rule.{Declared, filter_count, passing_faults}
-use Rattle.npf_expand.specs.Table.{procedure_names, table_names, tables_of}
-use Rattle.npf_expand.specs.Variable.{Definition, definition_faults, env_of}
-
--- the names that a configuration declares, wherever in the text they stand
-abbrev pub declared_in : List Stmt → Declared
-declared_in stmts = record { tables = table_names stmts; procedures = procedure_names stmts }
+use Rattle.npf_expand.specs.Rule.{filter_count, passing_faults}
+use Rattle.npf_expand.specs.Table.{tables_of}
 
 abbrev pub procedures_of : Stmt → List Procedure
 procedures_of (Stmt.Procedure name calls span) = procedure_of name.text calls ∷ []

@@ -11,9 +11,10 @@ use Rattle.npf_model.specs.declared.group.Group.{Group}
 use Rattle.npf_model.specs.declared.group.Item.{Item}
 use Rattle.npf_model.specs.declared.group.Item.TheVariants.{One, Dynamic}
 use Rattle.npf_model.specs.declared.iface.Iface.{Iface}
-use Rattle.npf_expand.specs.Atom.{Env}
-use Rattle.npf_expand.specs.Iface.{on_iface}
-use Rattle.npf_expand.specs.Rule.{Declared, dir_of, filter_count, on_faults, passing_faults, rule_faults, rule_of_tree}
+use Rattle.npf_expand_values.specs.Atom.{Env}
+use Rattle.npf_expand_values.specs.Declarations.{Declared}
+use Rattle.npf_expand_values.specs.Iface.{on_iface}
+use Rattle.npf_expand.specs.Rule.{dir_of, filter_count, on_faults, passing_faults, rule_faults, rule_of_tree}
 
 module _ (ifaces : List Iface) (env : Env) (declared : Declared) where
   abbrev pub item_of_tree : WrittenItem → Item

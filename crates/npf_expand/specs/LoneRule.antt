@@ -7,8 +7,9 @@ use Rattle.npf_syntax.specs.declared.rule.RuleTree.{RuleTree}
 use Rattle.npf_model.specs.declared.iface.Iface.{Iface}
 use Rattle.npf_model.specs.declared.rule.Rule.{Rule}
 use Rattle.npf_faults.specs.First.{IsFirstFaultOf}
-use Rattle.npf_expand.specs.Rule.{Declared, filter_count, rule_faults, rule_of_tree}
-use Rattle.npf_expand.specs.Variable.{env_of}
+use Rattle.npf_expand_values.specs.Declarations.{Declared}
+use Rattle.npf_expand_values.specs.Variable.{env_of}
+use Rattle.npf_expand.specs.Rule.{filter_count, rule_faults, rule_of_tree}
 
 -- all faults of the rule, but for the number of its elements
 abbrev pub faults_alone : RuleTree → List Iface → List ConfFault

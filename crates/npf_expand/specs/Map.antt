@@ -23,15 +23,14 @@ use Rattle.npf_model.specs.declared.map.Algo.{Algo}
 use Rattle.npf_model.specs.declared.map.Arrow.{Arrow}
 use Rattle.npf_model.specs.declared.map.Map.{Map}
 use Rattle.npf_model.specs.declared.map.Side.{Side}
-use Rattle.npf_expand.specs.declared.role.Role.{Role}
-use Rattle.npf_expand.specs.declared.role.Role.TheVariants.{AsAddress, AsPort}
-use Rattle.npf_expand.specs.Atom.{Atom, BlockAtom, AddressesAtom, Binding, Env}
-use Rattle.npf_expand.specs.Iface.{iface_faults, on_iface}
-use Rattle.npf_expand.specs.Port.{atom_ports}
-use Rattle.npf_expand.specs.Protocol.{one_protocol, one_protocol_faults}
+use Rattle.npf_expand_values.specs.declared.role.Role.TheVariants.{AsAddress, AsPort}
+use Rattle.npf_expand_values.specs.Atom.{Atom, BlockAtom, AddressesAtom, Env}
+use Rattle.npf_expand_values.specs.Iface.{iface_faults, on_iface}
+use Rattle.npf_expand_values.specs.Port.{atom_ports}
+use Rattle.npf_expand_values.specs.Protocol.{one_protocol, one_protocol_faults}
+use Rattle.npf_expand_values.specs.Use.{atoms_of}
+use Rattle.npf_expand_values.specs.Variable.{binding_of, single_value_faults}
 use Rattle.npf_expand.specs.Rule.{filter_faults, filter_rule}
-use Rattle.npf_expand.specs.Use.{atoms_of, single_faults}
-use Rattle.npf_expand.specs.Variable.{binding_of, own_faults, value_span}
 
 abbrev pub algo_named : Option Word → Algo
 algo_named None = Algo.Netmap
@@ -68,21 +67,13 @@ abbrev pub first_port : List Atom → Option (ℕ × ℕ)
 first_port [] = None
 first_port (atom ∷ _) = atom_ports atom
 
--- the faults of one value by itself and in its place; a name that isn't defined has only its own
-abbrev pub bound_faults : Role → Value → Option Binding → List ConfFault
-bound_faults role value None = []
-bound_faults role value (Some binding) = single_faults role (value_span value) binding
-
 module _ (ifaces : List Iface) (env : Env) where
-  abbrev pub single_value_faults : Role → Value → List ConfFault
-  single_value_faults role value = own_faults ifaces env value ++ bound_faults role value (binding_of ifaces env value)
-
   abbrev pub side_port_faults : Option Value → List ConfFault
   side_port_faults None = []
-  side_port_faults (Some value) = single_value_faults AsPort value
+  side_port_faults (Some value) = single_value_faults ifaces env AsPort value
 
   abbrev pub side_faults : WrittenSide → List ConfFault
-  side_faults side = single_value_faults AsAddress side.value ++ side_port_faults side.port
+  side_faults side = single_value_faults ifaces env AsAddress side.value ++ side_port_faults side.port
 
   abbrev pub map_filter_faults : Option Filter → List ConfFault
   map_filter_faults None = []

@@ -33,18 +33,13 @@ use Rattle.npf_model.specs.declared.rule.Rule.{Rule}
 use Rattle.npf_model.specs.declared.rule.StateOpt.{StateOpt}
 use Rattle.npf_model.specs.declared.rule.StateOpt.TheVariants.{Not, OnInterface, Everywhere}
 use Rattle.npf_faults.specs.First.{fault_if}
-use Rattle.npf_expand.specs.Address.{addresses_count, addresses_faults, address_items}
-use Rattle.npf_expand.specs.Atom.{Env}
-use Rattle.npf_expand.specs.Iface.{iface_faults, on_iface}
-use Rattle.npf_expand.specs.Port.{ports_count, ports_faults, ports_of}
-use Rattle.npf_expand.specs.Protocol.{protocols_faults, protocols_of, spliced_ones}
-use Rattle.npf_expand.specs.Use.{element_count}
-use Rattle.npf_expand.specs.Table.{table_number}
-
--- the names of a configuration's tables and procedures, in the order of the text
-pub record Declared : Type 0 where
-  pub tables : List (List ℕ)
-  pub procedures : List (List ℕ)
+use Rattle.npf_expand_values.specs.Address.{addresses_count, addresses_faults, address_items}
+use Rattle.npf_expand_values.specs.Atom.{Env}
+use Rattle.npf_expand_values.specs.Declarations.{Declared, table_number}
+use Rattle.npf_expand_values.specs.Iface.{iface_faults, on_iface}
+use Rattle.npf_expand_values.specs.Port.{ports_count, ports_faults, ports_of}
+use Rattle.npf_expand_values.specs.Protocol.{protocols_faults, protocols_of, spliced_ones}
+use Rattle.npf_expand_values.specs.Use.{element_count}
 
 abbrev pub return_of : Option Answer → Return
 return_of None = Nothing

@@ -3,13 +3,13 @@ use Rattle.std.specs.Prelude.{◌≡◌, ℕ, if◌then◌else◌, Some, None, L
 use Rattle.std.specs.Str.{bytes_eq}
 use Rattle.npf_syntax.specs.declared.stmt.Stmt.{Stmt}
 use Rattle.npf_model.specs.declared.iface.Iface.{Iface}
+use Rattle.npf_expand_values.specs.Atom.{Env}
+use Rattle.npf_expand_values.specs.Declarations.{Declared}
+use Rattle.npf_expand_values.specs.Kept.{AreSound, env_in}
+use Rattle.npf_expand_values.specs.Variable.{defined}
 use Rattle.npf_expand.specs.declared.elaborate.State.{State}
-use Rattle.npf_expand.specs.Atom.{Env}
 use Rattle.npf_expand.specs.Elaborates.{default_group, gathered, maps_of, named_group, stmt_elements, stmt_faults}
-use Rattle.npf_expand.specs.Kept.{AreSound, env_in}
 use Rattle.npf_expand.specs.Meets.{Meets}
-use Rattle.npf_expand.specs.Rule.{Declared}
-use Rattle.npf_expand.specs.Variable.{defined}
 
 module _ (ifaces : List Iface) where
   -- what names are bound to behind a statement

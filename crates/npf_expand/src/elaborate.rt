@@ -4,20 +4,18 @@ ghost use Rattle.std.specs.List.{flat_map};
 ghost use Rattle.npf_types.specs.declared.span.Span.{Span};
 ghost use Rattle.npf_syntax.specs.declared.stmt.Stmt.{Stmt};
 ghost use Rattle.npf_faults.specs.First.{first_fault};
+ghost use Rattle.npf_expand_values.specs.Kept.{AreSound, env_in};
+ghost use Rattle.npf_expand_values.specs.Source.{declared_by};
 ghost use Rattle.npf_expand.specs.Elaborates.{Elaborates, RefusesTree, procedures_of, stmts_faults};
-ghost use Rattle.npf_expand.specs.Kept.{AreSound, env_in};
-ghost use Rattle.npf_expand.specs.Source.{declared_by};
 ghost use Rattle.npf_expand.specs.Step.{Adding, IsStmtRead};
 ghost use Rattle.npf_expand.specs.Table.{tables_of};
 
-use crate::declarations::Declarations;
-use crate::iface::Interfaces;
-use crate::map::MapLine;
+use crate::group::read_group;
+use crate::map::{MapLine, map_fault, map_of, pass_count};
 use crate::met::Met;
 use crate::procedure::procedure_of;
-use crate::scope::Scope;
 use crate::table::table_of;
-use crate::variable::Variables;
+use npf_expand_values::{Declarations, Interfaces, Scope, Variables};
 use npf_faults::Refused;
 use npf_model::{Group, Ifaces, Map, Model, Procedure, TableDecl};
 use npf_syntax::{GroupHead, Item, Stmt, Tree, Values, Var};
@@ -184,12 +182,12 @@ impl<'a> State<'a> {
             interfaces,
             declarations,
         };
-        let more = scope.pass_count(alloc, line.pass)?;
-        self.met.meet_rule(scope.map_fault(line), more, span);
+        let more = pass_count(&scope, alloc, line.pass)?;
+        self.met.meet_rule(map_fault(&scope, line), more, span);
         if self.met.first.is_some() {
             return Ok(());
         }
-        self.maps.push(scope.map_of(alloc, line)?)?;
+        self.maps.push(map_of(&scope, alloc, line)?)?;
         Ok(())
     }
 
@@ -209,7 +207,7 @@ impl<'a> State<'a> {
             interfaces,
             declarations,
         };
-        let group = scope.read_group(alloc, &mut self.met, head, items)?;
+        let group = read_group(&scope, alloc, &mut self.met, head, items)?;
         match head {
             GroupHead::Named { .. } => {
                 self.groups.push(group)?;

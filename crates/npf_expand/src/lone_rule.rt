@@ -1,13 +1,11 @@
 // The elaboration of one rule that stands in no text, as one that is added to a ruleset.
 ghost use Rattle.std.specs.Prelude.{◌≡◌, IfErr, IfOk};
 ghost use Rattle.npf_model.specs.Count.{elements_of};
+ghost use Rattle.npf_expand_values.specs.Source.{declared_of};
 ghost use Rattle.npf_expand.specs.LoneRule.{ElaboratesRule, RefusesRule, elements_alone};
-ghost use Rattle.npf_expand.specs.Source.{declared_of};
 
-use crate::declarations::Declarations;
-use crate::iface::Interfaces;
-use crate::scope::Scope;
-use crate::variable::Variables;
+use crate::group::{rule_fault, rule_of};
+use npf_expand_values::{Declarations, Interfaces, Scope, Variables};
 use npf_faults::Refused;
 use npf_model::{Ifaces, Model, Rule};
 use npf_syntax::RuleTree;
@@ -48,8 +46,8 @@ fn read_rule<'a>(
         interfaces,
         declarations: &declarations,
     };
-    if let Some(fault) = scope.rule_fault(tree) {
+    if let Some(fault) = rule_fault(&scope, tree) {
         return Err(Refused::Fault(fault));
     }
-    Ok(scope.rule_of(alloc, tree)?)
+    Ok(rule_of(&scope, alloc, tree)?)
 }

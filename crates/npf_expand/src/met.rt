@@ -2,11 +2,11 @@
 ghost use Rattle.std.specs.Prelude.{◌≡◌, ◌++◌, ℕ, List, [], None};
 ghost use Rattle.npf_faults.specs.declared.fault.ConfFault.{ConfFault};
 ghost use Rattle.npf_faults.specs.First.{first_fault};
+ghost use Rattle.npf_expand_values.specs.Summary.{counted};
 ghost use Rattle.npf_expand.specs.Meets.{Meets};
 ghost use Rattle.npf_expand.specs.Rule.{passing_faults};
-ghost use Rattle.npf_expand.specs.Summary.{counted};
 
-use crate::summary::counted_both;
+use npf_expand_values::counted_both;
 use npf_faults::{ConfFault, Excess, Fault, earlier, fault_if};
 use npf_types::Span;
 use npf_types::limits::MAX_LIST_ELEMENTS;

@@ -2,8 +2,8 @@
 ghost use Rattle.std.specs.Prelude.{◌≡◌, IfOk};
 ghost use Rattle.npf_expand.specs.Procedure.{log_name, procedure_of, with_call, with_calls, with_option, with_options};
 
-use crate::name::name_of;
 use crate::text::text_of;
+use npf_expand_values::name_of;
 use npf_model::Procedure;
 use npf_syntax::{Call, LogName, Opt};
 use npf_types::{Name, NoMemory};

@@ -4,8 +4,8 @@ ghost use Rattle.std.specs.Option.{option_map};
 ghost use Rattle.npf_types.specs.Named.{named};
 ghost use Rattle.npf_expand.specs.Table.{kind_of_type};
 
-use crate::name::name_of;
 use crate::text::maybe_text;
+use npf_expand_values::name_of;
 use npf_model::{Kind, TableDecl};
 use npf_syntax::{Str, TableType, Word};
 use npf_types::{NoMemory, Span};

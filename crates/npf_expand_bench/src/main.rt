@@ -6,7 +6,8 @@ mod text;
 
 use anyhow::{Error, anyhow};
 use npf_check::check;
-use npf_expand::{expand, read_ifaces};
+use npf_expand::expand;
+use npf_expand_interfaces::read_ifaces;
 use npf_faults::Refused;
 use npf_lexer::lex;
 use npf_parser::parse;

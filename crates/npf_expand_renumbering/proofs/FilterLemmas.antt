@@ -12,12 +12,12 @@ use Rattle.npf_syntax.specs.declared.value.Values.{Values}
 use Rattle.npf_model.specs.declared.ends.AddrItem.{AddrItem}
 use Rattle.npf_model.specs.declared.ends.Ends.{Ends}
 use Rattle.npf_model.specs.declared.iface.Iface.{Iface}
-use Rattle.npf_expand.specs.Address.{addresses_count, addresses_faults, address_items, items_of}
-use Rattle.npf_expand.specs.Atom.{Binding, Env}
-use Rattle.npf_expand.specs.Port.{atom_ports, ports_count, ports_faults, ports_of}
+use Rattle.npf_expand_values.specs.Address.{addresses_count, addresses_faults, address_items, items_of}
+use Rattle.npf_expand_values.specs.Atom.{Binding, Env}
+use Rattle.npf_expand_values.specs.Port.{atom_ports, ports_count, ports_faults, ports_of}
+use Rattle.npf_expand_values.specs.Use.{atoms_of, element_count}
+use Rattle.npf_expand_values.specs.Variable.{binding_of, listed_values, spliced}
 use Rattle.npf_expand.specs.Rule.{destination_ends, ends_count, ends_faults, ends_of_written, filter_count, filter_faults, filter_rule, part_count, part_faults, source_ends}
-use Rattle.npf_expand.specs.Use.{atoms_of, element_count}
-use Rattle.npf_expand.specs.Variable.{binding_of, listed_values, spliced}
 use Rattle.npf_expand_renumbering.proofs.CleanLemmas.{back, both, front}
 use Rattle.npf_expand_renumbering.proofs.IfaceLemmas.{KeepsAddresses}
 use Rattle.npf_expand_renumbering.proofs.ValueLemmas.{each_value_none, each_value_same, listed_none, listed_same}

@@ -12,9 +12,10 @@ use Rattle.npf_model.specs.declared.iface.Iface.{Iface}
 use Rattle.npf_model.specs.declared.rule.OnIf.{OnIf}
 use Rattle.npf_model.specs.declared.rule.Rule.{Rule}
 use Rattle.npf_model.specs.Numbering.{numbered_group, numbered_item}
-use Rattle.npf_expand.specs.Atom.{Env}
+use Rattle.npf_expand_values.specs.Atom.{Env}
+use Rattle.npf_expand_values.specs.Declarations.{Declared}
 use Rattle.npf_expand.specs.Group.{group_of_tree, head_faults, item_elements, item_faults, item_of_tree, items_elements, items_faults}
-use Rattle.npf_expand.specs.Rule.{Declared, dir_of, filter_count, passing_faults, rule_faults}
+use Rattle.npf_expand.specs.Rule.{dir_of, filter_count, passing_faults, rule_faults}
 use Rattle.npf_expand_renumbering.proofs.CleanLemmas.{back, both, front}
 use Rattle.npf_expand_renumbering.proofs.IfaceLemmas.{KeepsAddresses}
 use Rattle.npf_expand_renumbering.proofs.WholeLemmas.{IsWhole}

@@ -9,7 +9,7 @@ use Rattle.npf_faults.specs.declared.fault.Fault.TheVariants.{UnknownInterface}
 use Rattle.npf_syntax.specs.declared.value.Function.{Function}
 use Rattle.npf_model.specs.declared.iface.Iface.{Iface}
 use Rattle.npf_faults.specs.First.{fault_if}
-use Rattle.npf_expand.specs.Iface.{address_faults, addresses_of, addresses_of_first, has_none, is_of}
+use Rattle.npf_expand_values.specs.Iface.{address_faults, addresses_of, addresses_of_first, has_none, is_of}
 use Rattle.npf_expand_renumbering.proofs.CleanLemmas.{untold}
 
 -- the longer list gives the addresses that the shorter one gives

@@ -16,14 +16,15 @@ use Rattle.npf_model.specs.declared.rule.OnIf.{OnIf}
 use Rattle.npf_model.specs.declared.rule.Rule.{Rule}
 use Rattle.npf_model.specs.Numbering.{numbered_map, numbered_on, numbered_rule}
 use Rattle.npf_types.specs.declared.prefix.Prefix.{Prefix}
-use Rattle.npf_expand.specs.Atom.{Binding, Env}
+use Rattle.npf_expand_values.specs.Atom.{Binding, Env}
+use Rattle.npf_expand_values.specs.Declarations.{Declared}
+use Rattle.npf_expand_values.specs.Iface.{iface_faults, on_iface}
+use Rattle.npf_expand_values.specs.Protocol.{one_protocol, one_protocol_faults}
+use Rattle.npf_expand_values.specs.Use.{atoms_of}
+use Rattle.npf_expand_values.specs.Variable.{binding_of}
 use Rattle.npf_expand.specs.Elaborates.{filter_elements}
-use Rattle.npf_expand.specs.Iface.{iface_faults, on_iface}
 use Rattle.npf_expand.specs.Map.{algo_of, arrow_of_sign, first_block, first_port, map_faults, map_filter_faults, map_of_tree, side_faults, side_of, side_port, side_port_faults}
-use Rattle.npf_expand.specs.Protocol.{one_protocol, one_protocol_faults}
-use Rattle.npf_expand.specs.Rule.{Declared, filter_count, filter_faults, filter_rule, on_faults, rule_faults, rule_of_tree}
-use Rattle.npf_expand.specs.Use.{atoms_of}
-use Rattle.npf_expand.specs.Variable.{binding_of}
+use Rattle.npf_expand.specs.Rule.{filter_count, filter_faults, filter_rule, on_faults, rule_faults, rule_of_tree}
 use Rattle.npf_expand_renumbering.proofs.CleanLemmas.{back, both, front}
 use Rattle.npf_expand_renumbering.proofs.IfaceLemmas.{KeepsAddresses}
 use Rattle.npf_expand_renumbering.proofs.ValueLemmas.{single_none, single_same}

@@ -9,12 +9,13 @@ use Rattle.npf_model.specs.declared.iface.Iface.{Iface}
 use Rattle.npf_model.specs.declared.map.Map.{Map}
 use Rattle.npf_model.specs.declared.model.Model.{Model}
 use Rattle.npf_model.specs.Numbering.{numbered, numbered_group, numbered_map}
-use Rattle.npf_expand.specs.Atom.{Env}
-use Rattle.npf_expand.specs.Elaborates.{behind, declared_in, default_group, filter_elements, gathered, maps_of, named_group, procedures_of, stmt_elements, stmt_faults, stmts_faults}
+use Rattle.npf_expand_values.specs.Atom.{Env}
+use Rattle.npf_expand_values.specs.Declarations.{Declared, declared_in}
+use Rattle.npf_expand_values.specs.Variable.{Definition, env_of}
+use Rattle.npf_expand.specs.Elaborates.{behind, default_group, filter_elements, gathered, maps_of, named_group, procedures_of, stmt_elements, stmt_faults, stmts_faults}
 use Rattle.npf_expand.specs.Map.{map_faults}
-use Rattle.npf_expand.specs.Rule.{Declared, passing_faults}
+use Rattle.npf_expand.specs.Rule.{passing_faults}
 use Rattle.npf_expand.specs.Table.{tables_of}
-use Rattle.npf_expand.specs.Variable.{Definition, env_of}
 use Rattle.npf_expand_renumbering.specs.Renumbers.{Renumbers}
 use Rattle.npf_expand_renumbering.proofs.CleanLemmas.{back, both, front}
 use Rattle.npf_expand_renumbering.proofs.IfaceLemmas.{KeepsAddresses, keeps_addresses}

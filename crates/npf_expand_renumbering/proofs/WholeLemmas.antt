@@ -16,10 +16,10 @@ use Rattle.npf_syntax.specs.declared.word.Var.{Var}
 use Rattle.npf_model.specs.declared.iface.Iface.{Iface}
 use Rattle.npf_model.specs.Numbering.{numbered_on}
 use Rattle.npf_faults.specs.First.{fault_if}
-use Rattle.npf_expand.specs.Atom.{Atom, NumberAtom, RangeAtom, WordAtom, StringAtom, BlockAtom, TableAtom, AddressesAtom, Binding, Env}
-use Rattle.npf_expand.specs.Iface.{bound_name, iface_faults, iface_name, name_text, on_iface, on_text}
-use Rattle.npf_expand.specs.Use.{atoms_of, undefined_faults}
-use Rattle.npf_expand.specs.Variable.{Definition, binding_of, defined, definition_faults, empty_list_at, env_of, is_bound_to_list, is_list, listed_values, own_faults, spliced}
+use Rattle.npf_expand_values.specs.Atom.{Atom, NumberAtom, RangeAtom, WordAtom, StringAtom, BlockAtom, TableAtom, AddressesAtom, Binding, Env}
+use Rattle.npf_expand_values.specs.Iface.{bound_name, iface_faults, iface_name, name_text, on_iface, on_text}
+use Rattle.npf_expand_values.specs.Use.{atoms_of, undefined_faults}
+use Rattle.npf_expand_values.specs.Variable.{Definition, binding_of, defined, definition_faults, empty_list_at, env_of, is_bound_to_list, is_list, listed_values, own_faults, spliced}
 use Rattle.npf_expand_renumbering.proofs.CleanLemmas.{front}
 use Rattle.npf_expand_renumbering.proofs.IfaceLemmas.{KeepsAddresses}
 use Rattle.npf_expand_renumbering.proofs.ValueLemmas.{bound, defined_is, defined_same}

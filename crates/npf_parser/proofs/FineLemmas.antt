@@ -2,7 +2,7 @@
 use Rattle.std.proofs.Common.{◌≡◌, true, false, None, refl}
 use Rattle.npf_phrase.specs.Grammar.{meaning, loose}
 use Rattle.npf_phrase.proofs.TestLemmas.{fine}
-use Rattle.npf_parser.specs.Value.{iface, one, ones, one_list, protocols, number_value, address_value, table_value, function, function_value, written, value, listed_values, value_list, values}
+use Rattle.npf_parser_values.specs.Value.{iface, one, ones, one_list, protocols, number_value, address_value, table_value, function, function_value, written, value, listed_values, value_list, values}
 use Rattle.npf_parser.specs.Filter.{family, detail, proto_part, addresses, ports, ends, the_ends, filter}
 use Rattle.npf_parser.specs.Rule.{answer, action, stateful, direction, ends_walk, on, rule, item, head, items}
 use Rattle.npf_parser.specs.Map.{map_kind, arrow, side}

@@ -1,5 +1,4 @@
-pub mod TextLemmas
-pub mod LoopLemmas
+pub mod BlockLemmas
 pub mod LineLemmas
 pub mod FineLemmas
 pub mod ParseLemmas

@@ -3,30 +3,13 @@ use Rattle.std.proofs.Common.{◌≡◌, true, Some, refl}
 use Rattle.npf_lexer.specs.declared.token.Sign.TheVariants.{Comma}
 use Rattle.npf_phrase.specs.Grammar.{making, preceded, unless}
 use Rattle.npf_phrase.proofs.TestLemmas.{advances}
-use Rattle.npf_parser.specs.declared.role.Role.{Role}
-use Rattle.npf_parser.specs.Token.{sign, separator, spaced}
-use Rattle.npf_parser.specs.Value.{iface, one, ones, one_list, protocols, number_value, address_value, table_value, function, function_value, written, value, listed_values, value_list, values}
+use Rattle.npf_parser_values.specs.Token.{sign, separator}
+use Rattle.npf_parser_values.specs.Value.{iface, one, ones, one_list, protocols, number_value, address_value, table_value, function, function_value, written, value, listed_values, value_list, values}
 use Rattle.npf_parser.specs.Filter.{family, detail, proto_part, addresses, ports, ends, the_ends, filter}
 use Rattle.npf_parser.specs.Rule.{answer, action, stateful, direction, ends_walk, on, rule, item, head, items, ends_item}
 use Rattle.npf_parser.specs.Map.{map_kind, arrow, side}
 use Rattle.npf_parser.specs.Procedure.{log_name, opt, options, call, calls}
 use Rattle.npf_parser.specs.Stmt.{define, setting, set, alg, table_type, table, map, group, procedure, stmt, ends_stmt, stmts, file, lone_rule}
-
-pub value_advances : (role : Role) → advances (value role true) ≡ true
-unfolding value written number_value address_value table_value function function_value iface
-value_advances role = refl
-
-pub next_value_advances : (role : Role) → advances (preceded (spaced true (sign Comma)) (making (λ _ a. Some a) (value role true))) ≡ true
-unfolding value written number_value address_value table_value function function_value iface
-next_value_advances role = refl
-
-pub one_advances : advances one ≡ true
-unfolding one
-one_advances = refl
-
-pub next_one_advances : advances (preceded (sign Comma) (making (λ _ a. Some a) one)) ≡ true
-unfolding one
-next_one_advances = refl
 
 pub opt_advances : advances opt ≡ true
 unfolding opt

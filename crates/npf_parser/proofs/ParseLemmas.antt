@@ -8,11 +8,11 @@ use Rattle.npf_phrase.proofs.GrammarLemmas.{settled, read_takes, read_stopped, o
 use Rattle.npf_phrase.proofs.SettledLemmas.{Outcome, Settled}
 use Rattle.npf_phrase.proofs.TestLemmas.{advances, fine}
 use Rattle.npf_phrase.proofs.LooseLemmas.{viable}
-use Rattle.npf_parser.specs.declared.stop.Stop.{Stop}
-use Rattle.npf_parser.specs.declared.stop.Stop.TheVariants.{Before, NoMemory}
-use Rattle.npf_parser.specs.Answer.{Answers, refused_by}
+use Rattle.npf_parser_values.specs.declared.stop.Stop.{Stop}
+use Rattle.npf_parser_values.specs.declared.stop.Stop.TheVariants.{Before, NoMemory}
+use Rattle.npf_parser_values.specs.Answer.{Answers, refused_by}
 use Rattle.npf_parser.specs.Parse.{Means, HasMeaning, HaltsAt, StopsAt, OnFault, AnswersUnlessMemory, FaultsUnlessMemory}
-use Rattle.npf_parser.specs.Token.{place_of}
+use Rattle.npf_parser_values.specs.Token.{place_of}
 
 module _ {A : Type 0} (g : Grammar Token A) (is : advances g ≡ true) where
   it : Settled (meaning g)

@@ -11,9 +11,9 @@ use Rattle.npf_syntax.specs.declared.filter.ProtoPart.{ProtoPart}
 use Rattle.npf_syntax.specs.declared.filter.Where.{Where}
 use Rattle.npf_syntax.specs.declared.value.Values.{Values}
 use Rattle.npf_phrase.specs.Grammar.{Grammar, making, ◌&◌, ◌or◌, optional, preceded}
-use Rattle.npf_parser.specs.declared.role.Role.{Role}
-use Rattle.npf_parser.specs.Token.{span_of, quoted, says, sign, flags, number_to}
-use Rattle.npf_parser.specs.Value.{protocols, value, value_list, values}
+use Rattle.npf_parser_values.specs.declared.role.Role.{Role}
+use Rattle.npf_parser_values.specs.Token.{span_of, quoted, says, sign, flags, number_to}
+use Rattle.npf_parser_values.specs.Value.{protocols, value, value_list, values}
 
 -- "inet4" | "inet6"
 unfoldable pub family : Grammar Token Family

@@ -1,10 +1,7 @@
-pub mod Token
-pub mod Value
 pub mod Filter
 pub mod Rule
 pub mod Map
 pub mod Procedure
 pub mod Stmt
-pub mod Answer
 pub mod Parse
 pub mod Law

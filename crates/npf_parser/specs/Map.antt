@@ -6,9 +6,9 @@ use Rattle.npf_syntax.specs.declared.map.Arrow.{Arrow}
 use Rattle.npf_syntax.specs.declared.map.MapKind.{MapKind}
 use Rattle.npf_syntax.specs.declared.map.Side.{Side}
 use Rattle.npf_phrase.specs.Grammar.{Grammar, making, ◌&◌, ◌or◌, optional, preceded}
-use Rattle.npf_parser.specs.declared.role.Role.{Role}
-use Rattle.npf_parser.specs.Token.{span_of, quoted, says, sign, word}
-use Rattle.npf_parser.specs.Value.{value}
+use Rattle.npf_parser_values.specs.declared.role.Role.{Role}
+use Rattle.npf_parser_values.specs.Token.{span_of, quoted, says, sign, word}
+use Rattle.npf_parser_values.specs.Value.{value}
 
 -- "dynamic" | "static" [ "algo" WORD ]
 unfoldable pub map_kind : Grammar Token MapKind

@@ -9,7 +9,7 @@ use Rattle.npf_syntax.specs.declared.stmt.Tree.{Tree}
 use Rattle.npf_phrase.specs.Phrase.{head}
 use Rattle.npf_phrase.specs.Place.{StandsFirst, Stopped}
 use Rattle.npf_phrase.specs.Grammar.{Grammar, meaning, loose, IsUnfit}
-use Rattle.npf_parser.specs.Token.{place_of}
+use Rattle.npf_parser_values.specs.Token.{place_of}
 use Rattle.npf_parser.specs.Stmt.{file}
 
 -- the tokens up to the text's end mean this

@@ -6,7 +6,7 @@ use Rattle.npf_syntax.specs.declared.procedure.Call.{Call}
 use Rattle.npf_syntax.specs.declared.procedure.LogName.{LogName}
 use Rattle.npf_syntax.specs.declared.procedure.Opt.{Opt}
 use Rattle.npf_phrase.specs.Grammar.{Grammar, making, ◌or◌, preceded, list_of, block_of}
-use Rattle.npf_parser.specs.Token.{span_of, quoted, quoted_name, sign, separator, number_to, name_word, name_string}
+use Rattle.npf_parser_values.specs.Token.{span_of, quoted, quoted_name, sign, separator, number_to, name_word, name_string}
 use Rattle.npf_parser.specs.Rule.{ends_item}
 
 -- WORD | STRING

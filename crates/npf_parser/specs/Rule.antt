@@ -11,8 +11,8 @@ use Rattle.npf_syntax.specs.declared.rule.RuleTree.{RuleTree}
 use Rattle.npf_syntax.specs.declared.rule.Stateful.{Stateful as StatefulTree}
 use Rattle.npf_syntax.specs.declared.value.Iface.{Iface}
 use Rattle.npf_phrase.specs.Grammar.{Grammar, meaning, pure, making, ◌&◌, ◌or◌, optional, preceded, block_of}
-use Rattle.npf_parser.specs.Token.{span_of, quoted, says, sign, separator, string, name_string}
-use Rattle.npf_parser.specs.Value.{iface}
+use Rattle.npf_parser_values.specs.Token.{span_of, quoted, says, sign, separator, string, name_string}
+use Rattle.npf_parser_values.specs.Value.{iface}
 use Rattle.npf_parser.specs.Filter.{filter}
 
 -- "return" | "return-rst" | "return-icmp"

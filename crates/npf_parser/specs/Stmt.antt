@@ -8,9 +8,9 @@ use Rattle.npf_syntax.specs.declared.stmt.Stmt.{Stmt}
 use Rattle.npf_syntax.specs.declared.stmt.TableType.{TableType}
 use Rattle.npf_syntax.specs.declared.stmt.Tree.{Tree}
 use Rattle.npf_phrase.specs.Grammar.{Grammar, meaning, making, ◌&◌, ◌or◌, optional, preceded, terminated, block_of}
-use Rattle.npf_parser.specs.declared.role.Role.{Role}
-use Rattle.npf_parser.specs.Token.{span_of, quoted, says, sign, separator, string, word, variable, number, name_word, text_string, is_over, end_token, text_end}
-use Rattle.npf_parser.specs.Value.{iface, one, values}
+use Rattle.npf_parser_values.specs.declared.role.Role.{Role}
+use Rattle.npf_parser_values.specs.Token.{span_of, quoted, says, sign, separator, string, word, variable, number, name_word, text_string, is_over, end_token, text_end}
+use Rattle.npf_parser_values.specs.Value.{iface, one, values}
 use Rattle.npf_parser.specs.Filter.{filter}
 use Rattle.npf_parser.specs.Rule.{rule, head, items}
 use Rattle.npf_parser.specs.Map.{map_kind, arrow, side}

@@ -2,18 +2,15 @@
 ghost use Rattle.std.specs.Prelude.{codes};
 ghost use Rattle.npf_lexer.specs.declared.token.Sign.TheVariants as Sign;
 ghost use Rattle.npf_phrase.specs.Grammar.{meaning, optional, preceded};
-ghost use Rattle.npf_parser.specs.Answer.{Answers};
-ghost use Rattle.npf_parser.specs.Token.{quoted, sign, flags, number_to};
+ghost use Rattle.npf_parser_values.specs.Answer.{Answers};
+ghost use Rattle.npf_parser_values.specs.Token.{quoted, sign, flags, number_to};
 ghost use Rattle.npf_parser.specs.Filter.{family, flags_detail, icmp_detail, detail, proto_part, addresses, ports, ends, the_ends, filter};
 
-use crate::leaf::{read_flags, read_number_to};
-use crate::protocol::read_protocols;
-use crate::role::Role;
-use crate::stop::Stop;
-use crate::text::span_to;
-use crate::tokens::{after_word, behind_sign, behind_word};
-use crate::value::{read_value, read_value_list, read_values};
 use npf_lexer::{Sign, Token};
+use npf_parser_values::{
+    Role, Stop, after_word, behind_sign, behind_word, read_flags, read_number_to, read_protocols,
+    read_value, read_value_list, read_values, span_to,
+};
 use npf_syntax::{Addresses, Detail, Ends, Family, Filter, Number, ProtoPart, Values, Where, Word};
 use std::alloc::Global;
 
@@ -135,7 +132,7 @@ fn read_proto_part<'a>(
     }
 }
 
-#[tactic(auto, unfolding(crate::specs::Filter::addresses, crate::specs::Value::value_list))]
+#[tactic(auto, unfolding(crate::specs::Filter::addresses, npf_parser_values::specs::Value::value_list))]
 fn read_addresses<'a>(
     alloc: Global,
     tokens: &'a [Token],

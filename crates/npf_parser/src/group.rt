@@ -1,15 +1,17 @@
 // Groups of rules: a function for each line of the grammar.
+ghost use Rattle.std.specs.Prelude.{◌≡◌};
 ghost use Rattle.npf_phrase.specs.Grammar.{meaning};
-ghost use Rattle.npf_parser.specs.Answer.{Answers};
-ghost use Rattle.npf_parser.specs.Rule.{item, head, items};
+ghost use Rattle.npf_phrase.specs.Phrase.{head as first_of};
+ghost use Rattle.npf_parser_values.specs.Answer.{Answers};
+ghost use Rattle.npf_parser.specs.Rule.{item, head, items, ends_item};
 ghost use Rattle.npf_parser.specs.Stmt.{group};
 
-use crate::leaf::{read_name_string, read_string};
 use crate::rule::{direction_of, read_on, read_rule};
-use crate::stop::Stop;
-use crate::text::span_to;
-use crate::tokens::{after_sign, after_word, behind_separator, behind_word, ends_item};
 use npf_lexer::{Sign, Token};
+use npf_parser_values::{
+    Stop, after_sign, after_word, behind_separator, behind_sign, behind_word, is_at_separator,
+    read_name_string, read_string, span_to,
+};
 use npf_syntax::{GroupHead, Item, Stmt};
 use npf_types::List;
 use std::alloc::Global;
@@ -67,6 +69,13 @@ fn read_head<'a>(alloc: Global, tokens: &'a [Token]) -> Result<(GroupHead, &'a [
             ))
         }
     }
+}
+
+/// Whether an item between braces ends here.
+pub(crate) fn ends_item(tokens: &[Token]) -> bool
+    ensures { result ≡ ends_item (first_of tokens.now) }
+{
+    is_at_separator(tokens) || behind_sign(Sign::CloseBrace, tokens).is_some()
 }
 
 /// Items with separators between them.

@@ -13,16 +13,9 @@
 mod filter;
 mod group;
 pub mod laws;
-mod leaf;
 mod map;
 mod procedure;
-mod protocol;
-mod role;
 mod rule;
 mod stmt;
-mod stop;
-mod text;
-mod tokens;
-mod value;
 
 pub use stmt::{parse, parse_rule};

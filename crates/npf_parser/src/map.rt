@@ -1,22 +1,19 @@
 // Maps: a function for each line of the grammar.
 ghost use Rattle.std.specs.Prelude.{codes, false};
 ghost use Rattle.npf_phrase.specs.Grammar.{meaning, optional, preceded};
-ghost use Rattle.npf_parser.specs.Answer.{Answers};
-ghost use Rattle.npf_parser.specs.Token.{quoted, word};
-ghost use Rattle.npf_parser.specs.Value.{one, value};
+ghost use Rattle.npf_parser_values.specs.Answer.{Answers};
+ghost use Rattle.npf_parser_values.specs.Token.{quoted, word};
+ghost use Rattle.npf_parser_values.specs.Value.{one, value};
 ghost use Rattle.npf_parser.specs.Filter.{filter};
 ghost use Rattle.npf_parser.specs.Map.{map_kind, arrow, side};
 ghost use Rattle.npf_parser.specs.Stmt.{map};
 
 use crate::filter::read_filter;
-use crate::leaf::read_word;
-use crate::protocol::read_one;
-use crate::role::Role;
-use crate::stop::Stop;
-use crate::text::span_to;
-use crate::tokens::{after_word, behind_sign, behind_word};
-use crate::value::{read_iface, read_value};
 use npf_lexer::{Sign, Token};
+use npf_parser_values::{
+    Role, Stop, after_word, behind_sign, behind_word, read_iface, read_one, read_value, read_word,
+    span_to,
+};
 use npf_syntax::{Arrow, Filter, MapKind, One, Side, Stmt, Value, Word};
 use std::alloc::Global;
 

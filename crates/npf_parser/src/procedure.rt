@@ -1,16 +1,15 @@
 // Procedures: a function for each line of the grammar.
 ghost use Rattle.npf_phrase.specs.Grammar.{meaning};
-ghost use Rattle.npf_parser.specs.Answer.{Answers};
+ghost use Rattle.npf_parser_values.specs.Answer.{Answers};
 ghost use Rattle.npf_parser.specs.Procedure.{log_name, opt, options, call, calls};
 ghost use Rattle.npf_parser.specs.Stmt.{procedure};
 
-use crate::leaf::{read_name_string, read_name_word, read_number_to, read_string};
-use crate::stop::Stop;
-use crate::text::span_to;
-use crate::tokens::{
-    after_sign, after_word, behind_name, behind_separator, behind_sign, behind_word, ends_item,
-};
+use crate::group::ends_item;
 use npf_lexer::{Sign, Token, TokenKind};
+use npf_parser_values::{
+    Stop, after_sign, after_word, behind_name, behind_separator, behind_sign, behind_word,
+    read_name_string, read_name_word, read_number_to, read_string, span_to,
+};
 use npf_syntax::{Call, LogName, Opt, Stmt};
 use npf_types::List;
 use std::alloc::Global;

@@ -1,17 +1,13 @@
 // Rules: a function for each line of the grammar.
 ghost use Rattle.std.specs.Prelude.{◌≡◌, Ok, codes};
 ghost use Rattle.npf_phrase.specs.Grammar.{meaning, optional, preceded};
-ghost use Rattle.npf_parser.specs.Answer.{Answers};
-ghost use Rattle.npf_parser.specs.Token.{quoted, string};
+ghost use Rattle.npf_parser_values.specs.Answer.{Answers};
+ghost use Rattle.npf_parser_values.specs.Token.{quoted, string};
 ghost use Rattle.npf_parser.specs.Rule.{answer, action, stateful, direction, ends_walk, on, rule};
 
 use crate::filter::read_filter;
-use crate::leaf::read_string;
-use crate::stop::Stop;
-use crate::text::span_to;
-use crate::tokens::behind_word;
-use crate::value::read_iface;
 use npf_lexer::Token;
+use npf_parser_values::{Stop, behind_word, read_iface, read_string, span_to};
 use npf_syntax::{Answer, Direction, Iface, RuleAction, RuleTree, Stateful, Str};
 use std::alloc::Global;
 

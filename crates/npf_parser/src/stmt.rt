@@ -5,25 +5,23 @@ ghost use Rattle.npf_faults.specs.declared.fault.Fault.TheVariants.{Expected};
 ghost use Rattle.npf_syntax.specs.declared.rule.RuleTree.{RuleTree};
 ghost use Rattle.npf_syntax.specs.declared.stmt.Tree.{Tree};
 ghost use Rattle.npf_phrase.specs.Grammar.{meaning, optional, preceded};
-ghost use Rattle.npf_parser.specs.Answer.{Answers};
-ghost use Rattle.npf_parser.specs.Token.{quoted, text_string};
-ghost use Rattle.npf_parser.specs.Stmt.{define, setting, set, alg, table_type, table, stmt, stmts, file, lone_rule};
+ghost use Rattle.npf_phrase.specs.Phrase.{head};
+ghost use Rattle.npf_parser_values.specs.Answer.{Answers};
+ghost use Rattle.npf_parser_values.specs.Token.{quoted, text_string};
+ghost use Rattle.npf_parser.specs.Stmt.{define, setting, set, alg, table_type, table, stmt, ends_stmt, stmts, file, lone_rule};
 ghost use Rattle.npf_parser.specs.Parse.{Means, Parses, HasMeaning, HaltsAt, StopsAt, OnFault, AnswersUnlessMemory, FaultsUnlessMemory};
 
 use crate::group::read_group;
-use crate::leaf::{
-    read_name_word, read_number, read_string, read_text_string, read_variable, read_word,
-};
 use crate::map::read_map;
 use crate::procedure::read_procedure;
-use crate::role::Role;
 use crate::rule::read_rule;
-use crate::stop::{Stop, refused_by};
-use crate::text::span_to;
-use crate::tokens::{after_sign, after_word, behind_separator, behind_word, ends_stmt, read_end};
-use crate::value::read_values;
 use npf_faults::Refused;
 use npf_lexer::{Sign, Token, TokenKind};
+use npf_parser_values::{
+    Role, Stop, after_sign, after_word, behind_separator, behind_word, is_at_separator, read_end,
+    read_name_word, read_number, read_string, read_text_string, read_values, read_variable,
+    read_word, refused_by, span_to,
+};
 use npf_syntax::{RuleTree, Setting, Stmt, Str, TableType, Tree};
 use npf_types::List;
 use std::alloc::Global;
@@ -165,6 +163,17 @@ fn read_stmt<'a>(alloc: Global, tokens: &'a [Token]) -> Result<(Stmt, &'a [Token
         return read_procedure(alloc, tokens);
     }
     read_define(alloc, tokens)
+}
+
+/// Whether a statement ends here.
+fn ends_stmt(tokens: &[Token]) -> bool
+    ensures { result ≡ ends_stmt (head tokens.now) }
+{
+    is_at_separator(tokens)
+        || match tokens.first() {
+            Some(token) => matches!(token.kind, TokenKind::End),
+            None => true,
+        }
 }
 
 /// Statements with separators between them.

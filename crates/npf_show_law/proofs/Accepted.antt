@@ -3,7 +3,7 @@ use Rattle.std.proofs.Common.{refl, sym, subst}
 use Rattle.npf_show_tokens.specs.Showable.{IsShowable}
 use Rattle.npf_show_meaning.specs.Regular.{IsRegular}
 use Rattle.npf_show_meaning.proofs.ShownText.{shown_text_means_lem}
-use Rattle.npf_expand.specs.Table.{procedure_name}
+use Rattle.npf_expand_values.specs.Declarations.{procedure_name}
 use Rattle.npf_show_law.specs.Law.{AcceptedIsShown, LawOfShow}
 use Rattle.npf_show_law.proofs.Gives.{sound_parts}
 use Rattle.npf_show_law.proofs.Sound.{file_gives}

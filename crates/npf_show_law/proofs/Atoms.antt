@@ -20,11 +20,11 @@ use Rattle.npf_syntax.specs.declared.word.Number.{Number}
 use Rattle.npf_model.specs.declared.iface.Iface.{Iface}
 use Rattle.npf_faults.specs.First.{fault_if}
 use Rattle.npf_check.specs.Undefined.{table_faults, tables_of_values}
-use Rattle.npf_expand.specs.Atom.{Atom, NumberAtom, RangeAtom, WordAtom, StringAtom, BlockAtom, TableAtom, AddressesAtom, Binding, Env}
-use Rattle.npf_expand.specs.Iface.{iface_binding, iface_span, iface_faults, name_text, only_name, bound_name, iface_name, addresses_of_first, addresses_of, is_of, has_none, address_faults}
-use Rattle.npf_expand.specs.Use.{atoms_of, undefined_faults}
-use Rattle.npf_expand.specs.Variable.{Definition, number_atom, length_of_block, empty_list_at, binding_of, own_faults, spliced, definition_faults, is_bound_to_list, is_list, unless_refused, defined, env_of}
-use Rattle.npf_parser.specs.Value.{is_range}
+use Rattle.npf_expand_values.specs.Atom.{Atom, NumberAtom, RangeAtom, WordAtom, StringAtom, BlockAtom, TableAtom, AddressesAtom, Binding, Env}
+use Rattle.npf_expand_values.specs.Iface.{iface_binding, iface_span, iface_faults, name_text, only_name, bound_name, iface_name, addresses_of_first, addresses_of, is_of, has_none, address_faults}
+use Rattle.npf_expand_values.specs.Use.{atoms_of, undefined_faults}
+use Rattle.npf_expand_values.specs.Variable.{Definition, number_atom, length_of_block, empty_list_at, binding_of, own_faults, spliced, definition_faults, is_bound_to_list, is_list, unless_refused, defined, env_of}
+use Rattle.npf_parser_values.specs.Value.{is_range}
 use Rattle.npf_show_tokens.specs.Showable.{FitsAddr}
 use Rattle.npf_show_tokens.specs.Tokens.{is_run_word}
 use Rattle.npf_show_law.proofs.Gives.{Every}

@@ -17,16 +17,17 @@ use Rattle.npf_syntax.specs.declared.value.Values.{Values}
 use Rattle.npf_model.specs.declared.group.Group.{Group}
 use Rattle.npf_model.specs.declared.iface.Iface.{Iface}
 use Rattle.npf_model.specs.declared.map.Map.{Map}
-use Rattle.npf_expand.specs.Address.{addresses_count, address_items, host_item, items_of}
-use Rattle.npf_expand.specs.Atom.{Atom, NumberAtom, RangeAtom, WordAtom, StringAtom, BlockAtom, TableAtom, AddressesAtom, Env}
+use Rattle.npf_expand_values.specs.Address.{addresses_count, address_items, host_item, items_of}
+use Rattle.npf_expand_values.specs.Atom.{Atom, NumberAtom, RangeAtom, WordAtom, StringAtom, BlockAtom, TableAtom, AddressesAtom, Env}
+use Rattle.npf_expand_values.specs.Declarations.{Declared}
+use Rattle.npf_expand_values.specs.Port.{atom_ports, ports_count, ports_of}
+use Rattle.npf_expand_values.specs.Protocol.{protocol_of, spliced_ones}
+use Rattle.npf_expand_values.specs.Use.{count_of, element_count}
+use Rattle.npf_expand_values.specs.Variable.{Definition, env_of, listed_values, spliced}
 use Rattle.npf_expand.specs.Elaborates.{behind, default_group, filter_elements, gathered, maps_of, named_group, stmt_elements, stmt_faults, stmts_faults}
 use Rattle.npf_expand.specs.Group.{group_of_tree, head_faults, item_elements, item_faults, item_of_tree, items_elements, items_faults}
 use Rattle.npf_expand.specs.Map.{map_faults, map_of_tree}
-use Rattle.npf_expand.specs.Port.{atom_ports, ports_count, ports_of}
-use Rattle.npf_expand.specs.Protocol.{protocol_of, spliced_ones}
-use Rattle.npf_expand.specs.Rule.{Declared, ends_count, ends_of_written, filter_count, filter_rule, part_count, part_protocols, passing_faults, rule_faults, source_ends, destination_ends}
-use Rattle.npf_expand.specs.Use.{count_of, element_count}
-use Rattle.npf_expand.specs.Variable.{Definition, env_of, listed_values, spliced}
+use Rattle.npf_expand.specs.Rule.{ends_count, ends_of_written, filter_count, filter_rule, part_count, part_protocols, passing_faults, rule_faults, source_ends, destination_ends}
 use Rattle.npf_show_meaning.specs.Regular.{listed_length, ends_elements, rule_elements, entry_elements, pass_elements}
 use Rattle.npf_show_law.proofs.Atoms.{front_none, back_none, untold}
 

@@ -30,15 +30,15 @@ use Rattle.npf_model.specs.declared.ends.AddrItem.TheVariants.{Net, InTable}
 use Rattle.npf_model.specs.declared.iface.Iface.{Iface}
 use Rattle.npf_model.specs.declared.model.Model.{Model}
 use Rattle.npf_check.specs.Undefined.{table_faults, tables_of_addresses, tables_of_ends, tables_of_target, tables_of_where}
-use Rattle.npf_expand.specs.Address.{items_of, addresses_faults, address_items}
-use Rattle.npf_expand.specs.Atom.{Atom, Binding, Env}
-use Rattle.npf_expand.specs.Port.{atom_ports, ports_faults, ports_of}
-use Rattle.npf_expand.specs.Protocol.{one_span, one_binding, protocol_of, written_ones, protocol_faults, protocols_faults, spliced_ones, protocols_of}
+use Rattle.npf_expand_values.specs.Address.{items_of, addresses_faults, address_items}
+use Rattle.npf_expand_values.specs.Atom.{Atom, Binding, Env}
+use Rattle.npf_expand_values.specs.Declarations.{table_number}
+use Rattle.npf_expand_values.specs.Port.{atom_ports, ports_faults, ports_of}
+use Rattle.npf_expand_values.specs.Protocol.{one_span, one_binding, protocol_of, written_ones, protocol_faults, protocols_faults, spliced_ones, protocols_of}
+use Rattle.npf_expand_values.specs.Use.{undefined_faults, atoms_of}
+use Rattle.npf_expand_values.specs.Variable.{value_span, empty_list_at, binding_of, own_faults, spliced}
 use Rattle.npf_expand.specs.Rule.{flag_bit, flag_bits, mask_bits, flags_of_detail, as_byte, icmp_of_detail, detail_of_part, source_ends, destination_ends, ends_faults, part_faults, filter_faults, part_protocols, ends_of_written, filter_rule}
-use Rattle.npf_expand.specs.Table.{table_number}
-use Rattle.npf_expand.specs.Use.{undefined_faults, atoms_of}
-use Rattle.npf_expand.specs.Variable.{value_span, empty_list_at, binding_of, own_faults, spliced}
-use Rattle.npf_parser.specs.Token.{nowhere, is_flag}
+use Rattle.npf_parser_values.specs.Token.{nowhere, is_flag}
 use Rattle.npf_show.specs.Filter.{flag_text}
 use Rattle.npf_show_tokens.specs.Showable.{FitsByte, FitsAddr, IsShowableRange, IsShowableItem, AreShowableEnds, AreShowableFlags, IsShowableFilter}
 use Rattle.npf_show_tokens.specs.Tokens.{is_run_word}

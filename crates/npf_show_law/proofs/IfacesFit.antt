@@ -5,7 +5,7 @@ use Rattle.std.specs.List.{All}
 use Rattle.npf_types.specs.declared.address.Addr.{Addr}
 use Rattle.npf_types.specs.AddressText.{IsAddressText}
 use Rattle.npf_model.specs.declared.iface.Iface.{Iface}
-use Rattle.npf_expand.specs.IfaceFile.{Each, IsInterface, written_lines, file_lines}
+use Rattle.npf_expand_interfaces.specs.IfaceFile.{Each, IsInterface, written_lines, file_lines}
 use Rattle.npf_show_tokens.specs.Showable.{FitsAddr}
 use Rattle.npf_show_law.specs.Law.{InterfacesFit}
 use Rattle.npf_show_law.proofs.AddressFits.{address_fits}

@@ -21,14 +21,14 @@ use Rattle.npf_faults.specs.First.{fault_if}
 use Rattle.npf_syntax.specs.declared.filter.Addresses.{Addresses}
 use Rattle.npf_syntax.specs.declared.value.One.{One}
 use Rattle.npf_syntax.specs.declared.value.Value.{Value}
-use Rattle.npf_expand.specs.Address.{items_of, host_item, addresses_faults}
-use Rattle.npf_expand.specs.Atom.{Atom, NumberAtom, RangeAtom, WordAtom, StringAtom, BlockAtom, TableAtom, AddressesAtom, Env}
-use Rattle.npf_expand.specs.Port.{atom_ports, same_port}
-use Rattle.npf_expand.specs.Protocol.{protocol_of, one_protocol_faults}
+use Rattle.npf_expand_values.specs.Address.{items_of, host_item, addresses_faults}
+use Rattle.npf_expand_values.specs.Atom.{Atom, NumberAtom, RangeAtom, WordAtom, StringAtom, BlockAtom, TableAtom, AddressesAtom, Env}
+use Rattle.npf_expand_values.specs.Declarations.{table_number}
+use Rattle.npf_expand_values.specs.Port.{atom_ports, same_port}
+use Rattle.npf_expand_values.specs.Protocol.{protocol_of, one_protocol_faults}
+use Rattle.npf_expand_values.specs.Service.{Names, services, protocols, number_named}
 use Rattle.npf_expand.specs.Map.{side_port_faults}
-use Rattle.npf_expand.specs.Table.{table_number}
-use Rattle.npf_expand.specs.Service.{Names, services, protocols, number_named}
-use Rattle.npf_parser.specs.Token.{nowhere}
+use Rattle.npf_parser_values.specs.Token.{nowhere}
 use Rattle.npf_show_tokens.specs.Showable.{FitsByte, FitsAddr, IsShowablePrefix, IsShowableRange}
 use Rattle.npf_show_tokens.specs.Tokens.{is_run_word}
 use Rattle.npf_show_meaning.specs.Regular.{IsForward}

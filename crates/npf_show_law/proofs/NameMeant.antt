@@ -16,8 +16,9 @@ use Rattle.npf_model.specs.declared.table.TableDecl.{TableDecl}
 use Rattle.npf_model.specs.Verdict.{first_where}
 use Rattle.npf_check.specs.Limit.{limited_places, past_faults, past_limit}
 use Rattle.npf_check.specs.Name.{NameAt, is_among}
+use Rattle.npf_expand_values.specs.Declarations.{no_number, table_name, table_names, table_number, procedure_name, procedure_names}
 use Rattle.npf_expand.specs.Elaborates.{procedures_of}
-use Rattle.npf_expand.specs.Table.{no_number, table_name, table_names, table_number, procedure_name, procedure_names, tables_of}
+use Rattle.npf_expand.specs.Table.{tables_of}
 use Rattle.npf_show_law.proofs.Gives.{Every}
 use Rattle.npf_show_law.proofs.Sound.{IsSoundStmt}
 use Rattle.npf_show_law.proofs.FilterMeant.{named_text}

@@ -28,8 +28,8 @@ use Rattle.npf_syntax.specs.declared.value.Values.{Values}
 use Rattle.npf_syntax.specs.declared.word.Address.{Address}
 use Rattle.npf_syntax.specs.declared.word.Str.{Str}
 use Rattle.npf_syntax.specs.declared.word.Word.{Word}
-use Rattle.npf_parser.specs.Token.{string, word, address, flags, is_flag, string_test, a_word_test, address_test, spaced, span_of, sign, quoted}
-use Rattle.npf_parser.specs.Value.{is_range, is_prefix, can_stand, called, function_value, ones, one_list, protocols, number_value, address_value, table_value, written, value, listed_values, value_list, values}
+use Rattle.npf_parser_values.specs.Token.{string, word, address, flags, is_flag, string_test, a_word_test, address_test, spaced, span_of, sign, quoted}
+use Rattle.npf_parser_values.specs.Value.{is_range, is_prefix, can_stand, called, function_value, ones, one_list, protocols, number_value, address_value, table_value, written, value, listed_values, value_list, values}
 use Rattle.npf_parser.specs.Filter.{flags_detail, icmp_detail, detail, proto_part, addresses, ports, ends, the_ends, filter}
 use Rattle.npf_parser.specs.Rule.{rule, item, head, items}
 use Rattle.npf_parser.specs.Map.{side}

@@ -31,19 +31,20 @@ use Rattle.npf_model.specs.declared.map.Map.{Map}
 use Rattle.npf_model.specs.declared.model.Model.{Model}
 use Rattle.npf_model.specs.declared.procedure.Procedure.{Procedure}
 use Rattle.npf_check.specs.Undefined.{table_faults, tables_of_where, tables_of_pass, tables_of_item, tables_of_stmt, applied_faults, procedures_of_item, procedures_of_stmt}
-use Rattle.npf_expand.specs.Atom.{Atom, NumberAtom, RangeAtom, WordAtom, StringAtom, BlockAtom, TableAtom, AddressesAtom, Env}
+use Rattle.npf_expand_values.specs.Atom.{Atom, NumberAtom, RangeAtom, WordAtom, StringAtom, BlockAtom, TableAtom, AddressesAtom, Env}
+use Rattle.npf_expand_values.specs.Declarations.{Declared, table_number}
+use Rattle.npf_expand_values.specs.Iface.{iface_faults, on_text, on_iface}
+use Rattle.npf_expand_values.specs.Port.{same_port, atom_ports}
+use Rattle.npf_expand_values.specs.Protocol.{protocol_of, first_protocol, one_binding, one_protocol}
+use Rattle.npf_expand_values.specs.Service.{services, protocols, number_named}
+use Rattle.npf_expand_values.specs.Use.{atoms_of}
+use Rattle.npf_expand_values.specs.Variable.{binding_of, own_faults}
 use Rattle.npf_expand.specs.Elaborates.{stmt_faults, named_group, default_group, maps_of, procedures_of}
 use Rattle.npf_expand.specs.Group.{item_of_tree, item_elements, item_faults, items_faults, head_faults, group_of_tree}
-use Rattle.npf_expand.specs.Iface.{iface_faults, on_text, on_iface}
 use Rattle.npf_expand.specs.Map.{first_host, side_block, first_block, first_port, side_port_faults, side_faults, side_port, side_of, map_filter_faults, map_faults}
-use Rattle.npf_expand.specs.Port.{same_port, atom_ports}
 use Rattle.npf_expand.specs.Procedure.{with_option, with_options, with_call, with_calls}
-use Rattle.npf_expand.specs.Protocol.{protocol_of, first_protocol, one_binding, one_protocol}
-use Rattle.npf_expand.specs.Rule.{Declared, on_faults, filter_faults, rule_faults, filter_rule, rule_of_tree}
-use Rattle.npf_expand.specs.Service.{services, protocols, number_named}
-use Rattle.npf_expand.specs.Table.{table_number, tables_of}
-use Rattle.npf_expand.specs.Use.{atoms_of}
-use Rattle.npf_expand.specs.Variable.{binding_of, own_faults}
+use Rattle.npf_expand.specs.Rule.{on_faults, filter_faults, rule_faults, filter_rule, rule_of_tree}
+use Rattle.npf_expand.specs.Table.{tables_of}
 use Rattle.npf_show.specs.Rule.{name_of_procedure}
 use Rattle.npf_show_tokens.specs.Showable.{IsPlain, FitsByte, FitsAddr, IsShowablePrefix, IsShowableRange, IsShowableItem, IsShowableFilter, IsShowableRule, IsShowableEntry, IsShowableGroup, IsShowableSide, IsShowableMap, IsShowableProcedure, IsShowableTable}
 use Rattle.npf_show_tokens.specs.Tokens.{is_run_word}

@@ -18,11 +18,11 @@ use Rattle.npf_model.specs.declared.procedure.Procedure.{Procedure}
 use Rattle.npf_model.specs.declared.table.TableDecl.{TableDecl}
 use Rattle.npf_check.specs.Limit.{past_faults}
 use Rattle.npf_check.specs.Undefined.{is_table_in, tables_of_stmt, procedures_of_stmt}
-use Rattle.npf_expand.specs.Atom.{Env}
-use Rattle.npf_expand.specs.Elaborates.{behind, declared_in, default_group, gathered, maps_of, model_of, named_group, procedures_of, stmt_elements, stmt_faults, stmts_faults, tree_faults}
-use Rattle.npf_expand.specs.Rule.{Declared}
-use Rattle.npf_expand.specs.Table.{table_name, table_names, table_number, procedure_names, tables_of}
-use Rattle.npf_expand.specs.Variable.{Definition, env_of}
+use Rattle.npf_expand_values.specs.Atom.{Env}
+use Rattle.npf_expand_values.specs.Declarations.{Declared, declared_in, table_name, table_names, table_number, procedure_names}
+use Rattle.npf_expand_values.specs.Variable.{Definition, env_of}
+use Rattle.npf_expand.specs.Elaborates.{behind, default_group, gathered, maps_of, model_of, named_group, procedures_of, stmt_elements, stmt_faults, stmts_faults, tree_faults}
+use Rattle.npf_expand.specs.Table.{tables_of}
 use Rattle.npf_show.specs.Ends.{name_of_table}
 use Rattle.npf_show.specs.Rule.{name_of_procedure}
 use Rattle.npf_show_tokens.specs.Showable.{IsPlain, FitsAddr, IsShowable, IsShowableItem, IsShowableGroup, IsShowableMap, IsShowableProcedure, IsShowableTable}

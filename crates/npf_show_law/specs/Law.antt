@@ -7,8 +7,8 @@ use Rattle.npf_syntax.specs.declared.stmt.Tree.{Tree}
 use Rattle.npf_model.specs.declared.iface.Iface.{Iface}
 use Rattle.npf_model.specs.declared.model.Model.{Model}
 use Rattle.npf_parser.specs.Parse.{Parses}
+use Rattle.npf_expand_interfaces.specs.IfaceFile.{IsIfaceFile}
 use Rattle.npf_expand.specs.Elaborates.{Elaborates}
-use Rattle.npf_expand.specs.IfaceFile.{IsIfaceFile}
 use Rattle.npf_check.specs.Fault.{check_faults}
 use Rattle.npf_show_tokens.specs.Showable.{FitsAddr, IsShowable}
 use Rattle.npf_show_meaning.specs.Law.{MeansAgain}

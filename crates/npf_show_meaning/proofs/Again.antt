@@ -12,9 +12,10 @@ use Rattle.npf_model.specs.declared.map.Map.{Map}
 use Rattle.npf_model.specs.declared.model.Model.{Model}
 use Rattle.npf_model.specs.declared.procedure.Procedure.{Procedure}
 use Rattle.npf_model.specs.declared.table.TableDecl.{TableDecl}
-use Rattle.npf_expand.specs.Atom.{Env}
-use Rattle.npf_expand.specs.Elaborates.{declared_in, gathered, stmt_elements, stmt_faults, stmts_faults, tree_faults, model_of, named_group, default_group, maps_of, procedures_of}
-use Rattle.npf_expand.specs.Table.{tables_of, table_name, table_names, procedure_name, procedure_names}
+use Rattle.npf_expand_values.specs.Atom.{Env}
+use Rattle.npf_expand_values.specs.Declarations.{declared_in, table_name, table_names, procedure_name, procedure_names}
+use Rattle.npf_expand.specs.Elaborates.{gathered, stmt_elements, stmt_faults, stmts_faults, tree_faults, model_of, named_group, default_group, maps_of, procedures_of}
+use Rattle.npf_expand.specs.Table.{tables_of}
 use Rattle.npf_show_meaning.specs.Law.{AreSameTables, SameButSpans}
 use Rattle.npf_show_meaning.specs.Regular.{names_of_model, is_default, entry_elements, pass_elements, model_elements}
 use Rattle.npf_show_meaning.proofs.Lists.{Each}

@@ -7,7 +7,7 @@ use Rattle.npf_lexer.specs.declared.token.TokenKind.{TokenKind}
 use Rattle.npf_lexer.specs.declared.token.TokenKind.TheVariants as Kind
 use Rattle.npf_phrase.specs.Grammar.{Grammar, meaning, any_number, preceded, unless, block_of, those_there}
 use Rattle.npf_phrase.proofs.TestLemmas.{advances}
-use Rattle.npf_parser.specs.Token.{separator}
+use Rattle.npf_parser_values.specs.Token.{separator}
 use Rattle.npf_show.specs.Piece.{Piece}
 use Rattle.npf_show_meaning.proofs.Goes.{Goes, Sees, Anything, token_goes, make, turn, pick_first, pick_second, pure_goes, preceded_goes, none_goes, more_goes}
 use Rattle.npf_show_meaning.proofs.Lists.{onto, onto_both, Each}

@@ -23,14 +23,14 @@ use Rattle.npf_model.specs.declared.ends.Ends.{Ends}
 use Rattle.npf_model.specs.declared.iface.Iface.{Iface}
 use Rattle.npf_model.specs.declared.model.Model.{Model}
 use Rattle.npf_phrase.specs.Grammar.{meaning, optional, preceded}
-use Rattle.npf_parser.specs.Token.{quoted, span_of}
-use Rattle.npf_parser.specs.Value.{value, values, can_stand, is_port, is_port_end}
+use Rattle.npf_parser_values.specs.Token.{quoted, span_of}
+use Rattle.npf_parser_values.specs.Value.{value, values, can_stand, is_port, is_port_end}
 use Rattle.npf_parser.specs.Filter.{addresses, ports, ends, the_ends}
-use Rattle.npf_expand.specs.Address.{items_of, addresses_faults, addresses_count, address_items}
-use Rattle.npf_expand.specs.Atom.{Atom}
-use Rattle.npf_expand.specs.Port.{atom_ports, ports_faults, ports_count, ports_of}
+use Rattle.npf_expand_values.specs.Address.{items_of, addresses_faults, addresses_count, address_items}
+use Rattle.npf_expand_values.specs.Atom.{Atom}
+use Rattle.npf_expand_values.specs.Port.{atom_ports, ports_faults, ports_count, ports_of}
+use Rattle.npf_expand_values.specs.Variable.{empty_list_at}
 use Rattle.npf_expand.specs.Rule.{ends_faults, ends_of_written, ends_count, source_ends, destination_ends}
-use Rattle.npf_expand.specs.Variable.{empty_list_at}
 use Rattle.npf_show.specs.Ends.{name_of_table, item_pieces, range_pieces, ports_pieces, ends_pieces, is_said, where_pieces}
 use Rattle.npf_show.specs.Piece.{Piece, spaced, optional_pieces, list_pieces}
 use Rattle.npf_show.specs.Piece as Pieces

@@ -8,7 +8,7 @@ use Rattle.npf_lexer.specs.declared.token.TokenKind.TheVariants as Kind
 use Rattle.npf_syntax.specs.declared.stmt.Stmt.{Stmt}
 use Rattle.npf_model.specs.declared.iface.Iface.{Iface}
 use Rattle.npf_model.specs.declared.model.Model.{Model}
-use Rattle.npf_parser.specs.Value.{iface, one, ones, one_list, protocols, number_value, address_value, table_value, function, function_value, written, value, listed_values, value_list, values}
+use Rattle.npf_parser_values.specs.Value.{iface, one, ones, one_list, protocols, number_value, address_value, table_value, function, function_value, written, value, listed_values, value_list, values}
 use Rattle.npf_parser.specs.Filter.{family, detail, proto_part, addresses, ports, ends, the_ends, filter as the_filter}
 use Rattle.npf_parser.specs.Rule.{answer, action, stateful, direction, ends_walk, on, rule, item, head, items}
 use Rattle.npf_parser.specs.Map.{map_kind, arrow, side}

@@ -26,14 +26,14 @@ use Rattle.npf_model.specs.declared.model.Model.{Model}
 use Rattle.npf_model.specs.declared.rule.Rule.{Rule}
 use Rattle.npf_model.specs.declared.rule.StateOpt.TheVariants.{Not}
 use Rattle.npf_phrase.specs.Grammar.{optional, preceded}
-use Rattle.npf_parser.specs.Token.{sign, number, number_to, flags, is_flag, quoted, span_of}
-use Rattle.npf_parser.specs.Value.{one, ones, one_list, protocols}
+use Rattle.npf_parser_values.specs.Token.{sign, number, number_to, flags, is_flag, quoted, span_of}
+use Rattle.npf_parser_values.specs.Value.{one, ones, one_list, protocols}
 use Rattle.npf_parser.specs.Filter.{family, detail, proto_part, filter}
-use Rattle.npf_expand.specs.Atom.{Atom, NumberAtom}
-use Rattle.npf_expand.specs.Protocol.{one_binding, protocol_of, protocol_faults, protocols_faults, spliced_ones, protocols_of}
+use Rattle.npf_expand_values.specs.Atom.{Atom, NumberAtom}
+use Rattle.npf_expand_values.specs.Protocol.{one_binding, protocol_of, protocol_faults, protocols_faults, spliced_ones, protocols_of}
+use Rattle.npf_expand_values.specs.Use.{element_count, atoms_of, count_of}
+use Rattle.npf_expand_values.specs.Variable.{alone_binding}
 use Rattle.npf_expand.specs.Rule.{is_inet6, flag_bits, flags_of_detail, icmp_of_detail, detail_of_part, part_faults, part_protocols, part_count, filter_faults, filter_rule, filter_count, as_byte}
-use Rattle.npf_expand.specs.Use.{element_count, atoms_of, count_of}
-use Rattle.npf_expand.specs.Variable.{alone_binding}
 use Rattle.npf_show.specs.Ends.{where_pieces}
 use Rattle.npf_show.specs.Filter.{family_pieces, protocol_pieces, protocols_pieces, letters_of_bits, letter_if_set, flag_text, flags_pieces, code_pieces, icmp_pieces, filter_pieces}
 use Rattle.npf_show.specs.Piece.{Piece, glued, spaced, optional_pieces, comma_list, list_pieces}

@@ -17,7 +17,7 @@ use Rattle.npf_phrase.proofs.GrammarLemmas.{settled}
 use Rattle.npf_phrase.proofs.NumberLemmas.{number_step}
 use Rattle.npf_phrase.proofs.ReadingLemmas.{not_true}
 use Rattle.npf_phrase.proofs.TestLemmas.{advances}
-use Rattle.npf_parser.specs.Token.{quoted, sign, says, span_of, when}
+use Rattle.npf_parser_values.specs.Token.{quoted, sign, says, span_of, when}
 
 abbrev pub kinds : List Token → List TokenKind
 kinds ts = map (λ t. t.kind) ts

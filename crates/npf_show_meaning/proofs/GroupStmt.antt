@@ -11,7 +11,7 @@ use Rattle.npf_syntax.specs.declared.stmt.Stmt.{Stmt}
 use Rattle.npf_model.specs.declared.group.Group.{Group}
 use Rattle.npf_model.specs.declared.iface.Iface.{Iface}
 use Rattle.npf_model.specs.declared.model.Model.{Model}
-use Rattle.npf_parser.specs.Token.{span_of}
+use Rattle.npf_parser_values.specs.Token.{span_of}
 use Rattle.npf_parser.specs.Rule.{head}
 use Rattle.npf_parser.specs.Stmt.{group}
 use Rattle.npf_expand.specs.Group.{group_of_tree}

@@ -27,14 +27,14 @@ use Rattle.npf_model.specs.declared.map.Side.{Side}
 use Rattle.npf_model.specs.declared.model.Model.{Model}
 use Rattle.npf_model.specs.declared.rule.Rule.{Rule}
 use Rattle.npf_phrase.specs.Grammar.{optional, preceded}
-use Rattle.npf_parser.specs.Token.{word, quoted, span_of}
-use Rattle.npf_parser.specs.Value.{one, value, can_stand, is_port, is_port_end}
+use Rattle.npf_parser_values.specs.Token.{word, quoted, span_of}
+use Rattle.npf_parser_values.specs.Value.{one, value, can_stand, is_port, is_port_end}
 use Rattle.npf_parser.specs.Filter.{filter}
 use Rattle.npf_parser.specs.Map.{map_kind, arrow, side}
 use Rattle.npf_parser.specs.Stmt.{map}
+use Rattle.npf_expand_values.specs.Protocol.{one_protocol, one_protocol_faults}
 use Rattle.npf_expand.specs.Elaborates.{filter_elements}
 use Rattle.npf_expand.specs.Map.{algo_of, arrow_of_sign, side_faults, side_of, side_port, side_port_faults, map_filter_faults}
-use Rattle.npf_expand.specs.Protocol.{one_protocol, one_protocol_faults}
 use Rattle.npf_expand.specs.Rule.{filter_rule}
 use Rattle.npf_show.specs.Ends.{prefix_pieces}
 use Rattle.npf_show.specs.Map.{algo_pieces, one_proto_pieces, side_port_pieces, side_pieces, arrow_pieces, pass_pieces}

@@ -9,9 +9,10 @@ use Rattle.npf_model.specs.declared.map.Map.{Map}
 use Rattle.npf_model.specs.declared.model.Model.{Model}
 use Rattle.npf_model.specs.declared.procedure.Procedure.{Procedure}
 use Rattle.npf_model.specs.declared.table.TableDecl.{TableDecl}
+use Rattle.npf_expand_values.specs.Declarations.{table_name, procedure_name}
+use Rattle.npf_expand_values.specs.Variable.{Definition}
 use Rattle.npf_expand.specs.Elaborates.{behind, stmt_elements, stmt_faults, named_group, default_group, maps_of, procedures_of}
-use Rattle.npf_expand.specs.Table.{tables_of, table_name, procedure_name}
-use Rattle.npf_expand.specs.Variable.{Definition}
+use Rattle.npf_expand.specs.Table.{tables_of}
 use Rattle.npf_show_meaning.specs.Law.{AreSameTables}
 use Rattle.npf_show_meaning.specs.Regular.{names_of_model, entry_elements, pass_elements}
 use Rattle.npf_show_meaning.proofs.Says.{nameless}

@@ -19,7 +19,7 @@ use Rattle.npf_model.specs.declared.iface.Iface.{Iface}
 use Rattle.npf_model.specs.declared.model.Model.{Model}
 use Rattle.npf_model.specs.declared.procedure.Procedure.{Procedure}
 use Rattle.npf_phrase.specs.Grammar.{Grammar, preceded}
-use Rattle.npf_parser.specs.Token.{quoted_name, sign, span_of, when}
+use Rattle.npf_parser_values.specs.Token.{quoted_name, sign, span_of, when}
 use Rattle.npf_parser.specs.Rule.{ends_item}
 use Rattle.npf_parser.specs.Procedure.{log_name, opt, options, call, calls}
 use Rattle.npf_parser.specs.Stmt.{procedure}

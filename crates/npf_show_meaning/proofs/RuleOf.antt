@@ -26,12 +26,12 @@ use Rattle.npf_model.specs.declared.rule.Rule.{Rule}
 use Rattle.npf_model.specs.declared.rule.StateOpt.{StateOpt}
 use Rattle.npf_model.specs.declared.rule.StateOpt.TheVariants.{Not, OnInterface, Everywhere}
 use Rattle.npf_phrase.specs.Grammar.{meaning, optional, preceded, ◌&◌}
-use Rattle.npf_parser.specs.Token.{string, name_string, quoted, says, span_of}
-use Rattle.npf_parser.specs.Value.{iface}
+use Rattle.npf_parser_values.specs.Token.{string, name_string, quoted, says, span_of}
+use Rattle.npf_parser_values.specs.Value.{iface}
 use Rattle.npf_parser.specs.Rule.{answer, action, stateful, direction, ends_walk, on, rule}
-use Rattle.npf_expand.specs.Iface.{iface_faults, on_iface}
+use Rattle.npf_expand_values.specs.Declarations.{table_number}
+use Rattle.npf_expand_values.specs.Iface.{iface_faults, on_iface}
 use Rattle.npf_expand.specs.Rule.{return_of, decision_of, state_of_words, dir_of, filter_count, on_faults, rule_faults, rule_of_tree}
-use Rattle.npf_expand.specs.Table.{table_number}
 use Rattle.npf_show.specs.Bound.{dir_pieces, on_pieces}
 use Rattle.npf_show.specs.Filter.{filter_pieces}
 use Rattle.npf_show.specs.Piece.{optional_pieces}

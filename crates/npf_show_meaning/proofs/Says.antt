@@ -14,15 +14,15 @@ use Rattle.npf_syntax.specs.declared.word.Number.{Number}
 use Rattle.npf_syntax.specs.declared.word.Word.{Word}
 use Rattle.npf_model.specs.declared.ends.AddrItem.TheVariants.{Net, InTable}
 use Rattle.npf_model.specs.declared.iface.Iface.{Iface}
-use Rattle.npf_parser.specs.Token.{nowhere}
-use Rattle.npf_parser.specs.Value.{is_port, is_port_end}
-use Rattle.npf_expand.specs.Address.{items_of, addresses_faults}
-use Rattle.npf_expand.specs.Atom.{Atom, Env}
+use Rattle.npf_parser_values.specs.Token.{nowhere}
+use Rattle.npf_parser_values.specs.Value.{is_port, is_port_end}
+use Rattle.npf_expand_values.specs.Address.{items_of, addresses_faults}
+use Rattle.npf_expand_values.specs.Atom.{Atom, Env}
+use Rattle.npf_expand_values.specs.Declarations.{table_number}
+use Rattle.npf_expand_values.specs.Port.{atom_ports, ports_faults}
+use Rattle.npf_expand_values.specs.Use.{element_count, count_of, atoms_of}
+use Rattle.npf_expand_values.specs.Variable.{alone_binding, binding_of, own_faults, spliced, length_of_block, number_atom, env_of}
 use Rattle.npf_expand.specs.Map.{first_block, side_faults, side_port, side_port_faults}
-use Rattle.npf_expand.specs.Port.{atom_ports, ports_faults}
-use Rattle.npf_expand.specs.Table.{table_number}
-use Rattle.npf_expand.specs.Use.{element_count, count_of, atoms_of}
-use Rattle.npf_expand.specs.Variable.{alone_binding, binding_of, own_faults, spliced, length_of_block, number_atom, env_of}
 use Rattle.npf_show_meaning.proofs.Lists.{Each}
 
 module _ (ifaces : List Iface) where

@@ -18,7 +18,7 @@ use Rattle.npf_model.specs.declared.table.Kind.{Kind as TableKind}
 use Rattle.npf_model.specs.declared.table.Kind.TheVariants.{Ipset, Lpm, Const}
 use Rattle.npf_model.specs.declared.table.TableDecl.{TableDecl}
 use Rattle.npf_phrase.specs.Grammar.{optional, preceded}
-use Rattle.npf_parser.specs.Token.{word, text_string, quoted, span_of}
+use Rattle.npf_parser_values.specs.Token.{word, text_string, quoted, span_of}
 use Rattle.npf_parser.specs.Stmt.{table_type, table}
 use Rattle.npf_expand.specs.Table.{kind_of_type}
 use Rattle.npf_show.specs.Ends.{angled}

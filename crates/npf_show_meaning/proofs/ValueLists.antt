@@ -10,8 +10,8 @@ use Rattle.npf_lexer.specs.declared.token.TokenKind.TheVariants as Kind
 use Rattle.npf_syntax.specs.declared.value.Value.{Value}
 use Rattle.npf_syntax.specs.declared.value.ValueList.{ValueList}
 use Rattle.npf_phrase.specs.Grammar.{meaning, making, pure, preceded, terminated, ◌or◌}
-use Rattle.npf_parser.specs.Token.{sign, quoted, line_feed, spaced, span_of}
-use Rattle.npf_parser.specs.Value.{number_value, address_value, table_value, function_value, function, iface, written, value, listed_values, values_inside, value_list}
+use Rattle.npf_parser_values.specs.Token.{sign, quoted, line_feed, spaced, span_of}
+use Rattle.npf_parser_values.specs.Value.{number_value, address_value, table_value, function_value, function, iface, written, value, listed_values, values_inside, value_list}
 use Rattle.npf_show.specs.Piece.{Piece, comma_list, list_pieces}
 use Rattle.npf_show_meaning.proofs.Goes.{Goes, Sees, HeadIn, Anything, at, sees_first, sees_none, making_goes, preceded_goes, terminated_goes, first_goes, second_goes, sign_goes}
 use Rattle.npf_show_meaning.proofs.Lists.{onto, onto_both, comma, Each, list_goes}

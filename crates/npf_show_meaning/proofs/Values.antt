@@ -17,9 +17,9 @@ use Rattle.npf_syntax.specs.declared.word.Number.{Number}
 use Rattle.npf_syntax.specs.declared.word.Word.{Word}
 use Rattle.npf_model.specs.declared.iface.Iface.{Iface}
 use Rattle.npf_phrase.specs.Grammar.{Grammar, meaning, both, fitted, any_number, preceded, terminated, ◌or◌}
-use Rattle.npf_parser.specs.Token.{sign, number, address, word, line_feed, gap, spaced, span_of}
-use Rattle.npf_parser.specs.Value.{number_behind, number_value, address_value, table_value, word_value, function_value, function, variable_value, string_value, written, value, is_range, is_prefix, is_port, is_port_end, can_stand}
-use Rattle.npf_expand.specs.Variable.{length_of_block}
+use Rattle.npf_parser_values.specs.Token.{sign, number, address, word, line_feed, gap, spaced, span_of}
+use Rattle.npf_parser_values.specs.Value.{number_behind, number_value, address_value, table_value, word_value, function_value, function, variable_value, string_value, written, value, is_range, is_prefix, is_port, is_port_end, can_stand}
+use Rattle.npf_expand_values.specs.Variable.{length_of_block}
 use Rattle.npf_show.specs.Ends.{prefix_pieces, length_pieces, angled, range_pieces, last_pieces}
 use Rattle.npf_show.specs.Piece.{Piece, glued}
 use Rattle.npf_show.specs.Piece as Pieces

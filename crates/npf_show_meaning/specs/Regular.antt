@@ -24,9 +24,8 @@ use Rattle.npf_model.specs.declared.rule.OnIf.{OnIf}
 use Rattle.npf_model.specs.declared.rule.Rule.{Rule}
 use Rattle.npf_model.specs.declared.rule.StateOpt.TheVariants.{Not}
 use Rattle.npf_model.specs.declared.table.TableDecl.{TableDecl}
-use Rattle.npf_expand.specs.Iface.{on_text}
-use Rattle.npf_expand.specs.Rule.{Declared}
-use Rattle.npf_expand.specs.Table.{table_number}
+use Rattle.npf_expand_values.specs.Declarations.{Declared, table_number}
+use Rattle.npf_expand_values.specs.Iface.{on_text}
 use Rattle.npf_show.specs.Ends.{name_of_table}
 use Rattle.npf_show.specs.Rule.{name_of_procedure}
 

@@ -12,8 +12,8 @@ use Rattle.npf_types.specs.NameText.{is_name}
 use Rattle.npf_types.specs.Named.{named, name_where}
 use Rattle.npf_types.proofs.PrefixLemmas.{block_is}
 use Rattle.npf_model.specs.Verdict.{first_where}
+use Rattle.npf_expand_values.specs.Declarations.{no_number, table_number}
 use Rattle.npf_expand.specs.Rule.{flag_bits}
-use Rattle.npf_expand.specs.Table.{no_number, table_number}
 use Rattle.npf_show.specs.Filter.{flag_text}
 use Rattle.npf_show_tokens.specs.Values.{IsFirstName, ValuesComeBack}
 

@@ -6,8 +6,8 @@ use Rattle.npf_types.specs.Block.{block}
 use Rattle.npf_types.specs.Name.{name_bytes}
 use Rattle.npf_types.specs.NameText.{is_name}
 use Rattle.npf_types.specs.Named.{named}
+use Rattle.npf_expand_values.specs.Declarations.{no_number, table_number}
 use Rattle.npf_expand.specs.Rule.{flag_bits}
-use Rattle.npf_expand.specs.Table.{no_number, table_number}
 use Rattle.npf_show.specs.Filter.{flag_text}
 
 -- the name stands at this place and at none before

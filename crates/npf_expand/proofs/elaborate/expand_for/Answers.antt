@@ -1,7 +1,7 @@
 use Rattle.std.proofs.Common.{refl, sym, ap, ◌∙◌}
 use Rattle.npf_faults.proofs.FirstLemmas.{is_first_fault}
+use Rattle.npf_expand_values.specs.Source.{declared_by}
 use Rattle.npf_expand.specs.Elaborates.{tree_faults}
-use Rattle.npf_expand.specs.Source.{declared_by}
 use Rattle.npf_expand.proofs.ReadLemmas.{state_model, tree_elaborates, tree_first}
 use Rattle.npf_expand.proofs.elaborate.expand_for.Goals as goal
 

@@ -1,4 +1,4 @@
-use Rattle.npf_expand.specs.Source.{declared_by}
+use Rattle.npf_expand_values.specs.Source.{declared_by}
 use Rattle.npf_expand.proofs.ReadLemmas.{stmts_adding, stmts_first, stmts_start, stmts_step}
 use Rattle.npf_expand.proofs.elaborate.read_stmts.Goals as goal
 

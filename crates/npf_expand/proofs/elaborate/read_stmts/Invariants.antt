@@ -1,4 +1,4 @@
-use Rattle.npf_expand.specs.Source.{declared_by}
+use Rattle.npf_expand_values.specs.Source.{declared_by}
 use Rattle.npf_expand.proofs.ReadLemmas.{StmtsLeft}
 use Rattle.npf_expand.proofs.elaborate.read_stmts.Given as goal
 

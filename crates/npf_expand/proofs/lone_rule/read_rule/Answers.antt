@@ -2,10 +2,11 @@ use Rattle.std.proofs.Common.{sym, ap, ◌∙◌}
 use Rattle.std.proofs.Math.Path.{fun_ext}
 use Rattle.npf_faults.specs.First.{first_fault}
 use Rattle.npf_faults.proofs.FirstLemmas.{is_first_fault, no_first_fault}
-use Rattle.npf_expand.specs.Atom.{Env}
+use Rattle.npf_expand_values.specs.Atom.{Env}
+use Rattle.npf_expand_values.specs.Declarations.{Declared}
+use Rattle.npf_expand_values.specs.Source.{declared_by, declared_of}
 use Rattle.npf_expand.specs.LoneRule.{faults_alone, rule_alone}
-use Rattle.npf_expand.specs.Rule.{Declared, rule_faults, rule_of_tree}
-use Rattle.npf_expand.specs.Source.{declared_by, declared_of}
+use Rattle.npf_expand.specs.Rule.{rule_faults, rule_of_tree}
 use Rattle.npf_expand.proofs.ElementLemmas.{lone_elements}
 use Rattle.npf_expand.proofs.lone_rule.read_rule.Goals as goal
 

@@ -1,10 +1,10 @@
 use Rattle.std.proofs.Common.{◌≡◌, Err, sym, subst, rules, arith}
 use Rattle.npf_phrase.specs.Grammar.{meaning}
 use Rattle.npf_phrase.proofs.ListLemmas.{leaves}
-use Rattle.npf_parser.specs.Answer.{Answers}
+use Rattle.npf_parser_values.specs.Answer.{Answers}
 use Rattle.npf_parser.specs.Rule.{item, items, ends_item}
 use Rattle.npf_parser.proofs.LineLemmas.{next_item_advances, item_advances}
-use Rattle.npf_parser.proofs.LoopLemmas.{block_skips, block_closes, block_goes, block_ends, block_fails}
+use Rattle.npf_parser.proofs.BlockLemmas.{block_skips, block_closes, block_goes, block_ends, block_fails}
 use Rattle.npf_parser.proofs.group.read_items.Goals as goal
 
 pub items-preserved-in-Some : goal.items-preserved-in-Some

@@ -1,11 +1,11 @@
 use Rattle.std.proofs.Common.{◌≡◌, Err, sym, subst, rules, arith}
 use Rattle.npf_phrase.specs.Grammar.{meaning}
 use Rattle.npf_phrase.proofs.ListLemmas.{leaves}
-use Rattle.npf_parser.specs.Answer.{Answers}
+use Rattle.npf_parser_values.specs.Answer.{Answers}
 use Rattle.npf_parser.specs.Procedure.{call, calls}
 use Rattle.npf_parser.specs.Rule.{ends_item}
 use Rattle.npf_parser.proofs.LineLemmas.{next_call_advances, call_advances}
-use Rattle.npf_parser.proofs.LoopLemmas.{block_skips, block_closes, block_goes, block_ends, block_fails}
+use Rattle.npf_parser.proofs.BlockLemmas.{block_skips, block_closes, block_goes, block_ends, block_fails}
 use Rattle.npf_parser.proofs.procedure.read_calls.Goals as goal
 
 pub calls-preserved-in-Some : goal.calls-preserved-in-Some

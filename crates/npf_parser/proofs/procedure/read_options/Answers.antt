@@ -2,11 +2,11 @@ use Rattle.std.proofs.Common.{◌≡◌, Err, refl, sym, subst, rules, arith}
 use Rattle.npf_phrase.specs.Grammar.{meaning}
 use Rattle.npf_phrase.proofs.ListLemmas.{leaves}
 use Rattle.npf_lexer.specs.declared.token.Sign.TheVariants.{Comma}
-use Rattle.npf_parser.specs.Answer.{Answers}
+use Rattle.npf_parser_values.specs.Answer.{Answers}
 use Rattle.npf_parser.specs.Procedure.{opt, options}
-use Rattle.npf_parser.specs.Token.{sign}
+use Rattle.npf_parser_values.specs.Token.{sign}
 use Rattle.npf_parser.proofs.LineLemmas.{next_opt_advances, opt_advances}
-use Rattle.npf_parser.proofs.LoopLemmas.{list_goes, list_ends, list_fails}
+use Rattle.npf_parser_values.proofs.LoopLemmas.{list_goes, list_ends, list_fails}
 use Rattle.npf_parser.proofs.procedure.read_options.Goals as goal
 
 pub returns-in_err-option : goal.returns-in_err-option

@@ -1,7 +1,7 @@
 use Rattle.std.proofs.Common.{List, ◌++◌, ◌∷◌, [], append-nil, refl, sym, ap, ◌∙◌}
 use Rattle.npf_model.specs.declared.group.Group.{Group}
-use Rattle.npf_expand.specs.Source.{declared_by}
-use Rattle.npf_expand.specs.Kept.{env_in}
+use Rattle.npf_expand_values.specs.Source.{declared_by}
+use Rattle.npf_expand_values.specs.Kept.{env_in}
 use Rattle.npf_expand.proofs.StepLemmas.{default_is, default_none, named_is, named_none}
 use Rattle.npf_expand.proofs.elaborate.State.add_group.Goals as goal
 

@@ -1,11 +1,11 @@
 use Rattle.std.proofs.Common.{append-nil, refl, sym, ap, ◌∙◌}
+use Rattle.npf_expand_values.specs.Kept.{env_in}
+use Rattle.npf_expand_values.specs.Source.{declared_by}
 use Rattle.npf_expand.specs.Elaborates.{filter_elements}
-use Rattle.npf_expand.specs.Kept.{env_in}
 use Rattle.npf_expand.specs.Map.{map_faults}
-use Rattle.npf_expand.specs.Source.{declared_by}
 use Rattle.npf_model.specs.declared.map.Map.{Map}
 use Rattle.std.proofs.Common.{◌++◌, ◌∷◌, []}
-use Rattle.npf_expand.proofs.FaultLemmas.{some_or_none}
+use Rattle.npf_expand_values.proofs.FaultLemmas.{some_or_none}
 use Rattle.npf_expand.proofs.elaborate.State.add_map.Goals as goal
 
 pub returns-then-is_some : goal.returns-then-is_some

@@ -1,9 +1,9 @@
 use Rattle.std.proofs.Common.{subst, sym}
 use Rattle.npf_types.specs.declared.span.Span.{Span}
 use Rattle.npf_syntax.specs.declared.stmt.Stmt.{Stmt}
-use Rattle.npf_expand.specs.Source.{declared_by}
+use Rattle.npf_expand_values.specs.Source.{declared_by}
 use Rattle.npf_expand.specs.Step.{IsStmtRead}
-use Rattle.npf_expand.proofs.FaultLemmas.{on_ok}
+use Rattle.npf_expand_values.proofs.FaultLemmas.{on_ok}
 use Rattle.npf_expand.proofs.elaborate.State.step.Goals as goal
 
 pub returns-in-Define : goal.returns-in-Define

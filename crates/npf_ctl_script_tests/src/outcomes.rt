@@ -1,0 +1,150 @@
+// The lines of a report, of outcomes that are written in words.
+use crate::setting::Setting;
+use crate::texts::print_lines;
+use anyhow::{Context, Result, bail};
+use npf_core::{ConnId, Found};
+use npf_ctl_output::put_total;
+use npf_engine::{DropWhy, Kept, Outcome};
+use npf_outside::MemSink;
+use npf_packet::BadPacket;
+use npf_report::line;
+use npf_types::{Decision, Dir, Name, Return, Way};
+
+const ID: ConnId = ConnId { slot: 3, inc: 2 };
+
+const HOLDER: Found = Found {
+    id: ID,
+    way: Way::Backward,
+};
+
+/// Prints the lines of an outcome, of the packet 1 that came in and of the packet 1,000,000 that went out.
+pub fn print_outcome(
+    rt: &(impl Print + AllocGlobal),
+    setting: &mut Setting,
+    text: &str,
+) -> Result<()> {
+    let words: Vec<&str> = text.split_whitespace().collect(rt.alloc())?;
+    let outcome = parse_outcome(&words)?;
+    let iface = parse_name("wm0")?;
+    println!(rt)?;
+    let first = line(rt.alloc(), 1, iface, Dir::In, &outcome)?;
+    print_lines(rt, first.as_slice())?;
+    let last = line(rt.alloc(), 1_000_000, iface, Dir::Out, &outcome)?;
+    print_lines(rt, last.as_slice())?;
+    setting.outcomes.push(outcome)?;
+    Ok(())
+}
+
+/// Prints the total line of the outcomes behind the last one.
+pub fn print_total(rt: &(impl Print + AllocGlobal), setting: &mut Setting) -> Result<()> {
+    println!(rt)?;
+    let mut sink = MemSink::new(rt.alloc())?;
+    if put_total(rt.alloc(), setting.outcomes.as_slice(), &mut sink).is_err() {
+        bail!("no total");
+    }
+    setting.outcomes.clear();
+    print_lines(rt, sink.bytes())
+}
+
+/// `skip`, `cut AT`, `bad AT`, `conn OPENER PLACE pass|block [LOG]`, `none CONFIG [LOG]`, `pass CONFIG RULE KEPT [LOG]`, `block CONFIG RULE
+/// RETURN [LOG]` or `drop CONFIG RULE WHY`; rules by their places, from 0.
+fn parse_outcome(words: &[&str]) -> Result<Outcome> {
+    match *words {
+        ["skip"] => Ok(Outcome::Skip),
+        ["cut", at] => Ok(Outcome::Malformed {
+            why: BadPacket::Cut,
+            at: at.parse()?,
+        }),
+        ["bad", at] => Ok(Outcome::Malformed {
+            why: BadPacket::Bad,
+            at: at.parse()?,
+        }),
+        ["conn", opener, place, verdict, ref log @ ..] => Ok(Outcome::ByConn {
+            id: ID,
+            opener: opener.parse()?,
+            place: place.parse()?,
+            pass: verdict == "pass",
+            log: parse_log(log)?,
+        }),
+        ["drop", config, rule, why] => Ok(Outcome::Dropped {
+            config: config.parse()?,
+            rule: rule.parse()?,
+            why: parse_why(why)?,
+        }),
+        _ => parse_verdict(words),
+    }
+}
+
+fn parse_verdict(words: &[&str]) -> Result<Outcome> {
+    let blocked = Decision::Block(Return::Nothing);
+    match *words {
+        ["none", config, ref log @ ..] => by_rule(config, None, blocked, Kept::Nothing, log),
+        ["pass", config, rule, kept, ref log @ ..] => {
+            let kept = parse_kept(kept)?;
+            by_rule(config, Some(rule.parse()?), Decision::Pass, kept, log)
+        }
+        ["block", config, rule, answer, ref log @ ..] => {
+            let blocked = Decision::Block(parse_return(answer)?);
+            by_rule(config, Some(rule.parse()?), blocked, Kept::Nothing, log)
+        }
+        _ => bail!("no such outcome"),
+    }
+}
+
+fn by_rule(
+    config: &str,
+    rule: Option<u32>,
+    decision: Decision,
+    kept: Kept,
+    log: &[&str],
+) -> Result<Outcome> {
+    Ok(Outcome::ByRule {
+        config: config.parse()?,
+        rule,
+        decision,
+        kept,
+        log: parse_log(log)?,
+    })
+}
+
+fn parse_why(word: &str) -> Result<DropWhy> {
+    match word {
+        "full" => Ok(DropWhy::Full),
+        "nonode" => Ok(DropWhy::NoNode),
+        "taken" => Ok(DropWhy::Taken(HOLDER)),
+        "noport" => Ok(DropWhy::NoPort),
+        _ => bail!("nothing is dropped for this"),
+    }
+}
+
+fn parse_kept(word: &str) -> Result<Kept> {
+    match word {
+        "nothing" => Ok(Kept::Nothing),
+        "new" => Ok(Kept::Opened(ID)),
+        "full" => Ok(Kept::Full),
+        "nonode" => Ok(Kept::NoNode),
+        "taken" => Ok(Kept::Taken(HOLDER)),
+        _ => bail!("nothing is kept so"),
+    }
+}
+
+fn parse_return(word: &str) -> Result<Return> {
+    match word {
+        "nothing" => Ok(Return::Nothing),
+        "return" => Ok(Return::Any),
+        "rst" => Ok(Return::Rst),
+        "icmp" => Ok(Return::Icmp),
+        _ => bail!("nothing is returned so"),
+    }
+}
+
+fn parse_log(words: &[&str]) -> Result<Option<Name>> {
+    match *words {
+        [name] => Ok(Some(parse_name(name)?)),
+        _ => Ok(None),
+    }
+}
+
+fn parse_name(word: &str) -> Result<Name> {
+    Ok(Name::of(word.as_bytes()).context("no name")?)
+}

@@ -1,0 +1,80 @@
+// A run of npfctl over files in memory.
+use crate::setting::{NOTHING, Setting};
+use crate::texts::{print_lines, words_in};
+use anyhow::{Result, anyhow};
+use npf_ctl::npfctl_top;
+use npf_flow::FlowLaw;
+use npf_oneturn::OneTurn;
+use npf_outside::{Files, MemFiles, MemSink};
+use npf_runner::NoGate;
+use npf_types::NoMemory;
+use std::alloc::Global;
+use std::sync::Wait;
+use std::thread::Threads;
+
+/// What a call answered, and what was put on both sinks.
+#[derive(Drop)]
+struct Answer {
+    status: u8,
+    out: MemSink,
+    err: MemSink,
+}
+
+/// Prints what the top call answers to these words over the files: its status, and what is put on both sinks. Where it wrote the file `o`,
+/// that has the bytes of the file `w`.
+pub fn run<R: Print + AllocGlobal + Threads + Wait + Sync>(
+    rt: &R,
+    setting: &mut Setting,
+    text: &str,
+) -> Result<()> {
+    let mut files = setting.folder.files()?;
+    files.fail(setting.failing.file)?;
+    let Answer { status, out, err } = call(rt, setting, text, &mut files)?;
+    setting.failing = NOTHING;
+    println!(rt; " -> {status}")?;
+    print_lines(rt, "", out.bytes())?;
+    print_lines(rt, "! ", err.bytes())?;
+    print_written(rt, setting, &mut files)
+}
+
+fn call<R: AllocGlobal + Threads + Wait + Sync>(
+    rt: &R,
+    setting: &Setting,
+    text: &str,
+    files: &mut MemFiles,
+) -> Result<Answer> {
+    let alloc = rt.alloc();
+    let words = words_in(alloc, text)?;
+    let mut out = sink(alloc, setting.failing.out)?;
+    let mut err = sink(alloc, setting.failing.err)?;
+    let (conns, mut pass) = OneTurn::<FlowLaw>::new(alloc, setting.slots)?;
+    let status = npfctl_top(
+        rt,
+        alloc,
+        words.as_slice(),
+        files,
+        &mut out,
+        &mut err,
+        &conns,
+        &mut pass,
+        &NoGate,
+    );
+    Ok(Answer { status, out, err })
+}
+
+fn sink(alloc: Global, failing: u64) -> Result<MemSink, NoMemory> {
+    let mut sink = MemSink::new(alloc)?;
+    sink.fail(failing)?;
+    Ok(sink)
+}
+
+fn print_written(rt: &impl Print, setting: &Setting, files: &mut MemFiles) -> Result<()> {
+    let Ok(written) = files.read(setting.alloc, "o", u64::MAX) else {
+        return Ok(());
+    };
+    if written.as_slice() != setting.folder.bytes("w")? {
+        return Err(anyhow!("o has other bytes than w"));
+    }
+    println!(rt; "o is as w")?;
+    Ok(())
+}

@@ -1,7 +1,0 @@
-use Rattle.std.proofs.Common.{◌≤◌, take}
-use Rattle.npf_expand.specs.Place.{ArePlaces}
-use Rattle.npf_expand.specs.Table.{procedure_names}
-use Rattle.npf_expand.proofs.declarations.procedure_places.Given as goal
-
-abbrev pub invariant-loop-stmt : goal.invariant-loop-stmt
-invariant-loop-stmt l = record { counted : l.places.count ≤ l.stmt-index; named : ArePlaces l.places (procedure_names (take l.stmt-index l.fn.stmts)) }

@@ -1,0 +1,17 @@
+use Rattle.std.proofs.Common.{List, ℕ, Some, sym, ap, ◌∙◌}
+use Rattle.std.specs.List.{flat_map}
+use Rattle.std.specs.Option.{option_map}
+use Rattle.std.proofs.lemmas.List.Folds.{flat_map-map}
+use Rattle.npf_expand_values.specs.Address.{items_of}
+use Rattle.npf_expand_values.specs.Atom.{kept_atom}
+use Rattle.npf_expand_values.specs.Scope.{declared_of_scope, env_of_scope, ifaces_of_scope}
+use Rattle.npf_expand_values.specs.Variable.{spliced}
+use Rattle.npf_expand.proofs.filter.address_items.Goals as goal
+
+pub returns-in_ok-items-in-Some : goal.returns-in_ok-items-in-Some
+returns-in_ok-items-in-Some c =
+    let scope = c.args.scope.now in
+    let tables : List (List ℕ) = (declared_of_scope scope).tables in
+    ap Some (c.of_vec.ensures ∙ c.in_ok-items-in-Some.ensures ∙ ap (flat_map (λ atom. items_of tables (kept_atom atom))) c.as_slice.ensures.value
+    ∙ sym (flat_map-map (items_of tables) kept_atom c.in_ok-atoms-in-Some.atoms.items) ∙ ap (flat_map (items_of tables)) c.in_ok-atoms-in-Some.ensures)
+    ∙ ap (option_map (λ values. flat_map (items_of tables) (spliced (ifaces_of_scope scope) (env_of_scope scope) values))) c.in-Some.ensures

@@ -1,0 +1,35 @@
+use Rattle.std.proofs.Common.{◌++◌, ◌∷◌, [], sym, ap, subst, ◌∙◌}
+use Rattle.npf_syntax.specs.declared.group.Item.{Item as WrittenItem}
+use Rattle.npf_model.specs.declared.group.Item.{Item}
+use Rattle.npf_expand_values.specs.Scope.{declared_of_scope, env_of_scope, ifaces_of_scope}
+use Rattle.npf_expand.specs.Group.{item_elements, item_faults, item_of_tree}
+use Rattle.npf_expand.specs.Meets.{Meets}
+use Rattle.npf_expand.specs.Rule.{filter_count, rule_faults}
+use Rattle.npf_expand.proofs.group.read_item.Goals as goal
+
+pub returns-then-is_some-clause-met : goal.returns-then-is_some-clause-met
+returns-then-is_some-clause-met c =
+    let scope = c.args.scope.now in
+    let ifaces = ifaces_of_scope scope in
+    let env = env_of_scope scope in
+    let declared = declared_of_scope scope in
+    subst (λ (item : WrittenItem). Meets c.args.met.now c.meet_rule.new.self (item_faults ifaces env declared c.args.met.now.elements item) (item_elements ifaces env declared item))
+    (sym c.in-Rule.is)
+    (c.meet_rule.ensures (rule_faults ifaces env c.in-Rule.rule) (filter_count ifaces env c.in-Rule.rule.filter) c.rule_fault.ensures c.in_ok-more-in-Rule.ensures)
+
+pub returns-in_ok-push-in-Rule-clause-met : goal.returns-in_ok-push-in-Rule-clause-met
+returns-in_ok-push-in-Rule-clause-met c =
+    let scope = c.args.scope.now in
+    let ifaces = ifaces_of_scope scope in
+    let env = env_of_scope scope in
+    let declared = declared_of_scope scope in
+    subst (λ (item : WrittenItem). Meets c.args.met.now c.meet_rule.new.self (item_faults ifaces env declared c.args.met.now.elements item) (item_elements ifaces env declared item))
+    (sym c.in-Rule.is)
+    (c.meet_rule.ensures (rule_faults ifaces env c.in-Rule.rule) (filter_count ifaces env c.in-Rule.rule.filter) c.rule_fault.ensures c.in_ok-more-in-Rule.ensures)
+
+pub returns-in_ok-push-in-Ruleset-clause-built : goal.returns-in_ok-push-in-Ruleset-clause-built
+returns-in_ok-push-in-Ruleset-clause-built c =
+    let scope = c.args.scope.now in
+    λ none. c.in_ok-push-in-Ruleset.ensures.items
+    ∙ ap (λ (item : Item). c.args.built.now.items ++ item ∷ [])
+    (c.ruleset_of.ensures ∙ ap (item_of_tree (ifaces_of_scope scope) (env_of_scope scope) (declared_of_scope scope)) (sym c.in-Ruleset.is))

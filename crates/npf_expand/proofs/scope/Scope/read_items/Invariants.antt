@@ -1,8 +1,0 @@
-use Rattle.npf_expand.specs.Scope.{declared_of_scope, env_of_scope, ifaces_of_scope}
-use Rattle.npf_expand.proofs.StepLemmas.{ItemsLeft}
-use Rattle.npf_expand.proofs.scope.Scope.read_items.Given as goal
-
-abbrev pub invariant-loop-item : goal.invariant-loop-item
-invariant-loop-item l = record {
-  left : ItemsLeft (ifaces_of_scope l.self) (env_of_scope l.self) (declared_of_scope l.self) l.fn.met l.met l.built.items l.fn.items l.item-index;
-}

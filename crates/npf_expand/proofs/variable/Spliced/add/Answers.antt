@@ -1,6 +1,0 @@
-use Rattle.npf_expand.proofs.KeptLemmas.{spliced_more}
-use Rattle.npf_expand.proofs.variable.Spliced.add.Goals as goal
-
-pub returns : goal.returns
-returns c = λ bindings atoms binding are is.
-    spliced_more bindings c.args.self.now _ atoms c.args.bound.now binding are is c.in_ok-push.ensures.items c.or-self.ensures c.join-self.ensures

@@ -1,8 +1,0 @@
-/// Where a value stands, which says what it may be.
-#[derive(Clone, Copy, Debug, PartialEq, Eq)]
-pub(crate) enum Role {
-    AsPort,
-    AsAddress,
-    AsProtocol,
-    AsInterface,
-}

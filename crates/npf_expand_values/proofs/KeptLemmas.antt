@@ -1,0 +1,277 @@
+-- What is kept of definitions, by their places, and what stays where one more stands behind them.
+use Rattle.std.proofs.Common.{◌≡◌, ◌<◌, ◌≤◌, ◌+◌, ℕ, Bool, true, false, Option, Some, None, List, [], ◌∷◌, ◌++◌, All, length, reverse, get_or, refl, sym, ap, subst, ◌∙◌, inl, inr, ◌⊎◌, append-nil, append_assoc, map, take, arith}
+use Rattle.std.specs.Prelude.{slice_get, if◌then◌else◌}
+use Rattle.std.specs.HashMap.{get_by}
+use Rattle.std.specs.Str.{bytes_eq}
+use Rattle.std.specs.List.{cons_option, filter_map, flat_map}
+use Rattle.std.specs.Option.{option_map, option_or}
+use Rattle.std.proofs.lemmas.Grind.{flat_map-append}
+use Rattle.std.proofs.lemmas.List.{length-reverse, length_push, map-append, reverse-append, reverse-reverse, take_more, get_or_append_left}
+use Rattle.std.proofs.lemmas.List.Elements.{All-append, All-weaker, All-head, All-push, All-tail}
+use Rattle.std.proofs.lemmas.Option.{slice_get_within, slice_get-get_or}
+use Rattle.std.proofs.Math.Seq.{get_or-append_seam}
+use Rattle.npf_expand_values.specs.declared.atom.Atom.{Atom as Kept}
+use Rattle.npf_expand_values.specs.declared.summary.Summary.{Summary}
+use Rattle.npf_expand_values.specs.declared.variable.Bound.{Bound}
+use Rattle.npf_expand_values.specs.declared.variable.Def.{Def}
+use Rattle.npf_expand_values.specs.declared.variable.Part.{Part}
+use Rattle.npf_expand_values.specs.declared.variable.Part.TheVariants.{Single, Defined}
+use Rattle.npf_expand_values.specs.declared.variable.Spliced.{Spliced}
+use Rattle.npf_expand_values.specs.declared.variable.Variables.{Variables}
+use Rattle.npf_expand_values.specs.Atom.{Atom, Binding, kept_atom}
+use Rattle.npf_expand_values.specs.Kept.{AreDefs, AreKeptBy, AreSound, AreSpliced, IsBound, IsDefBehind, IsOfFirst, at_place, bindings_of, def_binding, env_in, first_atom, known, part_atoms, parts_atoms}
+use Rattle.npf_expand_values.specs.Summary.{joined_summary, summary_of}
+use Rattle.npf_expand_values.specs.Use.{atoms_of}
+use Rattle.npf_expand_values.proofs.SummaryLemmas.{summary_of-append}
+
+pub slice_get-kept : {X : Type 0} (xs : List X) (x : X) (i : ℕ) → i < length xs → slice_get (xs ++ x ∷ []) i ≡ slice_get xs i
+slice_get-kept xs x i within =
+    slice_get-get_or (xs ++ x ∷ []) i x (let more = length_push xs x in omega (arith, within, more))
+    ∙ ap Some (get_or_append_left xs (x ∷ []) x i within) ∙ sym (slice_get-get_or xs i x within)
+
+pub slice_get-pushed : {X : Type 0} (xs : List X) (x : X) → slice_get (xs ++ x ∷ []) (length xs) ≡ Some x
+slice_get-pushed xs x =
+    slice_get-get_or (xs ++ x ∷ []) (length xs) x (let more = length_push xs x in omega (arith, more)) ∙ ap Some (get_or-append_seam xs x [] x)
+
+-- a definition behind the others changes nothing of those that name none but them
+pub part_same : (bindings : List Binding) (more : Binding) (part : Part) → IsOfFirst (length bindings) part
+    → part_atoms (bindings ++ more ∷ []) part ≡ part_atoms bindings part
+part_same bindings more (Single atom) older = refl
+part_same bindings more (Defined place) older = ap atoms_of (slice_get-kept bindings more place older)
+
+pub parts_same : (bindings : List Binding) (more : Binding) (parts : List Part) → All (IsOfFirst (length bindings)) parts
+    → parts_atoms (bindings ++ more ∷ []) parts ≡ parts_atoms bindings parts
+parts_same bindings more [] older = refl
+parts_same bindings more (part ∷ parts) older =
+    ap (λ front. front ++ parts_atoms (bindings ++ more ∷ []) parts) (part_same bindings more part (All-head (IsOfFirst (length bindings)) part parts older))
+    ∙ ap (λ rest. part_atoms bindings part ++ rest) (parts_same bindings more parts (All-tail (IsOfFirst (length bindings)) part parts older))
+
+pub of_first_more : (n m : ℕ) (part : Part) → n ≤ m → IsOfFirst n part → IsOfFirst m part
+of_first_more n m (Single atom) within older = tt
+of_first_more n m (Defined place) within older = omega (arith, within, older)
+
+-- the definition at a place, where those before it and behind it bind their names so
+pub record IsDefAt (bindings : List Binding) (place : ℕ) (def : Def) : Type 0 where
+  pub binding : slice_get bindings place ≡ Some (def_binding bindings def)
+  pub behind : IsDefBehind bindings def
+  pub older : All (IsOfFirst place) def.values.parts.items
+
+def_same : (bindings : List Binding) (more : Binding) (def : Def) → All (IsOfFirst (length bindings)) def.values.parts.items
+    → def_binding (bindings ++ more ∷ []) def ≡ def_binding bindings def
+def_same bindings more def older = ap (λ (atoms : List Atom). record { many = def.many; atoms = atoms }) (parts_same bindings more def.values.parts.items older)
+
+def_behind_more : (bindings : List Binding) (more : Binding) (def : Def) → IsDefBehind bindings def → IsDefBehind (bindings ++ more ∷ []) def
+def_behind_more bindings more def is =
+    let same = sym (parts_same bindings more def.values.parts.items is.values.older) in
+    record {
+      values = record {
+        means = refl;
+        older = All-weaker (IsOfFirst (length bindings)) (IsOfFirst (length (bindings ++ more ∷ [])))
+            (λ part. of_first_more (length bindings) (length (bindings ++ more ∷ [])) part (let longer = length_push bindings more in omega (arith, longer)))
+            def.values.parts.items is.values.older;
+        kept = subst (AreKeptBy def.values.first def.values.summary) same is.values.kept;
+      };
+      alone = λ one. subst (λ (atoms : List Atom). length atoms ≤ 1) same (is.alone one);
+    }
+
+def_at-more : (bindings : List Binding) (more : Binding) (place : ℕ) (def : Def) → IsDefAt bindings place def → IsDefAt (bindings ++ more ∷ []) place def
+def_at-more bindings more place def is = record {
+  binding = slice_get-kept bindings more place (slice_get_within bindings place _ is.binding) ∙ is.binding ∙ ap Some (sym (def_same bindings more def is.behind.values.older));
+  behind = def_behind_more bindings more def is.behind;
+  older = is.older;
+}
+
+pub length-bindings_of : (defs : List Def) → length (bindings_of defs) ≡ length defs
+length-bindings_of [] = refl
+length-bindings_of (newest ∷ older) = length_push (bindings_of older) (def_binding (bindings_of older) newest) ∙ ap (λ n. n + 1) (length-bindings_of older) ∙ omega arith
+
+def_at_last : (older : List Def) (newest : Def) → IsDefBehind (bindings_of older) newest → IsDefAt (bindings_of (newest ∷ older)) (length older) newest
+def_at_last older newest is =
+    let bindings = bindings_of older in
+    let more = def_binding bindings newest in
+    let count = length-bindings_of older in
+    record {
+      binding = subst (λ n. slice_get (bindings ++ more ∷ []) n ≡ Some more) count (slice_get-pushed bindings more) ∙ ap Some (sym (def_same bindings more newest is.values.older));
+      behind = def_behind_more bindings more newest is;
+      older = subst (λ n. All (IsOfFirst n) newest.values.parts.items) count is.values.older;
+    }
+
+below_or : (n m : ℕ) → n < m + 1 → (n < m) ⊎ (n ≡ m)
+below_or n m below = grind arith
+
+same_some : {X : Type 0} (x y : X) → Some x ≡ Some y → x ≡ y
+same_some x y same = cc
+
+def_at_or : (older : List Def) (newest : Def) (place : ℕ) (def : Def) → IsDefBehind (bindings_of older) newest → slice_get (reverse older ++ newest ∷ []) place ≡ Some def
+    → ((slice_get (reverse older) place ≡ Some def) → IsDefAt (bindings_of older) place def) → (place < length older) ⊎ (place ≡ length older)
+    → IsDefAt (bindings_of (newest ∷ older)) place def
+def_at_or older newest place def behind there earlier (inl below) = def_at-more (bindings_of older) _ place def (earlier
+    (sym (slice_get-kept (reverse older) newest place (subst (λ n. place < n) (sym (length-reverse older)) below)) ∙ there))
+def_at_or older newest place def behind there earlier (inr last) =
+    let same : newest ≡ def = same_some newest def (sym (slice_get-pushed (reverse older) newest)
+    ∙ ap (slice_get (reverse older ++ newest ∷ [])) (length-reverse older ∙ sym last) ∙ there) in
+    subst (IsDefAt (bindings_of (newest ∷ older)) place) same
+    (subst (λ n. IsDefAt (bindings_of (newest ∷ older)) n newest) (sym last) (def_at_last older newest behind))
+
+pub def_at : (defs : List Def) (place : ℕ) (def : Def) → AreDefs defs → slice_get (reverse defs) place ≡ Some def → IsDefAt (bindings_of defs) place def
+def_at [] place def are there = absurd (let none : None ≡ Some def = there in cc)
+def_at (newest ∷ older) place def are there =
+    let at : slice_get (reverse older ++ newest ∷ []) place ≡ Some def = subst (λ (defs : List Def). slice_get defs place ≡ Some def) (reverse-append (newest ∷ []) older) there in
+    let below : place < length older + 1 = subst (λ n. place < n) (length_push (reverse older) newest ∙ ap (λ n. n + 1) (length-reverse older)) (slice_get_within _ place def at) in
+    def_at_or older newest place def are.0 at (def_at older place def are.1) (below_or place (length older) below)
+
+-- the same, of variables
+pub known_at : (variables : Variables) (place : ℕ) (def : Def) → AreSound variables → slice_get variables.defs.items place ≡ Some def → IsDefAt (known variables) place def
+known_at variables place def sound there =
+    def_at (reverse variables.defs.items) place def sound.defs
+    (subst (λ (defs : List Def). slice_get defs place ≡ Some def) (sym (reverse-reverse variables.defs.items)) there)
+
+pub length-known : (variables : Variables) → length (known variables) ≡ length variables.defs.items
+length-known variables = length-bindings_of (reverse variables.defs.items) ∙ length-reverse variables.defs.items
+
+-- the values of one part are the part's
+pub only_part : (bindings : List Binding) (parts : List Part) (part : Part) → length parts ≡ 1 → part ≡ get_or parts 0 part
+    → part_atoms bindings part ≡ parts_atoms bindings parts
+only_part bindings [] part one is = absurd (omega (arith, one))
+only_part bindings (only ∷ []) part one is = ap (part_atoms bindings) is ∙ sym (append-nil (part_atoms bindings only))
+only_part bindings (_ ∷ _ ∷ _) part one is = absurd (omega (arith, one))
+
+pub only_older : (count : ℕ) (parts : List Part) (part : Part) → length parts ≡ 1 → part ≡ get_or parts 0 part → All (IsOfFirst count) parts → IsOfFirst count part
+only_older count parts part one is older = subst (IsOfFirst count) (sym is) (older 0 part (omega (arith, one)))
+
+first_atom-append : (xs ys : List Atom) → first_atom (xs ++ ys) ≡ option_or (first_atom xs) (first_atom ys)
+first_atom-append [] ys = refl
+first_atom-append (x ∷ xs) ys = refl
+
+option_map-or : {X Y : Type 0} (f : X → Y) (a b : Option X) → option_map f (option_or a b) ≡ option_or (option_map f a) (option_map f b)
+option_map-or f None b = refl
+option_map-or f (Some a) b = refl
+
+-- values behind others
+pub kept_both : (a b : Option Kept) (s t : Summary) (xs ys : List Atom) → AreKeptBy a s xs → AreKeptBy b t ys
+    → AreKeptBy (option_or a b) (joined_summary s t) (xs ++ ys)
+kept_both a b s t xs ys one other = record {
+  first = option_map-or kept_atom a b ∙ ap (λ f. option_or f (option_map kept_atom b)) one.first ∙ ap (option_or (first_atom xs)) other.first ∙ sym (first_atom-append xs ys);
+  summed = ap (λ u. joined_summary u t) one.summed ∙ ap (joined_summary (summary_of xs)) other.summed ∙ sym (summary_of-append xs ys);
+}
+
+-- the values of a part behind others
+pub spliced_more : (bindings : List Binding) (values next : Spliced) (atoms : List Atom) (bound : Bound) (binding : Binding)
+    → AreSpliced bindings values atoms → IsBound bindings bound binding → next.parts.items ≡ values.parts.items ++ bound.part ∷ []
+    → next.first ≡ option_or values.first bound.first → next.summary ≡ joined_summary values.summary bound.summary → AreSpliced bindings next (atoms ++ binding.atoms)
+spliced_more bindings values next atoms bound binding are is pushed first summed = record {
+  means = ap (parts_atoms bindings) pushed ∙ flat_map-append (part_atoms bindings) values.parts.items (bound.part ∷ [])
+      ∙ ap (λ (front : List Atom). front ++ parts_atoms bindings (bound.part ∷ [])) are.means
+      ∙ ap (λ (rest : List Atom). atoms ++ rest) (append-nil (part_atoms bindings bound.part) ∙ is.means);
+  older = subst (All (IsOfFirst (length bindings))) (sym pushed) (All-push (IsOfFirst (length bindings)) values.parts.items bound.part are.older is.older);
+  kept = subst (λ (f : Option Kept). AreKeptBy f next.summary (atoms ++ binding.atoms)) (sym first)
+      (subst (λ (s : Summary). AreKeptBy (option_or values.first bound.first) s (atoms ++ binding.atoms)) (sym summed)
+      (kept_both values.first bound.first values.summary bound.summary atoms binding.atoms are.kept is.kept));
+}
+
+known-put : (defs : List Def) (def : Def) → bindings_of (reverse (defs ++ def ∷ [])) ≡ bindings_of (reverse defs) ++ def_binding (bindings_of (reverse defs)) def ∷ []
+known-put defs def = ap bindings_of (reverse-append defs (def ∷ []))
+
+at_place-kept : (bindings : List Binding) (more : Binding) (place : Option ℕ) → ((k : ℕ) → place ≡ Some k → k < length bindings)
+    → at_place (bindings ++ more ∷ []) place ≡ at_place bindings place
+at_place-kept bindings more None within = refl
+at_place-kept bindings more (Some k) within = slice_get-kept bindings more k (within k refl)
+
+-- one definition more, the latest of its name
+module _ (variables next : Variables) (name : List ℕ) (def : Def) (sound : AreSound variables)
+    (pushed : next.defs.items ≡ variables.defs.items ++ def ∷ [])
+    (put : (text : List ℕ) → get_by (λ key. bytes_eq text key.now) next.latest
+    ≡ (if bytes_eq name text then Some (length variables.defs.items) else get_by (λ key. bytes_eq text key.now) variables.latest)) where
+  known_next : known next ≡ known variables ++ def_binding (known variables) def ∷ []
+  known_next = ap (λ (defs : List Def). bindings_of (reverse defs)) pushed ∙ known-put variables.defs.items def
+
+  within_known : (text : List ℕ) (k : ℕ) → get_by (λ key. bytes_eq text key.now) variables.latest ≡ Some k → k < length (known variables)
+  within_known text k there = subst (λ n. k < n) (sym (length-known variables)) (sound.within text k there)
+
+  bound_by : (text : List ℕ) (b : Bool) (place : Option ℕ) → place ≡ (if b then Some (length variables.defs.items) else get_by (λ key. bytes_eq text key.now) variables.latest)
+      → at_place (known variables ++ def_binding (known variables) def ∷ []) place ≡ (if b then Some (def_binding (known variables) def) else env_in variables text)
+  bound_by text true place is = ap (at_place (known variables ++ def_binding (known variables) def ∷ [])) (is ∙ ap Some (sym (length-known variables)))
+      ∙ slice_get-pushed (known variables) (def_binding (known variables) def)
+  bound_by text false place is = ap (at_place (known variables ++ def_binding (known variables) def ∷ [])) is
+      ∙ at_place-kept (known variables) (def_binding (known variables) def) _ (within_known text)
+
+  pub put_bound : (text : List ℕ) → env_in next text ≡ (if bytes_eq name text then Some (def_binding (known variables) def) else env_in variables text)
+  put_bound text = ap (λ (bindings : List Binding). at_place bindings (get_by (λ key. bytes_eq text key.now) next.latest)) known_next
+      ∙ bound_by text (bytes_eq name text) _ (put text)
+
+  within_by : (text : List ℕ) (k : ℕ) (b : Bool) → (if b then Some (length variables.defs.items) else get_by (λ key. bytes_eq text key.now) variables.latest) ≡ Some k
+      → k < length variables.defs.items + 1
+  within_by text k true there = let same : length variables.defs.items ≡ k = same_some _ k there in omega (arith, same)
+  within_by text k false there = let below = sound.within text k there in omega (arith, below)
+
+  pub put_sound : IsDefBehind (known variables) def → AreSound next
+  put_sound behind = record {
+    defs = subst AreDefs (sym (ap (λ (defs : List Def). reverse defs) pushed ∙ reverse-append variables.defs.items (def ∷ []))) (behind, sound.defs);
+    within = λ text k there. subst (λ n. k < n) (sym (ap length pushed ∙ length_push variables.defs.items def))
+        (within_by text k (bytes_eq name text) (sym (put text) ∙ there));
+  }
+
+-- parts, the last of which is replaced by those of its definition
+pub last_of_first : (count : ℕ) (front : List Part) (last : Part) → All (IsOfFirst count) (front ++ last ∷ []) → IsOfFirst count last
+last_of_first count front last older =
+    subst (IsOfFirst count) (get_or-append_seam front last [] last) (older (length front) last (let more = length_push front last in omega (arith, more)))
+
+pub front_of_first : (count : ℕ) (front : List Part) (last : Part) → All (IsOfFirst count) (front ++ last ∷ []) → All (IsOfFirst count) front
+front_of_first count front last older = λ k d within.
+    subst (IsOfFirst count) (get_or_append_left front (last ∷ []) d k within) (older k d (let more = length_push front last in omega (arith, within, more)))
+
+pub replaced_older : (bindings : List Binding) (front : List Part) (place : ℕ) (def : Def) → IsDefAt bindings place def → All (IsOfFirst (length bindings)) (front ++ Defined place ∷ [])
+    → All (IsOfFirst (length bindings)) (front ++ def.values.parts.items)
+replaced_older bindings front place def is older =
+    All-append (IsOfFirst (length bindings)) front def.values.parts.items (front_of_first (length bindings) front (Defined place) older) is.behind.values.older
+
+pub replaced_means : (bindings : List Binding) (front : List Part) (place : ℕ) (def : Def) → IsDefAt bindings place def
+    → parts_atoms bindings (front ++ Defined place ∷ []) ≡ parts_atoms bindings (front ++ def.values.parts.items)
+replaced_means bindings front place def is =
+    flat_map-append (part_atoms bindings) front (Defined place ∷ [])
+    ∙ ap (λ (rest : List Atom). parts_atoms bindings front ++ rest) (append-nil (part_atoms bindings (Defined place)) ∙ ap atoms_of is.binding)
+    ∙ sym (flat_map-append (part_atoms bindings) front def.values.parts.items)
+
+pub single_means : (bindings : List Binding) (front : List Part) (atom : Kept) (atoms : List Kept)
+    → parts_atoms bindings (front ++ Single atom ∷ []) ++ reverse (map kept_atom atoms) ≡ parts_atoms bindings front ++ reverse (map kept_atom (atoms ++ atom ∷ []))
+single_means bindings front atom atoms =
+    ap (λ (l : List Atom). l ++ reverse (map kept_atom atoms)) (flat_map-append (part_atoms bindings) front (Single atom ∷ []))
+    ∙ append_assoc (parts_atoms bindings front) (kept_atom atom ∷ []) (reverse (map kept_atom atoms))
+    ∙ ap (λ (rest : List Atom). parts_atoms bindings front ++ rest) (sym (ap reverse (map-append kept_atom atoms (atom ∷ [])) ∙ reverse-append (map kept_atom atoms) (kept_atom atom ∷ [])))
+
+pub no_parts : (parts : List Part) → length parts ≡ 0 → parts ≡ []
+no_parts [] none = refl
+no_parts (_ ∷ _) none = absurd (omega (arith, none))
+
+pub map-reversed : {X Y : Type 0} (f : X → Y) (xs : List X) → map f (reverse xs) ≡ reverse (map f xs)
+map-reversed f [] = refl
+map-reversed f (x ∷ xs) = ap (map f) (reverse-append (x ∷ []) xs) ∙ map-append f (reverse xs) (x ∷ [])
+    ∙ ap (λ front. front ++ f x ∷ []) (map-reversed f xs) ∙ sym (reverse-append (f x ∷ []) (map f xs))
+
+pub flat_map-more : {X Y : Type 0} (f : X → List Y) (xs : List X) (i : ℕ) (x d : X) → i < length xs → x ≡ get_or xs i d
+    → flat_map f (take (i + 1) xs) ≡ flat_map f (take i xs) ++ f x
+flat_map-more f xs i x d within is =
+    ap (flat_map f) (take_more xs i d within) ∙ flat_map-append f (take i xs) (get_or xs i d ∷ [])
+    ∙ ap (λ rest. flat_map f (take i xs) ++ rest) (append-nil (f (get_or xs i d)) ∙ ap f (sym is))
+
+-- a definition of values that were spliced
+abbrev def_of : Bool → Spliced → Def
+def_of many values = record { many = many; values = values }
+
+pub spliced_behind : (bindings : List Binding) (many : Bool) (values : Spliced) (atoms : List Atom) → AreSpliced bindings values atoms
+    → (many ≡ false → length atoms ≤ 1) → IsDefBehind bindings (def_of many values)
+spliced_behind bindings many values atoms are alone = record {
+  values = record { means = refl; older = are.older; kept = subst (AreKeptBy values.first values.summary) (sym are.means) are.kept };
+  alone = λ one. subst (λ (l : List Atom). length l ≤ 1) (sym are.means) (alone one);
+}
+
+abbrev binding : Bool → List Atom → Binding
+binding many atoms = record { many = many; atoms = atoms }
+
+pub spliced_binding : (bindings : List Binding) (many is : Bool) (values : Spliced) (atoms left : List Atom) → AreSpliced bindings values atoms → many ≡ is → atoms ≡ left
+    → def_binding bindings (def_of many values) ≡ binding is left
+spliced_binding bindings many is values atoms left are same_many same = ap (binding many) (are.means ∙ same) ∙ ap (λ m. binding m left) same_many
+
+pub filter_map-mapped : {X Y Z : Type 0} (f : Y → Option Z) (g : X → Y) (xs : List X) → filter_map (λ x. f (g x)) xs ≡ filter_map f (map g xs)
+filter_map-mapped f g [] = refl
+filter_map-mapped f g (x ∷ xs) = ap (cons_option (f (g x))) (filter_map-mapped f g xs)

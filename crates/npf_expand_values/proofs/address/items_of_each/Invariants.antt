@@ -1,0 +1,11 @@
+use Rattle.std.proofs.Common.{◌≡◌, take}
+use Rattle.std.specs.List.{flat_map}
+use Rattle.npf_expand_values.specs.Address.{items_of}
+use Rattle.npf_expand_values.specs.Atom.{kept_atom}
+use Rattle.npf_expand_values.specs.Source.{declared_by}
+use Rattle.npf_expand_values.proofs.address.items_of_each.Given as goal
+
+abbrev pub invariant-loop-atom : goal.invariant-loop-atom
+invariant-loop-atom l = record {
+  so_far : l.items.items ≡ flat_map (λ atom. items_of (declared_by l.fn.declarations.source).tables (kept_atom atom)) (take l.atom-index l.fn.atoms);
+}

@@ -1,0 +1,12 @@
+use Rattle.std.proofs.Common.{take}
+use Rattle.std.specs.List.{flat_map}
+use Rattle.npf_expand_values.specs.Kept.{AreSpliced}
+use Rattle.npf_expand_values.specs.Protocol.{one_binding}
+use Rattle.npf_expand_values.specs.Scope.{env_of_scope, known_of_scope}
+use Rattle.npf_expand_values.specs.Use.{atoms_of}
+use Rattle.npf_expand_values.proofs.scope.Scope.splice_ones.Given as goal
+
+abbrev pub invariant-loop-one : goal.invariant-loop-one
+invariant-loop-one l = record {
+  so_far : AreSpliced (known_of_scope l.self) l.all (flat_map (λ one. atoms_of (one_binding (env_of_scope l.self) one)) (take l.one-index l.ones));
+}

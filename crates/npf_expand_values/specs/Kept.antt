@@ -1,0 +1,94 @@
+-- What the code keeps of definitions: in place of the values of a variable in a list the place of its definition, so that
+-- nothing is spliced before it is used.
+use Rattle.std.specs.Prelude.{◌≡◌, ◌<◌, ◌≤◌, ℕ, false, Option, Some, None, List, [], ◌∷◌, ◌++◌, All, length, reverse, slice_get}
+use Rattle.std.specs.HashMap.{get_by}
+use Rattle.std.specs.List.{flat_map}
+use Rattle.std.specs.Option.{option_map}
+use Rattle.std.specs.Str.{bytes_eq}
+use Rattle.npf_expand_values.specs.declared.atom.Atom.{Atom as Kept}
+use Rattle.npf_expand_values.specs.declared.summary.Summary.{Summary}
+use Rattle.npf_expand_values.specs.declared.variable.Bound.{Bound}
+use Rattle.npf_expand_values.specs.declared.variable.Def.{Def}
+use Rattle.npf_expand_values.specs.declared.variable.Part.{Part}
+use Rattle.npf_expand_values.specs.declared.variable.Part.TheVariants.{Single, Defined}
+use Rattle.npf_expand_values.specs.declared.variable.Spliced.{Spliced}
+use Rattle.npf_expand_values.specs.declared.variable.Variables.{Variables}
+use Rattle.npf_expand_values.specs.Atom.{Atom, Binding, Env, kept_atom}
+use Rattle.npf_expand_values.specs.Summary.{summary_of}
+use Rattle.npf_expand_values.specs.Use.{atoms_of}
+
+-- the atoms of a part, where the definitions so far bind their names so
+abbrev pub part_atoms : List Binding → Part → List Atom
+part_atoms bindings (Single atom) = kept_atom atom ∷ []
+part_atoms bindings (Defined place) = atoms_of (slice_get bindings place)
+
+abbrev pub parts_atoms : List Binding → List Part → List Atom
+parts_atoms bindings parts = flat_map (part_atoms bindings) parts
+
+abbrev pub def_binding : List Binding → Def → Binding
+def_binding bindings def = record { many = def.many; atoms = parts_atoms bindings def.values.parts.items }
+
+-- what definitions bind, in the order of the text; of the definitions the newest stands first
+abbrev pub bindings_of : List Def → List Binding
+bindings_of [] = []
+bindings_of (newest ∷ older) = bindings_of older ++ def_binding (bindings_of older) newest ∷ []
+
+abbrev pub first_atom : List Atom → Option Atom
+first_atom [] = None
+first_atom (atom ∷ _) = Some atom
+
+-- a part names none but the first definitions, so many
+abbrev pub IsOfFirst : ℕ → Part → Type 0
+IsOfFirst count (Single atom) = Unit {0}
+IsOfFirst count (Defined place) = place < count
+
+-- what is kept of atoms
+pub record AreKeptBy (front : Option Kept) (summary : Summary) (atoms : List Atom) : Type 0 where
+  pub first : option_map kept_atom front ≡ first_atom atoms
+  pub summed : summary ≡ summary_of atoms
+
+-- the parts are these atoms
+pub record AreSpliced (bindings : List Binding) (values : Spliced) (atoms : List Atom) : Type 0 where
+  pub means : parts_atoms bindings values.parts.items ≡ atoms
+  pub older : All (IsOfFirst (length bindings)) values.parts.items
+  pub kept : AreKeptBy values.first values.summary atoms
+
+-- a definition behind those that bind their names so
+pub record IsDefBehind (bindings : List Binding) (def : Def) : Type 0 where
+  pub values : AreSpliced bindings def.values (parts_atoms bindings def.values.parts.items)
+  pub alone : def.many ≡ false → length (parts_atoms bindings def.values.parts.items) ≤ 1
+
+abbrev pub AreDefs : List Def → Type 0
+AreDefs [] = Unit {0}
+AreDefs (newest ∷ older) = IsDefBehind (bindings_of older) newest × AreDefs older
+
+-- what is known of a value that is bound so
+pub record IsBound (bindings : List Binding) (bound : Bound) (binding : Binding) : Type 0 where
+  pub many : bound.many ≡ binding.many
+  pub means : part_atoms bindings bound.part ≡ binding.atoms
+  pub older : IsOfFirst (length bindings) bound.part
+  pub kept : AreKeptBy bound.first bound.summary binding.atoms
+  pub alone : binding.many ≡ false → length binding.atoms ≤ 1
+
+abbrev pub IsBoundWhere : List Binding → Option Bound → Option Binding → Type 0
+IsBoundWhere bindings None None = Unit {0}
+IsBoundWhere bindings (Some bound) (Some binding) = IsBound bindings bound binding
+IsBoundWhere bindings _ _ = ⊥
+
+-- what the definitions so far bind
+abbrev pub known : Variables → List Binding
+known variables = bindings_of (reverse variables.defs.items)
+
+abbrev pub at_place : List Binding → Option ℕ → Option Binding
+at_place bindings None = None
+at_place bindings (Some place) = slice_get bindings place
+
+-- what names are bound to
+abbrev pub env_in : Variables → Env
+env_in variables text = at_place (known variables) (get_by (λ name. bytes_eq text name.now) variables.latest)
+
+-- each definition is behind those before it, and a name's latest one is there
+pub record AreSound (variables : Variables) : Type 0 where
+  pub defs : AreDefs (reverse variables.defs.items)
+  pub within : (text : List ℕ) → (place : ℕ) → get_by (λ name. bytes_eq text name.now) variables.latest ≡ Some place
+      → place < length variables.defs.items

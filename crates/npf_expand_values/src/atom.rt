@@ -1,0 +1,144 @@
+// Values in which no variable is left.
+ghost use Rattle.std.specs.Prelude.{◌≡◌};
+ghost use Rattle.std.specs.Option.{option_map};
+ghost use Rattle.npf_faults.specs.First.{first_fault};
+ghost use Rattle.npf_expand_values.specs.Atom.{kept_atom};
+ghost use Rattle.npf_expand_values.specs.Iface.{name_text};
+ghost use Rattle.npf_expand_values.specs.Port.{atom_ports};
+ghost use Rattle.npf_expand_values.specs.Protocol.{protocol_of};
+ghost use Rattle.npf_expand_values.specs.Use.{count_of, is_unfit, word_faults};
+
+use crate::role::Role;
+use crate::service::{protocol_number, service_port};
+use npf_faults::{ConfFault, Fault, fault_if};
+use npf_syntax::{Str, Word};
+use npf_types::{Addr, Name};
+
+/// What a value stands for: its texts stand in the tree, and the addresses of a function in the list of the run's interfaces.
+#[derive(Clone, Copy)]
+pub enum Atom<'a> {
+    Number(u32),
+    Range(u32, u32),
+    Word(&'a Word),
+    Str(&'a Str),
+    Block(Addr, Option<u32>),
+    Table(&'a Word),
+    Addresses(&'a [Addr]),
+}
+
+impl<'a> Atom<'a> {
+    /// The name of an interface that it is, where it is one.
+    pub(crate) fn name_text(&self) -> Option<&'a [u8]>
+        ensures { option_map (λ name. name.now) result ≡ name_text (kept_atom self.now) }
+    {
+        let text = match self {
+            Atom::Word(word) => word.text.as_slice(),
+            Atom::Str(string) => string.text.as_slice(),
+            _ => return None,
+        };
+        if Name::of(text).is_none() {
+            return None;
+        }
+        Some(text)
+    }
+
+    /// Whether it can't stand in this place.
+    pub(crate) fn is_unfit(&self, role: Role) -> bool
+        ensures { result ≡ is_unfit role (kept_atom self.now) }
+    {
+        match role {
+            Role::AsPort => match self {
+                Atom::Number(number) => *number > 65535,
+                Atom::Range(first, last) => *first > 65535 || *last > 65535,
+                Atom::Word(_) => false,
+                _ => true,
+            },
+            Role::AsAddress => match self {
+                Atom::Block(_, _) | Atom::Table(_) | Atom::Addresses(_) => false,
+                _ => true,
+            },
+            Role::AsProtocol => match self {
+                Atom::Number(number) => *number > 255,
+                Atom::Word(_) => false,
+                _ => true,
+            },
+            Role::AsInterface => match self {
+                Atom::Word(word) => Name::of(word.text.as_slice()).is_none(),
+                Atom::Str(string) => Name::of(string.text.as_slice()).is_none(),
+                _ => true,
+            },
+        }
+    }
+
+    /// The fault of a word that names nothing in this place.
+    pub(crate) fn word_fault(&self, role: Role) -> Option<ConfFault>
+        ensures { result ≡ first_fault (word_faults role (kept_atom self.now)) }
+    {
+        let Atom::Word(word) = self else {
+            return None;
+        };
+        let text = word.text.as_slice();
+        match role {
+            Role::AsPort => {
+                let unknown = service_port(text).is_none();
+                fault_if(unknown, word.span, Fault::UnknownService)
+            }
+            Role::AsProtocol => {
+                let unknown = protocol_number(text).is_none();
+                fault_if(unknown, word.span, Fault::UnknownService)
+            }
+            Role::AsAddress | Role::AsInterface => None,
+        }
+    }
+
+    /// How many elements it is in a list.
+    pub(crate) fn count(&self) -> usize
+        ensures { result ≡ count_of (kept_atom self.now) }
+    {
+        match self {
+            Atom::Addresses(addrs) => addrs.len(),
+            _ => 1,
+        }
+    }
+
+    /// The ports that it is, first and last.
+    pub fn ports(&self) -> Option<(u16, u16)>
+        ensures { result ≡ atom_ports (kept_atom self.now) }
+    {
+        match self {
+            Atom::Number(number) => {
+                if *number > 65535 {
+                    return None;
+                }
+                Some((*number as u16, *number as u16))
+            }
+            Atom::Range(first, last) => {
+                if *first > 65535 || *last > 65535 {
+                    return None;
+                }
+                Some((*first as u16, *last as u16))
+            }
+            Atom::Word(word) => match service_port(word.text.as_slice()) {
+                Some(port) => Some((port, port)),
+                None => None,
+            },
+            _ => None,
+        }
+    }
+
+    /// The protocol that it is.
+    pub fn protocol(&self) -> Option<u8>
+        ensures { result ≡ protocol_of (kept_atom self.now) }
+    {
+        match self {
+            Atom::Number(number) => {
+                if *number > 255 {
+                    return None;
+                }
+                Some(*number as u8)
+            }
+            Atom::Word(word) => protocol_number(word.text.as_slice()),
+            _ => None,
+        }
+    }
+}

@@ -1,0 +1,230 @@
+// Variables, and what they are bound to. A list keeps the places of the variables in it and is spliced where it is used.
+ghost use Rattle.std.specs.Prelude.{◌≡◌, ◌<◌, ◌≤◌, ◌∷◌, ◌++◌, ℕ, [], false, if◌then◌else◌, All, IfOk, List, None, OnOk, Option, Some, length, map, slice_get};
+ghost use Rattle.std.specs.Option.{option_map};
+ghost use Rattle.std.specs.Str.{bytes_eq};
+ghost use Rattle.npf_faults.specs.First.{first_fault};
+ghost use Rattle.npf_expand_values.specs.Atom.{Atom as Plain, Binding, kept_atom};
+ghost use Rattle.npf_expand_values.specs.Kept.{AreSound, AreSpliced, IsBound, IsBoundWhere, IsDefBehind, IsOfFirst, def_binding, env_in, known, part_atoms, parts_atoms};
+ghost use Rattle.npf_expand_values.specs.Iface.{bound_name};
+ghost use Rattle.npf_expand_values.specs.Use.{atoms_of, single_faults, use_faults};
+
+use crate::atom::Atom;
+use crate::role::Role;
+use crate::summary::Summary;
+use npf_faults::{ConfFault, Fault, fault_if};
+use npf_types::{NoMemory, Span};
+use std::alloc::Global;
+use std::collections::HashMap;
+
+/// One value of a list, or the values of a variable, by the place of its definition.
+#[derive(Clone, Copy)]
+pub(crate) enum Part<'a> {
+    Single(Atom<'a>),
+    Defined(usize),
+}
+
+/// Values, one behind the other.
+#[derive(Drop)]
+pub(crate) struct Spliced<'a> {
+    pub(crate) first: Option<Atom<'a>>,
+    pub(crate) parts: Vec<Part<'a>>,
+    pub(crate) summary: Summary,
+}
+
+/// What a value or a variable is bound to, and whether that is a list.
+#[derive(Clone, Copy)]
+pub(crate) struct Bound<'a> {
+    pub(crate) many: bool,
+    pub(crate) first: Option<Atom<'a>>,
+    pub(crate) part: Part<'a>,
+    pub(crate) summary: Summary,
+}
+
+/// A definition, and whether it is one of a list.
+#[derive(Drop)]
+pub struct Def<'a> {
+    pub(crate) many: bool,
+    pub(crate) values: Spliced<'a>,
+}
+
+/// The definitions so far, and the place of the latest of each name.
+#[derive(Drop)]
+pub struct Variables<'a> {
+    defs: Vec<Def<'a>>,
+    latest: HashMap<&'a [u8], usize>,
+}
+
+impl<'a> Bound<'a> {
+    /// One value, which is no list.
+    pub(crate) fn alone(atom: Atom<'a>) -> Bound<'a>
+        ensures { (bindings : List Binding)
+            → IsBound bindings result (record { many = false; atoms = kept_atom atom.entry ∷ [] }) }
+    {
+        Bound {
+            many: false,
+            first: Some(atom),
+            part: Part::Single(atom),
+            summary: Summary::of(&atom),
+        }
+    }
+
+    /// The name of an interface that stands there: of one value, and none of a list.
+    pub(crate) fn name(&self) -> Option<&'a [u8]>
+        ensures { (bindings : List Binding) → (binding : Binding) → IsBound bindings self.now binding
+            → option_map (λ name. name.now) result ≡ bound_name (Some binding) }
+    {
+        if self.many {
+            return None;
+        }
+        match self.first {
+            Some(atom) => atom.name_text(),
+            None => None,
+        }
+    }
+
+    /// The first fault of the values where they are used at this place, one or many.
+    pub(crate) fn each_fault(&self, role: Role, span: Span) -> Option<ConfFault>
+        ensures { (bindings : List Binding) → (binding : Binding) → IsBound bindings self.now binding
+            → result ≡ first_fault (use_faults role span binding.atoms) }
+    {
+        self.summary.fault(role, span)
+    }
+
+    /// The first fault of the values where they are used at this place, where one value stands.
+    pub(crate) fn single_fault(&self, role: Role, span: Span) -> Option<ConfFault>
+        ensures { (bindings : List Binding) → (binding : Binding) → IsBound bindings self.now binding
+            → result ≡ first_fault (single_faults role span binding) }
+    {
+        if self.many && self.first.is_some() {
+            return fault_if(true, span, Fault::Expected);
+        }
+        self.summary.fault(role, span)
+    }
+}
+
+impl<'a> Spliced<'a> {
+    pub(crate) fn new(alloc: Global) -> Spliced<'a>
+        ensures { (bindings : List Binding) → AreSpliced bindings result [] }
+    {
+        Spliced {
+            first: None,
+            parts: Vec::new(alloc),
+            summary: Summary::none(),
+        }
+    }
+
+    /// Puts the values that these are bound to behind the others.
+    pub(crate) fn add(&mut self, bound: &Bound<'a>) -> Result<(), NoMemory>
+        ensures { OnOk result ((bindings : List Binding) → (atoms : List Plain) → (binding : Binding)
+            → AreSpliced bindings self.old atoms → IsBound bindings bound.now binding
+            → AreSpliced bindings self.new (atoms ++ binding.atoms)) }
+    {
+        self.parts.push(bound.part)?;
+        self.summary = self.summary.join(&bound.summary);
+        self.first = self.first.or(bound.first);
+        Ok(())
+    }
+
+    /// The same, where a name may not be defined.
+    pub(crate) fn add_where(&mut self, bound: Option<Bound<'a>>) -> Result<(), NoMemory>
+        ensures { OnOk result ((bindings : List Binding) → (atoms : List Plain) → (binding : Option Binding)
+            → AreSpliced bindings self.old atoms → IsBoundWhere bindings bound.entry binding
+            → AreSpliced bindings self.new (atoms ++ atoms_of binding)) }
+    {
+        match bound {
+            Some(bound) => self.add(&bound),
+            None => Ok(()),
+        }
+    }
+}
+
+impl<'a> Variables<'a> {
+    /// No definitions.
+    pub fn new(alloc: Global) -> Variables<'a>
+        ensures sound { AreSound result }
+        ensures none { (text : List ℕ) → env_in result text ≡ None }
+    {
+        Variables {
+            defs: Vec::new(alloc),
+            latest: HashMap::new(alloc),
+        }
+    }
+
+    /// What a name is bound to.
+    pub(crate) fn find(&self, name: &[u8]) -> Option<Bound<'a>>
+        requires { AreSound self.now }
+        ensures { IsBoundWhere (known self.now) result (env_in self.now name.now) }
+    {
+        match self.latest.get(&name) {
+            Some(place) => Some(self.bound(*place)),
+            None => None,
+        }
+    }
+
+    fn bound(&self, place: usize) -> Bound<'a>
+        requires sound { AreSound self.now }
+        requires within { place < length self.now.defs.items }
+        ensures { IsBoundWhere (known self.now) (Some result) (slice_get (known self.now) place) }
+    {
+        let def = &self.defs[place];
+        Bound {
+            many: def.many,
+            first: def.values.first,
+            part: self.part(place),
+            summary: def.values.summary,
+        }
+    }
+
+    // What a definition is in a list: its only part itself, so that no chain of them has to be followed.
+    fn part(&self, place: usize) -> Part<'a>
+        requires sound { AreSound self.now }
+        requires within { place < length self.now.defs.items }
+        ensures means { part_atoms (known self.now) result ≡ atoms_of (slice_get (known self.now) place) }
+        ensures older { IsOfFirst (length (known self.now)) result }
+    {
+        let parts = self.defs[place].values.parts.as_slice();
+        if parts.len() == 1 {
+            parts[0]
+        } else {
+            Part::Defined(place)
+        }
+    }
+
+    /// Binds a name to what its definition says.
+    pub fn put(&mut self, name: &'a [u8], def: Def<'a>) -> Result<(), NoMemory>
+        requires sound { AreSound self.old }
+        requires behind { IsDefBehind (known self.old) def }
+        ensures sound { OnOk result (AreSound self.new) }
+        ensures bound { OnOk result ((text : List ℕ) → env_in self.new text
+            ≡ (if bytes_eq name.now text then Some (def_binding (known self.old) def.entry) else env_in self.old text)) }
+    {
+        self.latest.insert(name, self.defs.len())?;
+        self.defs.push(def)?;
+        Ok(())
+    }
+
+    /// The values that parts are.
+    pub(crate) fn gather(
+        &self,
+        alloc: Global,
+        parts: &[Part<'a>],
+    ) -> Result<Vec<Atom<'a>>, NoMemory>
+        requires sound { AreSound self.now }
+        requires older { All (IsOfFirst (length (known self.now))) parts.now }
+        ensures { IfOk result (λ atoms. map kept_atom atoms.items ≡ parts_atoms (known self.now) parts.now) }
+    {
+        let mut atoms = Vec::new(alloc);
+        let mut stack = Vec::new(alloc);
+        stack.extend_from_slice(parts)?;
+        while let Some(part) = stack.pop() {
+            match part {
+                Part::Single(atom) => atoms.push(atom)?,
+                Part::Defined(place) => stack.extend_from_slice(
+                    self.defs[place].values.parts.as_slice(),
+                )?,
+            }
+        }
+        atoms.reverse();
+        Ok(atoms)
+    }
+}

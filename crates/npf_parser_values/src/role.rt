@@ -1,0 +1,8 @@
+/// Where a value stands, which says what it may be.
+#[derive(Clone, Copy, Debug, PartialEq, Eq)]
+pub enum Role {
+    /// In the definition of a variable.
+    Any,
+    Address,
+    Port,
+}

@@ -1,0 +1,198 @@
+// The tokens that stand first, with one token of sight.
+ghost use Rattle.std.specs.Prelude.{◌≡◌, ◌<◌, true, Ok, IfSome, length};
+ghost use Rattle.npf_phrase.specs.Grammar.{meaning};
+ghost use Rattle.npf_phrase.specs.Phrase.{head};
+ghost use Rattle.npf_parser_values.specs.Answer.{Answers, GoesOn, Begins};
+ghost use Rattle.npf_parser_values.specs.Token.{quoted, quoted_name, sign, separator, line_feed, gap, spaced, text_end};
+
+use crate::stop::{NOWHERE, Stop};
+use npf_lexer::{Sign, Token, TokenKind};
+use npf_types::Span;
+
+/// The tokens behind this quoted word, where it stands first.
+#[tactic(auto, unfolding(npf_phrase::specs::Phrase::read_token))]
+pub fn behind_word<'a>(word: &str, tokens: &'a [Token]) -> Option<&'a [Token]>
+    ensures { Begins (quoted word.now) tokens.now result }
+{
+    match tokens.split_first() {
+        Some(
+            (
+                Token {
+                    kind: TokenKind::Word(text),
+                    ..
+                },
+                rest,
+            ),
+        ) if text.as_slice() == word.as_bytes() => Some(rest),
+        _ => None,
+    }
+}
+
+pub fn after_word<'a>(word: &str, tokens: &'a [Token]) -> Result<&'a [Token], Stop<'a>>
+    ensures { GoesOn ((meaning (quoted word.now)).read tokens.now) result }
+{
+    match behind_word(word, tokens) {
+        Some(rest) => Ok(rest),
+        None => Err(Stop::Before(tokens)),
+    }
+}
+
+/// The tokens behind this name written as a string, where it stands first.
+#[tactic(auto, unfolding(npf_phrase::specs::Phrase::read_token))]
+pub fn behind_name<'a>(name: &str, tokens: &'a [Token]) -> Option<&'a [Token]>
+    ensures { Begins (quoted_name name.now) tokens.now result }
+{
+    match tokens.split_first() {
+        Some(
+            (
+                Token {
+                    kind: TokenKind::Str(text),
+                    ..
+                },
+                rest,
+            ),
+        ) if text.as_slice() == name.as_bytes() => Some(rest),
+        _ => None,
+    }
+}
+
+/// The tokens behind this sign, where it stands first.
+#[tactic(auto, unfolding(npf_phrase::specs::Phrase::read_token))]
+pub fn behind_sign(wanted: Sign, tokens: &[Token]) -> Option<&[Token]>
+    ensures begins { Begins (sign wanted) tokens.now result }
+    ensures left { IfSome result (λ rest. length rest.now < length tokens.now) }
+{
+    match tokens.split_first() {
+        Some(
+            (
+                Token {
+                    kind: TokenKind::Sign(found),
+                    ..
+                },
+                rest,
+            ),
+        ) if found.text() == wanted.text() => Some(rest),
+        _ => None,
+    }
+}
+
+pub fn after_sign(wanted: Sign, tokens: &[Token]) -> Result<&[Token], Stop>
+    ensures { GoesOn ((meaning (sign wanted)).read tokens.now) result }
+{
+    match behind_sign(wanted, tokens) {
+        Some(rest) => Ok(rest),
+        None => Err(Stop::Before(tokens)),
+    }
+}
+
+/// The tokens behind a line feed or a semicolon, where one stands first.
+#[tactic(auto, unfolding(npf_phrase::specs::Phrase::read_token))]
+pub fn behind_separator(tokens: &[Token]) -> Option<&[Token]>
+    ensures begins { Begins separator tokens.now result }
+    ensures left { IfSome result (λ rest. length rest.now < length tokens.now) }
+{
+    match tokens.split_first() {
+        Some(
+            (
+                Token {
+                    kind: TokenKind::LineFeed | TokenKind::Semicolon,
+                    ..
+                },
+                rest,
+            ),
+        ) => Some(rest),
+        _ => None,
+    }
+}
+
+/// The tokens behind a line feed, where one stands first.
+#[tactic(auto, unfolding(npf_phrase::specs::Phrase::read_token))]
+fn behind_line_feed(tokens: &[Token]) -> Option<&[Token]>
+    ensures begins { Begins line_feed tokens.now result }
+    ensures left { IfSome result (λ rest. length rest.now < length tokens.now) }
+{
+    match tokens.split_first() {
+        Some(
+            (
+                Token {
+                    kind: TokenKind::LineFeed,
+                    ..
+                },
+                rest,
+            ),
+        ) => Some(rest),
+        _ => None,
+    }
+}
+
+fn skip_line_feeds(tokens: &[Token]) -> &[Token]
+    ensures { (meaning (gap true)).read tokens.now ≡ Ok (tt, result.now) }
+{
+    let mut rest = tokens;
+    'feeds: loop {
+        match behind_line_feed(rest) {
+            Some(next) => rest = next,
+            None => return rest,
+        }
+    }
+}
+
+/// The tokens behind line feeds, inside a value list, and else all of them.
+pub(crate) fn skip(inside: bool, tokens: &[Token]) -> &[Token]
+    ensures { (meaning (gap inside)).read tokens.now ≡ Ok (tt, result.now) }
+{
+    if inside {
+        skip_line_feeds(tokens)
+    } else {
+        tokens
+    }
+}
+
+/// The tokens behind this sign and what may lie behind it, where it stands first.
+pub(crate) fn behind_spaced(wanted: Sign, inside: bool, tokens: &[Token]) -> Option<&[Token]>
+    ensures { Begins (spaced inside (sign wanted)) tokens.now result }
+{
+    match behind_sign(wanted, tokens) {
+        Some(rest) => Some(skip(inside, rest)),
+        None => None,
+    }
+}
+
+pub(crate) fn after_spaced(wanted: Sign, inside: bool, tokens: &[Token]) -> Result<&[Token], Stop>
+    ensures { GoesOn ((meaning (spaced inside (sign wanted))).read tokens.now) result }
+{
+    match behind_spaced(wanted, inside, tokens) {
+        Some(rest) => Ok(rest),
+        None => Err(Stop::Before(tokens)),
+    }
+}
+
+/// Whether a line feed or a semicolon stands first.
+pub fn is_at_separator(tokens: &[Token]) -> bool
+    ensures { result ≡ (meaning separator).starts (head tokens.now) }
+{
+    match tokens.first() {
+        Some(token) => matches!(token.kind, TokenKind::LineFeed | TokenKind::Semicolon),
+        None => false,
+    }
+}
+
+/// The place of the text's end.
+#[tactic(auto, unfolding(npf_phrase::specs::Phrase::read_token))]
+pub fn read_end(tokens: &[Token]) -> Result<(Span, &[Token]), Stop>
+    ensures { Answers ((meaning text_end).read tokens.now) result }
+{
+    match tokens.split_first() {
+        None => Ok((NOWHERE, tokens)),
+        Some(
+            (
+                Token {
+                    kind: TokenKind::End,
+                    span,
+                },
+                rest,
+            ),
+        ) => Ok((*span, rest)),
+        _ => Err(Stop::Before(tokens)),
+    }
+}
