@@ -1,11 +1,17 @@
 // The tests of tables of connections, each over any table, through the calls of `Connections` alone: the next table is put to the
-// same tests. Expected values are counted by hand.
+// same tests. Expected values are counted by hand. What is answered is put into lines of text, which are compared.
 #![tactic(auto)]
 
 #[cfg(test)]
-mod full;
+mod acts;
 #[cfg(test)]
-mod lives;
+mod answers;
+#[cfg(test)]
+mod asking;
+#[cfg(test)]
+mod cases;
+#[cfg(test)]
+mod second_pass;
 #[cfg(test)]
 mod sharing;
 #[cfg(test)]

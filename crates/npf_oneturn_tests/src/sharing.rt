@@ -9,13 +9,12 @@ ghost use Rattle.npf_connections.specs.Said.{Did};
 ghost use Rattle.npf_oneturn_tests.specs.Joined.{TookInLook, HasHold};
 ghost use Rattle.npf_oneturn_tests.specs.Sum.{sum_law};
 
-use crate::sum::{KEY, Sum, open};
+use crate::asking::{Asked, Then, ask};
+use crate::sum::{KEY, OTHER_KEY, Sum};
 use npf_connections::Connections;
-use npf_core::{ConnId, Found, Held};
-use npf_oneturn::OneTurn;
+use npf_core::{Found, Held};
 use npf_types::{Key, Way};
 use std::sync::Wait;
-use std::test::Fail;
 use std::thread::{Threads, join};
 
 // Looks the key up, and does nothing else.
@@ -70,61 +69,6 @@ fn look_apart<R: Wait, C: Connections<Sum>>(
     if found.is_some() { more + 1 } else { more }
 }
 
-// Opens a connection, and answers how many of 64 passes found it.
-fn found_by_64<R: Wait, C: Connections<Sum>>(rt: &R, conns: &C, pass: &mut C::Pass) -> u64
-    requires own { C.fits conns.now pass.old }
-    requires legal { IsPass sum_law (C.view pass.old) }
-    requires out { (C.view pass.old).entered ≡ false }
-    requires places { 65 ≤ (C.view pass.old).places }
-{
-    open(rt, conns, pass, 0, KEY);
-    look_apart(rt, conns, pass, 64, KEY)
-}
-
-#[test]
-fn passes_of_one_turn_are_split_and_joined(rt: HostRuntime) -> Result<(), Fail> {
-    let (conns, mut pass) = OneTurn::<Sum>::new(rt.alloc(), 1)?;
-    assert_eq!(rt; found_by_64(&rt, &conns, &mut pass), 64);
-    Ok(())
-}
-
-// A connection that was begun, and what it was answered when it asked for the key.
-type Asked = Option<(ConnId, Held)>;
-
-// Begins a connection that asks for the key.
-fn ask<R: Wait, C: Connections<Sum>>(
-    rt: &R,
-    conns: &C,
-    mut pass: C::Pass,
-    n: u64,
-    key: Key,
-) -> (C::Pass, Asked)
-    requires own { C.fits conns.now pass }
-    requires legal { IsPass sum_law (C.view pass) }
-    requires out { (C.view pass).entered ≡ false }
-    requires place { 1 ≤ (C.view pass).places }
-    ensures own { C.fits conns.now result.0 }
-    ensures legal { IsPass sum_law (C.view result.0) }
-    ensures out { (C.view result.0).entered ≡ false }
-    ensures number { (C.view result.0).number ≡ (C.view pass).number }
-    ensures slots { (C.view result.0).slots ≡ (C.view pass).slots }
-    ensures asks { IfSome result.1 (λ asked. asked.1 ≢ Held.NoNode → HasHold (C.view result.0).history key asked.0 asked.1) }
-{
-    conns.enter(rt, &mut pass);
-    let Some(id) = conns.begin(rt, &mut pass, n) else {
-        conns.leave(rt, &mut pass);
-        return (pass, None);
-    };
-    let held = conns.hold(rt, &mut pass, id, key, Way::Forward);
-    if held == Held::Done {
-        conns.start(rt, &mut pass, id, n, 100);
-    } else {
-        conns.abandon(rt, &mut pass, id);
-    }
-    conns.leave(rt, &mut pass);
-    (pass, Some((id, held)))
-}
-
 // Two threads ask for one key at once.
 fn ask_at_once<R: Threads + Wait + Sync, C: Connections<Sum>>(
     rt: &R,
@@ -149,10 +93,18 @@ fn ask_at_once<R: Threads + Wait + Sync, C: Connections<Sum>>(
         rt,
         move ||
             requires { C.fits conns.now first × IsPass sum_law (C.view first) × ((C.view first).entered ≡ false) × (1 ≤ (C.view first).places) }
-        { ask(rt, conns, first, 1, key) },
+        {
+            let mut pass = first;
+            let asked = ask(rt, conns, &mut pass, 1, key, Then::Starts);
+            (pass, asked)
+        },
         move ||
             requires { C.fits conns.now second × IsPass sum_law (C.view second) × ((C.view second).entered ≡ false) × (1 ≤ (C.view second).places) }
-        { ask(rt, conns, second, 2, key) },
+        {
+            let mut pass = second;
+            let asked = ask(rt, conns, &mut pass, 2, key, Then::Starts);
+            (pass, asked)
+        },
     );
     conns.join(rt, pass, first);
     conns.join(rt, pass, second);
@@ -174,10 +126,20 @@ fn is_taken_by(one: Asked, other: Asked) -> bool {
         }
 }
 
-#[test]
-fn key_of_one_turn_is_held_once(rt: HostRuntime) -> Result<(), Fail> {
-    let (conns, mut pass) = OneTurn::<Sum>::new(rt.alloc(), 2)?;
-    let (one, other) = ask_at_once(&rt, &conns, &mut pass, KEY);
-    assert!(rt; is_taken_by(one, other) || is_taken_by(other, one));
-    Ok(())
+/// How many of 64 passes find a connection that was opened before, and whether of two threads that ask for another key at once the
+/// one got it and the other was told so.
+pub(crate) fn shared<R: Threads + Wait + Sync, C: Connections<Sum>>(
+    rt: &R,
+    conns: &C,
+    pass: &mut C::Pass,
+) -> (u64, bool)
+    requires own { C.fits conns.now pass.old }
+    requires legal { IsPass sum_law (C.view pass.old) }
+    requires out { (C.view pass.old).entered ≡ false }
+    requires places { 65 ≤ (C.view pass.old).places }
+{
+    ask(rt, conns, pass, 0, KEY, Then::Starts);
+    let found = look_apart(rt, conns, pass, 64, KEY);
+    let (one, other) = ask_at_once(rt, conns, pass, OTHER_KEY);
+    (found, is_taken_by(one, other) || is_taken_by(other, one))
 }

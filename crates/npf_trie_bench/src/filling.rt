@@ -5,10 +5,10 @@ ghost use Rattle.npf_cells.specs.Passes.{IsPassOf, IsProtected};
 
 use crate::drawn::{KEYS, key};
 use npf_cells::{CellPass, Cells};
-use npf_cells_tests::beginning::begin;
 use npf_core::Held;
 use npf_flow::FlowLaw;
 use npf_paths::Fnv;
+use npf_pool_beginning::begin;
 use npf_trie::hold;
 use npf_types::Way;
 use std::sync::Wait;

@@ -1,97 +1,49 @@
-// Four passes that look for keys while two others hold them, each in a thread of its own.
+// Passes that work beside one another, each in a thread of its own.
 ghost use Rattle.std.specs.Prelude.{◌≡◌, ◌<◌, ◌≤◌, length};
 ghost use Rattle.std.specs.Thread.{IsSync};
 ghost use Rattle.npf_cells.specs.Passes.{IsPassOf};
-ghost use Rattle.npf_trie_tests.specs.Hands.{IsAtRest, IsEmptyHanded};
+ghost use Rattle.npf_trie_tests.specs.Hands.{IsAtRest};
 
-use crate::holders::{find, open};
-use crate::keys::Draws;
-use crate::told::{tell, untold};
+use crate::answers::{put, same};
+use crate::flat::Flat;
+use crate::keys::{KEYS_OF_ROUNDS, NODES_OF_ROUNDS};
+use crate::works::{Work, each, untold};
 use npf_cells::{CellPass, Cells};
-use npf_core::{Found, Held};
 use npf_epoch::enter;
 use npf_flow::FlowLaw;
-use npf_paths::Fnv;
-use npf_types::Way;
+use npf_paths::{Fnv, KeyHash};
+use npf_pool_beginning::begin;
+use std::alloc::Global;
 use std::sync::Wait;
-use std::sync::atomic::AtomicU64;
+use std::sync::atomic::{AtomicU64, Ordering};
 use std::test::Fail;
 use std::thread::{Threads, join};
 
-// The keys, of which each of the two passes holds every other one, and how often each of the four looks for all.
+/// What is put to many passes.
+#[derive(Clone, Copy)]
+enum Crew {
+    /// Each takes 320 slots: 64 passes ask for 480 more in all than there are.
+    OfSlots,
+    /// Each holds one key of each of 16 rounds, and is answered NoNode where others have the nodes in hand.
+    OfNodes,
+    /// The first two hold the keys of the even and of the odd numbers, the others look four times for all.
+    OfLooks,
+}
+
+const SLOTS: u32 = 20_000;
+
 const KEYS: u32 = 1000;
 
-const ROUNDS: u32 = 4;
+// How many keys are held, and how many others are looked for, by one pass.
+const MANY: u32 = 10_000;
 
-// Holds the keys of the even or of the odd numbers. Answers whether each was Done, and nobody told of another holder.
-fn hold_half(
+// The work of the pass of this number.
+fn work<H: KeyHash>(
     rt: &impl Wait,
-    cells: &Cells<FlowLaw, Fnv>,
-    pass: &mut CellPass<FlowLaw>,
-    told: &[AtomicU64],
-    half: u32,
-) -> bool
-    requires own { IsPassOf cells.now.table.shared.key cells.now.table.shared.table_id pass.old.seat.table_id pass.old.readers.items pass.old.seat.me }
-    requires hands { IsEmptyHanded pass.old.seat.me.0 }
-{
-    let mut keys = Draws::new();
-    for number in 0..KEYS {
-        let key = keys.key();
-        if number % 2 == half {
-            let Some((id, Held::Done)) = open(rt, cells, pass, key) else {
-                return false;
-            };
-            let way = Way::Forward;
-            if !tell(told, number, Found { id, way }) {
-                return false;
-            }
-        }
-    }
-    true
-}
-
-// Looks for all keys. Answers how many were found, or None where somebody told of another holder.
-fn find_all(
-    cells: &Cells<FlowLaw, Fnv>,
-    pass: &mut CellPass<FlowLaw>,
-    told: &[AtomicU64],
-) -> Option<u32>
-    requires own { IsPassOf cells.now.table.shared.key cells.now.table.shared.table_id pass.old.seat.table_id pass.old.readers.items pass.old.seat.me }
-    requires hands { IsEmptyHanded pass.old.seat.me.0 }
-    ensures own { IsPassOf cells.now.table.shared.key cells.now.table.shared.table_id pass.new.seat.table_id pass.new.readers.items pass.new.seat.me }
-    ensures hands { IsEmptyHanded pass.new.seat.me.0 }
-{
-    let mut keys = Draws::new();
-    let mut count = 0;
-    for number in 0..KEYS {
-        if let Some(found) = find(cells, pass, keys.key()) {
-            if !tell(told, number, found) {
-                return None;
-            }
-            count += 1;
-        }
-    }
-    Some(count)
-}
-
-fn find_often(cells: &Cells<FlowLaw, Fnv>, pass: &mut CellPass<FlowLaw>, told: &[AtomicU64]) -> bool
-    requires own { IsPassOf cells.now.table.shared.key cells.now.table.shared.table_id pass.old.seat.table_id pass.old.readers.items pass.old.seat.me }
-    requires hands { IsEmptyHanded pass.old.seat.me.0 }
-{
-    for _ in 0..ROUNDS {
-        if find_all(cells, pass, told).is_none() {
-            return false;
-        }
-    }
-    true
-}
-
-// The work of the pass of this number: the first two hold keys, the others look for them.
-fn work(
-    rt: &impl Wait,
-    cells: &Cells<FlowLaw, Fnv>,
+    cells: &Cells<FlowLaw, H>,
     pass: CellPass<FlowLaw>,
     told: &[AtomicU64],
+    crew: Crew,
     number: u32,
 ) -> bool
     requires own { IsPassOf cells.now.table.shared.key cells.now.table.shared.table_id pass.seat.table_id pass.readers.items pass.seat.me }
@@ -99,19 +51,26 @@ fn work(
 {
     let mut pass = pass;
     enter(cells, &mut pass);
-    if number < 2 {
-        hold_half(rt, cells, &mut pass, told, number)
-    } else {
-        find_often(cells, &mut pass, told)
+    let (work, count, rounds) = match crew {
+        Crew::OfSlots => (Work::TakeSlot, 320, 1u32),
+        Crew::OfNodes => (Work::HoldInRound(number), 16, 1),
+        Crew::OfLooks if number < 2 => (Work::HoldHalf(number), KEYS, 1),
+        Crew::OfLooks => (Work::Look, KEYS, 4),
+    };
+    let mut agreed = true;
+    for _ in 0..rounds {
+        agreed = each(rt, cells, &mut pass, told, work, count) == count && agreed;
     }
+    agreed
 }
 
-// The work of the passes from this number down to the first, of which all but the first are split off.
-fn work_beside<R: Threads + Wait + Sync>(
+// The work of the passes from this number down to 0, of which all but the last are split off.
+fn work_beside<R: Threads + Wait + Sync, H: KeyHash>(
     rt: &R,
-    cells: &Cells<FlowLaw, Fnv>,
+    cells: &Cells<FlowLaw, H>,
     pass: CellPass<FlowLaw>,
     told: &[AtomicU64],
+    crew: Crew,
     number: u32,
 ) -> bool
     requires own { IsPassOf cells.now.table.shared.key cells.now.table.shared.table_id pass.seat.table_id pass.readers.items pass.seat.me }
@@ -119,7 +78,7 @@ fn work_beside<R: Threads + Wait + Sync>(
     requires places { number < length pass.seat.me.0.seats.readers }
 {
     if number == 0 {
-        return work(rt, cells, pass, told, 0);
+        return work(rt, cells, pass, told, crew, 0);
     }
     let mut pass = pass;
     let other = cells.split(&mut pass);
@@ -127,21 +86,90 @@ fn work_beside<R: Threads + Wait + Sync>(
         rt,
         move ||
             requires { IsPassOf cells.now.table.shared.key cells.now.table.shared.table_id other.seat.table_id other.readers.items other.seat.me × IsAtRest other.seat.me.0 }
-        { work(rt, cells, other, told, number) },
+        { work(rt, cells, other, told, crew, number) },
         move ||
             requires { IsSync R.row × IsPassOf cells.now.table.shared.key cells.now.table.shared.table_id pass.seat.table_id pass.readers.items pass.seat.me × IsAtRest pass.seat.me.0 × (0 < number) × (number ≤ length pass.seat.me.0.seats.readers) }
-        { work_beside(rt, cells, pass, told, number - 1) },
+        { work_beside(rt, cells, pass, told, crew, number - 1) },
     );
     agreed && others_agreed
 }
 
-#[test]
-fn looks_beside_holds_find_the_holder_or_nobody(rt: HostRuntime) -> Result<(), Fail> {
-    let told = untold(rt.alloc(), KEYS)?;
-    let (cells, mut pass) = Cells::<FlowLaw, Fnv>::new(rt.alloc(), KEYS, 1024)?;
+// Whether no slot is taken twice by 64 passes, how many are taken, and a connection that is begun behind them.
+fn tell_slots<R: Threads + Wait + Sync>(
+    rt: &R,
+    alloc: Global,
+    answers: &mut String,
+) -> Result<(), Fail> {
+    let told = untold(alloc, SLOTS)?;
+    let (cells, mut pass) = Cells::<FlowLaw, Flat>::new(alloc, SLOTS, 16)?;
     let mut last = cells.split(&mut pass);
-    assert_eq!(rt; work_beside(&rt, &cells, pass, told.as_slice(), 5), true);
+    let agreed = work_beside(rt, &cells, pass, &told, Crew::OfSlots, 63);
     enter(&cells, &mut last);
-    assert_eq!(rt; find_all(&cells, &mut last, told.as_slice()), Some(1000));
+    let none = begin(rt, &cells, &mut last);
+    let taken = told
+        .iter()
+        .filter(|slot| slot.load(Ordering::SeqCst) != 0)
+        .count();
+    put(answers, &(agreed, taken, none))
+}
+
+// The nodes that are left after all hands gave back what they took are exactly those that the keys without a holder need. Once more
+// each key has the holder that was told of.
+fn tell_nodes<R: Threads + Wait + Sync>(
+    rt: &R,
+    alloc: Global,
+    answers: &mut String,
+) -> Result<(), Fail> {
+    let told = untold(alloc, KEYS_OF_ROUNDS)?;
+    let (cells, mut pass) = Cells::<FlowLaw, Flat>::new(alloc, 1280, NODES_OF_ROUNDS)?;
+    let mut last = cells.split(&mut pass);
+    let agreed = work_beside(rt, &cells, pass, &told, Crew::OfNodes, 63);
+    enter(&cells, &mut last);
+    let first = each(rt, &cells, &mut last, &told, Work::HoldRest, KEYS_OF_ROUNDS);
+    let again = each(rt, &cells, &mut last, &told, Work::HoldRest, KEYS_OF_ROUNDS);
+    put(answers, &(agreed, first, again))
+}
+
+// Looks beside holds find the holder or nobody, and at last each key's holder is found.
+fn tell_looks<R: Threads + Wait + Sync>(
+    rt: &R,
+    alloc: Global,
+    answers: &mut String,
+) -> Result<(), Fail> {
+    let told = untold(alloc, KEYS)?;
+    let (cells, mut pass) = Cells::<FlowLaw, Fnv>::new(alloc, KEYS, 1024)?;
+    let mut last = cells.split(&mut pass);
+    let agreed = work_beside(rt, &cells, pass, &told, Crew::OfLooks, 5);
+    enter(&cells, &mut last);
+    let found = each(rt, &cells, &mut last, &told, Work::Find, KEYS);
+    put(answers, &(agreed, found))
+}
+
+// How many keys under FNV-1a one pass holds and finds, and of how many, with as many others, it misses those others.
+fn tell_many(rt: &impl Wait, alloc: Global, answers: &mut String) -> Result<(), Fail> {
+    let (cells, mut pass) = Cells::<FlowLaw, Fnv>::new(alloc, 16_384, 16_384)?;
+    enter(&cells, &mut pass);
+    let held = each(rt, &cells, &mut pass, &[], Work::HoldInSlot, MANY);
+    let found = each(rt, &cells, &mut pass, &[], Work::FindInSlot, MANY);
+    let missed = each(rt, &cells, &mut pass, &[], Work::MissBehind(MANY), 2 * MANY);
+    put(answers, &(held, found, missed))
+}
+
+#[test]
+fn passes_agree(rt: HostRuntime) -> Result<(), Fail> {
+    let mut answers = String::new(rt.alloc());
+    tell_slots(&rt, rt.alloc(), &mut answers)?;
+    tell_nodes(&rt, rt.alloc(), &mut answers)?;
+    tell_looks(&rt, rt.alloc(), &mut answers)?;
+    tell_many(&rt, rt.alloc(), &mut answers)?;
+    same(
+        &rt,
+        answers.as_str(),
+        "(true, 20000, None)
+(true, 256, 256)
+(true, 1000)
+(10000, 10000, 20000)
+",
+    );
     Ok(())
 }

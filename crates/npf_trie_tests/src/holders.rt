@@ -3,9 +3,9 @@ ghost use Rattle.npf_cells.specs.Passes.{IsPassOf};
 ghost use Rattle.npf_trie_tests.specs.Hands.{IsEmptyHanded};
 
 use npf_cells::{CellPass, Cells};
-use npf_cells_tests::beginning::begin;
 use npf_core::{ConnId, Found, Held, Law};
 use npf_paths::KeyHash;
+use npf_pool_beginning::begin;
 use npf_trie::{hold, look};
 use npf_types::{Key, Way};
 use std::sync::Wait;

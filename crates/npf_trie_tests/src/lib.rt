@@ -1,19 +1,25 @@
-// The tests of keys in the trie, through the public calls of npf_trie and of the crates below it. Expected values are counted by
-// hand: by the digits of npf_paths two keys of one hash part at the first half-byte in which they differ, the highest of a key's
-// being of level 15.
+// The tests of the table without locks and of keys in its trie, through the public calls of npf_paths, npf_cells, npf_epoch, npf_pool and
+// npf_trie. Expected values are counted by hand: by the digits of npf_paths two keys of one hash part at the first half-byte in which they
+// differ, the highest of a key's being of level 15. What is answered is put into lines of text, which are compared.
 #![tactic(auto)]
 
 #[cfg(test)]
+mod answers;
+#[cfg(test)]
 mod beside;
 #[cfg(test)]
-mod hands;
+mod flat;
 #[cfg(test)]
 mod holders;
 #[cfg(test)]
 mod keys;
 #[cfg(test)]
-mod many;
-#[cfg(test)]
 mod meeting;
 #[cfg(test)]
-mod told;
+mod paths;
+#[cfg(test)]
+mod slots;
+#[cfg(test)]
+mod stays;
+#[cfg(test)]
+mod works;

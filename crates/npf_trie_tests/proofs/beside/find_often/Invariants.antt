@@ -1,9 +1,0 @@
-use Rattle.npf_cells.specs.Passes.{IsPassOf}
-use Rattle.npf_trie_tests.specs.Hands.{IsEmptyHanded}
-use Rattle.npf_trie_tests.proofs.beside.find_often.Given as goal
-
-abbrev pub invariant-loop : goal.invariant-loop
-invariant-loop l = record {
-  own : IsPassOf l.cells.table.shared.key l.cells.table.shared.table_id l.pass.seat.table_id l.pass.readers.items l.pass.seat.me;
-  hands : IsEmptyHanded l.pass.seat.me.0;
-}

@@ -1,0 +1,10 @@
+use Rattle.std.proofs.Common.{◌≡◌}
+use Rattle.npf_cells.specs.Passes.{IsPassOf, IsProtected}
+use Rattle.npf_trie_tests.proofs.slots.takes_all.Given as goal
+
+abbrev pub invariant-loop-count : goal.invariant-loop-count
+invariant-loop-count g l = record {
+  own : IsPassOf l.cells.table.shared.key l.cells.table.shared.table_id l.pass.seat.table_id l.pass.readers.items l.pass.seat.me;
+  protected : IsProtected l.pass.seat.me.0.epochs.pin;
+  trie : l.pass.seat.me.0.trie ≡ l.initial.pass.seat.me.0.trie;
+}
