@@ -1,9 +1,9 @@
-// Keys that meet in the trie whatever their hash, since it is 0 for all.
+// Keys of UDP, which meet in the trie since their hash is one.
 ghost use Rattle.npf_cells.specs.Passes.{IsPassOf};
 ghost use Rattle.npf_trie_tests.specs.Hands.{IsEmptyHanded};
 
 use crate::answers::{put, same};
-use crate::flat::Flat;
+use crate::by_protocol::ByProtocol;
 use crate::holders::{find, open};
 use npf_cells::{CellPass, Cells};
 use npf_epoch::enter;
@@ -36,7 +36,7 @@ enum Act {
 
 fn tell_act(
     rt: &impl Wait,
-    cells: &Cells<FlowLaw, Flat>,
+    cells: &Cells<FlowLaw, ByProtocol>,
     pass: &mut CellPass<FlowLaw>,
     act: Act,
     told: &mut String,
@@ -61,7 +61,7 @@ fn tell_acts(
     acts: &[Act],
     told: &mut String,
 ) -> Result<(), Fail> {
-    let (cells, mut pass) = Cells::<FlowLaw, Flat>::new(alloc, slots, nodes)?;
+    let (cells, mut pass) = Cells::<FlowLaw, ByProtocol>::new(alloc, slots, nodes)?;
     enter(&cells, &mut pass);
     for act in acts {
         tell_act(rt, &cells, &mut pass, *act, told)?;
