@@ -10,11 +10,11 @@ use npf_flow::FlowLaw;
 use npf_pool::take;
 use npf_pool_beginning::begin;
 use std::alloc::Global;
-use std::fmt::Write;
 use std::sync::Wait;
 use std::test::Fail;
 
-// Three slots: the word's highest 61 bits name none, and count as claimed.
+// Three slots: the word's highest 61 bits name none, and count as claimed, so that the word is 2^64 - 8, and 2^64 - 6 once the second
+// is claimed.
 fn tell_claims(alloc: Global, told: &mut String) -> Result<(), Fail> {
     let (cells, mut pass) = Cells::<FlowLaw, ByProtocol>::new(alloc, 3, 16)?;
     enter(&cells, &mut pass);
@@ -23,8 +23,8 @@ fn tell_claims(alloc: Global, told: &mut String) -> Result<(), Fail> {
     let after = cells.load_pool(&mut pass, Pool::Slots, 0);
     let second = cells.claim(&mut pass, Pool::Slots, 1, 8);
     leave(&cells, &mut pass);
-    write!(told, "{before:x} {first} {after:x} {second}\n")?;
-    Ok(())
+    put(told, &[before, after])?;
+    put(told, &[first, second])
 }
 
 // Takes the slots that are left. Answers whether they were the first ones, in order, and how many they were.
@@ -80,7 +80,8 @@ fn slots_are_claimed_once(rt: HostRuntime) -> Result<(), Fail> {
     same(
         &rt,
         told.as_str(),
-        "fffffffffffffff8 true fffffffffffffffa false
+        "[18446744073709551608, 18446744073709551610]
+[true, false]
 ((true, 70), true)
 [Some(ConnId { slot: 0, inc: 1 }), Some(ConnId { slot: 1, inc: 1 }), None]
 ",
