@@ -1,18 +1,19 @@
-// The tests of runs: packets through workers on threads of their own, beside a control task. They are put to any table of connections
-// and shown over the one under one turn. What is expected of each packet follows from its configuration and from the order that
-// a gate enforces.
+// The tests of what a run does at one time: packets through workers on threads of their own, and packets that open connections, one after
+// the other, where others may have opened them first. They are put to any table of connections and shown over the one under one turn.
+// What is expected of a packet follows from its configuration and from the order that a gate enforces; the numbers of keys are worked
+// out by hand from their layout, which npf_key tells. What is answered is put into lines of text, which are compared.
 #![tactic(auto)]
 
 #[cfg(test)]
-mod fits;
+mod answers;
 #[cfg(test)]
 mod gates;
 #[cfg(test)]
 mod meeting;
 #[cfg(test)]
-mod packets;
+mod openings;
 #[cfg(test)]
-mod phases;
+mod packets;
 #[cfg(test)]
 mod run;
 #[cfg(test)]

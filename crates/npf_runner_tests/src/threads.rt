@@ -1,98 +1,92 @@
 // Workers are on threads of their own, and meet in one table.
+use crate::answers::{put, same};
 use crate::gates::HoldUntil;
 use crate::meeting::Meeting;
-use crate::packets::{both, datagram, syn};
-use crate::run::{Setting, phase, run, run_over};
-use npf_engine::{Kept, Outcome};
+use crate::packets::{datagrams, syns};
+use crate::run::{SLOTS, run};
+use npf_engine::Outcome;
 use npf_flow::FlowLaw;
 use npf_oneturn::OneTurn;
-use npf_runner::{NoGate, Spread};
+use npf_runner::{NoGate, Packet};
+use std::alloc::Global;
+use std::sync::Wait;
 use std::test::Fail;
+use std::thread::Threads;
 
-const TWO_WORKERS: Setting = Setting {
-    workers: 2,
-    spread: Spread::Rr,
-    slots: 4,
-};
-
-// Worker 0 is held before packet 1 until worker 1 has answered packet 2: on one thread the gate would give up.
-#[test]
-fn two_workers_do_not_wait_for_each_other(rt: HostRuntime) -> Result<(), Fail> {
-    let alloc = rt.alloc();
-    let packets = both(alloc, datagram(alloc, 1, 0, 1)?, datagram(alloc, 2, 0, 2)?)?;
-    let phases = vec![in alloc; phase(alloc, 2, &[])?]?;
-    let gate = HoldUntil::new(1, 2);
-    let outcomes = run(
-        &rt,
-        alloc,
-        &["group default { pass all }\n"],
-        packets,
-        &phases,
-        TWO_WORKERS,
-        &gate,
-    )?;
-    assert!(rt; !gate.gave_up());
-    assert_eq!(rt; outcomes.len(), 2);
-    assert!(rt; outcomes.iter().all(|outcome| outcome.passes()));
-    Ok(())
+// The outcomes of two packets, of which the gate holds one until the other's is known.
+fn run_held<R: Threads + Wait + Sync>(
+    rt: &R,
+    alloc: Global,
+    text: &str,
+    packets: Vec<Packet<'_>>,
+    gate: &HoldUntil,
+) -> Result<Vec<Outcome>, Fail> {
+    let (conns, mut pass) = OneTurn::<FlowLaw>::new(alloc, SLOTS)?;
+    run(rt, alloc, text, packets, &conns, &mut pass, gate)
 }
 
-// Each packet's first look waits until the other's has begun: with a lock round each packet the wait would give up.
-#[test]
-fn two_packets_are_looked_up_at_a_time(rt: HostRuntime) -> Result<(), Fail> {
-    let alloc = rt.alloc();
-    let packets = both(alloc, datagram(alloc, 1, 0, 1)?, datagram(alloc, 2, 0, 2)?)?;
-    let phases = vec![in alloc; phase(alloc, 2, &[])?]?;
-    let (table, mut pass) = OneTurn::<FlowLaw>::new(alloc, TWO_WORKERS.slots)?;
+// The outcomes of two packets whose first looks wait for each other's. Tells whether they met.
+fn run_meeting<R: Threads + Wait + Sync>(
+    rt: &R,
+    alloc: Global,
+    text: &str,
+    told: &mut String,
+) -> Result<Vec<Outcome>, Fail> {
+    let (table, mut pass) = OneTurn::<FlowLaw>::new(alloc, SLOTS)?;
     let conns = Meeting::new(table);
-    let outcomes = run_over(
-        &rt,
+    let outcomes = run(
+        rt,
         alloc,
-        &["group default { pass stateful proto udp all }\n"],
-        packets,
-        &phases,
-        TWO_WORKERS,
+        text,
+        datagrams(alloc)?,
         &conns,
         &mut pass,
         &NoGate,
     )?;
-    assert!(rt; conns.met());
-    assert_eq!(rt; outcomes.len(), 2);
-    assert!(rt; outcomes.iter().all(|outcome| outcome.passes()));
+    put(told, &conns.met())?;
+    Ok(outcomes)
+}
+
+fn tell_passed(told: &mut String, outcomes: &[Outcome]) -> Result<(), Fail> {
+    for outcome in outcomes {
+        put(told, &outcome.passes())?;
+    }
     Ok(())
 }
 
-// Packet 2 is held until packet 1 is answered. Both are one SYN: the first opens the connection, the second is its next step.
+// - Worker 0 is held before packet 1 until worker 1 has answered packet 2: on one thread the gate would give up.
+// - Each packet's first look waits until the other's has begun: with a lock round each packet the wait would give up.
+// - Packet 2 is held until packet 1 is answered. Both are one SYN: the first opens the connection, the second is its next step.
 #[test]
-fn second_worker_finds_the_connection_of_the_first(rt: HostRuntime) -> Result<(), Fail> {
+fn two_workers_share_a_table_and_do_not_wait_for_each_other(rt: HostRuntime) -> Result<(), Fail> {
     let alloc = rt.alloc();
-    let packets = both(alloc, syn(alloc, 1, 1)?, syn(alloc, 2, 1)?)?;
-    let phases = vec![in alloc; phase(alloc, 2, &[])?]?;
+    let mut told = String::new(alloc);
+    let gate = HoldUntil::new(1, 2);
+    let text = "group default { pass all }\n";
+    let outcomes = run_held(&rt, alloc, text, datagrams(alloc)?, &gate)?;
+    tell_passed(&mut told, &outcomes)?;
+    put(&mut told, &gate.gave_up())?;
+    let text = "group default { pass stateful proto udp all }\n";
+    let outcomes = run_meeting(&rt, alloc, text, &mut told)?;
+    tell_passed(&mut told, &outcomes)?;
     let gate = HoldUntil::new(2, 1);
-    let outcomes = run(
+    let text = "group default { pass stateful proto tcp all }\n";
+    let outcomes = run_held(&rt, alloc, text, syns(alloc)?, &gate)?;
+    put(&mut told, &gate.gave_up())?;
+    put(&mut told, &outcomes.as_slice())?;
+    same(
         &rt,
-        alloc,
-        &["group default { pass stateful proto tcp all }\n"],
-        packets,
-        &phases,
-        TWO_WORKERS,
-        &gate,
-    )?;
-    assert!(rt; !gate.gave_up());
-    let (
-        Some(Outcome::ByRule { kept, .. }),
-        Some(
-            Outcome::ByConn {
-                id,
-                opener,
-                place,
-                ..
-            },
-        ),
-    ) = (outcomes.first(), outcomes.get(1))
-    else {
-        return Err("other outcomes".into());
-    };
-    assert_eq!(rt; (*kept, *opener, *place), (Kept::Opened(*id), 1, 1));
+        told.as_str(),
+        "true
+true
+false
+true
+true
+true
+false
+[ByRule { decision: Pass, log: None, rule: Some(0), config: 0, kept: Opened(ConnId { slot: 0, inc: 1 }) }, \
+ByConn { id: ConnId { slot: 0, inc: 1 }, opener: 1, place: 1, pass: true, log: None }]
+",
+    );
     Ok(())
 }

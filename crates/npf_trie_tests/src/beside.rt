@@ -5,13 +5,12 @@ ghost use Rattle.npf_cells.specs.Passes.{IsPassOf};
 ghost use Rattle.npf_trie_tests.specs.Hands.{IsAtRest};
 
 use crate::answers::{put, same};
-use crate::flat::Flat;
+use crate::by_protocol::ByProtocol;
 use crate::keys::{KEYS_OF_ROUNDS, NODES_OF_ROUNDS};
 use crate::works::{Work, each, untold};
 use npf_cells::{CellPass, Cells};
 use npf_epoch::enter;
 use npf_flow::FlowLaw;
-use npf_paths::{Fnv, KeyHash};
 use npf_pool_beginning::begin;
 use std::alloc::Global;
 use std::sync::Wait;
@@ -38,9 +37,9 @@ const KEYS: u32 = 1000;
 const MANY: u32 = 10_000;
 
 // The work of the pass of this number.
-fn work<H: KeyHash>(
+fn work(
     rt: &impl Wait,
-    cells: &Cells<FlowLaw, H>,
+    cells: &Cells<FlowLaw, ByProtocol>,
     pass: CellPass<FlowLaw>,
     told: &[AtomicU64],
     crew: Crew,
@@ -65,9 +64,9 @@ fn work<H: KeyHash>(
 }
 
 // The work of the passes from this number down to 0, of which all but the last are split off.
-fn work_beside<R: Threads + Wait + Sync, H: KeyHash>(
+fn work_beside<R: Threads + Wait + Sync>(
     rt: &R,
-    cells: &Cells<FlowLaw, H>,
+    cells: &Cells<FlowLaw, ByProtocol>,
     pass: CellPass<FlowLaw>,
     told: &[AtomicU64],
     crew: Crew,
@@ -101,7 +100,7 @@ fn tell_slots<R: Threads + Wait + Sync>(
     answers: &mut String,
 ) -> Result<(), Fail> {
     let told = untold(alloc, SLOTS)?;
-    let (cells, mut pass) = Cells::<FlowLaw, Flat>::new(alloc, SLOTS, 16)?;
+    let (cells, mut pass) = Cells::<FlowLaw, ByProtocol>::new(alloc, SLOTS, 16)?;
     let mut last = cells.split(&mut pass);
     let agreed = work_beside(rt, &cells, pass, &told, Crew::OfSlots, 63);
     enter(&cells, &mut last);
@@ -121,7 +120,7 @@ fn tell_nodes<R: Threads + Wait + Sync>(
     answers: &mut String,
 ) -> Result<(), Fail> {
     let told = untold(alloc, KEYS_OF_ROUNDS)?;
-    let (cells, mut pass) = Cells::<FlowLaw, Flat>::new(alloc, 1280, NODES_OF_ROUNDS)?;
+    let (cells, mut pass) = Cells::<FlowLaw, ByProtocol>::new(alloc, 1280, NODES_OF_ROUNDS)?;
     let mut last = cells.split(&mut pass);
     let agreed = work_beside(rt, &cells, pass, &told, Crew::OfNodes, 63);
     enter(&cells, &mut last);
@@ -137,7 +136,7 @@ fn tell_looks<R: Threads + Wait + Sync>(
     answers: &mut String,
 ) -> Result<(), Fail> {
     let told = untold(alloc, KEYS)?;
-    let (cells, mut pass) = Cells::<FlowLaw, Fnv>::new(alloc, KEYS, 1024)?;
+    let (cells, mut pass) = Cells::<FlowLaw, ByProtocol>::new(alloc, KEYS, 1024)?;
     let mut last = cells.split(&mut pass);
     let agreed = work_beside(rt, &cells, pass, &told, Crew::OfLooks, 5);
     enter(&cells, &mut last);
@@ -147,7 +146,7 @@ fn tell_looks<R: Threads + Wait + Sync>(
 
 // How many keys under FNV-1a one pass holds and finds, and of how many, with as many others, it misses those others.
 fn tell_many(rt: &impl Wait, alloc: Global, answers: &mut String) -> Result<(), Fail> {
-    let (cells, mut pass) = Cells::<FlowLaw, Fnv>::new(alloc, 16_384, 16_384)?;
+    let (cells, mut pass) = Cells::<FlowLaw, ByProtocol>::new(alloc, 16_384, 16_384)?;
     enter(&cells, &mut pass);
     let held = each(rt, &cells, &mut pass, &[], Work::HoldInSlot, MANY);
     let found = each(rt, &cells, &mut pass, &[], Work::FindInSlot, MANY);

@@ -2,9 +2,10 @@
 ghost use Rattle.npf_cells.specs.Passes.{IsPassOf};
 ghost use Rattle.npf_trie_tests.specs.Hands.{IsEmptyHanded};
 
+use crate::by_protocol::ByProtocol;
 use npf_cells::{CellPass, Cells};
-use npf_core::{ConnId, Found, Held, Law};
-use npf_paths::KeyHash;
+use npf_core::{ConnId, Found, Held};
+use npf_flow::FlowLaw;
 use npf_pool_beginning::begin;
 use npf_trie::{hold, look};
 use npf_types::{Key, Way};
@@ -24,10 +25,10 @@ pub(crate) fn holder_in(slot: u32) -> Found {
 }
 
 /// Begins a connection and holds the key for it. None where no slot is left.
-pub(crate) fn open<L: Law, H: KeyHash>(
+pub(crate) fn open(
     rt: &impl Wait,
-    cells: &Cells<L, H>,
-    pass: &mut CellPass<L>,
+    cells: &Cells<FlowLaw, ByProtocol>,
+    pass: &mut CellPass<FlowLaw>,
     key: Key,
 ) -> Option<(ConnId, Held)>
     requires own { IsPassOf cells.now.table.shared.key cells.now.table.shared.table_id pass.old.seat.table_id pass.old.readers.items pass.old.seat.me }
@@ -41,9 +42,9 @@ pub(crate) fn open<L: Law, H: KeyHash>(
 }
 
 /// Who holds the key.
-pub(crate) fn find<L: Law, H: KeyHash>(
-    cells: &Cells<L, H>,
-    pass: &mut CellPass<L>,
+pub(crate) fn find(
+    cells: &Cells<FlowLaw, ByProtocol>,
+    pass: &mut CellPass<FlowLaw>,
     key: Key,
 ) -> Option<Found>
     requires own { IsPassOf cells.now.table.shared.key cells.now.table.shared.table_id pass.old.seat.table_id pass.old.readers.items pass.old.seat.me }

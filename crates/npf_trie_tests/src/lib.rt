@@ -8,7 +8,7 @@ mod answers;
 #[cfg(test)]
 mod beside;
 #[cfg(test)]
-mod flat;
+mod by_protocol;
 #[cfg(test)]
 mod holders;
 #[cfg(test)]

@@ -1,9 +1,9 @@
-// Keys that meet in the trie whatever their hash, since it is 0 for all.
+// Keys of UDP, which meet in the trie since their hash is one.
 ghost use Rattle.npf_cells.specs.Passes.{IsPassOf};
 ghost use Rattle.npf_trie_tests.specs.Hands.{IsEmptyHanded};
 
 use crate::answers::{put, same};
-use crate::flat::Flat;
+use crate::by_protocol::ByProtocol;
 use crate::holders::{find, open};
 use npf_cells::{CellPass, Cells};
 use npf_epoch::enter;
@@ -34,9 +34,100 @@ enum Act {
     Find(Key),
 }
 
+// Tables, by their slots and nodes, and what is done with each.
+const CASES: [(u32, u32, &[Act]); 11] = [
+    // a key is found where it parts from another, past the hash
+    (
+        4,
+        26,
+        &[
+            Act::Find(FIRST),
+            Act::Open(FIRST),
+            Act::Open(SECOND),
+            Act::Find(FIRST),
+            Act::Find(SECOND),
+            Act::Find(THIRD),
+            Act::Open(FIRST),
+            Act::Open(SECOND),
+        ],
+    ),
+    // a hold that found too few nodes leaves the table as it was, and has given back those that it took: the next one needs them all
+    (
+        4,
+        25,
+        &[
+            Act::Open(FIRST),
+            Act::Open(SECOND),
+            Act::Find(FIRST),
+            Act::Find(SECOND),
+            Act::Open(THIRD),
+            Act::Find(FIRST),
+            Act::Find(THIRD),
+            Act::Open(SECOND),
+        ],
+    ),
+    // two keys that part at a level need a node for each level down to it, and one that is held needs none
+    (2, 0, &[Act::Open(FIRST), Act::Open(FIRST)]),
+    (2, 15, &[Act::Open(FIRST), Act::Open(OTHER_VERSION)]),
+    (2, 16, &[Act::Open(FIRST), Act::Open(OTHER_VERSION)]),
+    (2, 24, &[Act::Open(FIRST), Act::Open(THIRD)]),
+    (2, 25, &[Act::Open(FIRST), Act::Open(THIRD)]),
+    (2, 25, &[Act::Open(FIRST), Act::Open(SECOND)]),
+    (2, 26, &[Act::Open(FIRST), Act::Open(SECOND)]),
+    (2, 93, &[Act::Open(FIRST), Act::Open(OTHER_HOST)]),
+    (2, 94, &[Act::Open(FIRST), Act::Open(OTHER_HOST)]),
+];
+
+const ANSWERS: &str = "None
+Some((ConnId { slot: 0, inc: 1 }, Done))
+Some((ConnId { slot: 1, inc: 1 }, Done))
+Some(Found { id: ConnId { slot: 0, inc: 1 }, way: Forward })
+Some(Found { id: ConnId { slot: 1, inc: 1 }, way: Forward })
+None
+Some((ConnId { slot: 2, inc: 1 }, Taken(Found { id: ConnId { slot: 0, inc: 1 }, way: Forward })))
+Some((ConnId { slot: 3, inc: 1 }, Taken(Found { id: ConnId { slot: 1, inc: 1 }, way: Forward })))
+
+Some((ConnId { slot: 0, inc: 1 }, Done))
+Some((ConnId { slot: 1, inc: 1 }, NoNode))
+Some(Found { id: ConnId { slot: 0, inc: 1 }, way: Forward })
+None
+Some((ConnId { slot: 2, inc: 1 }, Done))
+Some(Found { id: ConnId { slot: 0, inc: 1 }, way: Forward })
+Some(Found { id: ConnId { slot: 2, inc: 1 }, way: Forward })
+Some((ConnId { slot: 3, inc: 1 }, NoNode))
+
+Some((ConnId { slot: 0, inc: 1 }, Done))
+Some((ConnId { slot: 1, inc: 1 }, Taken(Found { id: ConnId { slot: 0, inc: 1 }, way: Forward })))
+
+Some((ConnId { slot: 0, inc: 1 }, Done))
+Some((ConnId { slot: 1, inc: 1 }, NoNode))
+
+Some((ConnId { slot: 0, inc: 1 }, Done))
+Some((ConnId { slot: 1, inc: 1 }, Done))
+
+Some((ConnId { slot: 0, inc: 1 }, Done))
+Some((ConnId { slot: 1, inc: 1 }, NoNode))
+
+Some((ConnId { slot: 0, inc: 1 }, Done))
+Some((ConnId { slot: 1, inc: 1 }, Done))
+
+Some((ConnId { slot: 0, inc: 1 }, Done))
+Some((ConnId { slot: 1, inc: 1 }, NoNode))
+
+Some((ConnId { slot: 0, inc: 1 }, Done))
+Some((ConnId { slot: 1, inc: 1 }, Done))
+
+Some((ConnId { slot: 0, inc: 1 }, Done))
+Some((ConnId { slot: 1, inc: 1 }, NoNode))
+
+Some((ConnId { slot: 0, inc: 1 }, Done))
+Some((ConnId { slot: 1, inc: 1 }, Done))
+
+";
+
 fn tell_act(
     rt: &impl Wait,
-    cells: &Cells<FlowLaw, Flat>,
+    cells: &Cells<FlowLaw, ByProtocol>,
     pass: &mut CellPass<FlowLaw>,
     act: Act,
     told: &mut String,
@@ -61,7 +152,7 @@ fn tell_acts(
     acts: &[Act],
     told: &mut String,
 ) -> Result<(), Fail> {
-    let (cells, mut pass) = Cells::<FlowLaw, Flat>::new(alloc, slots, nodes)?;
+    let (cells, mut pass) = Cells::<FlowLaw, ByProtocol>::new(alloc, slots, nodes)?;
     enter(&cells, &mut pass);
     for act in acts {
         tell_act(rt, &cells, &mut pass, *act, told)?;
@@ -70,107 +161,12 @@ fn tell_acts(
 }
 
 #[test]
-fn keys_part_past_the_hash(rt: HostRuntime) -> Result<(), Fail> {
+fn keys_meet(rt: HostRuntime) -> Result<(), Fail> {
     let mut told = String::new(rt.alloc());
-    let acts = [
-        Act::Find(FIRST),
-        Act::Open(FIRST),
-        Act::Open(SECOND),
-        Act::Find(FIRST),
-        Act::Find(SECOND),
-        Act::Find(THIRD),
-        Act::Open(FIRST),
-        Act::Open(SECOND),
-    ];
-    tell_acts(&rt, rt.alloc(), 4, 26, &acts, &mut told)?;
-    same(
-        &rt,
-        told.as_str(),
-        "None
-Some((ConnId { slot: 0, inc: 1 }, Done))
-Some((ConnId { slot: 1, inc: 1 }, Done))
-Some(Found { id: ConnId { slot: 0, inc: 1 }, way: Forward })
-Some(Found { id: ConnId { slot: 1, inc: 1 }, way: Forward })
-None
-Some((ConnId { slot: 2, inc: 1 }, Taken(Found { id: ConnId { slot: 0, inc: 1 }, way: Forward })))
-Some((ConnId { slot: 3, inc: 1 }, Taken(Found { id: ConnId { slot: 1, inc: 1 }, way: Forward })))
-",
-    );
-    Ok(())
-}
-
-// A hold that found too few nodes leaves the table as it was, and has given back those that it took: the next one needs them all.
-#[test]
-fn nodes_come_back_from_a_hold_without_enough(rt: HostRuntime) -> Result<(), Fail> {
-    let mut told = String::new(rt.alloc());
-    let acts = [
-        Act::Open(FIRST),
-        Act::Open(SECOND),
-        Act::Find(FIRST),
-        Act::Find(SECOND),
-        Act::Open(THIRD),
-        Act::Find(FIRST),
-        Act::Find(THIRD),
-        Act::Open(SECOND),
-    ];
-    tell_acts(&rt, rt.alloc(), 4, 25, &acts, &mut told)?;
-    same(
-        &rt,
-        told.as_str(),
-        "Some((ConnId { slot: 0, inc: 1 }, Done))
-Some((ConnId { slot: 1, inc: 1 }, NoNode))
-Some(Found { id: ConnId { slot: 0, inc: 1 }, way: Forward })
-None
-Some((ConnId { slot: 2, inc: 1 }, Done))
-Some(Found { id: ConnId { slot: 0, inc: 1 }, way: Forward })
-Some(Found { id: ConnId { slot: 2, inc: 1 }, way: Forward })
-Some((ConnId { slot: 3, inc: 1 }, NoNode))
-",
-    );
-    Ok(())
-}
-
-// Two keys that part at a level need a node for each level down to it, and a key that is held needs none.
-#[test]
-fn as_many_nodes_as_levels_are_needed(rt: HostRuntime) -> Result<(), Fail> {
-    let mut told = String::new(rt.alloc());
-    let cases = [
-        (0, FIRST),
-        (15, OTHER_VERSION),
-        (16, OTHER_VERSION),
-        (24, THIRD),
-        (25, THIRD),
-        (25, SECOND),
-        (26, SECOND),
-        (93, OTHER_HOST),
-        (94, OTHER_HOST),
-    ];
-    for (nodes, key) in &cases {
-        let acts = [Act::Open(FIRST), Act::Open(*key)];
-        tell_acts(&rt, rt.alloc(), 2, *nodes, &acts, &mut told)?;
+    for (slots, nodes, acts) in &CASES {
+        tell_acts(&rt, rt.alloc(), *slots, *nodes, acts, &mut told)?;
+        told.push('\n')?;
     }
-    same(
-        &rt,
-        told.as_str(),
-        "Some((ConnId { slot: 0, inc: 1 }, Done))
-Some((ConnId { slot: 1, inc: 1 }, Taken(Found { id: ConnId { slot: 0, inc: 1 }, way: Forward })))
-Some((ConnId { slot: 0, inc: 1 }, Done))
-Some((ConnId { slot: 1, inc: 1 }, NoNode))
-Some((ConnId { slot: 0, inc: 1 }, Done))
-Some((ConnId { slot: 1, inc: 1 }, Done))
-Some((ConnId { slot: 0, inc: 1 }, Done))
-Some((ConnId { slot: 1, inc: 1 }, NoNode))
-Some((ConnId { slot: 0, inc: 1 }, Done))
-Some((ConnId { slot: 1, inc: 1 }, Done))
-Some((ConnId { slot: 0, inc: 1 }, Done))
-Some((ConnId { slot: 1, inc: 1 }, NoNode))
-Some((ConnId { slot: 0, inc: 1 }, Done))
-Some((ConnId { slot: 1, inc: 1 }, Done))
-Some((ConnId { slot: 0, inc: 1 }, Done))
-Some((ConnId { slot: 1, inc: 1 }, NoNode))
-Some((ConnId { slot: 0, inc: 1 }, Done))
-Some((ConnId { slot: 1, inc: 1 }, Done))
-",
-    );
+    same(&rt, told.as_str(), ANSWERS);
     Ok(())
 }

@@ -2,22 +2,18 @@
 use crate::answers::{put, same};
 use npf_paths::{Cell, Fnv, KeyHash, Place, digit, parting_level};
 use npf_types::{Key, Way};
-use std::fmt::Write;
 use std::test::Fail;
 
 // FNV-1a of the keys' bytes, as a program of its own computes it that gives af63dc4c8601ec8c for "a" and 85944171f73967e8 for
-// "foobar", as the published test vectors do.
+// "foobar", as the published test vectors do: 40d69e0cf0f65c45, a21cb59346b10b92, 8959e4b6f26c829d and 75a62c4aa4dec819.
 fn tell_hashes(told: &mut String) -> Result<(), Fail> {
-    let keys = [
-        Key([0; 5]),
-        Key([1, 2, 3, 4, 5]),
-        Key([u64::MAX; 5]),
-        Key([0x0406_0001_0035_0035, 0, 0x0a00_0001, 0, 0x0808_0808]),
+    let hashes = [
+        Fnv::hash(&Key([0; 5])),
+        Fnv::hash(&Key([1, 2, 3, 4, 5])),
+        Fnv::hash(&Key([u64::MAX; 5])),
+        Fnv::hash(&Key([0x0406_0001_0035_0035, 0, 0x0a00_0001, 0, 0x0808_0808])),
     ];
-    for key in &keys {
-        write!(told, "{:016x}\n", Fnv::hash(key))?;
-    }
-    Ok(())
+    put(told, &hashes)
 }
 
 // The hash is 0xfedcba9876543210: its lowest six bits are 0x10, and the four above them are 8.
@@ -110,10 +106,7 @@ fn keys_have_their_ways(rt: HostRuntime) -> Result<(), Fail> {
     same(
         &rt,
         told.as_str(),
-        "40d69e0cf0f65c45
-a21cb59346b10b92
-8959e4b6f26c829d
-75a62c4aa4dec819
+        "[4672095441862941765, 11681411177643051922, 9897193130525754013, 8477512047676803097]
 [16, 8, 12, 11, 15]
 [1, 2, 4, 0, 15, 10, 0, 14, 7]
 Some(94)

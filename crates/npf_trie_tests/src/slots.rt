@@ -3,34 +3,34 @@ ghost use Rattle.std.specs.Prelude.{◌≡◌};
 ghost use Rattle.npf_cells.specs.Passes.{IsPassOf, IsProtected};
 
 use crate::answers::{put, same};
-use crate::flat::Flat;
+use crate::by_protocol::ByProtocol;
 use npf_cells::{CellPass, Cells, Pool};
 use npf_epoch::{enter, leave};
 use npf_flow::FlowLaw;
 use npf_pool::take;
 use npf_pool_beginning::begin;
 use std::alloc::Global;
-use std::fmt::Write;
 use std::sync::Wait;
 use std::test::Fail;
 
-// Three slots: the word's highest 61 bits name none, and count as claimed.
+// Three slots: the word's highest 61 bits name none, and count as claimed, so that the word is 2^64 - 8, and 2^64 - 6 once the second
+// is claimed.
 fn tell_claims(alloc: Global, told: &mut String) -> Result<(), Fail> {
-    let (cells, mut pass) = Cells::<FlowLaw, Flat>::new(alloc, 3, 16)?;
+    let (cells, mut pass) = Cells::<FlowLaw, ByProtocol>::new(alloc, 3, 16)?;
     enter(&cells, &mut pass);
     let before = cells.load_pool(&mut pass, Pool::Slots, 0);
     let first = cells.claim(&mut pass, Pool::Slots, 1, 7);
     let after = cells.load_pool(&mut pass, Pool::Slots, 0);
     let second = cells.claim(&mut pass, Pool::Slots, 1, 8);
     leave(&cells, &mut pass);
-    write!(told, "{before:x} {first} {after:x} {second}\n")?;
-    Ok(())
+    put(told, &[before, after])?;
+    put(told, &[first, second])
 }
 
 // Takes the slots that are left. Answers whether they were the first ones, in order, and how many they were.
 fn takes_all(
     rt: &impl Wait,
-    cells: &Cells<FlowLaw, Flat>,
+    cells: &Cells<FlowLaw, ByProtocol>,
     pass: &mut CellPass<FlowLaw>,
 ) -> (bool, u32)
     requires own { IsPassOf cells.now.table.shared.key cells.now.table.shared.table_id pass.old.seat.table_id pass.old.readers.items pass.old.seat.me }
@@ -50,7 +50,7 @@ fn takes_all(
 }
 
 fn tell_taken(rt: &impl Wait, alloc: Global, told: &mut String) -> Result<(), Fail> {
-    let (cells, mut pass) = Cells::<FlowLaw, Flat>::new(alloc, 70, 16)?;
+    let (cells, mut pass) = Cells::<FlowLaw, ByProtocol>::new(alloc, 70, 16)?;
     enter(&cells, &mut pass);
     let taken = takes_all(rt, &cells, &mut pass);
     let last = cells.load_pool(&mut pass, Pool::Slots, 1);
@@ -60,7 +60,7 @@ fn tell_taken(rt: &impl Wait, alloc: Global, told: &mut String) -> Result<(), Fa
 
 // Two slots, and what each of three connections is.
 fn tell_begun(rt: &impl Wait, alloc: Global, told: &mut String) -> Result<(), Fail> {
-    let (cells, mut pass) = Cells::<FlowLaw, Flat>::new(alloc, 2, 16)?;
+    let (cells, mut pass) = Cells::<FlowLaw, ByProtocol>::new(alloc, 2, 16)?;
     enter(&cells, &mut pass);
     let begun = [
         begin(rt, &cells, &mut pass),
@@ -80,7 +80,8 @@ fn slots_are_claimed_once(rt: HostRuntime) -> Result<(), Fail> {
     same(
         &rt,
         told.as_str(),
-        "fffffffffffffff8 true fffffffffffffffa false
+        "[18446744073709551608, 18446744073709551610]
+[true, false]
 ((true, 70), true)
 [Some(ConnId { slot: 0, inc: 1 }), Some(ConnId { slot: 1, inc: 1 }), None]
 ",

@@ -4,7 +4,7 @@ ghost use Rattle.npf_cells.specs.declared.views.Pin.TheVariants.{Idle};
 ghost use Rattle.npf_cells.specs.Passes.{IsPassOf};
 
 use crate::answers::{put, same};
-use crate::flat::Flat;
+use crate::by_protocol::ByProtocol;
 use npf_cells::{CellPass, Cells, LAST_EPOCH};
 use npf_epoch::{enter, leave, scan_readers, try_advance};
 use npf_flow::FlowLaw;
@@ -15,7 +15,7 @@ use std::test::Fail;
 // reader pins what it loaded, and protects. The other raises the epoch by the scan that it made; it can't by the next one, until
 // the reader unpins. Tells what each loaded, and then whether the epoch was raised.
 fn tell_held(
-    cells: &Cells<FlowLaw, Flat>,
+    cells: &Cells<FlowLaw, ByProtocol>,
     reader: &mut CellPass<FlowLaw>,
     other: &mut CellPass<FlowLaw>,
     told: &mut String,
@@ -45,14 +45,14 @@ fn tell_held(
 }
 
 fn tell_reader(alloc: Global, told: &mut String) -> Result<(), Fail> {
-    let (cells, mut reader) = Cells::<FlowLaw, Flat>::new(alloc, 64, 16)?;
+    let (cells, mut reader) = Cells::<FlowLaw, ByProtocol>::new(alloc, 64, 16)?;
     let mut other = cells.split(&mut reader);
     tell_held(&cells, &mut reader, &mut other, told)
 }
 
 // Whether the epoch is raised once and again beside a stay, and once the stay has ended; and the epoch then.
 fn tell_stay(alloc: Global, told: &mut String) -> Result<(), Fail> {
-    let (cells, mut reader) = Cells::<FlowLaw, Flat>::new(alloc, 1, 16)?;
+    let (cells, mut reader) = Cells::<FlowLaw, ByProtocol>::new(alloc, 1, 16)?;
     let mut other = cells.split(&mut reader);
     enter(&cells, &mut reader);
     let once = try_advance(&cells, &mut other);

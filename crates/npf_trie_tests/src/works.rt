@@ -2,12 +2,12 @@
 ghost use Rattle.npf_cells.specs.Passes.{IsPassOf};
 ghost use Rattle.npf_trie_tests.specs.Hands.{IsEmptyHanded};
 
+use crate::by_protocol::ByProtocol;
 use crate::holders::{find, first_in, holder_in, open};
 use crate::keys::{Draws, key_of};
 use npf_cells::{CellPass, Cells};
 use npf_core::{ConnId, Found, Held};
 use npf_flow::FlowLaw;
-use npf_paths::KeyHash;
 use npf_pool_beginning::begin;
 use npf_types::{Key, Way};
 use std::alloc::{AllocError, Global};
@@ -87,9 +87,9 @@ fn tell_found(told: &[AtomicU64], key: u32, found: Option<Found>) -> bool {
 }
 
 /// Does the work for a number. Answers whether all was as the work says, and as was told.
-fn does<H: KeyHash>(
+fn does(
     rt: &impl Wait,
-    cells: &Cells<FlowLaw, H>,
+    cells: &Cells<FlowLaw, ByProtocol>,
     pass: &mut CellPass<FlowLaw>,
     told: &[AtomicU64],
     key: Key,
@@ -133,9 +133,9 @@ fn does<H: KeyHash>(
 }
 
 /// Does the work for the numbers below this one. Answers the first for which it wasn't as it is to be, or this one.
-pub(crate) fn each<H: KeyHash>(
+pub(crate) fn each(
     rt: &impl Wait,
-    cells: &Cells<FlowLaw, H>,
+    cells: &Cells<FlowLaw, ByProtocol>,
     pass: &mut CellPass<FlowLaw>,
     told: &[AtomicU64],
     work: Work,

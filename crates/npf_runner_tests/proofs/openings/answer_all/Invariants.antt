@@ -1,10 +1,10 @@
 use Rattle.std.proofs.Common.{◌≡◌, false}
 use Rattle.npf_connections.specs.Pass.{IsPass}
 use Rattle.npf_flow.specs.Flows.{flow_law}
-use Rattle.npf_engine_opening_tests.proofs.openings.last_of.Given as goal
+use Rattle.npf_runner_tests.proofs.openings.answer_all.Given as goal
 
-abbrev pub invariant-loop-port : goal.invariant-loop-port
-invariant-loop-port g l =
+abbrev pub invariant-loop-before : goal.invariant-loop-before
+invariant-loop-before g l =
     g.C.Connections.fits l.conns l.pass
     × IsPass flow_law (g.C.Connections.view l.pass)
     × ((g.C.Connections.view l.pass).entered ≡ false)

@@ -1,6 +1,6 @@
 use Rattle.std.proofs.Common.{All, take}
 use Rattle.npf_runner.specs.Plays.{IsShortPacket}
-use Rattle.npf_runner_tests.proofs.fits.are_short.Given as goal
+use Rattle.npf_runner_tests.proofs.run.are_short.Given as goal
 
 abbrev pub invariant-loop-packet : goal.invariant-loop-packet
 invariant-loop-packet l = All IsShortPacket (take l.packet-index l.packets)
