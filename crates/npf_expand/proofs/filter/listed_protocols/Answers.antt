@@ -1,14 +1,11 @@
 use Rattle.std.proofs.Common.{ap, ◌∙◌}
 use Rattle.std.specs.List.{filter_map}
 use Rattle.npf_expand_values.specs.Atom.{kept_atom}
-use Rattle.npf_expand_values.specs.Kept.{parts_atoms}
 use Rattle.npf_expand_values.specs.Protocol.{protocol_of}
-use Rattle.npf_expand_values.specs.Scope.{known_of_scope}
 use Rattle.npf_expand_values.proofs.KeptLemmas.{filter_map-mapped}
 use Rattle.npf_expand.proofs.filter.listed_protocols.Goals as goal
 
 pub returns : goal.returns
 returns c =
-    c.of_vec.ensures ∙ c.in_ok-all.ensures ∙ ap (filter_map (λ atom. protocol_of (kept_atom atom))) c.as_slice-2.ensures.value
-    ∙ filter_map-mapped protocol_of kept_atom c.in_ok-atoms.atoms.items
-    ∙ ap (filter_map protocol_of) (c.in_ok-atoms.ensures ∙ ap (parts_atoms (known_of_scope c.args.scope.now)) c.as_slice.ensures.value ∙ c.in_ok-spliced.ensures.means)
+    c.of_vec.ensures ∙ c.in_ok-all.ensures ∙ ap (filter_map (λ atom. protocol_of (kept_atom atom))) c.as_slice.ensures.value
+    ∙ filter_map-mapped protocol_of kept_atom c.in_ok-atoms.atoms.items ∙ ap (filter_map protocol_of) c.in_ok-atoms.ensures
