@@ -1,5 +1,5 @@
 -- What a pass that took others in has of theirs.
-use Rattle.std.specs.Prelude.{◌≡◌, ◌≢◌, ℕ, List, [], ◌∷◌, Option, Contains, IfSome}
+use Rattle.std.specs.Prelude.{◌≡◌, ℕ, List, [], ◌∷◌, Option, Contains}
 use Rattle.npf_types.specs.declared.key.Key.{Key}
 use Rattle.npf_types.specs.declared.key.Way.TheVariants.{Forward}
 use Rattle.npf_core.specs.declared.act.Act.TheVariants.{Look, Hold}

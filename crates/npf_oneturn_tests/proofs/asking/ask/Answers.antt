@@ -1,4 +1,3 @@
-use Rattle.std.proofs.Common.{rules}
 use Rattle.npf_core.specs.History.{IsPrefix}
 use Rattle.npf_core.proofs.HistoryLemmas.{IsPrefix-trans}
 use Rattle.npf_oneturn_tests.proofs.JoinedLemmas.{begins, stands, stands_on}

@@ -1,4 +1,3 @@
-use Rattle.std.proofs.Common.{rules}
 use Rattle.npf_oneturn_tests.proofs.JoinedLemmas.{takes_in_looks}
 use Rattle.npf_oneturn_tests.proofs.sharing.+look_apart.Goals as goal
 

@@ -1,4 +1,3 @@
-use Rattle.std.proofs.Common.{ℕ}
 use Rattle.npf_oneturn_tests.proofs.sharing.+look_apart.Given as goal
 
 abbrev pub decreases-look_apart : goal.decreases-look_apart

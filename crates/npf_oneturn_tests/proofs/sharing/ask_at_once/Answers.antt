@@ -1,5 +1,4 @@
 use Rattle.std.proofs.Common.{rules}
-use Rattle.npf_core.specs.History.{IsPrefix}
 use Rattle.npf_core.proofs.HistoryLemmas.{IsPrefix-trans}
 use Rattle.npf_oneturn_tests.proofs.JoinedLemmas.{asked_on}
 use Rattle.npf_oneturn_tests.proofs.sharing.ask_at_once.Goals as goal

@@ -1,4 +1,4 @@
-use Rattle.std.proofs.Common.{rules, ◌≡◌, [], ◌∷◌, ap, sym, ◌∙◌, subst}
+use Rattle.std.proofs.Common.{◌≡◌, [], ◌∷◌, ap, sym, ◌∙◌, subst}
 use Rattle.npf_core.specs.declared.act.Act.TheVariants.{Look}
 use Rattle.npf_core.specs.declared.reply.Reply.TheVariants.{ToLook}
 use Rattle.npf_connections.proofs.AddLemmas.{adds_more}
