@@ -49,11 +49,7 @@ fn tell_readers<R: Wait>(
 }
 
 // What each reader reads, twice.
-fn tell_twice<R: Wait>(
-    rt: &R,
-    readers: &mut [ConfReader],
-    told: &mut String,
-) -> Result<(), Fail> {
+fn tell_twice<R: Wait>(rt: &R, readers: &mut [ConfReader], told: &mut String) -> Result<(), Fail> {
     for reader in readers {
         put(told, &(reader.read(rt), reader.read(rt)))?;
     }
