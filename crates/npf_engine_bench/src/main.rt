@@ -1,101 +1,91 @@
-// Counts how long a packet takes through the engine, on one thread over a table under one turn. The words are those of the C program
-// that bench/engine runs beside it: a configuration without tables, and captures as IF:in|out:FILE. With no words one packet is handled,
-// and untimed.
+// Counts how long a packet takes through the engine, on one thread over a table under one turn, and how long a translation takes. The
+// first word says which: `engine` with a configuration without tables, an interface and that interface's captures as in|out:FILE,
+// `rewrite` with a number of packets. With no words one packet is handled and a thousand are translated, and no times are told. bench/engine
+// and bench/rewrite run it beside programs in C.
 #![tactic(auto)]
 
 mod configuration;
+mod rewriting;
 mod traffic;
 mod work;
 
 use anyhow::{Error, anyhow};
 use configuration::config_of;
-use npf_flow::FlowLaw;
-use npf_oneturn::OneTurn;
-use npf_outside::{FileFault, Files, FolderFiles};
-use npf_publish::Publisher;
+use npf_outside::{Files, FolderFiles};
 use npf_ruleset::Config;
-use npf_types::limits::{MAX_CONNECTIONS, MAX_TEXT_BYTES};
-use std::alloc::Global;
+use npf_types::limits::MAX_TEXT_BYTES;
+use rewriting::time_rewriting;
 use std::env;
-use std::time::Instant;
-use traffic::Traffic;
-use work::{Counts, work};
+use std::sync::Wait;
+use traffic::{Crossing, captured, example};
+use work::handled;
 
 // The configuration of the run without words.
 const CONF: &[u8] = b"group default {\n  pass stateful all\n}\n";
 
 fn main(rt: HostRuntime) -> Result<(), Error> {
-    let Task {
-        config,
-        traffic,
-        timed,
-    } = asked(&rt)?;
-    let mut configs = Vec::new(rt.alloc());
-    configs.push(config)?;
-    let (conns, mut pass) = OneTurn::<FlowLaw>::new(rt.alloc(), MAX_CONNECTIONS as u32)?;
-    let start = Instant::now(&rt)?;
-    let Ok((publisher, mut readers)) = Publisher::new(&rt, rt.alloc(), 1, 0, 0) else {
-        return Err(anyhow!("no memory"));
+    let words = words(&rt)?;
+    let number = match words.get(1) {
+        Some(word) => word.as_str().parse::<u64>().unwrap_or(0),
+        None => 0,
     };
-    let counts = match readers.pop() {
-        Some(mut reader) => work(&rt, &conns, &mut pass, &mut reader, &configs, traffic),
-        None => Counts { pass: 0, other: 0 },
-    };
-    let took = start.elapsed(&rt);
-    publisher.close(&rt);
-    let took = took?.as_nanos();
-    println!(rt; "{} packets pass, {} don't", counts.pass, counts.other)?;
-    if timed {
-        let packets = u128::from(counts.pass.saturating_add(counts.other)).max(1);
-        println!(rt; "engine: {} ns a packet", took / packets)?;
+    match words.first() {
+        Some(word) if word.as_str() == "engine" => time_captures(&rt, &rt, &words),
+        Some(_) => time_rewriting(&rt, number),
+        None => {
+            handle_example(&rt, &rt)?;
+            time_rewriting(&rt, 0)
+        }
     }
+}
+
+// The words behind the program's name.
+fn words(rt: &HostRuntime) -> Result<Vec<String>, Error> {
+    let mut given = env::args(rt)?;
+    let _program = given.next();
+    let mut words = Vec::new(rt.alloc());
+    for word in given {
+        words.push(word)?;
+    }
+    Ok(words)
+}
+
+// The host has the clock, the files and the output, and the handle waits.
+fn handle_example<R: Wait>(host: &HostRuntime, rt: &R) -> Result<(), Error> {
+    let config = config_of(host, CONF, "cap0")?;
+    let counts = handled(host, rt, config, example(host.alloc())?)?;
+    println!(host; "{} packets pass, {} don't", counts.pass, counts.other)?;
     Ok(())
 }
 
-// What is run.
-#[derive(Drop)]
-struct Task {
-    config: Config,
-    traffic: Traffic,
-    timed: bool,
+fn time_captures<R: Wait>(host: &HostRuntime, rt: &R, words: &[String]) -> Result<(), Error> {
+    let (Some(conf), Some(name), Some(captures)) = (words.get(1), words.get(2), words.get(3..))
+    else {
+        return Err(anyhow!("no configuration, interface and captures"));
+    };
+    let text = read_file(host, conf.as_str(), MAX_TEXT_BYTES)?;
+    let config = config_of(host, &text, name.as_str())?;
+    let crossings = captured(host, captures)?;
+    time_crossings(host, rt, config, crossings)
 }
 
-fn asked(rt: &HostRuntime) -> Result<Task, Error> {
-    let alloc = rt.alloc();
-    let mut words = env::args(rt)?;
-    let _program = words.next();
-    let mut files = FolderFiles::new(rt);
-    let mut traffic = Traffic::new(alloc);
-    let Some(name) = words.next() else {
-        traffic.add_example()?;
-        return Ok(Task {
-            config: config_of(alloc, CONF, &traffic.interfaces()?, &mut files)?,
-            traffic,
-            timed: false,
-        });
-    };
-    let conf = read_file(&mut files, alloc, name.as_str(), MAX_TEXT_BYTES)?;
-    for word in words {
-        traffic.add(&mut files, word.as_str())?;
-    }
-    traffic.sort()?;
-    Ok(Task {
-        config: config_of(alloc, &conf, &traffic.interfaces()?, &mut files)?,
-        traffic,
-        timed: true,
-    })
+fn time_crossings<R: Wait>(
+    host: &HostRuntime,
+    rt: &R,
+    config: Config,
+    crossings: Vec<Crossing>,
+) -> Result<(), Error> {
+    let counts = handled(host, rt, config, crossings)?;
+    let packets = u128::from(counts.pass.saturating_add(counts.other)).max(1);
+    println!(host; "{} packets pass, {} don't", counts.pass, counts.other)?;
+    println!(host; "engine: {} ns a packet", counts.took / packets)?;
+    Ok(())
 }
 
 /// The whole file, of at most `most` bytes.
-pub fn read_file<F: Files>(
-    files: &mut F,
-    alloc: Global,
-    name: &str,
-    most: usize,
-) -> Result<Vec<u8>, Error> {
-    match files.read(alloc, name, most as u64) {
+pub fn read_file(rt: &HostRuntime, name: &str, most: usize) -> Result<Vec<u8>, Error> {
+    match FolderFiles::new(rt).read(rt.alloc(), name, most as u64) {
         Ok(bytes) => Ok(bytes),
-        Err(FileFault::Long) => Err(anyhow!("{name}: too long")),
-        Err(_) => Err(anyhow!("{name}: not read")),
+        Err(_) => Err(anyhow!("{name}: not read, or too long")),
     }
 }

@@ -1,5 +1,8 @@
-// The rules that are walked. The first matches port 40000 alone and the last port 40001, both from the upper half of 10.0.0.0/8. Each of
-// those between passes TCP or UDP from a block of the lower half to a port or a range of ports, as a draw says.
+// The rules of the bench as texts, and the packets that they match.
+//
+// Of the rules that are walked the first matches port 40000 alone and the last port 40001, both from the upper half of 10.0.0.0/8. Each of
+// those between passes TCP or UDP from a block of the lower half to a port or a range of ports, as a draw says. Of the rules whose programs
+// are run, rule r, from 0 on, passes UDP to port 1000 + r of 10.0.r.0/24.
 use std::alloc::{AllocError, Global};
 use std::fmt::Write;
 
@@ -15,9 +18,9 @@ impl Match {
     /// As the lines of the bench call it.
     pub fn name(self) -> &'static str {
         match self {
-            Match::First => "first",
-            Match::Last => "last",
-            Match::Nowhere => "none",
+            Match::First => "rules, first",
+            Match::Last => "rules, last",
+            Match::Nowhere => "rules, none",
         }
     }
 }
@@ -38,8 +41,8 @@ pub fn port_for(matched: Match, draw: u32) -> u16 {
     }
 }
 
-/// The text of so many rules.
-pub fn rules(alloc: Global, count: u32) -> Result<String, AllocError> {
+/// The text of so many rules to be walked.
+pub fn walked(alloc: Global, count: u32) -> Result<String, AllocError> {
     let mut text = String::from_str(alloc, "group default {\n")?;
     let mut draw = 1;
     for place in 0..count {
@@ -49,14 +52,14 @@ pub fn rules(alloc: Global, count: u32) -> Result<String, AllocError> {
         } else if place == count - 1 {
             text.push_str("pass proto udp from 10.128.0.0/9 to any port 40001\n")?;
         } else {
-            add_rule(&mut text, draw)?;
+            add_walked(&mut text, draw)?;
         }
     }
     text.push_str("}\n")?;
     Ok(text)
 }
 
-fn add_rule(text: &mut String, draw: u32) -> Result<(), AllocError> {
+fn add_walked(text: &mut String, draw: u32) -> Result<(), AllocError> {
     let proto = if draw & 0x8000_0000 == 0 {
         "tcp"
     } else {
@@ -69,4 +72,15 @@ fn add_rule(text: &mut String, draw: u32) -> Result<(), AllocError> {
     write!(text, "pass proto {proto} from 10.{upper}.{lower}.0/24 ")?;
     writeln!(text, "to any port {first}-{last}")?;
     Ok(())
+}
+
+/// The text of so many rules whose programs are run, at most 256.
+pub fn run(alloc: Global, count: u32) -> Result<String, AllocError> {
+    let mut text = String::from_str(alloc, "group default {\n")?;
+    for rule in 0..count.min(256) {
+        let port = 1000 + rule;
+        writeln!(text, "pass proto udp to 10.0.{rule}.0/24 port {port}")?;
+    }
+    text.push_str("}\n")?;
+    Ok(text)
 }

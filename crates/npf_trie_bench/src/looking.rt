@@ -1,10 +1,13 @@
-// Look-ups in the trie, in one thread and in several.
+// How long a look takes in the trie of the table without locks, on one thread and on four.
 ghost use Rattle.std.specs.Prelude.{◌≡◌, ◌≤◌, ◌<◌, [], length};
 ghost use Rattle.std.specs.Thread.{IsSync};
 ghost use Rattle.npf_cells.specs.Passes.{IsPassOf, IsProtected};
 ghost use Rattle.npf_trie_bench.specs.Rests.{HasNothing};
 
-use crate::drawn::{Draws, Order};
+use crate::drawn::{Draws, KEYS, Order};
+use crate::filling::fill;
+use crate::work::{Work, or_few};
+use anyhow::Error;
 use npf_cells::{CellPass, Cells};
 use npf_epoch::{enter, leave};
 use npf_flow::FlowLaw;
@@ -12,12 +15,84 @@ use npf_paths::Fnv;
 use npf_trie::look;
 use std::sync::Wait;
 use std::thread::{Threads, join};
+use std::time::Instant;
 
 // How many look-ups there are in a stay.
 const STAY: u64 = 100;
 
-/// So many hundred look-ups, each hundred in a stay of its own. Answers how many keys were found.
-pub fn look_often(
+// How many nodes the trie may have.
+const NODES: u32 = 65_536;
+
+// How many threads look beside the first.
+const OTHERS: u64 = 3;
+
+/// So many hundred look-ups of keys that are held, on one thread, each behind the answer to the one before, and on four threads. The host has
+/// the clock and the output, and the handle the threads.
+pub fn time_trie<R: Threads + Wait + Sync>(
+    host: &HostRuntime,
+    rt: &R,
+    stays: u64,
+) -> Result<(), Error> {
+    let (cells, mut pass) = Cells::<FlowLaw, Fnv>::new(host.alloc(), KEYS, NODES)?;
+    let mut builder = cells.split(&mut pass);
+    enter(&cells, &mut builder);
+    let held = fill(rt, &cells, &mut builder);
+    leave(&cells, &mut builder);
+    let alone = cells.split(&mut pass);
+    time_looks(host, &cells, alone, held, Order::Free, stays)?;
+    let alone = cells.split(&mut pass);
+    time_looks(host, &cells, alone, held, Order::Chained, stays)?;
+    time_threads(host, rt, &cells, pass, held, stays)
+}
+
+fn time_looks(
+    host: &HostRuntime,
+    cells: &Cells<FlowLaw, Fnv>,
+    pass: CellPass<FlowLaw>,
+    held: u32,
+    order: Order,
+    stays: u64,
+) -> Result<(), Error>
+    requires own { IsPassOf cells.now.table.shared.key cells.now.table.shared.table_id pass.seat.table_id pass.readers.items pass.seat.me }
+    requires rests { HasNothing pass.seat.me.0 }
+{
+    let work = Work {
+        size: held.into(),
+        name: match order {
+            Order::Free => "keys, a look in the trie",
+            Order::Chained => "keys, a look in the trie behind an answer",
+        },
+        pieces: stays.saturating_mul(STAY),
+    };
+    let start = Instant::now(host)?;
+    let found = look_often(cells, pass, 0, or_few(stays, 10), order);
+    work.say(host, start, found)
+}
+
+fn time_threads<R: Threads + Wait + Sync>(
+    host: &HostRuntime,
+    rt: &R,
+    cells: &Cells<FlowLaw, Fnv>,
+    pass: CellPass<FlowLaw>,
+    held: u32,
+    stays: u64,
+) -> Result<(), Error>
+    requires own { IsPassOf cells.now.table.shared.key cells.now.table.shared.table_id pass.seat.table_id pass.readers.items pass.seat.me }
+    requires rests { HasNothing pass.seat.me.0 }
+    requires places { OTHERS < length pass.seat.me.0.seats.readers }
+{
+    let work = Work {
+        size: held.into(),
+        name: "keys, a look of one of four threads in the trie",
+        pieces: stays.saturating_mul(STAY),
+    };
+    let start = Instant::now(host)?;
+    let found = look_beside(rt, cells, pass, OTHERS, or_few(stays, 10));
+    work.say(host, start, found)
+}
+
+// So many hundred look-ups, each hundred in a stay of its own. Answers how many keys were found.
+fn look_often(
     cells: &Cells<FlowLaw, Fnv>,
     pass: CellPass<FlowLaw>,
     seed: u64,
@@ -65,8 +140,8 @@ fn look_some(
     found
 }
 
-/// The pass's look-ups, beside those of so many others that are split off. Answers how many keys were found by all.
-pub fn look_beside<R: Threads + Wait + Sync>(
+// The pass's look-ups, beside those of so many others that are split off. Answers how many keys were found by all.
+fn look_beside<R: Threads + Wait + Sync>(
     rt: &R,
     cells: &Cells<FlowLaw, Fnv>,
     pass: CellPass<FlowLaw>,

@@ -1,0 +1,197 @@
+// How long a packet's look and step take of connections in a table under one turn.
+ghost use Rattle.std.specs.Prelude.{◌≡◌, ◌≤◌, false, true, []};
+ghost use Rattle.npf_flow.specs.Flows.{flow_law};
+ghost use Rattle.npf_connections.specs.Pass.{IsPass};
+
+use crate::drawn::{Draws, KEYS, key};
+use crate::flows::{PACKET, flow};
+use crate::work::{Work, or_few};
+use anyhow::Error;
+use npf_connections::Connections;
+use npf_core::{Held, Stepped};
+use npf_flow::FlowLaw;
+use npf_oneturn::OneTurn;
+use npf_types::{Key, Way};
+use std::sync::Wait;
+use std::time::Instant;
+
+/// So many packets, each in a stay of its own, and again in stays of a hundred. The host has the clock and the output.
+pub fn time_table(host: &HostRuntime, rt: &impl Wait, packets: u64) -> Result<(), Error> {
+    let (conns, mut pass) = OneTurn::<FlowLaw>::new(host.alloc(), KEYS)?;
+    let opened = fill(rt, &conns, &mut pass);
+    time_runs(host, rt, &conns, &mut pass, opened, packets)
+}
+
+fn time_runs<C: Connections<FlowLaw>>(
+    host: &HostRuntime,
+    rt: &impl Wait,
+    conns: &C,
+    pass: &mut C::Pass,
+    opened: u32,
+    packets: u64,
+) -> Result<(), Error>
+    requires own { C.fits conns.now pass.old }
+    requires legal { IsPass flow_law (C.view pass.old) }
+    requires out { (C.view pass.old).entered ≡ false }
+    requires place { 1 ≤ (C.view pass.old).places }
+{
+    let apart = Work {
+        size: opened.into(),
+        name: "connections, a stay for a packet",
+        pieces: packets,
+    };
+    let together = Work {
+        size: opened.into(),
+        name: "connections, a stay for a hundred",
+        pieces: packets / 100 * 100,
+    };
+    let stays = or_few(packets, KEYS.into());
+    let start = Instant::now(host)?;
+    let passed = run(rt, conns, pass, stays, 1);
+    apart.say(host, start, passed)?;
+    let start = Instant::now(host)?;
+    let passed = run(rt, conns, pass, stays / 100, 100);
+    together.say(host, start, passed)
+}
+
+// Opens the connections, and answers how many were opened before one was refused.
+fn fill<C: Connections<FlowLaw>>(rt: &impl Wait, conns: &C, pass: &mut C::Pass) -> u32
+    requires own { C.fits conns.now pass.old }
+    requires legal { IsPass flow_law (C.view pass.old) }
+    requires out { (C.view pass.old).entered ≡ false }
+    requires place { 1 ≤ (C.view pass.old).places }
+    ensures own { C.fits conns.now pass.new }
+    ensures legal { IsPass flow_law (C.view pass.new) }
+    ensures out { (C.view pass.new).entered ≡ false }
+    ensures places { (C.view pass.new).places ≡ (C.view pass.old).places }
+{
+    for number in 0..KEYS {
+        if !open(rt, conns, pass, number) {
+            return number;
+        }
+    }
+    KEYS
+}
+
+// Opens a connection in a stay of its own, unless it is refused.
+fn open<C: Connections<FlowLaw>>(rt: &impl Wait, conns: &C, pass: &mut C::Pass, number: u32) -> bool
+    requires own { C.fits conns.now pass.old }
+    requires legal { IsPass flow_law (C.view pass.old) }
+    requires out { (C.view pass.old).entered ≡ false }
+    requires place { 1 ≤ (C.view pass.old).places }
+    ensures own { C.fits conns.now pass.new }
+    ensures legal { IsPass flow_law (C.view pass.new) }
+    ensures out { (C.view pass.new).entered ≡ false }
+    ensures places { (C.view pass.new).places ≡ (C.view pass.old).places }
+{
+    conns.enter(rt, pass);
+    let opened = keep(rt, conns, pass, number);
+    conns.leave(rt, pass);
+    opened
+}
+
+// Opens a connection in a stay, unless it is refused.
+fn keep<C: Connections<FlowLaw>>(rt: &impl Wait, conns: &C, pass: &mut C::Pass, number: u32) -> bool
+    requires own { C.fits conns.now pass.old }
+    requires legal { IsPass flow_law (C.view pass.old) }
+    requires entered { (C.view pass.old).entered ≡ true }
+    requires idle { (C.view pass.old).builds ≡ [] }
+    ensures own { C.fits conns.now pass.new }
+    ensures legal { IsPass flow_law (C.view pass.new) }
+    ensures entered { (C.view pass.new).entered ≡ true }
+    ensures idle { (C.view pass.new).builds ≡ [] }
+    ensures places { (C.view pass.new).places ≡ (C.view pass.old).places }
+{
+    let n = u64::from(number);
+    let Some(id) = conns.begin(rt, pass, n) else {
+        return false;
+    };
+    let held = conns.hold(rt, pass, id, key(number), Way::Forward) == Held::Done;
+    if held {
+        conns.start(rt, pass, id, n, flow(number));
+    } else {
+        conns.abandon(rt, pass, id);
+    }
+    held
+}
+
+// Steps a connection for each packet, in so many stays of so many packets, and answers how many packets pass.
+fn run<C: Connections<FlowLaw>>(
+    rt: &impl Wait,
+    conns: &C,
+    pass: &mut C::Pass,
+    stays: u64,
+    packets: u64,
+) -> u64
+    requires own { C.fits conns.now pass.old }
+    requires legal { IsPass flow_law (C.view pass.old) }
+    requires out { (C.view pass.old).entered ≡ false }
+    requires place { 1 ≤ (C.view pass.old).places }
+    ensures own { C.fits conns.now pass.new }
+    ensures legal { IsPass flow_law (C.view pass.new) }
+    ensures out { (C.view pass.new).entered ≡ false }
+    ensures places { (C.view pass.new).places ≡ (C.view pass.old).places }
+{
+    let mut draws = Draws::new(0);
+    let mut passed = 0u64;
+    for _ in 0..stays {
+        conns.enter(rt, pass);
+        passed = passed.wrapping_add(step_some(rt, conns, pass, &mut draws, packets));
+        conns.leave(rt, pass);
+    }
+    passed
+}
+
+// Steps a connection for each packet in one stay.
+fn step_some<C: Connections<FlowLaw>>(
+    rt: &impl Wait,
+    conns: &C,
+    pass: &mut C::Pass,
+    draws: &mut Draws,
+    packets: u64,
+) -> u64
+    requires own { C.fits conns.now pass.old }
+    requires legal { IsPass flow_law (C.view pass.old) }
+    requires entered { (C.view pass.old).entered ≡ true }
+    requires idle { (C.view pass.old).builds ≡ [] }
+    ensures own { C.fits conns.now pass.new }
+    ensures legal { IsPass flow_law (C.view pass.new) }
+    ensures entered { (C.view pass.new).entered ≡ true }
+    ensures idle { (C.view pass.new).builds ≡ [] }
+    ensures places { (C.view pass.new).places ≡ (C.view pass.old).places }
+{
+    let mut passed = 0u64;
+    for n in 0..packets {
+        if step(rt, conns, pass, draws.key(), n) {
+            passed = passed.wrapping_add(1);
+        }
+    }
+    passed
+}
+
+// Steps the connection by a packet, and answers whether the packet passes.
+fn step<C: Connections<FlowLaw>>(
+    rt: &impl Wait,
+    conns: &C,
+    pass: &mut C::Pass,
+    key: Key,
+    n: u64,
+) -> bool
+    requires own { C.fits conns.now pass.old }
+    requires legal { IsPass flow_law (C.view pass.old) }
+    requires entered { (C.view pass.old).entered ≡ true }
+    requires idle { (C.view pass.old).builds ≡ [] }
+    ensures own { C.fits conns.now pass.new }
+    ensures legal { IsPass flow_law (C.view pass.new) }
+    ensures entered { (C.view pass.new).entered ≡ true }
+    ensures idle { (C.view pass.new).builds ≡ [] }
+    ensures places { (C.view pass.new).places ≡ (C.view pass.old).places }
+{
+    let Some(found) = conns.look(rt, pass, n, key) else {
+        return false;
+    };
+    match conns.step(rt, pass, found.id, n, found.way, &PACKET) {
+        Stepped::Done { reply, .. } => reply.pass,
+        Stepped::NotLive => false,
+    }
+}
