@@ -1,4 +1,4 @@
-/* The packets and rules of crates/npf_bpfgen_bench through libpcap's own machine, each rule by the program that libpcap makes of it.
+/* The packets and rules of crates/npf_ruleset_bench through libpcap's own machine, each rule by the program that libpcap makes of it.
  * The argument is how often the 128 packets are run. */
 #include <inttypes.h>
 #include <pcap.h>

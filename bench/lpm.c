@@ -1,5 +1,5 @@
 /*
- * The look-ups of crates/npf_lpm_bench in C, in tables of the same structure: blocks in the order of
+ * The look-ups of crates/npf_ruleset_bench in C, in tables of the same structure: blocks in the order of
  * their first addresses, which stand left in 128 bits, beside each the length of the outermost
  * block that has its first address, and counts of 65,536 buckets over the span of the first
  * addresses. The argument is the number of look-ups in each table.

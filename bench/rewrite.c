@@ -1,5 +1,5 @@
 /*
- * The work of crates/npf_rewrite_bench in C: a source translation of a segment of TCP over IPv4 and of
+ * The work of crates/npf_engine_bench in C: a source translation of a segment of TCP over IPv4 and of
  * a datagram of UDP over IPv6, each forth and back in turn. A sum follows each 16-bit word that
  * changes (RFC 1624). The argument is the number of packets.
  */
