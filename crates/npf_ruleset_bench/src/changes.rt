@@ -10,7 +10,8 @@ use std::time::Instant;
 pub fn time_changes(rt: &HostRuntime, changes: u64) -> Result<(), Error> {
     let mut draws = Draws { state: !SEED };
     let prefixes = draws.prefixes(rt.alloc(), Sort::RandomV4, PREFIXES)?;
-    let more = draws.prefixes(rt.alloc(), Sort::RandomV4, changes.max(1) as u32)?;
+    let count = u32::try_from(changes.max(1)).unwrap_or(u32::MAX);
+    let more = draws.prefixes(rt.alloc(), Sort::RandomV4, count)?;
     let mut table = time_making(rt, &prefixes, changes)?;
     time_insertions(rt, &mut table, &more, changes)?;
     time_removals(rt, &mut table, &more, changes)?;
