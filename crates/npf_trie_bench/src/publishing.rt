@@ -94,6 +94,7 @@ fn time_handles<R: Threads + Wait + Sync>(
     threads: u32,
     reads: u64,
 ) -> Result<(), Error> {
+    let threads = threads.clamp(1, 64);
     let (_writer, first) = new_from_empty::<Number, u64, _, _>(
         host.alloc(),
         rt,
