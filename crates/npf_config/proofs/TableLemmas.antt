@@ -1,33 +1,24 @@
 -- What is read of tables so far, and where reading them stops.
-use Rattle.std.proofs.Common.{◌≡◌, ◌≢◌, ◌≤◌, ◌<◌, ◌+◌, ℕ, min, Option, Some, None, List, [], ◌∷◌, ◌++◌, length, get_or, map, take, drop, refl, sym, ap, subst, ◌∙◌, arith}
-use Rattle.std.specs.List.{AllPairs, sum_by}
-use Rattle.std.specs.Option.{IsSomeAnd}
+use Rattle.std.proofs.Common.{◌≡◌, ◌≢◌, ◌≤◌, ◌<◌, ◌+◌, ℕ, Option, Some, None, List, [], ◌∷◌, ◌++◌, length, get_or, take, drop, refl, sym, ap, subst, ◌∙◌, arith}
+use Rattle.std.specs.List.{AllPairs, AllZip}
 use Rattle.std.specs.declared.sync.Arc.{Arc}
 use Rattle.std.specs.Arc.{arc_value}
 use Rattle.std.proofs.lemmas.List.{drop_more, map-append, take-append-drop, take_more}
 use Rattle.std.proofs.lemmas.List.Sums.{sum_by_push}
 use Rattle.npf_types.specs.declared.limits.TheConstants.{MAX_TABLE_ENTRIES, MAX_TEXT_BYTES}
-use Rattle.npf_types.specs.declared.prefix.Prefix.{Prefix}
-use Rattle.npf_types.specs.declared.span.Span.{Span}
-use Rattle.npf_faults.specs.declared.fault.ConfFault.{ConfFault}
-use Rattle.npf_faults.specs.declared.fault.Excess.TheVariants.{Entries}
-use Rattle.npf_faults.specs.declared.fault.Fault.TheVariants.{TooMany}
 use Rattle.npf_model.specs.declared.table.TableDecl.{TableDecl}
-use Rattle.npf_model.specs.Describes.{Tables}
 use Rattle.npf_table.specs.declared.table.Table.{Table}
 use Rattle.npf_table.specs.Table.{kind_of, prefixes}
 use Rattle.npf_outside.specs.declared.files.FileFault.{FileFault}
 use Rattle.npf_outside.specs.declared.files.FileFault.TheVariants.{Failed, Long, NoMemory}
-use Rattle.npf_outside.specs.Counts.{count_after}
-use Rattle.npf_outside.specs.Files.{FilesMoment, Has, IsLonger, SameFiles, SameReadFaults, Tree as FileTree}
-use Rattle.npf_ruleset.specs.Flat.{IsPairwise}
+use Rattle.npf_outside.specs.Files.{FilesMoment, IsLonger, SameReadFaults, Tree as FileTree}
 use Rattle.npf_ruleset.specs.Tables.{entries}
-use Rattle.npf_ruleset.proofs.PairLemmas.{pairs_of, related_append, related_of}
+use Rattle.npf_ruleset.proofs.PairLemmas.{zip_append}
 use Rattle.npf_config.specs.declared.fault.LoadFault.{LoadFault}
 use Rattle.npf_config.specs.declared.fault.LoadFault.TheVariants as Load
 use Rattle.npf_config.specs.Reading.{ComesTo, IsUnread, OnlyReads}
-use Rattle.npf_config.specs.Refusal.{RefusesTables, bad_line, too_many}
-use Rattle.npf_config.specs.TableSteps.{IsPastLimit, IsReadTable, StopsAtTable, StopsAtTables}
+use Rattle.npf_config.specs.Refusal.{IsPastLimit, bad_line, too_many}
+use Rattle.npf_config.specs.TableSteps.{IsReadTable, StopsAtLimit, StopsAtTable, StopsAtTables}
 use Rattle.npf_config.specs.Tables.{AreFirstEntries, AreFirstTables, HaveKinds, IsTableText, entry_count}
 
 pub no_reads : (moment : FilesMoment) → OnlyReads moment moment
@@ -69,8 +60,8 @@ unread_before before now last name Long reads unread =
     (subst (λ (contents : Option FileTree). IsLonger contents name MAX_TEXT_BYTES now.taken last.taken) reads.contents unread)
 unread_before before now last name NoMemory reads unread = absurd unread
 
-pub pairs_push : {X Y : Type 0} (Rel : X → Y → Type 0) (xs : List X) (ys : List Y) (x : X) (y : Y) → IsPairwise Rel xs ys → Rel x y → IsPairwise Rel (xs ++ x ∷ []) (ys ++ y ∷ [])
-pairs_push Rel xs ys x y pairs one = pairs_of Rel (xs ++ x ∷ []) (ys ++ y ∷ []) (related_append Rel xs (x ∷ []) ys (y ∷ []) (related_of Rel xs ys pairs) (one, tt))
+pub pairs_push : {X Y : Type 0} (Rel : X → Y → Type 0) (xs : List X) (ys : List Y) (x : X) (y : Y) → AllZip Rel xs ys → Rel x y → AllZip Rel (xs ++ x ∷ []) (ys ++ y ∷ [])
+pairs_push Rel xs ys x y pairs one = zip_append Rel xs (x ∷ []) ys (y ∷ []) pairs (one, tt)
 
 -- these tables were read of these declarations, with so many entries
 pub record ReadSoFar {Z : Type 0} (first now : FilesMoment) (decls : List TableDecl) (tables : List (Arc Table Z)) (count : ℕ) : Type 0 where
@@ -82,8 +73,8 @@ pub record ReadSoFar {Z : Type 0} (first now : FilesMoment) (decls : List TableD
 
 pub none_read : {Z : Type 0} (moment : FilesMoment) → ReadSoFar {Z = Z} moment moment [] [] 0
 none_read moment = record {
-  read = record { each = pairs_of _ [] [] tt; few = omega arith };
-  kinds = pairs_of _ [] [] tt;
+  read = record { each = tt; few = omega arith };
+  kinds = tt;
   counted = refl;
   reads = no_reads moment;
   faultless = record { all = refl; each = λ name. refl };
@@ -109,7 +100,7 @@ module _ {Z : Type 0} (first now next : FilesMoment) (decls : List TableDecl) (d
       let was = so_far.counted in
       record {
         read = record {
-          each = subst (IsPairwise (AreFirstEntries first.contents) (decls ++ decl ∷ [])) (sym split)
+          each = subst (AllZip (AreFirstEntries first.contents) (decls ++ decl ∷ [])) (sym split)
               (pairs_push (AreFirstEntries first.contents) decls (entries tables) decl (prefixes (arc_value more)) so_far.read.each (first_entries (arc_value more) is once));
           few = omega arith;
         };
@@ -126,29 +117,26 @@ module _ {Z : Type 0} (first now next : FilesMoment) (decls : List TableDecl) (d
     pub stops_there : (fault : LoadFault) → StopsAtTable now next decl fault → StopsAtTables first next all fault
     stops_there (Load.Conf fault) stops =
         let bad = stops.0 in (
-          subst (RefusesTables first all) (sym bad.tells)
-              (bad_line decl (entries tables) bad.text bad.number comes (told_before first now decl.file bad.text so_far.reads bad.told) bad.bad),
+          bad_line decl (entries tables) comes
+              (record { text = bad.text; told = told_before first now decl.file bad.text so_far.reads bad.told; number = bad.number; bad = bad.bad; tells = bad.tells }),
           faultless_after first now next so_far.faultless stops.1,
         )
     stops_there (Load.File span name fault) stops = record {
       decl = decl;
       tables = entries tables;
       comes = comes;
-      named = stops.named;
-      place = stops.place;
-      unread = unread_before first now next name fault so_far.reads stops.unread;
+      unread = record { named = stops.named; place = stops.place; unread = unread_before first now next name fault so_far.reads stops.unread };
     }
     stops_there Load.NoMemory stops = tt
 
     pub past_limit : (table : Table) (fault : LoadFault) → IsReadTable now.contents decl table → AllPairs (λ p q. p ≢ q) (prefixes table) → SameReadFaults now next
-        → IsPastLimit count (prefixes table) decl fault → StopsAtTables first next all fault
-    past_limit table fault is once faultless past =
-        let over = so_far.counted in
-        subst (StopsAtTables first next all) (sym past.1) (
-          subst (λ n. RefusesTables first all (record { span = decl.span; fault = TooMany Entries (count_after n (length (prefixes table))) })) (sym so_far.counted)
-              (too_many decl (entries tables) (prefixes table) comes (first_entries table is once) (omega (arith, past.0))),
-          faultless_after first now next so_far.faultless faultless,
-        )
+        → StopsAtLimit count (prefixes table) decl fault → StopsAtTables first next all fault
+    past_limit table (Load.Conf fault) is once faultless past = (
+      too_many decl (entries tables) (prefixes table) comes (first_entries table is once) (subst (λ n. IsPastLimit n (prefixes table) decl fault) so_far.counted past),
+      faultless_after first now next so_far.faultless faultless,
+    )
+    past_limit table (Load.File span name fault) is once faultless past = absurd past
+    past_limit table Load.NoMemory is once faultless past = absurd past
 
 -- a declaration that is read at a place, with those in front of it and behind it
 module _ (decls : List TableDecl) (i : ℕ) (decl : TableDecl) (within : i < length decls) (is : decl ≡ get_or decls i decl) where

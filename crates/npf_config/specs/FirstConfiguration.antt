@@ -1,4 +1,5 @@
--- The configurations of a run, of which the first is that of the text. Each change of a run will add one behind it.
+-- The first of a run's configurations: that of the text and of its tables' files. Each change of the run adds one behind it, by
+-- npf_config_changes/specs; all of them are the list of npf_ctl_prepare/specs/Making.antt.
 use Rattle.std.specs.Prelude.{ℕ, Option, List}
 use Rattle.npf_syntax.specs.declared.stmt.Tree.{Tree}
 use Rattle.npf_model.specs.declared.iface.Iface.{Iface}

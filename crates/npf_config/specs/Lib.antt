@@ -1,4 +1,4 @@
-pub mod Configurations
+pub mod FirstConfiguration
 pub mod Laws
 pub mod Loaded
 pub mod Reading

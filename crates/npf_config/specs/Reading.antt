@@ -31,11 +31,15 @@ pub record ComesTo (before : FilesMoment) (decls : List TableDecl) (decl : Table
   pub are : decls ≡ front ++ decl ∷ behind
   pub read : AreFirstTables before.contents front tables
 
--- the file of this name, which is written at this place, isn't read
+-- a table's file isn't read: it has this name, which is written at this place
+pub record HasUnreadFile (before now : FilesMoment) (decl : TableDecl) (span : Span) (name : List ℕ) (fault : FileFault) : Type 0 where
+  pub named : decl.file ≡ Some name
+  pub place : span ≡ file_place decl
+  pub unread : IsUnread name before now fault
+
+-- of the declared tables those in front of the one with this file were read
 pub record RefusesFileAt (before now : FilesMoment) (decls : List TableDecl) (span : Span) (name : List ℕ) (fault : FileFault) : Type 0 where
   pub decl : TableDecl
   pub tables : Tables
   pub comes : ComesTo before decls decl tables
-  pub named : decl.file ≡ Some name
-  pub place : span ≡ file_place decl
-  pub unread : IsUnread name before now fault
+  pub unread : HasUnreadFile before now decl span name fault

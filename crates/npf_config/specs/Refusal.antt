@@ -25,15 +25,26 @@ use Rattle.npf_config.specs.RulePlaces.{inspected_places}
 use Rattle.npf_config.specs.Tables.{AreFirstEntries, AreFirstTables, IsTableText, entry_count, file_place}
 use Rattle.npf_config.specs.Text.{Means, RefusesText}
 
--- the first table with a fault: a bad line of its file is told at the file's name, with the line; entries past the limit at the
--- table, with the sum so far
+-- a table's file has a first bad line, which is told at the file's name
+pub record HasBadLine (before : FilesMoment) (decl : TableDecl) (fault : ConfFault) : Type 0 where
+  pub text : List ℕ
+  pub told : IsTableText before.contents decl.file text
+  pub number : ℕ
+  pub bad : IsFirstBadLine decl.kind (lines text) number
+  pub tells : fault ≡ record { span = file_place decl; fault = BadTableFile number }
+
+-- with the entries of a table the limit is passed, where so many stood before it: told at the table, with the sum so far
+abbrev pub IsPastLimit : ℕ → List Prefix → TableDecl → ConfFault → Type 0
+IsPastLimit before entries decl fault =
+    (MAX_TABLE_ENTRIES < before + length entries)
+    × (fault ≡ record { span = decl.span; fault = TooMany Entries (count_after before (length entries)) })
+
+-- the first table with a fault
 pub data RefusesTables (before : FilesMoment) (decls : List TableDecl) : ConfFault → Type 0 where
-  bad_line : (decl : TableDecl) (tables : Tables) (text : List ℕ) (number : ℕ) →
-      ComesTo before decls decl tables → IsTableText before.contents decl.file text → IsFirstBadLine decl.kind (lines text) number →
-      RefusesTables before decls (record { span = file_place decl; fault = BadTableFile number })
-  too_many : (decl : TableDecl) (tables : Tables) (entries : List Prefix) →
-      ComesTo before decls decl tables → AreFirstEntries before.contents decl entries → MAX_TABLE_ENTRIES < entry_count tables + length entries →
-      RefusesTables before decls (record { span = decl.span; fault = TooMany Entries (count_after (entry_count tables) (length entries)) })
+  bad_line : {fault : ConfFault} (decl : TableDecl) (tables : Tables) → ComesTo before decls decl tables → HasBadLine before decl fault →
+      RefusesTables before decls fault
+  too_many : {fault : ConfFault} (decl : TableDecl) (tables : Tables) (entries : List Prefix) → ComesTo before decls decl tables →
+      AreFirstEntries before.contents decl entries → IsPastLimit (entry_count tables) entries decl fault → RefusesTables before decls fault
 
 -- the first rule, in the order of inspection, that is too heavy, told at the rule; then more instructions than all rules may
 -- have, told at the text's end

@@ -1,6 +1,6 @@
 -- The tables with which a configuration begins: each has the entries of its file, or none where it has no file.
 use Rattle.std.specs.Prelude.{◌≡◌, ◌≢◌, ℕ, ◌≤◌, Option, Some, None, List, [], length, unwrap_or, IfSome}
-use Rattle.std.specs.List.{AllPairs, sum_by}
+use Rattle.std.specs.List.{AllPairs, AllZip, sum_by}
 use Rattle.std.specs.Str.{IsUtf8}
 use Rattle.std.specs.declared.sync.Arc.{Arc}
 use Rattle.std.specs.Arc.{arc_value}
@@ -13,7 +13,6 @@ use Rattle.npf_table.specs.declared.table.Table.{Table}
 use Rattle.npf_table.specs.Table.{kind_of}
 use Rattle.npf_table.specs.TableFile.{AreEntries, lines}
 use Rattle.npf_outside.specs.Files.{Has, Tree as FileTree}
-use Rattle.npf_ruleset.specs.Flat.{IsPairwise}
 
 -- where a table's file is named; a table without one has no other place than its own
 abbrev pub file_place : TableDecl → Span
@@ -38,12 +37,12 @@ module _ (contents : Option FileTree) where
 
   -- the entries of all declared tables, in their order
   pub record AreFirstTables (decls : List TableDecl) (tables : Tables) : Type 0 where
-    pub each : IsPairwise AreFirstEntries decls tables
+    pub each : AllZip AreFirstEntries decls tables
     pub few : entry_count tables ≤ MAX_TABLE_ENTRIES
 
 -- each table has the kind that its declaration says
 abbrev pub HaveKinds : {Z : Type 0} → List TableDecl → List (Arc Table Z) → Type 0
-HaveKinds decls tables = IsPairwise (λ decl table. kind_of (arc_value table) ≡ decl.kind) decls tables
+HaveKinds decls tables = AllZip (λ decl table. kind_of (arc_value table) ≡ decl.kind) decls tables
 
 -- the name of the file is text, if there is one
 abbrev pub HasTextName : TableDecl → Type 0

@@ -1,7 +1,7 @@
 ghost use Rattle.std.specs.Prelude.{◌≤◌, length, IfOk, IfErr, OnOk};
 ghost use Rattle.npf_outside.specs.Files.{SameReadFaults};
 ghost use Rattle.npf_ruleset.specs.Configuration.{configuration};
-ghost use Rattle.npf_config.specs.Configurations.{IsFirstConfiguration};
+ghost use Rattle.npf_config.specs.FirstConfiguration.{IsFirstConfiguration};
 ghost use Rattle.npf_config.specs.Loaded.{HasNextIds, IsLoaded};
 ghost use Rattle.npf_config.specs.Reading.{OnlyReads};
 ghost use Rattle.npf_config.specs.Refusal.{RefusesLoad};

@@ -6,7 +6,7 @@ ghost use Rattle.npf_table.specs.Table.{prefixes};
 ghost use Rattle.npf_ruleset.specs.Tables.{entries};
 ghost use Rattle.npf_config.specs.Reading.{OnlyReads};
 ghost use Rattle.npf_config.specs.Tables.{AreFirstTables, HasTextName, HaveKinds, IsTableText, file_place};
-ghost use Rattle.npf_config.specs.TableSteps.{IsPastLimit, IsReadTable, StopsAtTable, StopsAtTables, StopsReading};
+ghost use Rattle.npf_config.specs.TableSteps.{IsReadTable, StopsAtLimit, StopsAtTable, StopsAtTables, StopsReading};
 
 use crate::fault::LoadFault;
 use npf_faults::{Excess, Fault};
@@ -99,7 +99,7 @@ fn count_with(before: u64, table: &Table, decl: &TableDecl) -> Result<u64, LoadF
     ensures sum { IfOk result (λ count. count ≡ before + length (prefixes table.now)) }
     ensures few { IfOk result (λ count. count ≤ MAX_TABLE_ENTRIES) }
     ensures once { AllPairs (λ p q. p ≢ q) (prefixes table.now) }
-    ensures refuses { IfErr result (IsPastLimit before (prefixes table.now) decl.now) }
+    ensures refuses { IfErr result (StopsAtLimit before (prefixes table.now) decl.now) }
 {
     let count = before.saturating_add(table.len());
     if count > MAX_TABLE_ENTRIES as u64 {

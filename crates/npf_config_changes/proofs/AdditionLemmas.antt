@@ -33,12 +33,13 @@ use Rattle.npf_check.specs.Undefined.{applied_faults, tables_of_where}
 use Rattle.npf_check.specs.WrittenRule.{faults_of_rule}
 use Rattle.npf_types.specs.Stages.{goes_on, stops}
 use Rattle.npf_ruleset.specs.declared.config.Config.{Config}
-use Rattle.npf_ruleset.specs.Flat.{IsCompiled, instructions}
+use Rattle.npf_ruleset.specs.Flat.{IsCompiled, instructions, instructions_of}
 use Rattle.npf_ruleset.specs.Refusal.{AreProgramsOf}
+use Rattle.npf_ruleset.proofs.CompileLemmas.{instructions_counted}
 use Rattle.npf_config.specs.Loaded.{HasNextIds, IsLoaded, IsNextWithin}
 use Rattle.npf_config.proofs.TableNameLemmas.{env_defined, rule_numbers}
 use Rattle.npf_config_changes.specs.declared.fault.ChangeFault.{ChangeFault}
-use Rattle.npf_config_changes.specs.Additions.{KeepsCounts, KeepsLimits, MeansRule, few, many, meant, model_elements}
+use Rattle.npf_config_changes.specs.Additions.{KeepsCounts, KeepsLimits, MeansRule, meant, model_elements}
 use Rattle.npf_config_changes.specs.Kept.{Serves}
 use Rattle.npf_config_changes.specs.Rulesets.{are_one_name, group_with_ruleset, item_with_ruleset, model_with_ruleset, with_rule_added}
 use Rattle.npf_config_changes.specs.Told.{EndsUnlessMemory, too_many}
@@ -101,11 +102,19 @@ module _ (span : Span) (next : Model) where
     elements_over over _ = goes_on (keeps_limit _ MAX_RULES _ rules) (stops (passes_limit _ MAX_LIST_ELEMENTS _ over))
 
     module _ (elements : model_elements next ≤ MAX_LIST_ELEMENTS) (programs : List (List Insn)) (are : AreProgramsOf (all_rules next.groups) programs) where
+      count_is : instructions programs ≡ instructions_of (all_rules next.groups)
+      count_is = instructions_counted (all_rules next.groups) programs are
+
       pub instructions_over : MAX_INSTRUCTIONS < instructions programs → EndsUnlessMemory (KeepsCounts span next) (too_many span Instructions (instructions programs))
-      instructions_over over _ = goes_on (keeps_limit _ MAX_RULES _ rules) (goes_on (keeps_limit _ MAX_LIST_ELEMENTS _ elements) (many are over))
+      instructions_over over =
+          subst (λ (n : ℕ). EndsUnlessMemory (KeepsCounts span next) (too_many span Instructions n)) (sym count_is)
+          (λ _. goes_on (keeps_limit _ MAX_RULES _ rules) (goes_on (keeps_limit _ MAX_LIST_ELEMENTS _ elements)
+          (passes_limit _ MAX_INSTRUCTIONS _ (omega (arith, count_is, over)))))
 
       pub counts_kept : instructions programs ≤ MAX_INSTRUCTIONS → KeepsCounts span next (Ok tt)
-      counts_kept short = goes_on (keeps_limit _ MAX_RULES _ rules) (goes_on (keeps_limit _ MAX_LIST_ELEMENTS _ elements) (few are short))
+      counts_kept short =
+          goes_on (keeps_limit _ MAX_RULES _ rules) (goes_on (keeps_limit _ MAX_LIST_ELEMENTS _ elements)
+          (keeps_limit _ MAX_INSTRUCTIONS _ (omega (arith, count_is, short))))
 
   -- and the weight of the rule before them
   pub too_heavy : (rule : Rule) → MAX_RULE_WEIGHT < weight_of rule → EndsUnlessMemory (KeepsLimits span rule next) (too_many span Weight (weight_of rule))

@@ -1,9 +1,6 @@
--- A rule is added in one way, where the rules are light.
-use Rattle.std.proofs.Common.{◌≡◌, ◌≤◌, ◌<◌, ℕ, inl, inr, Result, Ok, Err, List, [], ◌∷◌, Contains, length, sym, refl, ap, subst, ◌∙◌, arith}
-use Rattle.std.specs.List.{sum_by}
-use Rattle.std.proofs.lemmas.List.Sums.{sum_by-cons}
+-- A rule is added in one way.
+use Rattle.std.proofs.Common.{◌≡◌, ◌<◌, ℕ, inl, inr, Result, Ok, Err, List, [], Contains, length, sym, ap, subst, ◌∙◌, arith}
 use Rattle.npf_types.specs.Reading.{IsOnly}
-use Rattle.npf_types.specs.declared.limits.TheConstants.{MAX_INSTRUCTIONS}
 use Rattle.npf_types.specs.declared.span.Span.{Span}
 use Rattle.npf_types.specs.Stages.{Stage, ◌andthen◌, gives, goes_on, stops}
 use Rattle.npf_faults.specs.declared.fault.ConfFault.{ConfFault}
@@ -18,16 +15,10 @@ use Rattle.npf_faults.specs.First.{IsFirstFaultOf, NotBefore}
 use Rattle.npf_model.specs.declared.iface.Iface.{Iface}
 use Rattle.npf_model.specs.declared.model.Model.{Model}
 use Rattle.npf_model.specs.declared.rule.Rule.{Rule}
-use Rattle.npf_model.specs.Verdict.{PlacedRule, all_rules}
-use Rattle.npf_bpf.specs.declared.insn.Insn.{Insn}
-use Rattle.npf_bpfgen.specs.RuleWeight.{weight_of}
 use Rattle.npf_check.specs.LoneRule.{lone_faults}
-use Rattle.npf_ruleset.specs.Flat.{IsCompiled, instructions}
-use Rattle.npf_ruleset.specs.Refusal.{AreProgramsOf}
-use Rattle.npf_ruleset.proofs.PairLemmas.{AreRelated, related_of}
 use Rattle.npf_config_changes.specs.declared.fault.ChangeFault.{ChangeFault}
 use Rattle.npf_config_changes.specs.declared.fault.ChangeFault.TheVariants.{Conf}
-use Rattle.npf_config_changes.specs.Additions.{HasFewInstructions, KeepsLimits, MeansRule, ReadsRule, few, in_checks, in_grammar, in_meaning, in_tokens, many, meant, written}
+use Rattle.npf_config_changes.specs.Additions.{KeepsLimits, MeansRule, ReadsRule, in_checks, in_grammar, in_meaning, in_tokens, meant, written}
 use Rattle.npf_config_changes.specs.ChangeLaws.{AreOneAnswer, AreToldAlike, HasOneResult, OneAddition, alike, equal}
 use Rattle.npf_config_changes.specs.Changes.{FindsRuleset, found_ruleset, with_ruleset}
 use Rattle.npf_config_changes.specs.Rulesets.{rulesets_named, with_rule_added}
@@ -97,31 +88,8 @@ module _ (ifaces : List Iface) (model : Model) (tree : RuleTree) where
   one_meaning one two (in_checks {fault = f} is first) (in_checks {fault = g} other second) =
       told_alike _ f g first (subst (λ (rule : Rule). IsFirstFaultOf (lone_faults tree model rule) g) (other.meant ∙ sym is.meant) second)
 
-abbrev weighs : PlacedRule → ℕ
-weighs placed = weight_of placed.rule
-
-programs_weigh : (rules : List PlacedRule) (programs : List (List Insn)) → AreRelated (λ (placed : PlacedRule). IsCompiled placed.rule) rules programs
-    → instructions programs ≤ sum_by weighs rules
-programs_weigh [] [] are = omega arith
-programs_weigh (rule ∷ rules) (program ∷ programs) are =
-    omega (arith, are.0.size, programs_weigh rules programs are.1, sum_by-cons length program programs, sum_by-cons weighs rule rules)
-programs_weigh [] (program ∷ programs) are = absurd are
-programs_weigh (rule ∷ rules) [] are = absurd are
-
-module _ (span : Span) (next : Model) (light : sum_by weighs (all_rules next.groups) ≤ MAX_INSTRUCTIONS) where
-  never_many : (programs : List (List Insn)) → AreProgramsOf (all_rules next.groups) programs → ¬ (MAX_INSTRUCTIONS < instructions programs)
-  never_many programs are over =
-      let most = programs_weigh (all_rules next.groups) programs (related_of _ (all_rules next.groups) programs are.each) in
-      omega arith
-
-  few_once : HasOneResult (HasFewInstructions span next)
-  few_once one two (few _ _) (few _ _) = refl
-  few_once one two (few _ _) (many {programs = all} are over) = absurd (never_many all are over)
-  few_once one two (many {programs = all} are over) other = absurd (never_many all are over)
-
-  one_kept : (rule : Rule) → HasOneResult (KeepsLimits span rule next)
-  one_kept rule =
-      one_after _ _ (one_told _) (λ _. one_after _ _ (one_told _) (λ _. one_after _ _ (one_told _) (λ _. few_once)))
+one_kept : (span : Span) (rule : Rule) (next : Model) → HasOneResult (KeepsLimits span rule next)
+one_kept span rule next = one_after _ _ (one_told _) (λ _. one_after _ _ (one_told _) (λ _. one_after _ _ (one_told _) (λ _. one_told _)))
 
 one_answer : {A : Type 0} (stage : Stage A ChangeFault) → HasOneResult stage → HasOneAnswer stage
 one_answer stage is (Ok a) (Ok b) one other = let same = is (Ok a) (Ok b) one other in cc
@@ -138,10 +106,10 @@ answer_after {A} first next answers next_answers one two (goes_on {a = a} is the
     next_answers b other one two (subst (λ (x : A). next x one) (answers (Ok a) (Ok b) is other) then_is) then_other
 
 pub one_addition : OneAddition
-one_addition old name ifaces text light =
+one_addition old name ifaces text =
     answer_after (FindsRuleset name old.model) _ (one_answer (FindsRuleset name old.model) (one_told (found_ruleset (rulesets_named name old.model))))
     (λ dynamic _. answer_after (ReadsRule text) _ (one_answer (ReadsRule text) (one_reading text))
-    (λ tree reads. answer_after (MeansRule ifaces old.model tree) _ (one_meaning ifaces old.model tree)
-    (λ rule means. let next = with_ruleset name (with_rule_added rule) old in
+    (λ tree _. answer_after (MeansRule ifaces old.model tree) _ (one_meaning ifaces old.model tree)
+    (λ rule _. let next = with_ruleset name (with_rule_added rule) old in
     one_answer (KeepsLimits tree.span rule next.model andthen λ _. gives (next, dynamic.next_id))
-    (one_after (KeepsLimits tree.span rule next.model) _ (one_kept tree.span next.model (light tree rule reads means) rule) (λ _. one_told (Ok (next, dynamic.next_id)))))))
+    (one_after (KeepsLimits tree.span rule next.model) _ (one_kept tree.span rule next.model) (λ _. one_told (Ok (next, dynamic.next_id)))))))

@@ -1,5 +1,7 @@
 -- What a change of one table makes of a configuration.
 use Rattle.std.proofs.Common.{◌≡◌, ◌≤◌, ◌<◌, ◌+◌, ℕ, suc, Some, Ok, Err, List, [], ◌∷◌, ◌++◌, length, get_or, map, set, take, drop, slice_get, refl, sym, ap, subst, ◌∙◌, arith}
+use Rattle.std.proofs.lemmas.Slice.Zip.{AllZip-long}
+use Rattle.std.specs.List.{AllZip}
 use Rattle.std.specs.Arc.{arc_value}
 use Rattle.std.specs.Global.{Global}
 use Rattle.std.specs.Option.{option_map}
@@ -24,7 +26,7 @@ use Rattle.npf_ruleset.specs.declared.config.Config.{Config}
 use Rattle.npf_ruleset.specs.Configuration.{configuration, programs}
 use Rattle.npf_ruleset.specs.Refusal.{IsBuildable}
 use Rattle.npf_ruleset.specs.Tables.{entries}
-use Rattle.npf_ruleset.proofs.PairLemmas.{AreRelated, drop_here, pairs_of, related_of}
+use Rattle.npf_ruleset.proofs.PairLemmas.{drop_here, zip_each}
 use Rattle.npf_config.specs.Loaded.{IsLoaded}
 use Rattle.npf_config.specs.Tables.{HaveKinds, entry_count}
 use Rattle.npf_config_changes.specs.Entries.{AddsEntry, GainsEntry, IsTableAt, LosesEntry, RemovesEntry, TableAt, absent, allowed, beginning, found, present, read_only, with_entries, wrong_kind}
@@ -42,7 +44,7 @@ module _ {Z : Type 0} where
   HasKind decl table = kind_of (arc_value table) ≡ decl.kind
 
   pub kinds_last : (decls : List TableDecl) (tables others : List (Arc Table Z)) → map kind_of (map arc_value others) ≡ map kind_of (map arc_value tables)
-      → AreRelated HasKind decls tables → AreRelated HasKind decls others
+      → AllZip HasKind decls tables → AllZip HasKind decls others
   kinds_last [] [] [] same kinds = tt
   kinds_last (decl ∷ decls) (table ∷ tables) (other ∷ others) same kinds = (
     ap (λ (all : List Kind). get_or all 0 (kind_of (arc_value other))) same ∙ kinds.0,
@@ -99,8 +101,7 @@ module _ (config next : Config) (at : ℕ) (was : Arc Table Global) (new : Table
       ap (map kind_of) tables ∙ map-set kind_of (map arc_value config.tables.items) at new ∙ ap (set kinds at) (same_kind ∙ sym old_kind) ∙ set-get_or kinds at (kind_of new) in
       record {
         kinds = subst (λ (decls : List TableDecl). HaveKinds decls next.tables.items) (ap (λ m. m.tables) (sym of_model))
-            (pairs_of HasKind config.model.tables next.tables.items
-            (kinds_last config.model.tables config.tables.items next.tables.items same_kinds (related_of HasKind config.model.tables config.tables.items loaded.kinds)));
+            (kinds_last config.model.tables config.tables.items next.tables.items same_kinds loaded.kinds);
         limits = rw (of_model, same_programs) loaded.limits;
         buildable = subst IsBuildable (sym of_model) loaded.buildable;
         tables = rw of_model loaded.tables;
@@ -111,7 +112,7 @@ module _ (config next : Config) (at : ℕ) (was : Arc Table Global) (new : Table
 pub there_at : (config : Config) → IsLoaded config → (at : ℕ) → at < length config.model.tables → (tables : List (Arc Table Global)) → tables ≡ config.tables.items
     → (was : Arc Table Global) → was ≡ get_or tables at was → slice_get config.tables.items at ≡ Some was
 there_at config loaded at below tables are was is =
-    let len = loaded.kinds.len in
+    let len = AllZip-long HasKind config.model.tables config.tables.items loaded.kinds in
     let within : at < length config.tables.items = omega arith in
     slice_get_read config.tables.items (length config.tables.items) at was refl within (subst (λ all. was ≡ get_or all at was) are is)
 
@@ -130,14 +131,14 @@ module _ (config : Config) (name : Name) (at : ℕ) (was : Arc Table Global) (th
 
   pub is_table_at : IsTableAt name (configuration config) table_at
   is_table_at =
-      let len = loaded.kinds.len in
+      let len = AllZip-long HasKind config.model.tables config.tables.items loaded.kinds in
       let within = slice_get_within config.tables.items at was there in
       let decl = drop_here config.model.tables at (omega arith) in
       record {
         decl = decl.0;
         first = first;
         there = decl.2;
-        kind = loaded.kinds.each at decl.0 was decl.2 there;
+        kind = zip_each HasKind config.model.tables config.tables.items loaded.kinds at decl.0 was decl.2 there;
         entries = had_entries config at was there;
       }
 

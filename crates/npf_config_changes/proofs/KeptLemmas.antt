@@ -1,5 +1,7 @@
 -- Programs that are kept, one part of the rules after another.
 use Rattle.std.proofs.Common.{◌≡◌, ◌≤◌, ◌+◌, ◌==◌, ℕ, zero, suc, Bool, true, false, cond, not, Option, Some, List, [], ◌∷◌, ◌++◌, length, drop, filter, flat_map, map, slice_get, take, refl, sym, ap, subst, ◌∙◌, append-nil, arith}
+use Rattle.std.proofs.lemmas.Slice.Zip.{AllZip-long}
+use Rattle.std.specs.List.{AllZip}
 use Rattle.std.specs.Prelude.{if◌then◌else◌}
 use Rattle.std.proofs.lemmas.Grind.{flat_map-append}
 use Rattle.std.proofs.lemmas.List.{append_assoc, length-append, length-map, map-append, take-map, take_more}
@@ -13,8 +15,8 @@ use Rattle.npf_model.specs.declared.rule.Rule.{Rule}
 use Rattle.npf_model.specs.Verdict.{PlacedRule, rules_at}
 use Rattle.npf_bpf.specs.declared.insn.Insn.{Insn}
 use Rattle.npf_ruleset.specs.declared.flat.FlatRule.{FlatRule}
-use Rattle.npf_ruleset.specs.Flat.{IsPairwise, instructions, programs_of}
-use Rattle.npf_ruleset.proofs.PairLemmas.{AreRelated, pairs_of, related_append, related_behind, related_front, related_of}
+use Rattle.npf_ruleset.specs.Flat.{instructions, programs_of}
+use Rattle.npf_ruleset.proofs.PairLemmas.{zip_append, zip_behind, zip_front}
 use Rattle.npf_config_changes.specs.declared.change.Change.{Change}
 use Rattle.npf_config_changes.specs.declared.change.Change.TheVariants.{Added, Removed, Flushed}
 use Rattle.npf_config_changes.specs.Kept.{AddsNone, IsServed, Keeps, Serves, ruleset_change, other_programs, programs_changed}
@@ -42,7 +44,7 @@ module _ (change : Change) where
   keeps_none flats old = record {
     added = [];
     are = sym (append-nil old);
-    each = pairs_of Serves [] [] tt;
+    each = tt;
     fewer = none_for change _ _ (omega arith);
     shorter = none_for change _ _ (omega arith);
   }
@@ -52,8 +54,7 @@ module _ (change : Change) where
   keeps_both front behind flats mid left old now new one two = record {
     added = one.added ++ two.added;
     are = two.are ∙ ap (λ all. all ++ two.added) one.are ∙ append_assoc old one.added two.added;
-    each = pairs_of Serves (front ++ behind) (one.added ++ two.added)
-        (related_append Serves front behind one.added two.added (related_of Serves front one.added one.each) (related_of Serves behind two.added two.each));
+    each = zip_append Serves front behind one.added two.added one.each two.each;
     fewer = none_after change _ _ _ one.fewer two.fewer;
     shorter = none_after change _ _ _ one.shorter two.shorter;
   }
@@ -79,7 +80,7 @@ module _ (change : Change) where
       }
 
   -- programs that are added of rules here
-  pub keeps_added : (rules : List PlacedRule) (here : List FlatRule) (old new added : List (List Insn)) → new ≡ old ++ added → AreRelated Serves rules added
+  pub keeps_added : (rules : List PlacedRule) (here : List FlatRule) (old new added : List (List Insn)) → new ≡ old ++ added → AllZip Serves rules added
       → AddsNone change (length here) (length added) → AddsNone change (instructions (programs_of here)) (instructions added) → Keeps change rules here [] old new
   keeps_added rules here old new added are serve fewer shorter =
       let count = ap length are ∙ length-append old added in
@@ -87,7 +88,7 @@ module _ (change : Change) where
       record {
         added = added;
         are = are;
-        each = pairs_of Serves rules added serve;
+        each = serve;
         fewer = subst (λ n. AddsNone change n (length new + 0)) (let e : length here + length old ≡ length old + length here = omega arith in e)
             (subst (λ n. AddsNone change (length here + length old) n) (let e : length added + length old ≡ length new + 0 = omega arith in e)
             (none_beside change (length here) (length added) (length old) fewer));
@@ -96,10 +97,10 @@ module _ (change : Change) where
             (none_beside change (instructions (programs_of here)) (instructions added) (instructions old) shorter));
       }
 
-  pub keeps_all : (rules : List PlacedRule) (here : List FlatRule) (old new : List (List Insn)) → new ≡ old ++ programs_of here → IsPairwise Serves rules (programs_of here)
+  pub keeps_all : (rules : List PlacedRule) (here : List FlatRule) (old new : List (List Insn)) → new ≡ old ++ programs_of here → AllZip Serves rules (programs_of here)
       → Keeps change rules here [] old new
   keeps_all rules here old new are serve =
-      keeps_added rules here old new (programs_of here) are (related_of Serves rules (programs_of here) serve)
+      keeps_added rules here old new (programs_of here) are serve
       (none_for change _ _ (let same = length-map here (λ (flat : FlatRule). flat.program) in omega arith)) (none_for change _ _ (omega arith))
 
 -- the rules of a ruleset, bound as it is
@@ -108,22 +109,22 @@ module _ (dir : Option Dir) (on : Option OnIf) where
   placed_in numbered = record { within_dir = dir; within_on = on; rule = numbered.1 }
 
   others_step : (id : ℕ) (numbered : ℕ × Rule) (rules : List (ℕ × Rule)) (program : List Insn) (others : List (List Insn)) (same : Bool) → Serves (placed_in numbered) program
-      → AreRelated Serves (map placed_in (filter (λ one. not (one.0 == id)) rules)) others
-      → AreRelated Serves (map placed_in (cond (not same) (numbered ∷ filter (λ one. not (one.0 == id)) rules) (filter (λ one. not (one.0 == id)) rules))) (if same then others else program ∷ others)
+      → AllZip Serves (map placed_in (filter (λ one. not (one.0 == id)) rules)) others
+      → AllZip Serves (map placed_in (cond (not same) (numbered ∷ filter (λ one. not (one.0 == id)) rules) (filter (λ one. not (one.0 == id)) rules))) (if same then others else program ∷ others)
   others_step id numbered rules program others true serves rest = rest
   others_step id numbered rules program others false serves rest = (serves, rest)
 
-  others_serve : (id : ℕ) (rules : List (ℕ × Rule)) (flats : List FlatRule) → AreRelated Serves (map placed_in rules) (programs_of flats)
-      → AreRelated Serves (map placed_in (filter (λ one. not (one.0 == id)) rules)) (other_programs id rules flats)
+  others_serve : (id : ℕ) (rules : List (ℕ × Rule)) (flats : List FlatRule) → AllZip Serves (map placed_in rules) (programs_of flats)
+      → AllZip Serves (map placed_in (filter (λ one. not (one.0 == id)) rules)) (other_programs id rules flats)
   others_serve id [] flats serve = tt
   others_serve id (numbered ∷ rules) [] serve = absurd serve
   others_serve id (numbered ∷ rules) (flat ∷ flats) serve = others_step id numbered rules flat.program (other_programs id rules flats) (numbered.0 == id) serve.0 (others_serve id rules flats serve.1)
 
-  pub changed_serve : (change : Change) → IsServed change → (next_id : ℕ) (rules : List (ℕ × Rule)) (flats : List FlatRule) → AreRelated Serves (map placed_in rules) (programs_of flats)
-      → AreRelated Serves (map placed_in ((ruleset_change change (record { next_id = next_id; rules = rules })).rules)) (programs_changed change rules flats)
+  pub changed_serve : (change : Change) → IsServed change → (next_id : ℕ) (rules : List (ℕ × Rule)) (flats : List FlatRule) → AllZip Serves (map placed_in rules) (programs_of flats)
+      → AllZip Serves (map placed_in ((ruleset_change change (record { next_id = next_id; rules = rules })).rules)) (programs_changed change rules flats)
   changed_serve (Added rule program) served next_id rules flats serve =
-      subst (λ all. AreRelated Serves all (programs_of flats ++ program.now ∷ [])) (sym (map-append placed_in rules ((next_id, rule.now) ∷ [])))
-      (related_append Serves (map placed_in rules) (placed_in (next_id, rule.now) ∷ []) (programs_of flats) (program.now ∷ []) serve (served (placed_in (next_id, rule.now)) refl, tt))
+      subst (λ all. AllZip Serves all (programs_of flats ++ program.now ∷ [])) (sym (map-append placed_in rules ((next_id, rule.now) ∷ [])))
+      (zip_append Serves (map placed_in rules) (placed_in (next_id, rule.now) ∷ []) (programs_of flats) (program.now ∷ []) serve (served (placed_in (next_id, rule.now)) refl, tt))
   changed_serve (Removed id) served next_id rules flats serve = others_serve id rules flats serve
   changed_serve Flushed served next_id rules flats serve = tt
 
@@ -148,9 +149,9 @@ others_shorter id (numbered ∷ rules) (flat ∷ flats) = rw (sum_by-cons length
 
 -- a ruleset has as many rules as programs
 pub dynamic_len : (own : Name) (dir : Option Dir) (on : Option OnIf) (next_id : ℕ) (rules : List (ℕ × Rule)) (here : List FlatRule)
-    → IsPairwise Serves (rules_at (Dynamic own dir on next_id rules)) (programs_of here) → length rules ≡ length here
+    → AllZip Serves (rules_at (Dynamic own dir on next_id rules)) (programs_of here) → length rules ≡ length here
 dynamic_len own dir on next_id rules here serve =
-    let len = serve.len in
+    let len = AllZip-long Serves (rules_at (Dynamic own dir on next_id rules)) (programs_of here) serve in
     let placed = length-map rules (placed_in dir on) in
     let same = length-map here (λ (flat : FlatRule). flat.program) in
     omega arith
@@ -167,11 +168,11 @@ changed_shorter Flushed rules flats = omega arith
 
 -- the rules of an item, as it is changed
 module _ (change : Change) (name : Name) (here : List FlatRule) (old new : List (List Insn)) where
-  pub one_keeps : (rule : Rule) → IsPairwise Serves (rules_at (One rule)) (programs_of here) → new ≡ old ++ programs_of here
+  pub one_keeps : (rule : Rule) → AllZip Serves (rules_at (One rule)) (programs_of here) → new ≡ old ++ programs_of here
       → Keeps change (rules_at (item_with_ruleset name (ruleset_change change) (One rule))) here [] old new
   one_keeps rule serve are = keeps_all change (rules_at (One rule)) here old new are serve
 
-  module _ (own : Name) (dir : Option Dir) (on : Option OnIf) (next_id : ℕ) (rules : List (ℕ × Rule)) (serve : IsPairwise Serves (rules_at (Dynamic own dir on next_id rules)) (programs_of here)) where
+  module _ (own : Name) (dir : Option Dir) (on : Option OnIf) (next_id : ℕ) (rules : List (ℕ × Rule)) (serve : AllZip Serves (rules_at (Dynamic own dir on next_id rules)) (programs_of here)) where
     pub other_keeps : are_one_name own name ≡ false → new ≡ old ++ programs_of here
         → Keeps change (rules_at (item_with_ruleset name (ruleset_change change) (Dynamic own dir on next_id rules))) here [] old new
     other_keeps differs are = rw differs (keeps_all change (rules_at (Dynamic own dir on next_id rules)) here old new are serve)
@@ -180,7 +181,7 @@ module _ (change : Change) (name : Name) (here : List FlatRule) (old new : List 
         → Keeps change (rules_at (item_with_ruleset name (ruleset_change change) (Dynamic own dir on next_id rules))) here [] old new
     named_keeps served same are =
         rw same (keeps_added change _ here old new (programs_changed change rules here) are
-        (changed_serve dir on change served next_id rules here (related_of Serves _ (programs_of here) serve)) (changed_fewer change rules here) (changed_shorter change rules here))
+        (changed_serve dir on change served next_id rules here serve) (changed_fewer change rules here) (changed_shorter change rules here))
 
 -- one thing after another that has rules
 pub rules_left : {X : Type 0} (rules : X → List PlacedRule) (xs : List X) (i : ℕ) (x : X) → slice_get xs i ≡ Some x → flat_map rules (drop i xs) ≡ rules x ++ flat_map rules (drop (i + 1) xs)
@@ -205,20 +206,20 @@ drop_map (suc n) [] = refl
 drop_map (suc n) (flat ∷ flats) = drop_map n flats
 
 -- flat rules are parted where those of some rules end
-module _ (front more : List PlacedRule) (flats : List FlatRule) (serve : IsPairwise Serves (front ++ more) (programs_of flats)) where
+module _ (front more : List PlacedRule) (flats : List FlatRule) (serve : AllZip Serves (front ++ more) (programs_of flats)) where
   pub serve_within : length front ≤ length flats
   serve_within =
-      let all = serve.len in
+      let all = AllZip-long Serves (front ++ more) (programs_of flats) serve in
       let parts = length-append front more in
       let same = length-map flats (λ (flat : FlatRule). flat.program) in
       omega arith
 
-  pub serve_front : IsPairwise Serves front (programs_of (take (length front) flats))
+  pub serve_front : AllZip Serves front (programs_of (take (length front) flats))
   serve_front =
-      subst (IsPairwise Serves front) (take-map (λ (flat : FlatRule). flat.program) (length front) flats)
-      (pairs_of Serves front _ (related_front Serves front more (programs_of flats) (related_of Serves (front ++ more) (programs_of flats) serve)))
+      subst (AllZip Serves front) (take-map (λ (flat : FlatRule). flat.program) (length front) flats)
+      (zip_front Serves front more (programs_of flats) serve)
 
-  pub serve_behind : IsPairwise Serves more (programs_of (drop (length front) flats))
+  pub serve_behind : AllZip Serves more (programs_of (drop (length front) flats))
   serve_behind =
-      subst (IsPairwise Serves more) (drop_map (length front) flats)
-      (pairs_of Serves more _ (related_behind Serves front more (programs_of flats) (related_of Serves (front ++ more) (programs_of flats) serve)))
+      subst (AllZip Serves more) (drop_map (length front) flats)
+      (zip_behind Serves front more (programs_of flats) serve)

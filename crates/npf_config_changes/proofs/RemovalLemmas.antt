@@ -1,5 +1,7 @@
 -- A configuration out of which rules were taken is one that can be changed.
-use Rattle.std.proofs.Common.{◌≡◌, ◌≤◌, ℕ, Bool, true, false, Some, Result, Ok, Err, List, [], ◌∷◌, All, length, map, slice_get, refl, sym, ap, subst, ◌∙◌, arith}
+use Rattle.std.proofs.Common.{◌≡◌, ◌≤◌, ℕ, suc, Bool, true, false, Result, Ok, Err, List, [], ◌∷◌, All, length, map, refl, sym, ap, subst, ◌∙◌, arith}
+use Rattle.std.proofs.lemmas.Slice.Zip.{AllZip-long}
+use Rattle.std.specs.List.{AllZip}
 use Rattle.std.specs.Prelude.{if◌then◌else◌}
 use Rattle.std.specs.Arc.{arc_value}
 use Rattle.std.specs.Global.{Global, Vec}
@@ -7,7 +9,6 @@ use Rattle.std.specs.Result.{IfOk}
 use Rattle.std.specs.declared.sync.Arc.{Arc}
 use Rattle.std.proofs.lemmas.List.{length-map}
 use Rattle.std.proofs.lemmas.List.Elements.{All-cons, All-map, All-weaker}
-use Rattle.std.proofs.lemmas.Option.{get_or_from_slice_get, slice_get_within}
 use Rattle.npf_types.specs.declared.limits.TheConstants.{MAX_INSTRUCTIONS, MAX_RULES}
 use Rattle.npf_types.specs.declared.name.Name.{Name}
 use Rattle.npf_model.specs.declared.group.Group.{Group}
@@ -21,17 +22,16 @@ use Rattle.npf_bpf.specs.declared.insn.Insn.{Insn}
 use Rattle.npf_ruleset.specs.declared.config.Config.{Config}
 use Rattle.npf_ruleset.specs.declared.flat.FlatRule.{FlatRule}
 use Rattle.npf_ruleset.specs.Configuration.{configuration, programs}
-use Rattle.npf_ruleset.specs.Flat.{IsCompiled, IsPairwise, instructions, programs_of}
+use Rattle.npf_ruleset.specs.Flat.{IsCompiled, instructions, programs_of}
 use Rattle.npf_ruleset.specs.Refusal.{AreProgramsOf, IsBuildable, IsCompilable, IsLight}
 use Rattle.npf_ruleset.specs.Tables.{entries}
-use Rattle.npf_ruleset.proofs.PairLemmas.{AreRelated, pairs_of, related_of}
 use Rattle.npf_config.specs.Loaded.{HasNextIds, IsLoaded, IsNextWithin}
 use Rattle.npf_config_changes.specs.declared.change.Change.{Change}
 use Rattle.npf_config_changes.specs.declared.change.Change.TheVariants.{Added, Removed, Flushed}
 use Rattle.npf_config_changes.specs.Changes.{with_ruleset}
 use Rattle.npf_config_changes.specs.Kept.{AddsNone, HasNumbersLeft, IsServed, Keeps, Serves, TakesOut, ruleset_change}
 use Rattle.npf_config_changes.specs.Rulesets.{are_one_name, group_with_ruleset, item_with_ruleset, model_with_ruleset}
-use Rattle.npf_config_changes.proofs.EntryLemmas.{HasKind, entries_of_values, kinds_last}
+use Rattle.npf_config_changes.proofs.EntryLemmas.{entries_of_values, kinds_last}
 
 pub no_more : (change : Change) → TakesOut change → (before after : ℕ) → AddsNone change before after → after ≤ before
 no_more (Added rule program) takes before after fewer = absurd takes
@@ -47,46 +47,47 @@ room Flushed takes item = tt
 pub all_room : (change : Change) → TakesOut change → (groups : List Group) → All (λ (group : Group). All (HasNumbersLeft change) group.items) groups
 all_room change takes groups = λ k d lt. λ n e below. room change takes _
 
-all_at : {X : Type 0} (P : X → Type 0) (xs : List X) (n : ℕ) (x : X) → All P xs → slice_get xs n ≡ Some x → P x
-all_at P xs n x all at = subst P (get_or_from_slice_get xs n x x at) (all n x (slice_get_within xs n x at))
-
 pub served_none : (change : Change) → TakesOut change → IsServed change
 served_none (Added rule program) takes = absurd takes
 served_none (Removed id) takes = tt
 served_none Flushed takes = tt
 
 -- each program that serves
-serving : (rules : List PlacedRule) (programs : List (List Insn)) → AreRelated Serves rules programs → AreRelated (λ placed. IsCompiled placed.rule) rules programs
+serving : (rules : List PlacedRule) (programs : List (List Insn)) → AllZip Serves rules programs → AllZip (λ placed. IsCompiled placed.rule) rules programs
 serving [] [] serve = tt
 serving (placed ∷ rules) (program ∷ programs) serve = (serve.0.compiled, serving rules programs serve.1)
 serving [] (program ∷ programs) serve = absurd serve
 serving (placed ∷ rules) [] serve = absurd serve
 
 all_serving : (P : PlacedRule → Type 0) → ((placed : PlacedRule) (program : List Insn) → Serves placed program → P placed) → (rules : List PlacedRule) (programs : List (List Insn))
-    → AreRelated Serves rules programs → All P rules
+    → AllZip Serves rules programs → All P rules
 all_serving P holds [] programs serve = λ k d below. elim below [ ]
 all_serving P holds (placed ∷ rules) [] serve = absurd serve
 all_serving P holds (placed ∷ rules) (program ∷ programs) serve = All-cons P placed rules (holds placed program serve.0) (all_serving P holds rules programs serve.1)
 
+-- the programs of rules serve them, where each can be compiled and isn't too heavy
+each_serves : (rules : List PlacedRule) (programs : List (List Insn)) → AllZip (λ placed. IsCompiled placed.rule) rules programs → All IsLight rules → All IsCompilable rules
+    → AllZip Serves rules programs
+each_serves [] [] are light compilable = tt
+each_serves (placed ∷ rules) (program ∷ programs) are light compilable = (
+  record { compiled = are.0; light = light 0 placed (omega arith); compilable = compilable 0 placed (omega arith) },
+  each_serves rules programs are.1 (λ k d lt. light (suc k) d (omega (arith, lt))) (λ k d lt. compilable (suc k) d (omega (arith, lt))),
+)
+each_serves [] (program ∷ programs) are light compilable = absurd are
+each_serves (placed ∷ rules) [] are light compilable = absurd are
+
 module _ (rules : List PlacedRule) (programs : List (List Insn)) where
-  pub are_programs : IsPairwise Serves rules programs → AreProgramsOf rules programs
+  pub are_programs : AllZip Serves rules programs → AreProgramsOf rules programs
   are_programs serve = record {
-    each = pairs_of (λ placed. IsCompiled placed.rule) rules programs (serving rules programs (related_of Serves rules programs serve));
-    light = all_serving IsLight (λ placed program serves. serves.light) rules programs (related_of Serves rules programs serve);
+    each = serving rules programs serve;
+    light = all_serving IsLight (λ placed program serves. serves.light) rules programs serve;
   }
 
-  pub are_compilable : IsPairwise Serves rules programs → All IsCompilable rules
-  are_compilable serve = all_serving IsCompilable (λ placed program serves. serves.compilable) rules programs (related_of Serves rules programs serve)
+  pub are_compilable : AllZip Serves rules programs → All IsCompilable rules
+  are_compilable serve = all_serving IsCompilable (λ placed program serves. serves.compilable) rules programs serve
 
-  pub all_serve : AreProgramsOf rules programs → All IsCompilable rules → IsPairwise Serves rules programs
-  all_serve are compilable = record {
-    len = are.each.len;
-    each = λ k placed program here there. record {
-      compiled = are.each.each k placed program here there;
-      light = all_at IsLight rules k placed are.light here;
-      compilable = all_at IsCompilable rules k placed compilable here;
-    };
-  }
+  pub all_serve : AreProgramsOf rules programs → All IsCompilable rules → AllZip Serves rules programs
+  all_serve are compilable = each_serves rules programs are.each are.light compilable
 
 -- the numbers of the next rules stay
 module _ (change : Change) (takes : TakesOut change) (name : Name) (most : ℕ) where
@@ -114,14 +115,14 @@ module _ (change : Change) (takes : TakesOut change) (name : Name) (most : ℕ) 
       (All-weaker (IsNextWithin most) (λ (item : Item). IsNextWithin most (item_with_ruleset name (ruleset_change change) item)) same_next group.items items)) model.groups within)
 
 module _ (config : Config) (loaded : IsLoaded config) where
-  pub old_serve : IsPairwise Serves (all_rules config.model.groups) (programs_of config.rules)
+  pub old_serve : AllZip Serves (all_rules config.model.groups) (programs_of config.rules)
   old_serve = all_serve (all_rules config.model.groups) (programs_of config.rules) loaded.limits.compiled loaded.buildable.compilable
 
   module _ (change : Change) (name : Name) where
     abbrev pub next_model : Model
     next_model = model_with_ruleset name (ruleset_change change) config.model
 
-    module _ (kept : List (List Insn)) (serve : IsPairwise Serves (all_rules next_model.groups) kept) where
+    module _ (kept : List (List Insn)) (serve : AllZip Serves (all_rules next_model.groups) kept) where
       pub next_buildable : length (all_rules next_model.groups) ≤ MAX_RULES → IsBuildable next_model
       next_buildable few = record { rules = few; maps = loaded.buildable.maps; compilable = are_compilable (all_rules next_model.groups) kept serve }
 
@@ -134,8 +135,7 @@ module _ (config : Config) (loaded : IsLoaded config) where
 
         pub next_loaded : programs next ≡ kept → length (all_rules next_model.groups) ≤ MAX_RULES → instructions kept ≤ MAX_INSTRUCTIONS → IsLoaded next
         next_loaded are few short = record {
-          kinds = rw of_model (pairs_of HasKind config.model.tables next.tables.items
-              (kinds_last config.model.tables config.tables.items next.tables.items (ap (map kind_of) tables) (related_of HasKind config.model.tables config.tables.items loaded.kinds)));
+          kinds = rw of_model (kinds_last config.model.tables config.tables.items next.tables.items (ap (map kind_of) tables) loaded.kinds);
           limits = rw (of_model, are) (record { compiled = are_programs (all_rules next_model.groups) kept serve; few = short });
           buildable = rw of_model (next_buildable few);
           tables = rw of_model loaded.tables;
@@ -144,14 +144,14 @@ module _ (config : Config) (loaded : IsLoaded config) where
 
     -- where nothing is added there are no more rules and instructions
     module _ (takes : TakesOut change) (kept : List (List Insn)) (keeps : Keeps change (all_rules next_model.groups) config.rules [] [] kept) where
-      pub kept_serve : IsPairwise Serves (all_rules next_model.groups) kept
-      kept_serve = subst (IsPairwise Serves (all_rules next_model.groups)) (sym keeps.are) keeps.each
+      pub kept_serve : AllZip Serves (all_rules next_model.groups) kept
+      kept_serve = subst (AllZip Serves (all_rules next_model.groups)) (sym keeps.are) keeps.each
 
       pub no_more_rules : length (all_rules next_model.groups) ≤ MAX_RULES
       no_more_rules =
           let fewer = no_more change takes _ _ keeps.fewer in
-          let many = kept_serve.len in
-          let were = old_serve.len in
+          let many = AllZip-long Serves (all_rules next_model.groups) kept kept_serve in
+          let were = AllZip-long Serves (all_rules config.model.groups) (programs_of config.rules) old_serve in
           let same = length-map config.rules (λ (flat : FlatRule). flat.program) in
           let few = loaded.buildable.rules in
           omega arith

@@ -1,6 +1,6 @@
 -- A rule added to a ruleset while a run goes on: the next configuration and the rule's number, or why it is refused. All else of
 -- the configuration stays.
-use Rattle.std.specs.Prelude.{◌≡◌, ℕ, ◌+◌, ◌<◌, ◌≤◌, nat_le, Result, Ok, Err, List, [], length, unwrap_or}
+use Rattle.std.specs.Prelude.{◌≡◌, ℕ, ◌+◌, nat_le, Result, Ok, Err, List, [], length, unwrap_or}
 use Rattle.std.specs.List.{sum_by}
 use Rattle.std.specs.Option.{option_map}
 use Rattle.npf_types.specs.Reading.{IsOnly}
@@ -25,13 +25,11 @@ use Rattle.npf_model.specs.declared.rule.Rule.{Rule}
 use Rattle.npf_model.specs.Configuration.{Configuration}
 use Rattle.npf_model.specs.Count.{elements_of}
 use Rattle.npf_model.specs.Verdict.{all_rules}
-use Rattle.npf_bpf.specs.declared.insn.Insn.{Insn}
 use Rattle.npf_bpfgen.specs.RuleWeight.{weight_of}
 use Rattle.npf_expand_values.specs.Source.{declared_of}
 use Rattle.npf_expand.specs.LoneRule.{ElaboratesRule, RefusesRule}
 use Rattle.npf_check.specs.LoneRule.{lone_faults}
-use Rattle.npf_ruleset.specs.Flat.{instructions}
-use Rattle.npf_ruleset.specs.Refusal.{AreProgramsOf}
+use Rattle.npf_ruleset.specs.Flat.{instructions_of}
 use Rattle.npf_config_changes.specs.declared.fault.ChangeFault.{ChangeFault}
 use Rattle.npf_config_changes.specs.declared.fault.ChangeFault.TheVariants.{Conf}
 use Rattle.npf_config_changes.specs.Changes.{FindsRuleset, with_ruleset}
@@ -59,19 +57,14 @@ pub data MeansRule (ifaces : List Iface) (model : Model) (tree : RuleTree) : Res
   in_checks : {rule : Rule} {fault : ConfFault} → ElaboratesRule tree (declared_of model) ifaces rule → IsFirstFaultOf (lone_faults tree model rule) fault →
       MeansRule ifaces model tree (Err (Conf fault))
 
--- all programs of the model's rules have so many instructions as they may have
-pub data HasFewInstructions (span : Span) (model : Model) : Result (Unit {0}) ChangeFault → Type 0 where
-  few : {programs : List (List Insn)} → AreProgramsOf (all_rules model.groups) programs → instructions programs ≤ MAX_INSTRUCTIONS →
-      HasFewInstructions span model (Ok tt)
-  many : {programs : List (List Insn)} → AreProgramsOf (all_rules model.groups) programs → MAX_INSTRUCTIONS < instructions programs →
-      HasFewInstructions span model (Err (too_many span Instructions (instructions programs)))
-
--- the limits that a rule which is added may pass, each told at the rule: those of all rules together, and before them its own weight
+-- the limits that a rule which is added may pass, each told at the rule: those of all rules together, of which the last is the
+-- instructions of their programs, and before them its own weight
 abbrev pub KeepsCounts : Span → Model → Stage (Unit {0}) ChangeFault
 KeepsCounts span next =
     asks_that (nat_le (length (all_rules next.groups)) MAX_RULES) (too_many span Rules (MAX_RULES + 1)) andthen λ _.
     asks_that (nat_le (model_elements next) MAX_LIST_ELEMENTS) (too_many span Elements (MAX_LIST_ELEMENTS + 1)) andthen λ _.
-    HasFewInstructions span next
+    let count = instructions_of (all_rules next.groups) in
+    asks_that (nat_le count MAX_INSTRUCTIONS) (too_many span Instructions count)
 
 abbrev pub KeepsLimits : Span → Rule → Model → Stage (Unit {0}) ChangeFault
 KeepsLimits span rule next =

@@ -1,25 +1,18 @@
 -- How many answers the definitions of changes allow.
-use Rattle.std.specs.Prelude.{◌≡◌, ℕ, ◌≤◌, Result, Ok, Err, List}
-use Rattle.std.specs.List.{sum_by}
-use Rattle.npf_types.specs.declared.limits.TheConstants.{MAX_INSTRUCTIONS}
+use Rattle.std.specs.Prelude.{◌≡◌, ℕ, Result, Ok, Err, List}
 use Rattle.npf_types.specs.declared.name.Name.{Name}
 use Rattle.npf_types.specs.declared.prefix.Prefix.{Prefix}
 use Rattle.npf_types.specs.Stages.{Stage}
 use Rattle.npf_types.specs.Settled.{AreSettled}
 use Rattle.npf_faults.specs.declared.fault.ConfFault.{ConfFault}
 use Rattle.npf_faults.specs.Fault.{fault_number}
-use Rattle.npf_syntax.specs.declared.rule.RuleTree.{RuleTree}
 use Rattle.npf_model.specs.declared.iface.Iface.{Iface}
-use Rattle.npf_model.specs.declared.rule.Rule.{Rule}
-use Rattle.npf_model.specs.Verdict.{all_rules}
-use Rattle.npf_bpfgen.specs.RuleWeight.{weight_of}
 use Rattle.npf_config_changes.specs.declared.fault.ChangeFault.{ChangeFault}
 use Rattle.npf_config_changes.specs.declared.fault.ChangeFault.TheVariants.{Conf}
-use Rattle.npf_config_changes.specs.Additions.{AddsRule, MeansRule, ReadsRule}
+use Rattle.npf_config_changes.specs.Additions.{AddsRule}
 use Rattle.npf_model.specs.Configuration.{Configuration}
 use Rattle.npf_config_changes.specs.Changes.{FlushesRules, RemovesRule}
 use Rattle.npf_config_changes.specs.Entries.{AddsEntry, RemovesEntry}
-use Rattle.npf_config_changes.specs.Rulesets.{model_with_ruleset, with_rule_added}
 
 -- the stages come to one result
 abbrev pub HasOneResult : {A F : Type 0} → Stage A F → Type 0
@@ -53,13 +46,7 @@ AreOneAnswer (Err fault) (Err other) = AreToldAlike fault other
 AreOneAnswer (Ok a) (Err other) = ⊥
 AreOneAnswer (Err fault) (Ok b) = ⊥
 
--- with the rule all rules weigh so little together that their programs have as few instructions as they may have
-abbrev pub IsLightWith : Configuration → Name → Rule → Type 0
-IsLightWith old name rule =
-    sum_by (λ placed. weight_of placed.rule) (all_rules (model_with_ruleset name (with_rule_added rule) old.model).groups) ≤ MAX_INSTRUCTIONS
-
 -- the rule that a text writes is added in one way, or it is refused for faults that are told alike, and never both
 abbrev pub OneAddition : Type 0
 OneAddition = (old : Configuration) (name : Name) (ifaces : List Iface) (text : List ℕ)
-    → ((tree : RuleTree) (rule : Rule) → ReadsRule text (Ok tree) → MeansRule ifaces old.model tree (Ok rule) → IsLightWith old name rule)
     → (one other : Result (Configuration × ℕ) ChangeFault) → AddsRule old name ifaces text one → AddsRule old name ifaces text other → AreOneAnswer one other

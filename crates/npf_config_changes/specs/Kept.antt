@@ -1,11 +1,12 @@
 -- How the programs of a configuration's rules are kept, one part of its rules after another, while the rules of a ruleset change.
 use Rattle.std.specs.Prelude.{◌≡◌, ℕ, ◌+◌, ◌≤◌, ⊤, ◌==◌, if◌then◌else◌, List, [], ◌∷◌, ◌++◌, length}
+use Rattle.std.specs.List.{AllZip}
 use Rattle.npf_model.specs.declared.group.Item.{Item}
 use Rattle.npf_model.specs.declared.rule.Rule.{Rule}
 use Rattle.npf_model.specs.Verdict.{PlacedRule}
 use Rattle.npf_bpf.specs.declared.insn.Insn.{Insn}
 use Rattle.npf_ruleset.specs.declared.flat.FlatRule.{FlatRule}
-use Rattle.npf_ruleset.specs.Flat.{IsCompiled, IsPairwise, instructions, programs_of}
+use Rattle.npf_ruleset.specs.Flat.{IsCompiled, instructions, programs_of}
 use Rattle.npf_ruleset.specs.Refusal.{IsCompilable, IsLight}
 use Rattle.npf_config.specs.Loaded.{IsNextWithin}
 use Rattle.npf_config_changes.specs.declared.change.Change.{Change}
@@ -64,14 +65,14 @@ programs_changed Flushed rules flats = []
 pub record Keeps (change : Change) (rules : List PlacedRule) (flats left : List FlatRule) (old new : List (List Insn)) : Type 0 where
   pub added : List (List Insn)
   pub are : new ≡ old ++ added
-  pub each : IsPairwise Serves rules added
+  pub each : AllZip Serves rules added
   pub fewer : AddsNone change (length old + length flats) (length new + length left)
   pub shorter : AddsNone change (instructions old + instructions (programs_of flats)) (instructions new + instructions (programs_of left))
 
 -- the flat rules begin with those of these rules
 abbrev pub BeginsWithServed : List PlacedRule → List FlatRule → Type 0
-BeginsWithServed rules flats = (more : List PlacedRule) × IsPairwise Serves (rules ++ more) (programs_of flats)
+BeginsWithServed rules flats = (more : List PlacedRule) × AllZip Serves (rules ++ more) (programs_of flats)
 
 -- and are left behind them
 abbrev pub LeavesBehind : List PlacedRule → List FlatRule → List FlatRule → Type 0
-LeavesBehind rules flats left = (more : List PlacedRule) → IsPairwise Serves (rules ++ more) (programs_of flats) → IsPairwise Serves more (programs_of left)
+LeavesBehind rules flats left = (more : List PlacedRule) → AllZip Serves (rules ++ more) (programs_of flats) → AllZip Serves more (programs_of left)

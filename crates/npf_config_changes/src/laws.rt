@@ -13,8 +13,7 @@ pub fn settled_entries()
     ensures removal { SettledRemoval }
 {}
 
-/// The rule that a text writes is added in one way, or it is refused for faults that are told alike, and never both, where all rules
-/// weigh so little together that their programs have few enough instructions.
+/// The rule that a text writes is added in one way, or it is refused for faults that are told alike, and never both.
 pub fn one_addition()
     ensures { OneAddition }
 {}

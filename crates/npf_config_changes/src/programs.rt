@@ -1,7 +1,8 @@
 // The programs of a configuration's rules, kept while rules of a ruleset change: only one that is added is new.
 ghost use Rattle.std.specs.Prelude.{◌≡◌, ◌++◌, [], IfOk, OnOk, length, map};
+ghost use Rattle.std.specs.List.{AllZip};
 ghost use Rattle.npf_model.specs.Verdict.{all_rules, rules_at, rules_of};
-ghost use Rattle.npf_ruleset.specs.Flat.{IsPairwise, programs_of};
+ghost use Rattle.npf_ruleset.specs.Flat.{programs_of};
 ghost use Rattle.npf_config_changes.specs.Kept.{BeginsWithServed, IsServed, Keeps, LeavesBehind, Serves, ruleset_change, other_programs, programs_changed};
 ghost use Rattle.npf_config_changes.specs.Rulesets.{group_with_ruleset, item_with_ruleset};
 
@@ -9,7 +10,7 @@ use crate::change::Change;
 use crate::finding::is_name;
 use npf_bpf::Program;
 use npf_model::{Group, Item, Rule};
-use npf_ruleset::FlatRule;
+use npf_ruleset::{FlatRule, count_of};
 use npf_types::{Name, NoMemory};
 use std::alloc::Global;
 
@@ -23,7 +24,7 @@ pub(crate) fn changed_programs(
     change: Change<'_>,
 ) -> Result<Vec<Program>, NoMemory>
     requires served { IsServed change }
-    requires serve { IsPairwise Serves (all_rules groups.now) (programs_of flats.now) }
+    requires serve { AllZip Serves (all_rules groups.now) (programs_of flats.now) }
     ensures { IfOk result (λ programs. Keeps change.entry (all_rules (map (group_with_ruleset name.now (ruleset_change change.entry)) groups.now)) flats.now [] [] programs.items) }
 {
     let mut programs = Vec::new(alloc);
@@ -67,7 +68,7 @@ fn add_item(
     change: Change<'_>,
 ) -> Result<(), NoMemory>
     requires served { IsServed change }
-    requires serve { IsPairwise Serves (rules_at item.now) (programs_of here.now) }
+    requires serve { AllZip Serves (rules_at item.now) (programs_of here.now) }
     ensures { OnOk result (Keeps change.entry (rules_at (item_with_ruleset name.now (ruleset_change change.entry) item.now)) here.now [] programs.old.items programs.new.items) }
 {
     match item {
@@ -131,14 +132,4 @@ fn add_others(
         }
     }
     Ok(())
-}
-
-/// How many rules stand at an item's place.
-fn count_of(item: &Item) -> usize
-    ensures { result ≡ length (rules_at item.now) }
-{
-    match item {
-        Item::One(_) => 1,
-        Item::Dynamic { rules, .. } => rules.as_slice().len(),
-    }
 }

@@ -13,7 +13,7 @@ use Rattle.npf_outside.specs.declared.files.FileFault.TheVariants as IsFile
 use Rattle.npf_outside.specs.Files.{FilesMoment, Tree}
 use Rattle.npf_config.specs.declared.fault.LoadFault.{LoadFault}
 use Rattle.npf_config.specs.declared.fault.LoadFault.TheVariants as Load
-use Rattle.npf_config.specs.Configurations.{IsFirstConfiguration}
+use Rattle.npf_config.specs.FirstConfiguration.{IsFirstConfiguration}
 use Rattle.npf_config.specs.Reading.{ComesTo, IsUnread}
 use Rattle.npf_config.specs.Refusal.{RefusesConfiguration, RefusesLoad, RefusesTableFile, RefusesTables, bad_line, by_rules, by_tables, by_text, too_many}
 use Rattle.npf_config.specs.Tables.{AreFirstEntries, AreFirstTables, IsTableText}
@@ -35,8 +35,14 @@ module _ (old new before after : FilesMoment) (meets : MeetsAll old new before a
   }
 
   tables_last : (decls : List TableDecl) (fault : ConfFault) → RefusesTables old decls fault → RefusesTables before decls fault
-  tables_last decls _ (bad_line decl tables text number comes is bad) =
-      bad_line decl tables text number (comes_last decls decl tables comes) (subst (λ (contents : Option Tree). IsTableText contents decl.file text) meets.contents is) bad
+  tables_last decls _ (bad_line decl tables comes is) =
+      bad_line decl tables (comes_last decls decl tables comes) (record {
+        text = is.text;
+        told = subst (λ (contents : Option Tree). IsTableText contents decl.file is.text) meets.contents is.told;
+        number = is.number;
+        bad = is.bad;
+        tells = is.tells;
+      })
   tables_last decls _ (too_many decl tables entries comes are many) =
       too_many decl tables entries (comes_last decls decl tables comes) (subst (λ (contents : Option Tree). AreFirstEntries contents decl entries) meets.contents are) many
 
@@ -62,9 +68,11 @@ module _ (old new before after : FilesMoment) (meets : MeetsAll old new before a
         decl = is.refused.decl;
         tables = is.refused.tables;
         comes = comes_last is.model.tables is.refused.decl is.refused.tables is.refused.comes;
-        named = is.refused.named;
-        place = is.refused.place;
-        unread = unread_lasts name fault is.refused.unread;
+        unread = record {
+          named = is.refused.unread.named;
+          place = is.refused.unread.place;
+          unread = unread_lasts name fault is.refused.unread.unread;
+        };
       };
     }
 

@@ -10,7 +10,7 @@ use Rattle.npf_model.specs.Configuration.{Configuration}
 use Rattle.npf_outside.specs.declared.files.FileFault.TheVariants.{Failed, Long as TooLong, NoMemory}
 use Rattle.npf_outside.specs.Files.{FilesMoment}
 use Rattle.npf_ruleset.specs.Refusal.{IsWithinLimits}
-use Rattle.npf_config.specs.Configurations.{IsFirstConfiguration}
+use Rattle.npf_config.specs.FirstConfiguration.{IsFirstConfiguration}
 use Rattle.npf_config.specs.declared.fault.LoadFault.{LoadFault}
 use Rattle.npf_config.specs.declared.fault.LoadFault.TheVariants as Load
 use Rattle.npf_config.specs.Refusal.{RefusesConfiguration, RefusesTableFile}

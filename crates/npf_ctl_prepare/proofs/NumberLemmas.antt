@@ -1,10 +1,10 @@
 -- A loaded configuration whose interfaces' numbers are set anew.
-use Rattle.std.proofs.Common.{◌≡◌, ◌≤◌, ◌∙◌, ℕ, List, [], ◌∷◌, ◌++◌, Option, Some, None, All, length, map, flat_map, slice_get, refl, sym, subst, ap, rules}
+use Rattle.std.proofs.Common.{◌≡◌, ◌≤◌, ◌∙◌, ℕ, List, [], ◌∷◌, ◌++◌, Option, All, length, map, flat_map, refl, sym, subst, ap, rules}
+use Rattle.std.specs.List.{AllZip}
 use Rattle.std.specs.Option.{option_map}
 use Rattle.std.proofs.lemmas.List.{length-map, map-append}
 use Rattle.std.proofs.lemmas.List.Concat.{flat_map-cons}
 use Rattle.std.proofs.lemmas.List.Elements.{All-map, All-weaker}
-use Rattle.std.proofs.lemmas.Option.{slice_get-map}
 use Rattle.npf_types.specs.declared.direction.Dir.{Dir}
 use Rattle.npf_types.specs.declared.limits.TheConstants.{MAX_MAPS, MAX_RULES, MAX_TABLES, MAX_TABLE_ENTRIES}
 use Rattle.npf_bpf.specs.declared.insn.Insn.{Insn}
@@ -57,21 +57,17 @@ module _ (ifaces : List Iface) where
   in_all : (groups : List Group) → all_rules (map (numbered_group ifaces) groups) ≡ map renumbered (all_rules groups)
   in_all groups = spread rules_of (numbered_group ifaces) renumbered in_group groups
 
-  compiled_at : (o : Option PlacedRule) (placed : PlacedRule) (program : List Insn) → ((old : PlacedRule) → o ≡ Some old → IsCompiled old.rule program) →
-      option_map renumbered o ≡ Some placed → IsCompiled placed.rule program
-  compiled_at None placed program of_old is = search
-  compiled_at (Some old) placed program of_old is =
-      let same : renumbered old ≡ placed = search rules in
-      let was = of_old old refl in
-      subst (λ (p : PlacedRule). IsCompiled p.rule program) same (record { value = was.value; size = was.size })
+  compiled_stay : (rules : List PlacedRule) (code : List (List Insn)) → AllZip (λ (placed : PlacedRule). IsCompiled placed.rule) rules code →
+      AllZip (λ (placed : PlacedRule). IsCompiled placed.rule) (map renumbered rules) code
+  compiled_stay [] [] are = tt
+  compiled_stay (placed ∷ rules) (program ∷ code) are =
+      (record { value = are.0.value; valid = are.0.valid; count = are.0.count; size = are.0.size }, compiled_stay rules code are.1)
+  compiled_stay [] (program ∷ code) are = absurd are
+  compiled_stay (placed ∷ rules) [] are = absurd are
 
   programs_stay : (rules : List PlacedRule) (code : List (List Insn)) → AreProgramsOf rules code → AreProgramsOf (map renumbered rules) code
   programs_stay rules code are = record {
-    each = record {
-      len = are.each.len ∙ sym (length-map rules renumbered);
-      each = λ k placed program there code_there. compiled_at (slice_get rules k) placed program (λ old was. are.each.each k old program was code_there)
-          (sym (slice_get-map renumbered rules k) ∙ there);
-    };
+    each = compiled_stay rules code are.each;
     light = All-map IsLight renumbered rules are.light;
   }
 

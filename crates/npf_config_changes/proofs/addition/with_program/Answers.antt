@@ -1,4 +1,6 @@
 use Rattle.std.proofs.Common.{◌≡◌, ◌≤◌, ◌+◌, [], Ok, List, length, map, sym, ap, subst, ◌∙◌, arith}
+use Rattle.std.proofs.lemmas.Slice.Zip.{AllZip-long}
+use Rattle.std.specs.List.{AllZip}
 use Rattle.std.specs.Arc.{arc_value}
 use Rattle.npf_types.specs.declared.limits.TheConstants.{MAX_RULES}
 use Rattle.npf_faults.specs.declared.fault.Excess.TheVariants.{Instructions}
@@ -6,7 +8,7 @@ use Rattle.npf_model.specs.declared.group.Group.{Group}
 use Rattle.npf_model.specs.declared.model.Model.{Model}
 use Rattle.npf_model.specs.Verdict.{all_rules}
 use Rattle.npf_ruleset.specs.declared.flat.FlatRule.{FlatRule}
-use Rattle.npf_ruleset.specs.Flat.{IsPairwise, instructions, programs_of}
+use Rattle.npf_ruleset.specs.Flat.{instructions, programs_of}
 use Rattle.npf_ruleset.specs.Refusal.{AreProgramsOf, IsBuildable}
 use Rattle.npf_config.specs.Loaded.{HasNextIds}
 use Rattle.npf_config_changes.specs.declared.change.Change.{Change}
@@ -23,8 +25,8 @@ pub changed_programs-requires-clause-serve : goal.changed_programs-requires-clau
 changed_programs-requires-clause-serve c =
     let config = c.args.config.now in
     let groups_are : c.as_slice-groups.result.now ≡ config.model.groups = c.as_slice-groups.ensures ∙ ap (λ m. m.groups) c.model.ensures in
-    subst (λ (groups : List Group). IsPairwise Serves (all_rules groups) (programs_of c.rules.result.now)) (sym groups_are)
-    (subst (λ (flats : List FlatRule). IsPairwise Serves (all_rules config.model.groups) (programs_of flats)) (sym c.rules.ensures) (old_serve config c.requires.loaded))
+    subst (λ (groups : List Group). AllZip Serves (all_rules groups) (programs_of c.rules.result.now)) (sym groups_are)
+    (subst (λ (flats : List FlatRule). AllZip Serves (all_rules config.model.groups) (programs_of flats)) (sym c.rules.ensures) (old_serve config c.requires.loaded))
 
 pub returns-then-count-gt-MAX_RULES-clause-err : goal.returns-then-count-gt-MAX_RULES-clause-err
 returns-then-count-gt-MAX_RULES-clause-err c =
@@ -36,9 +38,9 @@ returns-then-count-gt-MAX_RULES-clause-err c =
     let groups_are : c.as_slice-groups.result.now ≡ config.model.groups = c.as_slice-groups.ensures ∙ ap (λ m. m.groups) c.model.ensures in
     let keeps = subst (λ (flats : List FlatRule). Keeps change (all_rules (map (group_with_ruleset name (with_rule_added rule)) config.model.groups)) flats [] [] ps) c.rules.ensures
     (subst (λ (groups : List Group). Keeps change (all_rules (map (group_with_ruleset name (with_rule_added rule)) groups)) c.rules.result.now [] [] ps) groups_are c.in_ok-programs.ensures) in
-    let serve : IsPairwise Serves (all_rules (model_with_ruleset name (with_rule_added rule) config.model).groups) ps = subst (IsPairwise Serves (all_rules (model_with_ruleset name (with_rule_added rule) config.model).groups)) (sym keeps.are) keeps.each in
+    let serve : AllZip Serves (all_rules (model_with_ruleset name (with_rule_added rule) config.model).groups) ps = subst (AllZip Serves (all_rules (model_with_ruleset name (with_rule_added rule) config.model).groups)) (sym keeps.are) keeps.each in
     let counted : c.len-count.result ≡ length ps = c.len-count.ensures ∙ c.in_ok-programs.programs.ok.0 in
-    let len = serve.len in
+    let len = AllZip-long Serves (all_rules (model_with_ruleset name (with_rule_added rule) config.model).groups) ps serve in
     let over = c.if-count-gt-MAX_RULES.true in
     subst (EndsUnlessMemory (KeepsCounts c.args.span (model_with_ruleset name (with_rule_added rule) config.model))) (sym c.past-many_rules.ensures) (rules_over c.args.span (model_with_ruleset name (with_rule_added rule) config.model) (omega arith))
 
@@ -55,9 +57,9 @@ assemble-requires-clause-buildable c =
     let groups_are : c.as_slice-groups.result.now ≡ config.model.groups = c.as_slice-groups.ensures ∙ ap (λ m. m.groups) c.model.ensures in
     let keeps = subst (λ (flats : List FlatRule). Keeps change (all_rules (map (group_with_ruleset name (with_rule_added rule)) config.model.groups)) flats [] [] ps) c.rules.ensures
     (subst (λ (groups : List Group). Keeps change (all_rules (map (group_with_ruleset name (with_rule_added rule)) groups)) c.rules.result.now [] [] ps) groups_are c.in_ok-programs.ensures) in
-    let serve : IsPairwise Serves (all_rules (model_with_ruleset name (with_rule_added rule) config.model).groups) ps = subst (IsPairwise Serves (all_rules (model_with_ruleset name (with_rule_added rule) config.model).groups)) (sym keeps.are) keeps.each in
+    let serve : AllZip Serves (all_rules (model_with_ruleset name (with_rule_added rule) config.model).groups) ps = subst (AllZip Serves (all_rules (model_with_ruleset name (with_rule_added rule) config.model).groups)) (sym keeps.are) keeps.each in
     let counted : c.len-count.result ≡ length ps = c.len-count.ensures ∙ c.in_ok-programs.programs.ok.0 in
-    let len = serve.len in
+    let len = AllZip-long Serves (all_rules (model_with_ruleset name (with_rule_added rule) config.model).groups) ps serve in
     let few_rules = c.if-count-gt-MAX_RULES.false in
     let few : length (all_rules (model_with_ruleset name (with_rule_added rule) config.model).groups) ≤ MAX_RULES = omega arith in
     let of_model : c.in_ok-model.model ≡ model_with_ruleset name (with_rule_added rule) config.model = c.in_ok-model.ensures ∙ ap (model_with_ruleset name (with_rule_added rule)) c.model-2.ensures in
@@ -73,9 +75,9 @@ assemble-requires-clause-programs c =
     let groups_are : c.as_slice-groups.result.now ≡ config.model.groups = c.as_slice-groups.ensures ∙ ap (λ m. m.groups) c.model.ensures in
     let keeps = subst (λ (flats : List FlatRule). Keeps change (all_rules (map (group_with_ruleset name (with_rule_added rule)) config.model.groups)) flats [] [] ps) c.rules.ensures
     (subst (λ (groups : List Group). Keeps change (all_rules (map (group_with_ruleset name (with_rule_added rule)) groups)) c.rules.result.now [] [] ps) groups_are c.in_ok-programs.ensures) in
-    let serve : IsPairwise Serves (all_rules (model_with_ruleset name (with_rule_added rule) config.model).groups) ps = subst (IsPairwise Serves (all_rules (model_with_ruleset name (with_rule_added rule) config.model).groups)) (sym keeps.are) keeps.each in
+    let serve : AllZip Serves (all_rules (model_with_ruleset name (with_rule_added rule) config.model).groups) ps = subst (AllZip Serves (all_rules (model_with_ruleset name (with_rule_added rule) config.model).groups)) (sym keeps.are) keeps.each in
     let counted : c.len-count.result ≡ length ps = c.len-count.ensures ∙ c.in_ok-programs.programs.ok.0 in
-    let len = serve.len in
+    let len = AllZip-long Serves (all_rules (model_with_ruleset name (with_rule_added rule) config.model).groups) ps serve in
     let of_model : c.in_ok-model.model ≡ model_with_ruleset name (with_rule_added rule) config.model = c.in_ok-model.ensures ∙ ap (model_with_ruleset name (with_rule_added rule)) c.model-2.ensures in
     subst (λ (m : Model). AreProgramsOf (all_rules m.groups) ps) (sym of_model) (are_programs (all_rules (model_with_ruleset name (with_rule_added rule) config.model).groups) ps serve)
 
@@ -89,9 +91,9 @@ model_elements-elements-requires-clause-buildable c =
     let groups_are : c.as_slice-groups.result.now ≡ config.model.groups = c.as_slice-groups.ensures ∙ ap (λ m. m.groups) c.model.ensures in
     let keeps = subst (λ (flats : List FlatRule). Keeps change (all_rules (map (group_with_ruleset name (with_rule_added rule)) config.model.groups)) flats [] [] ps) c.rules.ensures
     (subst (λ (groups : List Group). Keeps change (all_rules (map (group_with_ruleset name (with_rule_added rule)) groups)) c.rules.result.now [] [] ps) groups_are c.in_ok-programs.ensures) in
-    let serve : IsPairwise Serves (all_rules (model_with_ruleset name (with_rule_added rule) config.model).groups) ps = subst (IsPairwise Serves (all_rules (model_with_ruleset name (with_rule_added rule) config.model).groups)) (sym keeps.are) keeps.each in
+    let serve : AllZip Serves (all_rules (model_with_ruleset name (with_rule_added rule) config.model).groups) ps = subst (AllZip Serves (all_rules (model_with_ruleset name (with_rule_added rule) config.model).groups)) (sym keeps.are) keeps.each in
     let counted : c.len-count.result ≡ length ps = c.len-count.ensures ∙ c.in_ok-programs.programs.ok.0 in
-    let len = serve.len in
+    let len = AllZip-long Serves (all_rules (model_with_ruleset name (with_rule_added rule) config.model).groups) ps serve in
     let few_rules = c.if-count-gt-MAX_RULES.false in
     let few : length (all_rules (model_with_ruleset name (with_rule_added rule) config.model).groups) ≤ MAX_RULES = omega arith in
     let of_model : c.in_ok-model.model ≡ model_with_ruleset name (with_rule_added rule) config.model = c.in_ok-model.ensures ∙ ap (model_with_ruleset name (with_rule_added rule)) c.model-2.ensures in
@@ -107,9 +109,9 @@ returns-then-elements-clause-err c =
     let groups_are : c.as_slice-groups.result.now ≡ config.model.groups = c.as_slice-groups.ensures ∙ ap (λ m. m.groups) c.model.ensures in
     let keeps = subst (λ (flats : List FlatRule). Keeps change (all_rules (map (group_with_ruleset name (with_rule_added rule)) config.model.groups)) flats [] [] ps) c.rules.ensures
     (subst (λ (groups : List Group). Keeps change (all_rules (map (group_with_ruleset name (with_rule_added rule)) groups)) c.rules.result.now [] [] ps) groups_are c.in_ok-programs.ensures) in
-    let serve : IsPairwise Serves (all_rules (model_with_ruleset name (with_rule_added rule) config.model).groups) ps = subst (IsPairwise Serves (all_rules (model_with_ruleset name (with_rule_added rule) config.model).groups)) (sym keeps.are) keeps.each in
+    let serve : AllZip Serves (all_rules (model_with_ruleset name (with_rule_added rule) config.model).groups) ps = subst (AllZip Serves (all_rules (model_with_ruleset name (with_rule_added rule) config.model).groups)) (sym keeps.are) keeps.each in
     let counted : c.len-count.result ≡ length ps = c.len-count.ensures ∙ c.in_ok-programs.programs.ok.0 in
-    let len = serve.len in
+    let len = AllZip-long Serves (all_rules (model_with_ruleset name (with_rule_added rule) config.model).groups) ps serve in
     let few_rules = c.if-count-gt-MAX_RULES.false in
     let few : length (all_rules (model_with_ruleset name (with_rule_added rule) config.model).groups) ≤ MAX_RULES = omega arith in
     let of_model : c.in_ok-model.model ≡ model_with_ruleset name (with_rule_added rule) config.model = c.in_ok-model.ensures ∙ ap (model_with_ruleset name (with_rule_added rule)) c.model-2.ensures in
@@ -128,9 +130,9 @@ returns-then-total-clause-err c =
     let groups_are : c.as_slice-groups.result.now ≡ config.model.groups = c.as_slice-groups.ensures ∙ ap (λ m. m.groups) c.model.ensures in
     let keeps = subst (λ (flats : List FlatRule). Keeps change (all_rules (map (group_with_ruleset name (with_rule_added rule)) config.model.groups)) flats [] [] ps) c.rules.ensures
     (subst (λ (groups : List Group). Keeps change (all_rules (map (group_with_ruleset name (with_rule_added rule)) groups)) c.rules.result.now [] [] ps) groups_are c.in_ok-programs.ensures) in
-    let serve : IsPairwise Serves (all_rules (model_with_ruleset name (with_rule_added rule) config.model).groups) ps = subst (IsPairwise Serves (all_rules (model_with_ruleset name (with_rule_added rule) config.model).groups)) (sym keeps.are) keeps.each in
+    let serve : AllZip Serves (all_rules (model_with_ruleset name (with_rule_added rule) config.model).groups) ps = subst (AllZip Serves (all_rules (model_with_ruleset name (with_rule_added rule) config.model).groups)) (sym keeps.are) keeps.each in
     let counted : c.len-count.result ≡ length ps = c.len-count.ensures ∙ c.in_ok-programs.programs.ok.0 in
-    let len = serve.len in
+    let len = AllZip-long Serves (all_rules (model_with_ruleset name (with_rule_added rule) config.model).groups) ps serve in
     let few_rules = c.if-count-gt-MAX_RULES.false in
     let few : length (all_rules (model_with_ruleset name (with_rule_added rule) config.model).groups) ≤ MAX_RULES = omega arith in
     let of_model : c.in_ok-model.model ≡ model_with_ruleset name (with_rule_added rule) config.model = c.in_ok-model.ensures ∙ ap (model_with_ruleset name (with_rule_added rule)) c.model-2.ensures in
@@ -154,9 +156,9 @@ returns-clause-is c =
     let groups_are : c.as_slice-groups.result.now ≡ config.model.groups = c.as_slice-groups.ensures ∙ ap (λ m. m.groups) c.model.ensures in
     let keeps = subst (λ (flats : List FlatRule). Keeps change (all_rules (map (group_with_ruleset name (with_rule_added rule)) config.model.groups)) flats [] [] ps) c.rules.ensures
     (subst (λ (groups : List Group). Keeps change (all_rules (map (group_with_ruleset name (with_rule_added rule)) groups)) c.rules.result.now [] [] ps) groups_are c.in_ok-programs.ensures) in
-    let serve : IsPairwise Serves (all_rules (model_with_ruleset name (with_rule_added rule) config.model).groups) ps = subst (IsPairwise Serves (all_rules (model_with_ruleset name (with_rule_added rule) config.model).groups)) (sym keeps.are) keeps.each in
+    let serve : AllZip Serves (all_rules (model_with_ruleset name (with_rule_added rule) config.model).groups) ps = subst (AllZip Serves (all_rules (model_with_ruleset name (with_rule_added rule) config.model).groups)) (sym keeps.are) keeps.each in
     let counted : c.len-count.result ≡ length ps = c.len-count.ensures ∙ c.in_ok-programs.programs.ok.0 in
-    let len = serve.len in
+    let len = AllZip-long Serves (all_rules (model_with_ruleset name (with_rule_added rule) config.model).groups) ps serve in
     let few_rules = c.if-count-gt-MAX_RULES.false in
     let few : length (all_rules (model_with_ruleset name (with_rule_added rule) config.model).groups) ≤ MAX_RULES = omega arith in
     let of_model : c.in_ok-model.model ≡ model_with_ruleset name (with_rule_added rule) config.model = c.in_ok-model.ensures ∙ ap (model_with_ruleset name (with_rule_added rule)) c.model-2.ensures in
@@ -179,9 +181,9 @@ returns-clause-limits c =
     let groups_are : c.as_slice-groups.result.now ≡ config.model.groups = c.as_slice-groups.ensures ∙ ap (λ m. m.groups) c.model.ensures in
     let keeps = subst (λ (flats : List FlatRule). Keeps change (all_rules (map (group_with_ruleset name (with_rule_added rule)) config.model.groups)) flats [] [] ps) c.rules.ensures
     (subst (λ (groups : List Group). Keeps change (all_rules (map (group_with_ruleset name (with_rule_added rule)) groups)) c.rules.result.now [] [] ps) groups_are c.in_ok-programs.ensures) in
-    let serve : IsPairwise Serves (all_rules (model_with_ruleset name (with_rule_added rule) config.model).groups) ps = subst (IsPairwise Serves (all_rules (model_with_ruleset name (with_rule_added rule) config.model).groups)) (sym keeps.are) keeps.each in
+    let serve : AllZip Serves (all_rules (model_with_ruleset name (with_rule_added rule) config.model).groups) ps = subst (AllZip Serves (all_rules (model_with_ruleset name (with_rule_added rule) config.model).groups)) (sym keeps.are) keeps.each in
     let counted : c.len-count.result ≡ length ps = c.len-count.ensures ∙ c.in_ok-programs.programs.ok.0 in
-    let len = serve.len in
+    let len = AllZip-long Serves (all_rules (model_with_ruleset name (with_rule_added rule) config.model).groups) ps serve in
     let few_rules = c.if-count-gt-MAX_RULES.false in
     let few : length (all_rules (model_with_ruleset name (with_rule_added rule) config.model).groups) ≤ MAX_RULES = omega arith in
     let of_model : c.in_ok-model.model ≡ model_with_ruleset name (with_rule_added rule) config.model = c.in_ok-model.ensures ∙ ap (model_with_ruleset name (with_rule_added rule)) c.model-2.ensures in
@@ -204,9 +206,9 @@ returns-clause-loaded c =
     let groups_are : c.as_slice-groups.result.now ≡ config.model.groups = c.as_slice-groups.ensures ∙ ap (λ m. m.groups) c.model.ensures in
     let keeps = subst (λ (flats : List FlatRule). Keeps change (all_rules (map (group_with_ruleset name (with_rule_added rule)) config.model.groups)) flats [] [] ps) c.rules.ensures
     (subst (λ (groups : List Group). Keeps change (all_rules (map (group_with_ruleset name (with_rule_added rule)) groups)) c.rules.result.now [] [] ps) groups_are c.in_ok-programs.ensures) in
-    let serve : IsPairwise Serves (all_rules (model_with_ruleset name (with_rule_added rule) config.model).groups) ps = subst (IsPairwise Serves (all_rules (model_with_ruleset name (with_rule_added rule) config.model).groups)) (sym keeps.are) keeps.each in
+    let serve : AllZip Serves (all_rules (model_with_ruleset name (with_rule_added rule) config.model).groups) ps = subst (AllZip Serves (all_rules (model_with_ruleset name (with_rule_added rule) config.model).groups)) (sym keeps.are) keeps.each in
     let counted : c.len-count.result ≡ length ps = c.len-count.ensures ∙ c.in_ok-programs.programs.ok.0 in
-    let len = serve.len in
+    let len = AllZip-long Serves (all_rules (model_with_ruleset name (with_rule_added rule) config.model).groups) ps serve in
     let few_rules = c.if-count-gt-MAX_RULES.false in
     let few : length (all_rules (model_with_ruleset name (with_rule_added rule) config.model).groups) ≤ MAX_RULES = omega arith in
     let of_model : c.in_ok-model.model ≡ model_with_ruleset name (with_rule_added rule) config.model = c.in_ok-model.ensures ∙ ap (model_with_ruleset name (with_rule_added rule)) c.model-2.ensures in
@@ -230,8 +232,8 @@ returns-clause-ids c = λ most within.
     let groups_are : c.as_slice-groups.result.now ≡ config.model.groups = c.as_slice-groups.ensures ∙ ap (λ m. m.groups) c.model.ensures in
     let keeps = subst (λ (flats : List FlatRule). Keeps change (all_rules (map (group_with_ruleset name (with_rule_added rule)) config.model.groups)) flats [] [] ps) c.rules.ensures
     (subst (λ (groups : List Group). Keeps change (all_rules (map (group_with_ruleset name (with_rule_added rule)) groups)) c.rules.result.now [] [] ps) groups_are c.in_ok-programs.ensures) in
-    let serve : IsPairwise Serves (all_rules (model_with_ruleset name (with_rule_added rule) config.model).groups) ps = subst (IsPairwise Serves (all_rules (model_with_ruleset name (with_rule_added rule) config.model).groups)) (sym keeps.are) keeps.each in
+    let serve : AllZip Serves (all_rules (model_with_ruleset name (with_rule_added rule) config.model).groups) ps = subst (AllZip Serves (all_rules (model_with_ruleset name (with_rule_added rule) config.model).groups)) (sym keeps.are) keeps.each in
     let counted : c.len-count.result ≡ length ps = c.len-count.ensures ∙ c.in_ok-programs.programs.ok.0 in
-    let len = serve.len in
+    let len = AllZip-long Serves (all_rules (model_with_ruleset name (with_rule_added rule) config.model).groups) ps serve in
     let of_model : c.in_ok-model.model ≡ model_with_ruleset name (with_rule_added rule) config.model = c.in_ok-model.ensures ∙ ap (model_with_ruleset name (with_rule_added rule)) c.model-2.ensures in
     subst (HasNextIds (most + 1)) (sym (c.in_ok-next.ensures.model ∙ of_model)) (added_ids rule name most config.model within)

@@ -1,10 +1,11 @@
 use Rattle.std.proofs.Common.{◌≡◌, ◌<◌, ◌+◌, ◌++◌, ℕ, Some, List, drop, flat_map, get_or, length, slice_get, take, refl, sym, ap, subst, ◌∙◌}
+use Rattle.std.specs.List.{AllZip}
 use Rattle.std.proofs.lemmas.List.{append_assoc, take-append-drop}
 use Rattle.std.proofs.lemmas.Option.{slice_get_read}
 use Rattle.npf_model.specs.declared.group.Item.{Item}
 use Rattle.npf_model.specs.Verdict.{PlacedRule, rules_at}
 use Rattle.npf_ruleset.specs.declared.flat.FlatRule.{FlatRule}
-use Rattle.npf_ruleset.specs.Flat.{IsPairwise, programs_of}
+use Rattle.npf_ruleset.specs.Flat.{programs_of}
 use Rattle.npf_config_changes.specs.Kept.{Keeps, Serves, ruleset_change}
 use Rattle.npf_config_changes.specs.Rulesets.{item_with_ruleset}
 use Rattle.npf_config_changes.proofs.KeptLemmas.{keeps_here, keeps_next, rules_left, serve_behind, serve_front}
@@ -15,9 +16,9 @@ read xs all n x lt is are = subst (λ ys. slice_get ys n ≡ Some x) are (slice_
 
 -- what is left begins with the rules of the item
 parted : (items : List Item) (i : ℕ) (item : Item) (more : List PlacedRule) (left : List FlatRule) → slice_get items i ≡ Some item
-    → IsPairwise Serves (flat_map rules_at (drop i items) ++ more) (programs_of left) → IsPairwise Serves (rules_at item ++ (flat_map rules_at (drop (i + 1) items) ++ more)) (programs_of left)
+    → AllZip Serves (flat_map rules_at (drop i items) ++ more) (programs_of left) → AllZip Serves (rules_at item ++ (flat_map rules_at (drop (i + 1) items) ++ more)) (programs_of left)
 parted items i item more left at serve =
-    subst (λ all. IsPairwise Serves all (programs_of left))
+    subst (λ all. AllZip Serves all (programs_of left))
     (ap (λ front. front ++ more) (rules_left rules_at items i item at) ∙ append_assoc (rules_at item) (flat_map rules_at (drop (i + 1) items)) more) serve
 
 pub add_item-requires-clause-serve : goal.add_item-requires-clause-serve
@@ -29,7 +30,7 @@ add_item-requires-clause-serve c =
     let at = read c.as_slice-item-items.result.now items i item c.loop-item-test.true c.item-item.is c.as_slice-item-items.ensures in
     let begins = c.requires.begins in
     let rest = flat_map rules_at (drop (i + 1) items) ++ begins.0 in
-    subst (λ (here : List FlatRule). IsPairwise Serves (rules_at item) (programs_of here)) (sym (c.split_at.ensures.front ∙ ap (λ k. take k left) c.count_of.ensures))
+    subst (λ (here : List FlatRule). AllZip Serves (rules_at item) (programs_of here)) (sym (c.split_at.ensures.front ∙ ap (λ k. take k left) c.count_of.ensures))
     (serve_front (rules_at item) rest left (parted items i item begins.0 left at (c.loop-item.invariant.left begins.0 begins.1)))
 
 pub loop-item-preserved : goal.loop-item-preserved
@@ -52,6 +53,6 @@ loop-item-preserved c =
           (subst (λ (all : List FlatRule). Keeps change (rules_at (changed item)) all behind c.loop-item.programs.items c.add_item.new.programs.items) whole
           (keeps_here change (rules_at (changed item)) here behind c.loop-item.programs.items c.add_item.new.programs.items c.in_ok-add_item.ensures));
       left = λ more serve.
-          subst (λ (all : List FlatRule). IsPairwise Serves (flat_map rules_at (drop (i + 1) items) ++ more) (programs_of all)) (sym back)
+          subst (λ (all : List FlatRule). AllZip Serves (flat_map rules_at (drop (i + 1) items) ++ more) (programs_of all)) (sym back)
           (serve_behind (rules_at item) (flat_map rules_at (drop (i + 1) items) ++ more) left (parted items i item more left at (c.loop-item.invariant.left more serve)));
     }

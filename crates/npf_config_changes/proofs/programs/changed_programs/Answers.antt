@@ -1,7 +1,8 @@
 use Rattle.std.proofs.Common.{◌≡◌, ◌+◌, [], Some, List, drop, length, slice_get, refl, subst}
+use Rattle.std.specs.List.{AllZip}
 use Rattle.std.proofs.lemmas.Option.{slice_get_read}
 use Rattle.npf_model.specs.Verdict.{PlacedRule, all_rules, rules_of}
-use Rattle.npf_ruleset.specs.Flat.{IsPairwise, programs_of}
+use Rattle.npf_ruleset.specs.Flat.{programs_of}
 use Rattle.npf_config_changes.specs.Kept.{Serves, ruleset_change}
 use Rattle.npf_config_changes.specs.Rulesets.{group_with_ruleset}
 use Rattle.npf_config_changes.proofs.KeptLemmas.{keeps_next, rules_left}
@@ -19,5 +20,5 @@ loop-group-preserved c =
       keeps = keeps_next rules_of changed groups i group at c.args.change c.args.flats.now [] c.loop-group.programs.items c.add_group.new.programs.items left c.in_ok-left.left.now
           c.loop-group.invariant.keeps c.in_ok-left.ensures.keeps;
       left = c.in_ok-left.ensures.left (all_rules (drop (i + 1) groups))
-          (subst (λ (all : List PlacedRule). IsPairwise Serves all (programs_of left)) (rules_left rules_of groups i group at) c.loop-group.invariant.left);
+          (subst (λ (all : List PlacedRule). AllZip Serves all (programs_of left)) (rules_left rules_of groups i group at) c.loop-group.invariant.left);
     }

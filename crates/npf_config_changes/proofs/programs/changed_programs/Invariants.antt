@@ -1,6 +1,7 @@
 use Rattle.std.proofs.Common.{[], drop, map, take}
+use Rattle.std.specs.List.{AllZip}
 use Rattle.npf_model.specs.Verdict.{all_rules}
-use Rattle.npf_ruleset.specs.Flat.{IsPairwise, programs_of}
+use Rattle.npf_ruleset.specs.Flat.{programs_of}
 use Rattle.npf_config_changes.specs.Kept.{Keeps, Serves, ruleset_change}
 use Rattle.npf_config_changes.specs.Rulesets.{group_with_ruleset}
 use Rattle.npf_config_changes.proofs.programs.changed_programs.Given as goal
@@ -8,5 +9,5 @@ use Rattle.npf_config_changes.proofs.programs.changed_programs.Given as goal
 abbrev pub invariant-loop-group : goal.invariant-loop-group
 invariant-loop-group l = record {
   keeps : Keeps l.change (all_rules (map (group_with_ruleset l.name (ruleset_change l.change)) (take l.group-index l.fn.groups))) l.flats l.left [] l.programs.items;
-  left : IsPairwise Serves (all_rules (drop l.group-index l.fn.groups)) (programs_of l.left);
+  left : AllZip Serves (all_rules (drop l.group-index l.fn.groups)) (programs_of l.left);
 }

@@ -1,11 +1,12 @@
 use Rattle.std.proofs.Common.{◌≡◌, [], List, map, sym, ap, subst, ◌∙◌}
+use Rattle.std.specs.List.{AllZip}
 use Rattle.std.specs.Arc.{arc_value}
 use Rattle.std.proofs.lemmas.Result.{IfOk-weaker}
 use Rattle.npf_model.specs.declared.group.Group.{Group}
 use Rattle.npf_model.specs.declared.model.Model.{Model}
 use Rattle.npf_model.specs.Verdict.{all_rules}
 use Rattle.npf_ruleset.specs.declared.flat.FlatRule.{FlatRule}
-use Rattle.npf_ruleset.specs.Flat.{IsPairwise, programs_of}
+use Rattle.npf_ruleset.specs.Flat.{programs_of}
 use Rattle.npf_ruleset.specs.Refusal.{AreProgramsOf, IsBuildable}
 use Rattle.npf_config.specs.Loaded.{HasNextIds}
 use Rattle.npf_config_changes.specs.Kept.{Keeps, Serves, ruleset_change}
@@ -17,8 +18,8 @@ pub changed_programs-requires-clause-serve : goal.changed_programs-requires-clau
 changed_programs-requires-clause-serve c =
     let config = c.args.config.now in
     let groups_are : c.as_slice-groups.result.now ≡ config.model.groups = c.as_slice-groups.ensures ∙ ap (λ m. m.groups) c.model.ensures in
-    subst (λ (groups : List Group). IsPairwise Serves (all_rules groups) (programs_of c.rules.result.now)) (sym groups_are)
-    (subst (λ (flats : List FlatRule). IsPairwise Serves (all_rules config.model.groups) (programs_of flats)) (sym c.rules.ensures) (old_serve config c.requires.loaded))
+    subst (λ (groups : List Group). AllZip Serves (all_rules groups) (programs_of c.rules.result.now)) (sym groups_are)
+    (subst (λ (flats : List FlatRule). AllZip Serves (all_rules config.model.groups) (programs_of flats)) (sym c.rules.ensures) (old_serve config c.requires.loaded))
 
 pub assemble-requires-clause-buildable : goal.assemble-requires-clause-buildable
 assemble-requires-clause-buildable c =

@@ -1,10 +1,8 @@
-use Rattle.std.proofs.Common.{◌≡◌, List, length, subst, sym, ap, ◌∙◌, arith}
+use Rattle.std.proofs.Common.{List, subst, sym, arith}
 use Rattle.std.specs.List.{AllZip}
 use Rattle.std.proofs.lemmas.Slice.Zip.{AllZip-long}
 use Rattle.npf_model.specs.declared.group.Group.{Group}
 use Rattle.npf_model.specs.Verdict.{all_rules}
-use Rattle.npf_ruleset.specs.declared.flat.FlatGroup.{FlatGroup}
-use Rattle.npf_ruleset.specs.declared.flat.FlatRule.{FlatRule}
 use Rattle.npf_ruleset.specs.Flat.{IsFlatGroup, IsFlatRule}
 use Rattle.npf_ruleset.proofs.PairLemmas.{zip_each}
 use Rattle.npf_ruleset.proofs.building.assemble.Goals as goal
