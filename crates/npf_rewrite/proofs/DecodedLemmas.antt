@@ -16,7 +16,7 @@ use Rattle.npf_packet.specs.Ipv4.{fields_v4, packet_v4}
 use Rattle.npf_packet.specs.Ipv6.{IsBehindChain, IsPacketV6, behind_last, end_v6, first_header, is_extension, next_header}
 use Rattle.npf_packet.specs.Upper.{Carries}
 use Rattle.npf_packet.proofs.ChainLemmas.{chain_keeps}
-use Rattle.npf_packet.proofs.HeaderLemmas.{fields_v6, of_ok, whole_v4}
+use Rattle.npf_packet.proofs.HeaderLemmas.{fields_v6, is_whole_v4, never_behind_v6, never_end_v6, never_v4, of_ok}
 use Rattle.npf_packet.proofs.PacketFieldLemmas.{has_places}
 use Rattle.npf_packet.proofs.UpperLemmas.{is_carried}
 use Rattle.npf_rewrite.specs.Translated.{Translated}
@@ -24,29 +24,18 @@ use Rattle.npf_rewrite.specs.TranslatedFacts.{AddressesFit, TranslatedDecodes}
 use Rattle.npf_rewrite.proofs.PlacedLemmas.{front-same, laid}
 use Rattle.npf_rewrite.proofs.HeaderLemmas.{behind_last-is, decoded-v4, decoded-v6}
 
--- no test of the headers answers with a packet's facts
-never_v4 : (bytes : List ℕ) (ip : ℕ) (facts : Facts) → ¬ (packet_v4 bytes ip ≡ Err (Ip facts))
-never_v4 bytes ip facts = λ h. grind (arith, nat_tests)
-
-never_end_v6 : (bytes : List ℕ) (ip : ℕ) (facts : Facts) → ¬ (end_v6 bytes ip ≡ Err (Ip facts))
-never_end_v6 bytes ip facts = λ h. grind (arith, nat_tests)
-
-never_behind_v6 : (bytes : List ℕ) (ip end k a : ℕ) (facts : Facts)
-    → ¬ (behind_last bytes ip end (record { kind = k; at = a }) ≡ Err (Ip facts))
-never_behind_v6 bytes ip end k a facts = λ h. grind (arith, nat_tests)
-
-behind_last-ok : (bytes : List ℕ) (ip end k a : ℕ) (packet : _)
-    → behind_last bytes ip end (record { kind = k; at = a }) ≡ Ok packet
+behind_last-ok : (bytes : List ℕ) (ip end k n a : ℕ) (packet : _)
+    → behind_last bytes ip end (record { kind = k; named_at = n; at = a }) ≡ Ok packet
     → (is_extension k ≡ false) × ((k == 44) ≡ false)
-behind_last-ok bytes ip end k a packet h = (grind (arith, nat_tests), grind (arith, nat_tests))
+behind_last-ok bytes ip end k n a packet h = (grind (arith, nat_tests), grind (arith, nat_tests))
 
 same_ok : {T E : Type 0} {x y : T} → (let r : Result T E = Ok x in r) ≡ Ok y → x ≡ y
 same_ok h = cc
 
-next-between : (bytes : List ℕ) (from end k a k' a' : ℕ) → from ≤ a
-    → next_header bytes end (record { kind = k; at = a }) ≡ Some (record { kind = k'; at = a' })
+next-between : (bytes : List ℕ) (from end k n a k' n' a' : ℕ) → from ≤ a
+    → next_header bytes end (record { kind = k; named_at = n; at = a }) ≡ Some (record { kind = k'; named_at = n'; at = a' })
     → (from ≤ a') × (a' ≤ end)
-next-between bytes from end k a k' a' after h = (grind (arith, nat_tests), grind (arith, nat_tests))
+next-between bytes from end k n a k' n' a' after h = (grind (arith, nat_tests), grind (arith, nat_tests))
 
 ends_v6 : (bytes : List ℕ) (ip end : ℕ) → end_v6 bytes ip ≡ Ok end → ip + 40 ≤ end
 ends_v6 bytes ip end h = grind (arith, nat_tests)
@@ -62,7 +51,7 @@ module _ (bytes translated : List ℕ) (ip : ℕ) (facts : Facts) (change : Chan
       let found = of_ok (packet_v4 bytes ip) (λ packet. Carries bytes packet (Ip facts))
       (λ answer. Ip facts ≡ answer)
       (λ answer e same. never_v4 bytes ip facts (e ∙ ap (λ a. Err a) (sym same))) h in
-      let whole = whole_v4 bytes ip found.0 found.1.0 in
+      let whole = is_whole_v4 bytes ip found.0 found.1.0 in
       let carries = subst (λ packet. Carries bytes packet (Ip facts)) (sym whole.is) found.1.1 in
       let carried = is_carried bytes (fields_v4 bytes ip) facts (omega (arith, whole.total)) carries in
       let P : Facts → Type 0 = λ f. Carries bytes (fields_v4 bytes ip) (Ip f) → AddressesFit f change
@@ -84,27 +73,27 @@ module _ (bytes translated : List ℕ) (ip : ℕ) (facts : Facts) (change : Chan
         (read bytes h.header h.read) h.says);
   }
 
-  from-v6 : (end k a : ℕ) (headers : List _) → end_v6 bytes ip ≡ Ok end
+  from-v6 : (end k n a : ℕ) (headers : List _) → end_v6 bytes ip ≡ Ok end
       → is_extension k ≡ false → (k == 44) ≡ false
-      → IsChain (next_header bytes end) (first_header bytes ip) headers (record { kind = k; at = a })
-      → Carries bytes (fields_v6 bytes ip end (record { kind = k; at = a })) (Ip facts)
-      → IsPacketV6 translated ip (Ok (fields_v6 translated ip end (record { kind = k; at = a })))
-      × Carries translated (fields_v6 translated ip end (record { kind = k; at = a })) (Ip is)
-  from-v6 end k a headers ends plain whole chain carries =
+      → IsChain (next_header bytes end) (first_header bytes ip) headers (record { kind = k; named_at = n; at = a })
+      → Carries bytes (fields_v6 bytes ip end (record { kind = k; named_at = n; at = a })) (Ip facts)
+      → IsPacketV6 translated ip (Ok (fields_v6 translated ip end (record { kind = k; named_at = n; at = a })))
+      × Carries translated (fields_v6 translated ip end (record { kind = k; named_at = n; at = a })) (Ip is)
+  from-v6 end k n a headers ends plain whole chain carries =
       let between = chain_keeps (next_header bytes end) (λ x. (ip + 40 ≤ x.at) × (x.at ≤ end))
-      (λ x y p e. next-between bytes (ip + 40) end x.kind x.at y.kind y.at p.0 e)
-      (first_header bytes ip) headers (record { kind = k; at = a }) chain
+      (λ x y p e. next-between bytes (ip + 40) end x.kind x.named_at x.at y.kind y.named_at y.at p.0 e)
+      (first_header bytes ip) headers (record { kind = k; named_at = n; at = a }) chain
       (omega arith, ends_v6 bytes ip end ends) in
-      let carried = is_carried bytes (fields_v6 bytes ip end (record { kind = k; at = a })) facts between.1
+      let carried = is_carried bytes (fields_v6 bytes ip end (record { kind = k; named_at = n; at = a })) facts between.1
       carries in
       let P : Facts → Type 0 = λ f.
-      Carries bytes (fields_v6 bytes ip end (record { kind = k; at = a })) (Ip f)
+      Carries bytes (fields_v6 bytes ip end (record { kind = k; named_at = n; at = a })) (Ip f)
       → AddressesFit f change → Translated bytes f change translated
-      → IsPacketV6 translated ip (Ok (fields_v6 translated ip end (record { kind = k; at = a })))
-      × Carries translated (fields_v6 translated ip end (record { kind = k; at = a }))
+      → IsPacketV6 translated ip (Ok (fields_v6 translated ip end (record { kind = k; named_at = n; at = a })))
+      × Carries translated (fields_v6 translated ip end (record { kind = k; named_at = n; at = a }))
       (Ip (facts_there change f)) in
       subst P carried.is
-      (decoded-v6 bytes translated ip end k a change carried.l4 between.0 carried.protocol ends plain whole
+      (decoded-v6 bytes translated ip end k n a change carried.l4 between.0 carried.protocol ends plain whole
       headers chain) carries fit t
 
   v6-decodes : (version : _)
@@ -123,12 +112,12 @@ module _ (bytes translated : List ℕ) (ip : ℕ) (facts : Facts) (change : Chan
       let last = behind.last in
       let packet = of_ok h.header (λ packet. Carries bytes packet (Ip facts))
       (λ answer. Ip facts ≡ answer)
-      (λ answer e same. never_behind_v6 bytes ip end last.kind last.at facts
+      (λ answer e same. never_behind_v6 bytes ip end last facts
       (sym behind.says ∙ e ∙ ap (λ a. Err a) (sym same))) h.says in
       let is_ok = sym behind.says ∙ packet.1.0 in
-      let ok = behind_last-ok bytes ip end last.kind last.at packet.0 is_ok in
-      let same = same_ok (sym (behind_last-is bytes ip end last.kind last.at ok.0 ok.1) ∙ is_ok) in
-      let there = from-v6 end last.kind last.at behind.chain.headers found.1.0 ok.0 ok.1 behind.chain.chain
+      let ok = behind_last-ok bytes ip end last.kind last.named_at last.at packet.0 is_ok in
+      let same = same_ok (sym (behind_last-is bytes ip end last.kind last.named_at last.at ok.0 ok.1) ∙ is_ok) in
+      let there = from-v6 end last.kind last.named_at last.at behind.chain.headers found.1.0 ok.0 ok.1 behind.chain.chain
       (subst (λ packet. Carries bytes packet (Ip facts)) (sym same) packet.1.1) in
       record {
         header = Ok (fields_v6 translated ip end last);
