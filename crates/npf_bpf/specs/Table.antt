@@ -1,10 +1,13 @@
 -- The table of bpf(4): the code of each instruction, and what it does. The coprocessor's call is
 -- that of NetBSD's bpf(4), with the two functions that NPF gives it.
-use Rattle.std.specs.Prelude.{ℕ, List, [], ◌∷◌, ◌++◌, Option, Some, None, if◌then◌else◌, ◌==◌}
+use Rattle.std.specs.Prelude.{ℕ, ◌+◌, List, [], ◌∷◌, ◌++◌, Option, Some, None, if◌then◌else◌, ◌==◌}
 use Rattle.npf_bpf.specs.declared.insn.Insn.{Insn}
 use Rattle.npf_bpf.specs.declared.operation.Width.TheVariants.{Word, Half, Byte}
+use Rattle.npf_bpf.specs.declared.operation.Operand.{Operand}
 use Rattle.npf_bpf.specs.declared.operation.Operand.TheVariants.{Constant, Index}
+use Rattle.npf_bpf.specs.declared.operation.Arithmetic.{Arithmetic}
 use Rattle.npf_bpf.specs.declared.operation.Arithmetic.TheVariants.{Add, Subtract, Multiply, Divide, Or, And, ShiftLeft, ShiftRight}
+use Rattle.npf_bpf.specs.declared.operation.Comparison.{Comparison}
 use Rattle.npf_bpf.specs.declared.operation.Comparison.TheVariants.{Equal, Greater, GreaterOrEqual, AnyBit}
 use Rattle.npf_bpf.specs.declared.operation.Distances.{Distances}
 use Rattle.npf_bpf.specs.declared.operation.Operation.{Operation}
@@ -87,3 +90,56 @@ abbrev pub decoded : Insn → Option Operation
 decoded i =
     if i.code == 0x27 then coprocessor_call i.k else lookup i.code
     (with_one_code i ++ with_operand i)
+
+-- The same table the other way. What an operation has no use for is 0.
+abbrev pub plain_insn : ℕ → ℕ → Insn
+plain_insn code k = record { code = code; jt = 0; jf = 0; k = k }
+
+-- with an operand: at a code 0x08 higher it is X
+abbrev pub insn_with_operand : ℕ → Operand → Distances → Insn
+insn_with_operand code (Constant k) distances = record { code = code; jt = distances.on_true; jf = distances.on_false; k = k }
+insn_with_operand code Index distances = record { code = code + 0x08; jt = distances.on_true; jf = distances.on_false; k = 0 }
+
+abbrev pub arithmetic_code : Arithmetic → ℕ
+arithmetic_code Add = 0x04
+arithmetic_code Subtract = 0x14
+arithmetic_code Multiply = 0x24
+arithmetic_code Divide = 0x34
+arithmetic_code Or = 0x44
+arithmetic_code And = 0x54
+arithmetic_code ShiftLeft = 0x64
+arithmetic_code ShiftRight = 0x74
+
+abbrev pub comparison_code : Comparison → ℕ
+comparison_code Equal = 0x15
+comparison_code Greater = 0x25
+comparison_code GreaterOrEqual = 0x35
+comparison_code AnyBit = 0x45
+
+-- the instruction that does an operation
+abbrev pub insn_of : Operation → Insn
+insn_of (LoadAbsolute Word k) = plain_insn 0x20 k
+insn_of (LoadAbsolute Half k) = plain_insn 0x28 k
+insn_of (LoadAbsolute Byte k) = plain_insn 0x30 k
+insn_of (LoadIndirect Word k) = plain_insn 0x40 k
+insn_of (LoadIndirect Half k) = plain_insn 0x48 k
+insn_of (LoadIndirect Byte k) = plain_insn 0x50 k
+insn_of (LoadConstant k) = plain_insn 0x00 k
+insn_of (LoadMemory k) = plain_insn 0x60 k
+insn_of LoadLength = plain_insn 0x80 0
+insn_of (LoadIndexConstant k) = plain_insn 0x01 k
+insn_of (LoadIndexMemory k) = plain_insn 0x61 k
+insn_of LoadIndexLength = plain_insn 0x81 0
+insn_of (LoadIndexHeader k) = plain_insn 0xb1 k
+insn_of (Store k) = plain_insn 0x02 k
+insn_of (StoreIndex k) = plain_insn 0x03 k
+insn_of (Calculate arithmetic operand) = insn_with_operand (arithmetic_code arithmetic) operand (record { on_true = 0; on_false = 0 })
+insn_of Negate = plain_insn 0x84 0
+insn_of (Jump k) = plain_insn 0x05 k
+insn_of (JumpIf comparison operand distances) = insn_with_operand (comparison_code comparison) operand distances
+insn_of (ReturnConstant k) = plain_insn 0x06 k
+insn_of ReturnAccumulator = plain_insn 0x16 0
+insn_of CopyToIndex = plain_insn 0x07 0
+insn_of CopyToAccumulator = plain_insn 0x87 0
+insn_of AskHeader = plain_insn 0x27 0
+insn_of AskMember = plain_insn 0x27 1

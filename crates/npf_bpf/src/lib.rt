@@ -3,7 +3,8 @@
 // coprocessor call of NetBSD's bpf(4), and the validator.
 //
 // An instruction comes as four numbers, the way a kernel is given it (`Insn`). The table of bpf(4)
-// says what it does: `decode` reads the table, and gives a named `Operation` or none.
+// says what it does: `decode` reads the table, and gives a named `Operation` or none. `insn` goes
+// the other way, and what it gives is decoded to the same operation.
 //
 // What a program returns is its value, which specs/Value.antt gives by an equation for each row of
 // the table; npf_bpfvm computes it. Each calculation is on a state of A, X and M (specs/State.antt),

@@ -1,7 +1,7 @@
 // What the instructions do, by the table of bpf(4). A is the accumulator, X the index register,
 // M the scratch memory store and P the packet.
-ghost use Rattle.std.specs.Prelude.{◌≡◌};
-ghost use Rattle.npf_bpf.specs.Table.{coprocessor_call, decoded, lookup, with_operand};
+ghost use Rattle.std.specs.Prelude.{◌≡◌, ◌≤◌, Some};
+ghost use Rattle.npf_bpf.specs.Table.{arithmetic_code, comparison_code, coprocessor_call, decoded, insn_of, lookup, plain_insn, with_operand, insn_with_operand};
 
 use crate::insn::Insn;
 use Arithmetic::{Add, And, Divide, Multiply, Or, ShiftLeft, ShiftRight, Subtract};
@@ -179,5 +179,113 @@ fn decode_coprocessor_call(k: u32) -> Option<Operation>
         0 => Some(AskHeader),
         1 => Some(AskMember),
         _ => None,
+    }
+}
+
+impl Operation {
+    /// The instruction that does this, by the same table. What the operation has no use for is 0.
+    pub fn insn(self) -> Insn
+        ensures value { result ≡ insn_of self }
+        ensures decodes { decoded result ≡ Some self }
+    {
+        match self {
+            LoadAbsolute(Word, k) => plain_insn(0x20, k),
+            LoadAbsolute(Half, k) => plain_insn(0x28, k),
+            LoadAbsolute(Byte, k) => plain_insn(0x30, k),
+            LoadIndirect(Word, k) => plain_insn(0x40, k),
+            LoadIndirect(Half, k) => plain_insn(0x48, k),
+            LoadIndirect(Byte, k) => plain_insn(0x50, k),
+            LoadConstant(k) => plain_insn(0x00, k),
+            LoadMemory(k) => plain_insn(0x60, k),
+            LoadLength => plain_insn(0x80, 0),
+            LoadIndexConstant(k) => plain_insn(0x01, k),
+            LoadIndexMemory(k) => plain_insn(0x61, k),
+            LoadIndexLength => plain_insn(0x81, 0),
+            LoadIndexHeader(k) => plain_insn(0xb1, k),
+            Store(k) => plain_insn(0x02, k),
+            StoreIndex(k) => plain_insn(0x03, k),
+            Calculate(arithmetic, operand) => insn_with_operand(
+                arithmetic.code(),
+                operand,
+                NOWHERE,
+            ),
+            Negate => plain_insn(0x84, 0),
+            Jump(k) => plain_insn(0x05, k),
+            JumpIf(comparison, operand, distances) => {
+                insn_with_operand(comparison.code(), operand, distances)
+            }
+            ReturnConstant(k) => plain_insn(0x06, k),
+            ReturnAccumulator => plain_insn(0x16, 0),
+            CopyToIndex => plain_insn(0x07, 0),
+            CopyToAccumulator => plain_insn(0x87, 0),
+            AskHeader => plain_insn(0x27, 0),
+            AskMember => plain_insn(0x27, 1),
+        }
+    }
+}
+
+// The distances of an instruction that isn't a comparison.
+const NOWHERE: Distances = Distances {
+    on_true: 0,
+    on_false: 0,
+};
+
+fn plain_insn(code: u16, k: u32) -> Insn
+    ensures { result ≡ plain_insn code k }
+{
+    Insn {
+        code,
+        jt: 0,
+        jf: 0,
+        k,
+    }
+}
+
+// The code is that with k; that with X is 0x08 higher.
+fn insn_with_operand(code: u16, operand: Operand, distances: Distances) -> Insn
+    requires { code ≤ 0x74 }
+    ensures { result ≡ insn_with_operand code operand distances }
+{
+    let (code, k) = match operand {
+        Operand::Constant(k) => (code, k),
+        Operand::Index => (code + 0x08, 0),
+    };
+    Insn {
+        code,
+        jt: distances.on_true,
+        jf: distances.on_false,
+        k,
+    }
+}
+
+impl Arithmetic {
+    fn code(self) -> u16
+        ensures value { result ≡ arithmetic_code self }
+        ensures bound { result ≤ 0x74 }
+    {
+        match self {
+            Add => 0x04,
+            Subtract => 0x14,
+            Multiply => 0x24,
+            Divide => 0x34,
+            Or => 0x44,
+            And => 0x54,
+            ShiftLeft => 0x64,
+            ShiftRight => 0x74,
+        }
+    }
+}
+
+impl Comparison {
+    fn code(self) -> u16
+        ensures value { result ≡ comparison_code self }
+        ensures bound { result ≤ 0x45 }
+    {
+        match self {
+            Equal => 0x15,
+            Greater => 0x25,
+            GreaterOrEqual => 0x35,
+            AnyBit => 0x45,
+        }
     }
 }

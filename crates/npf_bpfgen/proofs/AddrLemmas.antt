@@ -22,7 +22,7 @@ use Rattle.npf_bpfgen.specs.declared.endpoint.Endpoint.TheVariants.{Source, Dest
 use Rattle.npf_bpfgen.specs.Endpoint.{address_of, asked_table, ipv4_place, ipv6_place}
 use Rattle.npf_bpfgen.specs.Instruction.{ask_member, first_bits_of_half, first_bits_of_word, if_equal, jump, load_constant, load_memory, shift_right}
 use Rattle.npf_bpfgen.specs.Premise.{AreBytes, BranchesOnPacket, GuardsPacket, Tells, header_words, ip_version}
-use Rattle.npf_bpfgen.specs.RuleWeight.{block_weight, item_weight}
+use Rattle.npf_bpfgen.specs.ProgramLength.{block_length, item_length}
 use Rattle.npf_bpfgen.specs.Tail.{Extends, Yields}
 use Rattle.npf_bpfgen.proofs.StepLemmas.{asks_member, equal, forget, is_equal, is_unequal, loads_version, loads_word, shifts}
 use Rattle.npf_bpfgen.proofs.TailLemmas.{any_more, member_extended, member_guards}
@@ -225,31 +225,31 @@ table_branches e table old new below is = λ p cop tables facts seen first secon
     (told_member e table cop tables facts below seen.told)
     (equal p cop h old first second v 1 0 1 (forget p cop h (Some v) old 0 first at_first) (forget p cop h (Some v) old 1 second at_second))))
 
-block_weighs : (addr : Addr) → 1 ≤ block_weight addr
-block_weighs (V4 a) = omega arith
-block_weighs (V6 a) = omega arith
+some_of_block : (addr : Addr) → 1 ≤ block_length addr
+some_of_block (V4 a) = omega arith
+some_of_block (V6 a) = omega arith
 
-weighs : (item : AddrItem) → 1 ≤ item_weight item
-weighs (Net prefix) = block_weighs prefix.addr
-weighs (InTable table) = omega arith
+some_of_item : (item : AddrItem) → 1 ≤ item_length item
+some_of_item (Net prefix) = some_of_block prefix.addr
+some_of_item (InTable table) = omega arith
 
 -- one more item of a list
 pub items_more : (e : Endpoint) (items : List AddrItem) (left more over : ℕ) (d : AddrItem) (base tail new : List Insn)
     → more ≡ left + 1 → left < length items
-    → Extends (1 + sum_by item_weight (drop more items)) 1 base tail
+    → Extends (1 + sum_by item_length (drop more items)) 1 base tail
     → GuardsPacket (λ tables facts. fits_addrs (Some (drop more items)) tables (address_of e facts)) base tail
     → over ≡ length tail - length base
-    → Extends (item_weight (get_or items left d) - 1) 2 (jump over ∷ tail) new
+    → Extends (item_length (get_or items left d) - 1) 2 (jump over ∷ tail) new
     → BranchesOnPacket (λ tables facts. item_has tables (address_of e facts) (get_or items left d)) (jump over ∷ tail) new
-    → Extends (1 + sum_by item_weight (drop left items)) 1 base new
+    → Extends (1 + sum_by item_length (drop left items)) 1 base new
     × GuardsPacket (λ tables facts. fits_addrs (Some (drop left items)) tables (address_of e facts)) base new
 items_more e items left more over d base tail new next within front guards distance item branches =
-    let n : ℕ = 1 + sum_by item_weight (drop more items) in
-    let m : ℕ = item_weight (get_or items left d) - 1 in
-    let some : 1 ≤ item_weight (get_or items left d) = weighs (get_or items left d) in
-    let sum : sum_by item_weight (drop left items) ≡ item_weight (get_or items left d) + sum_by item_weight (drop more items) =
-    sum_by-drop_more item_weight items left d within
-    ∙ ap (λ (k : ℕ). item_weight (get_or items left d) + sum_by item_weight (drop k items)) (sym next) in (
+    let n : ℕ = 1 + sum_by item_length (drop more items) in
+    let m : ℕ = item_length (get_or items left d) - 1 in
+    let some : 1 ≤ item_length (get_or items left d) = some_of_item (get_or items left d) in
+    let sum : sum_by item_length (drop left items) ≡ item_length (get_or items left d) + sum_by item_length (drop more items) =
+    sum_by-drop_more item_length items left d within
+    ∙ ap (λ (k : ℕ). item_length (get_or items left d) + sum_by item_length (drop k items)) (sym next) in (
       member_extended base tail new n m over front distance item _ (omega arith),
       λ p cop tables facts seen x y.
           subst (λ (t : Bool). Yields p cop (header_words facts) None new 0 (if t then x else 0))

@@ -8,6 +8,7 @@ use Rattle.npf_model.specs.Describes.{fits_family, fits_protocol}
 use Rattle.npf_bpf.specs.declared.insn.Insn.{Insn}
 use Rattle.npf_bpfgen.specs.Instruction.{if_equal, jump, load_memory, return_number}
 use Rattle.npf_bpfgen.specs.Premise.{GuardsPacket, header_words, ip_version}
+use Rattle.npf_bpfgen.specs.ProgramLength.{protocols_length}
 use Rattle.npf_bpfgen.specs.Tail.{Yields, Extends, BranchesOnNumber, GuardsNumber}
 use Rattle.npf_bpfgen.proofs.StepLemmas.{equal, forget, loads_protocol, loads_version, returns}
 use Rattle.npf_bpfgen.proofs.TailLemmas.{any_more, extended, member_extended, member_guards}
@@ -48,6 +49,10 @@ protocol_branches proto old new is = λ p cop header number first second at_firs
     (subst (λ (t : Bool). Yields p cop header (Some number) (if_equal proto 0 1 ∷ old) 0 (if t then first else second))
     (eq_turned number proto)
     (equal p cop header old first second number proto 0 1 at_first at_second))
+
+pub listed_length : (protos : List ℕ) → protos ≢ [] → 2 + 2 * length protos ≡ protocols_length protos
+listed_length [] some = absurd (some refl)
+listed_length (first ∷ others) some = refl
 
 -- the list, behind the load of the packet's protocol
 pub protocols_guard : (protos : List ℕ) (old list new : List Insn) → protos ≢ []

@@ -7,3 +7,4 @@ pub mod FlagLemmas
 pub mod IcmpLemmas
 pub mod AddrLemmas
 pub mod ProgramLemmas
+pub mod ProgramLengthLemmas

@@ -1,10 +1,10 @@
 -- What is put in front of a program's end: whether it stays valid, and lists of members.
 use Rattle.std.proofs.Common.{◌≡◌, ℕ, zero, suc, ◌+◌, ◌-◌, ◌<◌, ◌≤◌, Bool, true, false, List, [], ◌∷◌, ◌++◌, length, Option, Some, None, IsSomeAnd, refl, sym, ap, subst, ◌∙◌, append_assoc, inl, inr, arith, get_or, drop}
 use Rattle.std.specs.List.{list_any}
-use Rattle.std.specs.Prelude.{◌&&◌, ◌||◌, if◌then◌else◌, nat_lt, nat_le, slice_get}
+use Rattle.std.specs.Prelude.{◌&&◌, ◌||◌, if◌then◌else◌, nat_lt, slice_get}
 use Rattle.std.proofs.Math.Seq.{drop-cons}
 use Rattle.std.proofs.lemmas.List.{length-append}
-use Rattle.std.proofs.lemmas.Bool.{and_parts, false≢true, leb-true, ltb-true}
+use Rattle.std.proofs.lemmas.Bool.{and_parts, false≢true, ltb-true}
 use Rattle.npf_bpf.specs.declared.insn.Insn.{Insn}
 use Rattle.npf_bpf.specs.declared.operation.Arithmetic.TheVariants.{And, ShiftRight}
 use Rattle.npf_bpf.specs.declared.operation.Operand.TheVariants.{Constant}
@@ -85,40 +85,35 @@ fits_valid (insn ∷ front) old least is more valid =
     )
 
 -- a front whose instructions are known
-pub extended : (front old new : List Insn) (most least : ℕ) → new ≡ front ++ old
-    → fits front least ≡ true → nat_le (length front) most ≡ true → Extends most least old new
-extended front old new most least is fit size = record {
+pub extended : (front old new : List Insn) (count least : ℕ) → new ≡ front ++ old
+    → fits front least ≡ true → length front ≡ count → Extends count least old new
+extended front old new count least is fit size = record {
   front = front;
   is = is;
-  size = leb-true (length front) most size;
+  size = size;
   valid = λ more valid. subst IsValidEnd (sym is) (fits_valid front old least fit more valid);
 }
 
-pub unchanged : (old : List Insn) (most : ℕ) → Extends most 1 old old
-unchanged old most = record { front = []; is = refl; size = omega arith; valid = λ more valid. valid }
+pub unchanged : (old : List Insn) → Extends 0 1 old old
+unchanged old = record { front = []; is = refl; size = refl; valid = λ more valid. valid }
 
-pub wider : (old new : List Insn) (least most wide : ℕ) → Extends most least old new → most ≤ wide
-    → Extends wide least old new
-wider old new least most wide e more = record { front = e.front; is = e.is; size = omega (arith, e.size); valid = e.valid }
+-- the same count in other words
+pub counted : (old new : List Insn) (least count same : ℕ) → Extends count least old new → count ≡ same
+    → Extends same least old new
+counted old new least count same e is = subst (λ (n : ℕ). Extends n least old new) is e
 
-pub length_extended : (old new : List Insn) (most least : ℕ) (e : Extends most least old new)
-    → length new ≡ length e.front + length old
-length_extended old new most least e = ap length e.is ∙ length-append e.front old
-
-pub grown : (old new : List Insn) (most least : ℕ) → Extends most least old new
-    → (length old ≤ length new) × (length new ≤ most + length old)
-grown old new most least e =
-    let sum = length_extended old new most least e in
-    (omega (arith, sum), omega (arith, sum, e.size))
+pub grown : (old new : List Insn) (count least : ℕ) → Extends count least old new
+    → length new ≡ count + length old
+grown old new count least e = ap length e.is ∙ length-append e.front old ∙ ap (λ (n : ℕ). n + length old) e.size
 
 -- one front and then another
-pub extended_twice : (old mid new : List Insn) (m n most : ℕ) → Extends m 1 old mid → Extends n 1 mid new
-    → m + n ≤ most → Extends most 1 old new
-extended_twice old mid new m n most e f within = record {
+pub extended_twice : (old mid new : List Insn) (m n count : ℕ) → Extends m 1 old mid → Extends n 1 mid new
+    → m + n ≡ count → Extends count 1 old new
+extended_twice old mid new m n count e f sum = record {
   front = f.front ++ e.front;
   is = f.is ∙ ap (λ (t : List Insn). f.front ++ t) e.is ∙ sym (append_assoc f.front e.front old);
   size = omega (arith, e.size, f.size, length-append f.front e.front);
-  valid = λ more valid. f.valid (omega (arith, length_extended old mid m 1 e)) (e.valid more valid);
+  valid = λ more valid. f.valid (omega (arith, grown old mid m 1 e)) (e.valid more valid);
 }
 
 or_chosen : (t b : Bool) (x : ℕ) → (if t then x else (if b then x else 0)) ≡ (if t || b then x else 0)
@@ -129,22 +124,22 @@ or_chosen false b x = refl
 module _ (base tail new : List Insn) (n m over : ℕ) (e : Extends n 1 base tail)
     (distance : over ≡ length tail - length base) (f : Extends m 2 (jump over ∷ tail) new) where
   is_front : over ≡ length e.front
-  is_front = omega (arith, length_extended base tail n 1 e)
+  is_front = omega (arith, grown base tail n 1 e, e.size)
 
   valid_jump : 1 ≤ length base → KeepsRules (jump over) (length tail)
   valid_jump more =
-      let within : over < length tail = omega (arith, is_front, length_extended base tail n 1 e) in
+      let within : over < length tail = omega (arith, is_front, grown base tail n 1 e, e.size) in
       let some : 0 < length tail = omega arith in
       record { memory = tt; divisor = tt; jumps = within; last_returns = inl some }
 
-  pub member_extended : (most : ℕ) → n + m + 1 ≤ most → Extends most 1 base new
-  member_extended most within = record {
+  pub member_extended : (count : ℕ) → n + m + 1 ≡ count → Extends count 1 base new
+  member_extended count sum = record {
     front = f.front ++ jump over ∷ e.front;
     is = f.is ∙ ap (λ (t : List Insn). f.front ++ jump over ∷ t) e.is
         ∙ sym (append_assoc f.front (jump over ∷ e.front) base);
     size = omega (arith, e.size, f.size, length-append f.front (jump over ∷ e.front));
     valid = λ more valid.
-        f.valid (omega (arith, length_extended base tail n 1 e)) (valid_jump more, e.valid more valid);
+        f.valid (omega (arith, grown base tail n 1 e)) (valid_jump more, e.valid more valid);
   }
 
   module _ (p : List ℕ) (cop : Coprocessor) (header : ℕ × ℕ × ℕ) (a : Option ℕ) (any test : Bool) where

@@ -5,3 +5,4 @@ pub mod Premise
 pub mod Condition
 pub mod Endpoint
 pub mod Program
+pub mod ProgramLength

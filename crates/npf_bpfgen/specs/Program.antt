@@ -1,6 +1,7 @@
 -- What a compiled rule is.
 use Rattle.std.specs.Prelude.{◌≡◌, ℕ, ◌≤◌, ◌<◌, if◌then◌else◌, List}
 use Rattle.npf_types.specs.declared.facts.Facts.{Facts}
+use Rattle.npf_types.specs.declared.limits.TheConstants.{MAX_RULE_WEIGHT}
 use Rattle.npf_model.specs.declared.rule.Rule.{Rule}
 use Rattle.npf_model.specs.Describes.{Tables, describes_packet}
 use Rattle.npf_bpf.specs.declared.insn.Insn.{Insn}
@@ -22,5 +23,5 @@ IsProgramOf rule code =
 
 -- the rule is refused for its weight, which the fault tells, or for want of memory
 abbrev pub RefusesRule : Rule → GenFault → Type 0
-RefusesRule rule (TooLong weight) = (weight ≡ weight_of rule) × (4096 < weight)
-RefusesRule rule NoMemory = weight_of rule ≤ 4096
+RefusesRule rule (TooLong weight) = (weight ≡ weight_of rule) × (MAX_RULE_WEIGHT < weight)
+RefusesRule rule NoMemory = weight_of rule ≤ MAX_RULE_WEIGHT

@@ -13,12 +13,12 @@ abbrev pub IsValidEnd : List Insn → Type 0
 IsValidEnd [] = ⊤
 IsValidEnd (insn ∷ rest) = KeepsRules insn (length rest) × IsValidEnd rest
 
--- `new` is `old` with at most `most` instructions in front of it. It is a valid end where `old` is
--- one of at least `least` instructions.
-pub record Extends (most least : ℕ) (old new : List Insn) : Type 0 where
+-- `new` is `old` with `count` instructions in front of it. It is a valid end where `old` is one of at
+-- least `least` instructions.
+pub record Extends (count least : ℕ) (old new : List Insn) : Type 0 where
   pub front : List Insn
   pub is : new ≡ front ++ old
-  pub size : length front ≤ most
+  pub size : length front ≡ count
   pub valid : least ≤ length old → IsValidEnd old → IsValidEnd new
 
 -- the first words of the store M are what the coprocessor told of the packet's header

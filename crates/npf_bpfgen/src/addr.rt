@@ -10,31 +10,31 @@ ghost use Rattle.npf_bpfgen.specs.Endpoint.{address_of};
 ghost use Rattle.npf_bpfgen.specs.Premise.{BranchesOnPacket, GuardsPacket};
 ghost use Rattle.npf_bpfgen.specs.Tail.{Extends};
 ghost use Rattle.npf_bpfgen.specs.Instruction.{first_bits_of_half, first_bits_of_word};
-ghost use Rattle.npf_bpfgen.specs.RuleWeight.{item_weight};
+ghost use Rattle.npf_bpfgen.specs.ProgramLength.{addrs_length, block_length, item_length};
 
 use crate::endpoint::Endpoint;
 use crate::header::VERSION;
-use crate::instruction::{
-    ask_member, if_equal, jump, load_constant, load_memory, load_word, return_number, shift_right,
-};
+use crate::instruction::{if_equal, shift_right};
 use crate::tail::Tail;
+use npf_bpf::Operation::{AskMember, Jump, LoadAbsolute, LoadConstant, LoadMemory, ReturnConstant};
+use npf_bpf::Width::Word;
 use npf_model::AddrItem;
 use npf_types::{Addr, NoMemory, Prefix};
 
 /// Tests that some item of the list has the endpoint's address.
 pub fn put_addrs(tail: &mut Tail, endpoint: Endpoint, items: &[AddrItem]) -> Result<(), NoMemory>
-    requires room { length tail.old + 1 + sum_by item_weight items.now ≤ 4096 }
+    requires room { length tail.old + addrs_length (Some items.now) ≤ 4096 }
     requires numbers { All HasItemNumber items.now }
-    ensures front { OnOk result (Extends (1 + sum_by item_weight items.now) 1 tail.old tail.new) }
+    ensures front { OnOk result (Extends (addrs_length (Some items.now)) 1 tail.old tail.new) }
     ensures value { OnOk result (GuardsPacket (λ tables facts. fits_addrs (Some items.now) tables (address_of endpoint facts)) tail.old tail.new) }
 {
     let behind = tail.len();
-    tail.put(&[return_number(0)])?;
+    tail.put(&[ReturnConstant(0)])?;
     let mut left = items.len();
     while left > 0 {
         left -= 1;
         let over = (tail.len() - behind) as u32;
-        tail.put(&[jump(over)])?;
+        tail.put(&[Jump(over)])?;
         put_item(tail, endpoint, items[left])?;
     }
     Ok(())
@@ -42,7 +42,7 @@ pub fn put_addrs(tail: &mut Tail, endpoint: Endpoint, items: &[AddrItem]) -> Res
 
 fn put_item(tail: &mut Tail, endpoint: Endpoint, item: AddrItem) -> Result<(), NoMemory>
     requires { HasItemNumber item }
-    ensures front { OnOk result (Extends (item_weight item - 1) 2 tail.old tail.new) }
+    ensures front { OnOk result (Extends (item_length item - 1) 2 tail.old tail.new) }
     ensures value { OnOk result (BranchesOnPacket (λ tables facts. item_has tables (address_of endpoint facts) item) tail.old tail.new) }
 {
     match item {
@@ -52,7 +52,7 @@ fn put_item(tail: &mut Tail, endpoint: Endpoint, item: AddrItem) -> Result<(), N
 }
 
 fn put_block(tail: &mut Tail, endpoint: Endpoint, prefix: Prefix) -> Result<(), NoMemory>
-    ensures front { OnOk result (Extends (item_weight (AddrItem.Net prefix) - 1) 2 tail.old tail.new) }
+    ensures front { OnOk result (Extends (block_length prefix.addr - 1) 2 tail.old tail.new) }
     ensures value { OnOk result (BranchesOnPacket (λ tables facts. has_address prefix (address_of endpoint facts)) tail.old tail.new) }
 {
     match prefix.addr {
@@ -67,9 +67,9 @@ fn put_block_v4(tail: &mut Tail, endpoint: Endpoint, addr: u32, len: u8) -> Resu
     ensures value { OnOk result (BranchesOnPacket (λ tables facts. shares_first len (V4 addr) (address_of endpoint facts)) tail.old tail.new) }
 {
     tail.put(&[
-        load_memory(VERSION),
+        LoadMemory(VERSION),
         if_equal(4, 0, 4),
-        load_word(endpoint.ipv4_place()),
+        LoadAbsolute(Word, endpoint.ipv4_place()),
         shift_right(u32::from(32 - len)),
         if_equal(first_bits_of(addr, len), 0, 1),
     ])?;
@@ -87,7 +87,7 @@ fn put_block_v6(tail: &mut Tail, endpoint: Endpoint, addr: u128, len: u8) -> Res
     let low = (addr % 0x1_0000_0000_0000_0000) as u64;
     put_half(tail, at + 8, low, len.saturating_sub(64), 1)?;
     put_half(tail, at, high, len.min(64), 7)?;
-    tail.put(&[load_memory(VERSION), if_equal(6, 0, 13)])?;
+    tail.put(&[LoadMemory(VERSION), if_equal(6, 0, 13)])?;
     Ok(())
 }
 
@@ -110,7 +110,7 @@ fn put_word(tail: &mut Tail, at: u32, word: u32, bits: u8, far: u8) -> Result<()
     ensures { OnOk result (tail.new ≡ first_bits_of_word at bits word far tail.old) }
 {
     tail.put(&[
-        load_word(at),
+        LoadAbsolute(Word, at),
         shift_right(u32::from(32 - bits)),
         if_equal(first_bits_of(word, bits), 0, far),
     ])?;
@@ -130,8 +130,8 @@ fn put_table(tail: &mut Tail, endpoint: Endpoint, table: u32) -> Result<(), NoMe
     ensures value { OnOk result (BranchesOnPacket (λ tables facts. table_has tables table (address_of endpoint facts)) tail.old tail.new) }
 {
     tail.put(&[
-        load_constant(endpoint.asked_table(table)),
-        ask_member(),
+        LoadConstant(endpoint.asked_table(table)),
+        AskMember,
         if_equal(1, 0, 1),
     ])?;
     Ok(())

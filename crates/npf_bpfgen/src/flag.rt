@@ -3,13 +3,14 @@ ghost use Rattle.std.specs.Prelude.{◌≡◌, Bool, true, false, OnOk, Option, 
 ghost use Rattle.npf_model.specs.Describes.{fits_flags, opens_if_tcp, shows_flags};
 ghost use Rattle.npf_bpfgen.specs.Condition as condition;
 ghost use Rattle.npf_bpfgen.specs.Premise.{GuardsPacket};
+ghost use Rattle.npf_bpfgen.specs.ProgramLength.{flags_length};
 ghost use Rattle.npf_bpfgen.specs.Tail.{Extends};
 
 use crate::header::{PROTOCOL, UPPER};
-use crate::instruction::{
-    if_equal, load_byte_behind, load_index, load_memory, mask_with, return_number,
-};
+use crate::instruction::{if_equal, mask_with};
 use crate::tail::Tail;
+use npf_bpf::Operation::{LoadIndexMemory, LoadIndirect, LoadMemory, ReturnConstant};
+use npf_bpf::Width::Byte;
 use npf_model::StateOpt;
 use npf_types::{Decision, NoMemory};
 
@@ -21,7 +22,7 @@ pub fn put_flags(
     decision: Decision,
     state: StateOpt,
 ) -> Result<(), NoMemory>
-    ensures front { OnOk result (Extends 7 1 tail.old tail.new) }
+    ensures front { OnOk result (Extends (flags_length flags decision state) 1 tail.old tail.new) }
     ensures value { OnOk result (GuardsPacket (λ tables facts. fits_flags flags decision state facts.l4) tail.old tail.new) }
 {
     match flags {
@@ -31,7 +32,7 @@ pub fn put_flags(
 }
 
 fn put_kept(tail: &mut Tail, decision: Decision, state: StateOpt) -> Result<(), NoMemory>
-    ensures front { OnOk result (Extends 7 1 tail.old tail.new) }
+    ensures front { OnOk result (Extends (flags_length None decision state) 1 tail.old tail.new) }
     ensures value { OnOk result (GuardsPacket (λ tables facts. fits_flags None decision state facts.l4) tail.old tail.new) }
 {
     if asks_opening(decision, state) {
@@ -56,13 +57,13 @@ fn put_segment(tail: &mut Tail, wanted: u8, mask: u8) -> Result<(), NoMemory>
     ensures value { OnOk result (GuardsPacket (λ tables facts. shows_flags facts.l4 wanted mask) tail.old tail.new) }
 {
     tail.put(&[
-        load_memory(PROTOCOL),
+        LoadMemory(PROTOCOL),
         if_equal(6, 0, 4),
-        load_index(UPPER),
-        load_byte_behind(13),
+        LoadIndexMemory(UPPER),
+        LoadIndirect(Byte, 13),
         mask_with(u32::from(mask)),
         if_equal(u32::from(wanted), 1, 0),
-        return_number(0),
+        ReturnConstant(0),
     ])?;
     Ok(())
 }
@@ -73,13 +74,13 @@ fn put_opening(tail: &mut Tail) -> Result<(), NoMemory>
     ensures value { OnOk result (GuardsPacket (λ tables facts. opens_if_tcp facts.l4) tail.old tail.new) }
 {
     tail.put(&[
-        load_memory(PROTOCOL),
+        LoadMemory(PROTOCOL),
         if_equal(6, 0, 5),
-        load_index(UPPER),
-        load_byte_behind(13),
+        LoadIndexMemory(UPPER),
+        LoadIndirect(Byte, 13),
         mask_with(23),
         if_equal(2, 1, 0),
-        return_number(0),
+        ReturnConstant(0),
     ])?;
     Ok(())
 }

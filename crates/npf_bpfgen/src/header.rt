@@ -3,10 +3,12 @@ ghost use Rattle.std.specs.Prelude.{◌≡◌, ◌≤◌, ◌+◌, ◌*◌, ◌=
 ghost use Rattle.std.specs.List.{list_any};
 ghost use Rattle.npf_model.specs.Describes.{fits_family, fits_protocol};
 ghost use Rattle.npf_bpfgen.specs.Premise.{GuardsPacket};
+ghost use Rattle.npf_bpfgen.specs.ProgramLength.{family_length, protocols_length};
 ghost use Rattle.npf_bpfgen.specs.Tail.{BranchesOnNumber, Extends, GuardsNumber};
 
-use crate::instruction::{if_equal, jump, load_memory, return_number};
+use crate::instruction::if_equal;
 use crate::tail::Tail;
+use npf_bpf::Operation::{Jump, LoadMemory, ReturnConstant};
 use npf_types::NoMemory;
 
 /// The word of the store that has the IP version, the one that has the offset of layer 4, and the one
@@ -19,7 +21,7 @@ pub const PROTOCOL: u32 = 2;
 
 /// Tests that the packet is of the family, where one is asked for.
 pub fn put_family(tail: &mut Tail, v6: Option<bool>) -> Result<(), NoMemory>
-    ensures front { OnOk result (Extends 3 1 tail.old tail.new) }
+    ensures front { OnOk result (Extends (family_length v6) 1 tail.old tail.new) }
     ensures value { OnOk result (GuardsPacket (λ tables facts. fits_family v6 facts.src) tail.old tail.new) }
 {
     match v6 {
@@ -33,9 +35,9 @@ fn put_version(tail: &mut Tail, v6: bool) -> Result<(), NoMemory>
     ensures value { OnOk result (GuardsPacket (λ tables facts. fits_family (Some v6) facts.src) tail.old tail.new) }
 {
     tail.put(&[
-        load_memory(VERSION),
+        LoadMemory(VERSION),
         if_equal(version_of(v6), 1, 0),
-        return_number(0),
+        ReturnConstant(0),
     ])?;
     Ok(())
 }
@@ -48,30 +50,30 @@ fn version_of(v6: bool) -> u32
 
 /// Tests that the packet's protocol is one of the list, where the list isn't empty.
 pub fn put_protocols(tail: &mut Tail, protos: &[u8]) -> Result<(), NoMemory>
-    requires { length tail.old + 2 + 2 * length protos.now ≤ 4096 }
-    ensures front { OnOk result (Extends (2 + 2 * length protos.now) 1 tail.old tail.new) }
+    requires { length tail.old + protocols_length protos.now ≤ 4096 }
+    ensures front { OnOk result (Extends (protocols_length protos.now) 1 tail.old tail.new) }
     ensures value { OnOk result (GuardsPacket (λ tables facts. fits_protocol protos.now facts.proto) tail.old tail.new) }
 {
     if protos.is_empty() {
         return Ok(());
     }
     put_numbers(tail, protos)?;
-    tail.put(&[load_memory(PROTOCOL)])?;
+    tail.put(&[LoadMemory(PROTOCOL)])?;
     Ok(())
 }
 
 fn put_numbers(tail: &mut Tail, protos: &[u8]) -> Result<(), NoMemory>
-    requires { length tail.old + 2 + 2 * length protos.now ≤ 4096 }
+    requires { length tail.old + 1 + 2 * length protos.now ≤ 4096 }
     ensures front { OnOk result (Extends (1 + 2 * length protos.now) 1 tail.old tail.new) }
     ensures value { OnOk result (GuardsNumber (λ proto. list_any (λ listed. listed == proto) protos.now) tail.old tail.new) }
 {
     let behind = tail.len();
-    tail.put(&[return_number(0)])?;
+    tail.put(&[ReturnConstant(0)])?;
     let mut left = protos.len();
     while left > 0 {
         left -= 1;
         let over = (tail.len() - behind) as u32;
-        tail.put(&[if_equal(u32::from(protos[left]), 0, 1), jump(over)])?;
+        tail.put(&[if_equal(u32::from(protos[left]), 0, 1), Jump(over)])?;
     }
     Ok(())
 }

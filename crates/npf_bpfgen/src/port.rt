@@ -4,42 +4,42 @@ ghost use Rattle.std.specs.List.{list_any};
 ghost use Rattle.npf_model.specs.Describes.{fits_ports, in_range};
 ghost use Rattle.npf_bpfgen.specs.Endpoint.{port_of};
 ghost use Rattle.npf_bpfgen.specs.Premise.{GuardsPacket};
+ghost use Rattle.npf_bpfgen.specs.ProgramLength.{ports_length};
 ghost use Rattle.npf_bpfgen.specs.Tail.{Extends, GuardsNumber};
 
 use crate::endpoint::Endpoint;
 use crate::header::{PROTOCOL, UPPER};
-use crate::instruction::{
-    if_at_least, if_equal, if_greater, jump, load_half_behind, load_index, load_memory,
-    return_number,
-};
+use crate::instruction::{if_at_least, if_equal, if_greater};
 use crate::tail::Tail;
+use npf_bpf::Operation::{Jump, LoadIndexMemory, LoadIndirect, LoadMemory, ReturnConstant};
+use npf_bpf::Width::Half;
 use npf_types::NoMemory;
 
 /// Tests that the packet is of TCP or UDP and that the endpoint's port lies in one of the ranges.
 pub fn put_ports(tail: &mut Tail, endpoint: Endpoint, ranges: &[(u16, u16)]) -> Result<(), NoMemory>
-    requires { length tail.old + 7 + 3 * length ranges.now ≤ 4096 }
-    ensures front { OnOk result (Extends (7 + 3 * length ranges.now) 1 tail.old tail.new) }
+    requires { length tail.old + ports_length (Some ranges.now) ≤ 4096 }
+    ensures front { OnOk result (Extends (ports_length (Some ranges.now)) 1 tail.old tail.new) }
     ensures value { OnOk result (GuardsPacket (λ tables facts. fits_ports (Some ranges.now) (port_of endpoint facts.l4)) tail.old tail.new) }
 {
     put_ranges(tail, ranges)?;
     tail.put(&[
-        load_memory(PROTOCOL),
+        LoadMemory(PROTOCOL),
         if_equal(6, 2, 0),
         if_equal(17, 1, 0),
-        return_number(0),
-        load_index(UPPER),
-        load_half_behind(endpoint.port_place()),
+        ReturnConstant(0),
+        LoadIndexMemory(UPPER),
+        LoadIndirect(Half, endpoint.port_place()),
     ])?;
     Ok(())
 }
 
 fn put_ranges(tail: &mut Tail, ranges: &[(u16, u16)]) -> Result<(), NoMemory>
-    requires { length tail.old + 7 + 3 * length ranges.now ≤ 4096 }
+    requires { length tail.old + 1 + 3 * length ranges.now ≤ 4096 }
     ensures front { OnOk result (Extends (1 + 3 * length ranges.now) 1 tail.old tail.new) }
     ensures value { OnOk result (GuardsNumber (λ port. list_any (in_range port) ranges.now) tail.old tail.new) }
 {
     let behind = tail.len();
-    tail.put(&[return_number(0)])?;
+    tail.put(&[ReturnConstant(0)])?;
     let mut left = ranges.len();
     while left > 0 {
         left -= 1;
@@ -48,7 +48,7 @@ fn put_ranges(tail: &mut Tail, ranges: &[(u16, u16)]) -> Result<(), NoMemory>
         tail.put(&[
             if_at_least(u32::from(first), 0, 2),
             if_greater(u32::from(last), 1, 0),
-            jump(over),
+            Jump(over),
         ])?;
     }
     Ok(())

@@ -1,7 +1,8 @@
 // The end of a program, which grows to the front.
-ghost use Rattle.std.specs.Prelude.{◌≡◌, ◌++◌, [], IfOk, OnOk, length};
+ghost use Rattle.std.specs.Prelude.{◌≡◌, ◌++◌, [], IfOk, OnOk, length, map};
+ghost use Rattle.npf_bpf.specs.Table.{insn_of};
 
-use npf_bpf::Insn;
+use npf_bpf::{Insn, Operation};
 use npf_types::NoMemory;
 use std::alloc::Global;
 use std::marker::Model;
@@ -39,14 +40,14 @@ impl Tail {
         self.reversed.len()
     }
 
-    /// Puts the instructions in front, in this order.
-    pub fn put(&mut self, front: &[Insn]) -> Result<(), NoMemory>
-        ensures { OnOk result (self.new ≡ front.now ++ self.old) }
+    /// Puts in front the instructions that do these operations, in this order.
+    pub fn put(&mut self, front: &[Operation]) -> Result<(), NoMemory>
+        ensures { OnOk result (self.new ≡ map insn_of front.now ++ self.old) }
     {
         let mut left = front.len();
         while left > 0 {
             left -= 1;
-            self.reversed.push(front[left])?;
+            self.reversed.push(front[left].insn())?;
         }
         Ok(())
     }

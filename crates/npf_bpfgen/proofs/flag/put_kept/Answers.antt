@@ -1,8 +1,15 @@
-use Rattle.std.proofs.Common.{None, sym, ◌∙◌}
+use Rattle.std.proofs.Common.{Bool, None, sym, subst, ◌∙◌}
+use Rattle.std.specs.Prelude.{if◌then◌else◌}
 use Rattle.npf_model.specs.Describes.{fits_flags, opens_if_tcp}
+use Rattle.npf_bpfgen.specs.Tail.{Extends}
 use Rattle.npf_bpfgen.proofs.FlagLemmas.{opening_asked}
 use Rattle.npf_bpfgen.proofs.ProgramLemmas.{guards_alike}
 use Rattle.npf_bpfgen.proofs.flag.put_kept.Goals as goal
+
+pub returns-in_ok-put_opening-clause-front : goal.returns-in_ok-put_opening-clause-front
+returns-in_ok-put_opening-clause-front c =
+    subst (λ (asks : Bool). Extends (if asks then 7 else 0) 1 c.args.tail.now c.put_opening.new.tail)
+    (sym (sym c.asks_opening.ensures ∙ c.if-asks_opening.true)) c.in_ok-put_opening.ensures.front
 
 pub returns-in_ok-put_opening-clause-value : goal.returns-in_ok-put_opening-clause-value
 returns-in_ok-put_opening-clause-value c =

@@ -5,7 +5,7 @@ use Rattle.std.specs.Prelude.{◌==◌}
 use Rattle.npf_bpfgen.specs.Instruction.{if_equal, jump, return_number}
 use Rattle.npf_bpfgen.specs.Tail.{Guards, GuardsNumber}
 use Rattle.npf_bpfgen.proofs.HeaderLemmas.{protocols_more}
-use Rattle.npf_bpfgen.proofs.TailLemmas.{extended, none_guards, wider}
+use Rattle.npf_bpfgen.proofs.TailLemmas.{counted, extended, none_guards}
 use Rattle.npf_bpfgen.proofs.header.put_numbers.Goals as goal
 
 pub loop-left-init : goal.loop-left-init
@@ -13,10 +13,10 @@ loop-left-init c =
     let protos = c.args.protos.now in
     let old = c.args.tail.now in
     let new = c.put.new.self in
-    let is : new ≡ return_number 0 ∷ old = rw (c.in_ok-put.ensures, c.return_number.ensures) in
+    let is : new ≡ return_number 0 ∷ old = rw (c.in_ok-put.ensures) in
     record {
       left = omega arith;
-      front = wider old new 1 1 _ (extended (return_number 0 ∷ []) old new 1 1 is refl refl) (omega arith);
+      front = counted old new 1 1 _ (extended (return_number 0 ∷ []) old new 1 1 is refl refl) (omega arith);
       value = λ p cop header number.
           subst (λ (xs : List (ℕ)). Guards p cop header (Some number) (list_any (λ listed. listed == number) xs) old new)
           (sym (drop-length protos)) (none_guards p cop header (Some number) old new is);
@@ -31,14 +31,14 @@ loop-left-preserved c =
     let within : left < length protos = omega arith in
     let distance : over ≡ length c.loop-left.tail - length c.args.tail.now = omega arith in
     let is : c.put-in-loop-left.new.self ≡ if_equal (get_or protos left 0) 0 1 ∷ jump over ∷ c.loop-left.tail =
-    rw (c.in_ok-put-2.ensures, c.if_equal.ensures, c.from.ensures, c.jump.ensures) in
+    rw (c.in_ok-put-2.ensures, c.if_equal.ensures, c.from.ensures) in
     let both = protocols_more protos left c.loop-left.left over c.args.tail.now c.loop-left.tail c.put-in-loop-left.new.self next within
     c.loop-left.invariant.front c.loop-left.invariant.value distance is in
     record { left = omega arith; front = both.0; value = both.1 }
 
 pub returns-clause-front : goal.returns-clause-front
 returns-clause-front c =
-    wider c.args.tail.now c.loop-left.tail 1 _ _ c.loop-left.invariant.front (omega arith)
+    counted c.args.tail.now c.loop-left.tail 1 _ _ c.loop-left.invariant.front (omega arith)
 
 pub returns-clause-value : goal.returns-clause-value
 returns-clause-value c =

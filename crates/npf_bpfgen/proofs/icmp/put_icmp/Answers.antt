@@ -2,7 +2,18 @@ use Rattle.std.proofs.Common.{ℕ, Option, sym, subst}
 use Rattle.std.specs.Prelude.{OnOk}
 use Rattle.npf_model.specs.Describes.{fits_icmp}
 use Rattle.npf_bpfgen.specs.Premise.{GuardsPacket}
+use Rattle.npf_bpfgen.specs.ProgramLength.{icmp_length}
+use Rattle.npf_bpfgen.specs.Tail.{Extends}
+use Rattle.npf_bpfgen.proofs.TailLemmas.{unchanged}
 use Rattle.npf_bpfgen.proofs.icmp.put_icmp.Goals as goal
+
+pub returns-in-Some-clause-front : goal.returns-in-Some-clause-front
+returns-in-Some-clause-front c =
+    subst (λ (f : Option (ℕ × Option ℕ)). OnOk c.put_asked.result (Extends (icmp_length f) 1 c.args.tail.now c.put_asked.new.tail)) (sym c.in-Some.is) c.put_asked.ensures.front
+
+pub returns-in-None-clause-front : goal.returns-in-None-clause-front
+returns-in-None-clause-front c =
+    subst (λ (f : Option (ℕ × Option ℕ)). Extends (icmp_length f) 1 c.args.tail.now c.args.tail.now) (sym c.in-None.is) (unchanged c.args.tail.now)
 
 pub returns-in-Some-clause-value : goal.returns-in-Some-clause-value
 returns-in-Some-clause-value c =

@@ -6,10 +6,10 @@ use Rattle.npf_bpfgen.proofs.icmp.put_type.Goals as goal
 
 pub returns-clause-front : goal.returns-clause-front
 returns-clause-front c =
-    let is : c.put_message_test.new.tail ≡ if_message (type_test c.args.kind) ++ c.args.tail.now = rw (c.in_ok-put_message_test.ensures, c.in_ok-put.ensures, c.load_index.ensures, c.load_byte_behind.ensures, c.if_equal.ensures, c.from.ensures, c.return_number.ensures) in
-    extended (if_message (type_test c.args.kind)) c.args.tail.now c.put_message_test.new.tail 16 1 is refl refl
+    let is : c.put_message_test.new.tail ≡ if_message (type_test c.args.kind) ++ c.args.tail.now = rw (c.in_ok-put_message_test.ensures, c.in_ok-put.ensures, c.if_equal.ensures, c.from.ensures) in
+    extended (if_message (type_test c.args.kind)) c.args.tail.now c.put_message_test.new.tail 12 1 is refl refl
 
 pub returns-clause-value : goal.returns-clause-value
 returns-clause-value c =
-    let is : c.put_message_test.new.tail ≡ if_message (type_test c.args.kind) ++ c.args.tail.now = rw (c.in_ok-put_message_test.ensures, c.in_ok-put.ensures, c.load_index.ensures, c.load_byte_behind.ensures, c.if_equal.ensures, c.from.ensures, c.return_number.ensures) in
+    let is : c.put_message_test.new.tail ≡ if_message (type_test c.args.kind) ++ c.args.tail.now = rw (c.in_ok-put_message_test.ensures, c.in_ok-put.ensures, c.if_equal.ensures, c.from.ensures) in
     type_guards c.args.kind c.args.tail.now c.put_message_test.new.tail is

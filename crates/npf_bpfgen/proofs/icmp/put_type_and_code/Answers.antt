@@ -6,10 +6,10 @@ use Rattle.npf_bpfgen.proofs.icmp.put_type_and_code.Goals as goal
 
 pub returns-clause-front : goal.returns-clause-front
 returns-clause-front c =
-    let is : c.put_message_test.new.tail ≡ if_message (type_and_code_test c.args.kind c.args.code) ++ c.args.tail.now = rw (c.in_ok-put_message_test.ensures, c.in_ok-put.ensures, c.load_index.ensures, c.load_byte_behind.ensures, c.if_equal.ensures, c.from.ensures, c.load_index-2.ensures, c.load_byte_behind-2.ensures, c.if_equal-2.ensures, c.from-2.ensures, c.return_number.ensures) in
-    extended (if_message (type_and_code_test c.args.kind c.args.code)) c.args.tail.now c.put_message_test.new.tail 16 1 is refl refl
+    let is : c.put_message_test.new.tail ≡ if_message (type_and_code_test c.args.kind c.args.code) ++ c.args.tail.now = rw (c.in_ok-put_message_test.ensures, c.in_ok-put.ensures, c.if_equal.ensures, c.from.ensures, c.if_equal-2.ensures, c.from-2.ensures) in
+    extended (if_message (type_and_code_test c.args.kind c.args.code)) c.args.tail.now c.put_message_test.new.tail 15 1 is refl refl
 
 pub returns-clause-value : goal.returns-clause-value
 returns-clause-value c =
-    let is : c.put_message_test.new.tail ≡ if_message (type_and_code_test c.args.kind c.args.code) ++ c.args.tail.now = rw (c.in_ok-put_message_test.ensures, c.in_ok-put.ensures, c.load_index.ensures, c.load_byte_behind.ensures, c.if_equal.ensures, c.from.ensures, c.load_index-2.ensures, c.load_byte_behind-2.ensures, c.if_equal-2.ensures, c.from-2.ensures, c.return_number.ensures) in
+    let is : c.put_message_test.new.tail ≡ if_message (type_and_code_test c.args.kind c.args.code) ++ c.args.tail.now = rw (c.in_ok-put_message_test.ensures, c.in_ok-put.ensures, c.if_equal.ensures, c.from.ensures, c.if_equal-2.ensures, c.from-2.ensures) in
     type_and_code_guards c.args.kind c.args.code c.args.tail.now c.put_message_test.new.tail is
