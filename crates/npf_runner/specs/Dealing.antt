@@ -1,5 +1,5 @@
 -- Which worker takes a packet.
-use Rattle.std.specs.Prelude.{◌≡◌, ◌-◌, ◌%◌, ℕ, bit_xor, Option, Some, None}
+use Rattle.std.specs.Prelude.{◌≡◌, ◌-◌, ◌%◌, ℕ, bit_xor, MatchOption}
 use Rattle.npf_types.specs.declared.facts.Facts.{Facts}
 use Rattle.npf_engine.specs.Arrival.{Arrival}
 use Rattle.npf_key.specs.Key.{upper, lower}
@@ -7,7 +7,6 @@ use Rattle.npf_key.specs.Port.{source_port, destination_port}
 use Rattle.npf_packet.specs.declared.decoded.Decoded.{Decoded}
 use Rattle.npf_packet.specs.declared.decoded.Decoded.TheVariants as Says
 use Rattle.npf_packet.specs.Decoding.{Decodes}
-use Rattle.npf_traffic.specs.declared.packet.FragWhy.{FragWhy}
 use Rattle.npf_runner.specs.declared.phase.Spread.{Spread}
 use Rattle.npf_runner.specs.declared.phase.Spread.TheVariants.{Rr, Flow}
 
@@ -24,13 +23,9 @@ worker_by_flow workers Says.Skip = 0
 worker_by_flow workers (Says.Malformed why at) = 0
 worker_by_flow workers (Says.Ip facts) = flow_number facts % workers
 
--- by flows the packet goes to this worker: to the first, if it is a fragment that is held, and by what its record says otherwise
-abbrev pub IsWorkerOfFlow : ℕ → Arrival → Option FragWhy → ℕ → Type 0
-IsWorkerOfFlow workers arrival (Some why) worker = worker ≡ 0
-IsWorkerOfFlow workers arrival None worker =
-    (decoded : Decoded) → Decodes arrival.link arrival.bytes decoded → worker ≡ worker_by_flow workers decoded
-
--- the packet goes to this worker, counted from 0
+-- the packet goes to this worker, counted from 0; by flows a fragment that is held goes to the first
 abbrev pub IsWorkerOf : Spread → ℕ → Arrival → ℕ → Type 0
 IsWorkerOf Rr workers arrival worker = worker ≡ (arrival.number - 1) % workers
-IsWorkerOf Flow workers arrival worker = IsWorkerOfFlow workers arrival arrival.held worker
+IsWorkerOf Flow workers arrival worker = MatchOption arrival.held
+    ((decoded : Decoded) → Decodes arrival.link arrival.bytes decoded → worker ≡ worker_by_flow workers decoded)
+    (λ why. worker ≡ 0)

@@ -45,10 +45,10 @@ fn worker_of(number: u64, packet: &Packet<'_>, spread: Spread, workers: u32) -> 
     ensures fits { result < workers }
     ensures is { IsWorkerOf spread workers (arriving number packet.now) result }
 {
-    match spread {
-        Spread::Rr => ((number - 1) % u64::from(workers)) as u32,
-        Spread::Flow if packet.held.is_some() => 0,
-        Spread::Flow => worker_by_flow(packet, workers),
+    match (spread, packet.held) {
+        (Spread::Rr, _) => ((number - 1) % u64::from(workers)) as u32,
+        (Spread::Flow, Some(_)) => 0,
+        (Spread::Flow, None) => worker_by_flow(packet, workers),
     }
 }
 
