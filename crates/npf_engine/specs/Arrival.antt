@@ -1,5 +1,5 @@
 -- A packet as it arrives, and what of it is asked of connections.
-use Rattle.std.specs.Prelude.{ℕ, Option, Some, None, List}
+use Rattle.std.specs.Prelude.{ℕ, false, Option, Some, None, List}
 use Rattle.npf_types.specs.declared.direction.Dir.{Dir}
 use Rattle.npf_types.specs.declared.facts.Facts.{Facts}
 use Rattle.npf_types.specs.declared.facts.L4.{L4}
@@ -37,6 +37,6 @@ tcp_segment (Icmp kind code echo) = None
 tcp_segment (Icmp6 kind code echo) = None
 tcp_segment Other = None
 
--- what the packet brings to a step: its time, and exactly where it is TCP's its segment
+-- what the packet brings to a step: its time, and exactly where it is TCP's its segment; it doesn't only peek
 abbrev pub arg_of : ℕ → Facts → FlowArg
-arg_of time facts = record { now = time; seg = tcp_segment facts.l4 }
+arg_of time facts = record { now = time; seg = tcp_segment facts.l4; peek = false }
