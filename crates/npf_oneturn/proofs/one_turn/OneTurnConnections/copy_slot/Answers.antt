@@ -1,4 +1,4 @@
-use Rattle.std.proofs.Common.{refl, ap, subst, arith}
+use Rattle.std.proofs.Common.{refl, subst, arith}
 use Rattle.npf_core.specs.Copying.{Copies}
 use Rattle.npf_core.specs.History.{state_of}
 use Rattle.npf_oneturn.specs.declared.rule.Ending.TheVariants.{Nothing}
