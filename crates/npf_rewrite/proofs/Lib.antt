@@ -4,7 +4,9 @@ pub mod ChainLemmas
 pub mod DecodedLemmas
 pub mod EndLemmas
 pub mod HeaderLemmas
+pub mod LengthLemmas
 pub mod NeutralLemmas
+pub mod NormalisedLemmas
 pub mod PlacedLemmas
 pub mod PortLemmas
 pub mod SumLemmas

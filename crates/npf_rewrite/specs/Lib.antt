@@ -1,4 +1,5 @@
 pub mod Address
+pub mod Lengths
 pub mod Normalised
 pub mod Room
 pub mod Sent

@@ -1,4 +1,5 @@
 // What holds of packets that are rewritten. The functions do nothing: each is a theorem.
+ghost use Rattle.npf_rewrite.specs.Lengths.{NormalisedKeepsLengths, SentKeepsLengths, TranslatedKeepsLengths};
 ghost use Rattle.npf_rewrite.specs.Room.{DecodedHasRoom};
 ghost use Rattle.npf_rewrite.specs.TranslatedFacts.{TranslatedDecodes};
 ghost use Rattle.npf_rewrite.specs.Verified.{AbsentSumStays, HeaderSumFollows, NeutralHeaderSumFollows, NeutralUpperSumFollows, UpperSumFollows};
@@ -39,4 +40,11 @@ pub fn absent_sum_stays()
 /// with the named addresses and ports.
 pub fn translated_decodes()
     ensures { TranslatedDecodes }
+{}
+
+/// All in front of a packet's IP header, its version and its lengths stay whatever is sent of it.
+pub fn sent_keeps_lengths()
+    ensures translated { TranslatedKeepsLengths }
+    ensures normalised { NormalisedKeepsLengths }
+    ensures sent { SentKeepsLengths }
 {}
