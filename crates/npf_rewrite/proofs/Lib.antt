@@ -6,9 +6,14 @@ pub mod EndLemmas
 pub mod HeaderLemmas
 pub mod LengthLemmas
 pub mod NeutralLemmas
+pub mod NormalisedCarriedLemmas
+pub mod NormalisedDecodedLemmas
+pub mod NormalisedHeaderLemmas
 pub mod NormalisedLemmas
+pub mod OptionLemmas
 pub mod PlacedLemmas
 pub mod PortLemmas
 pub mod SumLemmas
 pub mod TotalLemmas
+pub mod VersionLemmas
 pub mod WordLemmas

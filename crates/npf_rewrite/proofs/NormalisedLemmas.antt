@@ -18,7 +18,7 @@ use Rattle.npf_rewrite.proofs.TotalLemmas.{Between, after-elsewhere}
 use Rattle.npf_rewrite.proofs.WordLemmas.{byte_there-append}
 
 -- one word or none
-chosen-between : (lo hi : ℕ) (b : Bool) (w : WordAt) → lo ≤ w.at → w.at + 2 ≤ hi
+pub chosen-between : (lo hi : ℕ) (b : Bool) (w : WordAt) → lo ≤ w.at → w.at + 2 ≤ hi
     → Between lo hi (word_list (if b then Some w else None))
 chosen-between lo hi true w from to = (from, (to, tt))
 chosen-between lo hi false w from to = tt

@@ -1,6 +1,7 @@
 pub mod Address
 pub mod Lengths
 pub mod Normalised
+pub mod NormalisedFacts
 pub mod Room
 pub mod Sent
 pub mod Sum

@@ -1,5 +1,6 @@
 // What holds of packets that are rewritten. The functions do nothing: each is a theorem.
 ghost use Rattle.npf_rewrite.specs.Lengths.{NormalisedKeepsLengths, SentKeepsLengths, TranslatedKeepsLengths};
+ghost use Rattle.npf_rewrite.specs.NormalisedFacts.{NormalisedDecodes};
 ghost use Rattle.npf_rewrite.specs.Room.{DecodedHasRoom};
 ghost use Rattle.npf_rewrite.specs.TranslatedFacts.{TranslatedDecodes};
 ghost use Rattle.npf_rewrite.specs.Verified.{AbsentSumStays, HeaderSumFollows, NeutralHeaderSumFollows, NeutralUpperSumFollows, UpperSumFollows};
@@ -47,4 +48,9 @@ pub fn sent_keeps_lengths()
     ensures translated { TranslatedKeepsLengths }
     ensures normalised { NormalisedKeepsLengths }
     ensures sent { SentKeepsLengths }
+{}
+
+/// A normalised packet decodes to the same facts.
+pub fn normalised_decodes()
+    ensures { NormalisedDecodes }
 {}
