@@ -8,10 +8,11 @@
 //
 // The contract in words: on a packet whose facts the coprocessor tells, the program's value is
 // 2^32 - 1 exactly where the rule's packet part describes the packet, and 0 otherwise. The program is
-// valid and has at most the rule's weight in instructions, and `TooLong` comes exactly where the
-// weight passes 4,096.
+// valid, and has as many instructions as the rule's parts ask for, which the rule's weight bounds.
+// `TooLong` comes exactly where the weight passes 4,096.
 //
-// A program is built from its end (src/tail.rt), so that a jump's distance is how far it has come.
+// A program is built from its end (src/tail.rt), so that a jump's distance is how far it has come. It
+// is written in operations; npf_bpf's table gives the instruction of each.
 #![tactic(auto)]
 
 mod addr;

@@ -1,8 +1,11 @@
 -- Rules that are compiled one after another, and what is laid out of them.
 use Rattle.std.proofs.Common.{◌≡◌, ◌<◌, ◌≤◌, ℕ, suc, ◌+◌, List, [], ◌∷◌, ◌++◌, Some, Result, Ok, Err, IfErr, IsErrAnd, All, length, take, drop, slice_get, refl, sym, subst, ap, ◌∙◌, inl, inr, arith}
+use Rattle.std.proofs.lemmas.Slice.Zip.{AllZip-long}
 use Rattle.std.proofs.lemmas.Bool.Decides.{leb_tells}
 use Rattle.std.proofs.lemmas.List.{append_assoc, length-append, length-map, map-append}
+use Rattle.std.specs.List.{AllZip, sum_by}
 use Rattle.std.proofs.lemmas.List.Elements.{All-push}
+use Rattle.std.proofs.lemmas.List.Sums.{sum_by-cons}
 use Rattle.std.proofs.lemmas.Option.{get_or_from_slice_get, slice_get_within}
 use Rattle.npf_model.specs.declared.group.Group.{Group}
 use Rattle.npf_model.specs.Verdict.{PlacedRule, all_rules}
@@ -10,14 +13,15 @@ use Rattle.npf_bpf.specs.declared.insn.Insn.{Insn}
 use Rattle.npf_bpfgen.specs.declared.fault.GenFault.{GenFault}
 use Rattle.npf_bpfgen.specs.declared.fault.GenFault.TheVariants as Gen
 use Rattle.npf_bpfgen.specs.Program.{RefusesRule}
+use Rattle.npf_bpfgen.specs.ProgramLength.{program_length}
 use Rattle.npf_ruleset.specs.declared.flat.FlatRule.{FlatRule}
 use Rattle.npf_ruleset.specs.declared.place.Place.{Place}
-use Rattle.npf_ruleset.specs.Flat.{IsCompiled, IsFlatRule, IsPairwise, programs_of}
+use Rattle.npf_ruleset.specs.Flat.{IsCompiled, IsFlatRule, instructions, instructions_of, programs_of}
 use Rattle.npf_ruleset.specs.Layout.{ArePlacesOf, StandsAt, fault_there}
 use Rattle.npf_ruleset.specs.Place.{IsPlaceOfRule, placed_at}
 use Rattle.npf_ruleset.specs.Refusal.{AreProgramsOf, IsLight, RefusesAllRules}
 use Rattle.npf_ruleset.proofs.LayoutLemmas.{around, up_to}
-use Rattle.npf_ruleset.proofs.PairLemmas.{drop_here, pairs_of, related_append, related_of}
+use Rattle.npf_ruleset.proofs.PairLemmas.{drop_here, zip_append, zip_each}
 
 -- a fault that is handed on
 pub passed : {T E : Type 0} (result : Result T E) (fault : E) (P : E → Type 0) → IsErrAnd result (λ e. e ≡ fault) → P fault → IfErr result P
@@ -34,16 +38,35 @@ fits weight light = elim (leb_tells weight 4096) [
   | inr is ↦ absurd (light is.1)
 ]
 
+-- the programs of rules have as many instructions together as the rules say
+counted_pairs : (rules : List PlacedRule) (programs : List (List Insn)) → AllZip (λ (placed : PlacedRule). IsCompiled placed.rule) rules programs
+    → instructions programs ≡ instructions_of rules
+counted_pairs [] [] are = refl
+counted_pairs (placed ∷ rules) (program ∷ programs) are =
+    omega (
+      arith,
+      are.0.count,
+      counted_pairs rules programs are.1,
+      sum_by-cons length program programs,
+      sum_by-cons (λ (placed : PlacedRule). program_length placed.rule) placed rules,
+    )
+counted_pairs [] (program ∷ programs) are = absurd are
+counted_pairs (placed ∷ rules) [] are = absurd are
+
+pub instructions_counted : (rules : List PlacedRule) (programs : List (List Insn)) → AreProgramsOf rules programs
+    → instructions programs ≡ instructions_of rules
+instructions_counted rules programs are = counted_pairs rules programs are.each
+
 -- the rule of a place
 module _ (groups : List Group) (places : List Place) (are : ArePlacesOf groups places) (n : ℕ) (place : Place) (here : slice_get places n ≡ Some place) where
   pub rule_here : (placed : PlacedRule) × (slice_get (all_rules groups) n ≡ Some placed)
   rule_here =
-      let len = are.len in
+      let len = AllZip-long (StandsAt groups) (all_rules groups) places are in
       let within = slice_get_within places n place here in
       let found = drop_here (all_rules groups) n (omega arith) in (found.0, found.2)
 
   pub stands : StandsAt groups rule_here.0 place
-  stands = are.each n rule_here.0 place rule_here.1 here
+  stands = zip_each (StandsAt groups) (all_rules groups) places are n rule_here.0 place rule_here.1 here
 
   pub is_place : IsPlaceOfRule groups place
   is_place = slice_get_within _ place.number rule_here.0 stands
@@ -57,8 +80,7 @@ module _ (rules : List PlacedRule) (n : ℕ) (placed : PlacedRule) (here : slice
   compiled_more programs program are compiled light =
       let Compiled : PlacedRule → List Insn → Type 0 = λ placed. IsCompiled placed.rule in
       subst (λ front. AreProgramsOf front (programs ++ program ∷ [])) (sym (up_to rules n placed here)) (record {
-        each = pairs_of Compiled (take n rules ++ placed ∷ []) (programs ++ program ∷ [])
-            (related_append Compiled (take n rules) (placed ∷ []) programs (program ∷ []) (related_of Compiled (take n rules) programs are.each) (compiled, tt));
+        each = zip_append Compiled (take n rules) (placed ∷ []) programs (program ∷ []) are.each (compiled, tt);
         light = All-push IsLight (take n rules) placed are.light light;
       })
 
@@ -69,7 +91,7 @@ module _ (rules : List PlacedRule) (n : ℕ) (placed : PlacedRule) (here : slice
     heavy = placed;
     behind = drop (suc n) rules;
     are = around rules n placed here;
-    at = (let len = are.each.len in omega arith);
+    at = (let len = AllZip-long (λ (placed : PlacedRule). IsCompiled placed.rule) (take n rules) programs are.each in omega arith);
     light = are.light;
     weighs = refuses.0;
     over = refuses.1;
@@ -91,19 +113,18 @@ module _ (groups : List Group) (places : List Place) (are : ArePlacesOf groups p
   pub within_places : length flats < length places
   within_places =
       let within = slice_get_within programs (length flats) program next_program in
-      let some = compiled.each.len in
-      let all = are.len in
+      let some = AllZip-long (λ (placed : PlacedRule). IsCompiled placed.rule) (all_rules groups) programs compiled.each in
+      let all = AllZip-long (StandsAt groups) (all_rules groups) places are in
       omega arith
 
   -- one rule more is laid out
   pub laid_more : (placed : PlacedRule) → slice_get (all_rules groups) (length flats) ≡ Some placed → (flat : FlatRule) → (IsCompiled placed.rule program → IsLight placed → IsFlatRule groups placed flat)
-      → IsPairwise (IsFlatRule groups) (take (length flats) (all_rules groups)) flats → IsPairwise (IsFlatRule groups) (take (length (flats ++ flat ∷ [])) (all_rules groups)) (flats ++ flat ∷ [])
+      → AllZip (IsFlatRule groups) (take (length flats) (all_rules groups)) flats → AllZip (IsFlatRule groups) (take (length (flats ++ flat ∷ [])) (all_rules groups)) (flats ++ flat ∷ [])
   laid_more placed here flat is laid =
-      let stands = is (compiled.each.each (length flats) placed program here next_program) (all_at IsLight (all_rules groups) (length flats) placed compiled.light here) in
-      subst (λ k. IsPairwise (IsFlatRule groups) (take k (all_rules groups)) (flats ++ flat ∷ [])) (sym (length-append flats (flat ∷ [])))
-      (subst (λ front. IsPairwise (IsFlatRule groups) front (flats ++ flat ∷ [])) (sym (up_to (all_rules groups) (length flats) placed here))
-      (pairs_of (IsFlatRule groups) (take (length flats) (all_rules groups) ++ placed ∷ []) (flats ++ flat ∷ [])
-      (related_append (IsFlatRule groups) (take (length flats) (all_rules groups)) (placed ∷ []) flats (flat ∷ []) (related_of (IsFlatRule groups) _ flats laid) (stands, tt))))
+      let stands = is (zip_each (λ (placed : PlacedRule). IsCompiled placed.rule) (all_rules groups) programs compiled.each (length flats) placed program here next_program) (all_at IsLight (all_rules groups) (length flats) placed compiled.light here) in
+      subst (λ k. AllZip (IsFlatRule groups) (take k (all_rules groups)) (flats ++ flat ∷ [])) (sym (length-append flats (flat ∷ [])))
+      (subst (λ front. AllZip (IsFlatRule groups) front (flats ++ flat ∷ [])) (sym (up_to (all_rules groups) (length flats) placed here))
+      (zip_append (IsFlatRule groups) (take (length flats) (all_rules groups)) (placed ∷ []) flats (flat ∷ []) laid (stands, tt)))
 
   pub left_more : (flat : FlatRule) → flat.program ≡ program → programs ≡ programs_of (flats ++ flat ∷ []) ++ rest
   left_more flat is =

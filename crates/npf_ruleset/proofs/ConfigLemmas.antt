@@ -4,6 +4,8 @@ use Rattle.std.specs.Prelude.{unwrap_or}
 use Rattle.std.specs.Option.{option_map}
 use Rattle.std.proofs.lemmas.Option.{slice_get_read, slice_get_within}
 use Rattle.npf_model.specs.Verdict.{PlacedRule, all_rules}
+use Rattle.npf_bpf.specs.Validity.{IsValid}
+use Rattle.npf_bpfgen.proofs.ProgramLengthLemmas.{length_weighs}
 use Rattle.npf_ruleset.specs.declared.config.Config.{Config}
 use Rattle.npf_ruleset.specs.declared.flat.FlatRule.{FlatRule}
 use Rattle.npf_ruleset.specs.Flat.{IsCompiled, IsFlatRule}
@@ -17,12 +19,15 @@ module _ (config : Config) (i : ℕ) (flat : FlatRule) (within : i < length (all
 
   stands : IsFlatRule config.model.groups there.0 flat
   stands =
-      let len = config.flat.for_rules.len in
-      config.flat.for_rules.each i there.0 flat there.1 (slice_get_read config.rules (length config.rules) i flat refl (omega arith) is)
+      let len = config.flat.rule_count in
+      config.flat.each_rule i there.0 flat there.1 (slice_get_read config.rules (length config.rules) i flat refl (omega arith) is)
 
-  pub has_program : IsProgramAt config.model i flat.program
-  has_program = λ rule at.
-      subst (λ r. IsCompiled r flat.program) (ap (λ o. unwrap_or o there.0.rule) (sym (ap (option_map (λ placed. placed.rule)) there.1) ∙ at)) stands.program
+  pub has_program : IsValid flat.program → IsProgramAt config.model i flat.program
+  has_program valid = λ rule at.
+      let same : there.0.rule ≡ rule = ap (λ o. unwrap_or o there.0.rule) (sym (ap (option_map (λ placed. placed.rule)) there.1) ∙ at) in
+      let weighs = length_weighs there.0.rule in
+      let count = stands.count in
+      subst (λ r. IsCompiled r flat.program) same (record { value = stands.value; valid = valid; count = count; size = omega arith })
 
   pub is_placed : IsPlaceOfRule config.model.groups flat.place
   is_placed = slice_get_within _ flat.place.number there.0 stands.place

@@ -1,6 +1,6 @@
 -- A group without a `final` rule is laid out as rules of which none is `final`, and so none decides at once.
 use Rattle.std.proofs.Common.{◌≡◌, ℕ, ◌+◌, Bool, true, false, ◌||◌, List, [], ◌∷◌, None, All, flat_map, map, refl, sym, subst, ◌∙◌, true≢false}
-use Rattle.std.specs.List.{list_any}
+use Rattle.std.specs.List.{AllZip, list_any}
 use Rattle.std.proofs.lemmas.List.Concat.{flat_map-cons}
 use Rattle.std.proofs.lemmas.List.Elements.{All-nil, All-cons, All-head, All-tail, All-append}
 use Rattle.npf_model.specs.declared.group.Group.{Group}
@@ -12,7 +12,6 @@ use Rattle.npf_ruleset.specs.declared.flat.FlatRule.{FlatRule}
 use Rattle.npf_ruleset.specs.declared.packet.Packet.{Packet}
 use Rattle.npf_ruleset.specs.Flat.{IsFlatRule, has_final, item_has_final}
 use Rattle.npf_ruleset.specs.Packet.{flat_decides}
-use Rattle.npf_ruleset.proofs.PairLemmas.{AreRelated}
 
 abbrev IsNotFinal : PlacedRule → Type 0
 IsNotFinal placed = placed.rule.last ≡ false
@@ -38,7 +37,7 @@ in_items (item ∷ items) none =
     let parts = neither (item_has_final item) (list_any item_has_final items) none in
     subst (All IsNotFinal) (sym (flat_map-cons rules_at item items)) (All-append IsNotFinal (rules_at item) (flat_map rules_at items) (in_item item parts.0) (in_items items parts.1))
 
-laid_out : (groups : List Group) (placed : List PlacedRule) (flats : List FlatRule) → AreRelated (IsFlatRule groups) placed flats → All IsNotFinal placed
+laid_out : (groups : List Group) (placed : List PlacedRule) (flats : List FlatRule) → AllZip (IsFlatRule groups) placed flats → All IsNotFinal placed
     → All (λ (flat : FlatRule). flat.last ≡ false) flats
 laid_out groups [] [] all none = All-nil (λ (flat : FlatRule). flat.last ≡ false)
 laid_out groups (p ∷ ps) (f ∷ fs) all none =
@@ -46,7 +45,7 @@ laid_out groups (p ∷ ps) (f ∷ fs) all none =
 laid_out groups [] (f ∷ fs) all none = absurd all
 laid_out groups (p ∷ ps) [] all none = absurd all
 
-pub none_final : (groups : List Group) (group : Group) (flats : List FlatRule) → AreRelated (IsFlatRule groups) (rules_of group) flats → has_final group ≡ false
+pub none_final : (groups : List Group) (group : Group) (flats : List FlatRule) → AllZip (IsFlatRule groups) (rules_of group) flats → has_final group ≡ false
     → All (λ (flat : FlatRule). flat.last ≡ false) flats
 none_final groups group flats all none = laid_out groups (rules_of group) flats all (in_items group.items none)
 

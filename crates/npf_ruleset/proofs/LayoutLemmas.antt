@@ -1,5 +1,7 @@
 -- Places that are laid out part after part.
 use Rattle.std.proofs.Common.{◌≡◌, ◌≤◌, ℕ, zero, suc, ◌+◌, List, [], ◌∷◌, ◌++◌, Some, length, take, drop, slice_get, flat_map, option_and_then, refl, sym, subst, ap, ◌∙◌, arith}
+use Rattle.std.proofs.lemmas.Slice.Zip.{AllZip-long}
+use Rattle.std.specs.List.{AllZip}
 use Rattle.std.specs.Prelude.{unwrap_or}
 use Rattle.std.proofs.Math.Seq.{take-length, take-suc}
 use Rattle.std.proofs.lemmas.List.{append_assoc, append-nil, length-append, take-append-drop}
@@ -13,7 +15,7 @@ use Rattle.npf_ruleset.specs.declared.place.Place.{Place}
 use Rattle.npf_ruleset.specs.Flat.{IsFlatGroup}
 use Rattle.npf_ruleset.specs.Layout.{AddsPlaces, StandsAt, places_from, rules_in_group}
 use Rattle.npf_ruleset.specs.Place.{rules_in, standing_rules}
-use Rattle.npf_ruleset.proofs.PairLemmas.{AreRelated, drop_here, pairs_of, related_append, related_of}
+use Rattle.npf_ruleset.proofs.PairLemmas.{drop_here, zip_append}
 
 -- an element parts a list into what is in front of it and what is behind it
 module _ {X : Type 0} (xs : List X) (n : ℕ) (x : X) (at : slice_get xs n ≡ Some x) where
@@ -43,27 +45,26 @@ module _ {X Y : Type 0} (f : X → List Y) where
 
 module _ (groups : List Group) where
   pub adds_none : (old : List Place) → AddsPlaces groups [] old old
-  adds_none old = record { added = []; are = sym (append-nil old); each = pairs_of (StandsAt groups) [] [] tt }
+  adds_none old = record { added = []; are = sym (append-nil old); each = tt }
 
   pub adds_both : (front behind : List PlacedRule) (old mid new : List Place) → AddsPlaces groups front old mid → AddsPlaces groups behind mid new → AddsPlaces groups (front ++ behind) old new
   adds_both front behind old mid new one two = record {
     added = one.added ++ two.added;
     are = two.are ∙ ap (λ places. places ++ two.added) one.are ∙ append_assoc old one.added two.added;
-    each = pairs_of (StandsAt groups) (front ++ behind) (one.added ++ two.added)
-        (related_append (StandsAt groups) front behind one.added two.added (related_of (StandsAt groups) front one.added one.each) (related_of (StandsAt groups) behind two.added two.each));
+    each = zip_append (StandsAt groups) front behind one.added two.added one.each two.each;
   }
 
   pub adds_len : (rules : List PlacedRule) (old new : List Place) → AddsPlaces groups rules old new → length new ≡ length old + length rules
-  adds_len rules old new adds = let len = adds.each.len in let sum = length-append old adds.added in let whole = ap length adds.are in omega arith
+  adds_len rules old new adds = let len = AllZip-long (StandsAt groups) rules adds.added adds.each in let sum = length-append old adds.added in let whole = ap length adds.are in omega arith
 
   -- the places of an item's rules are numbered from the first one on
-  standing : (first : Place) (n : ℕ) → n ≤ length (standing_rules groups first) → AreRelated (StandsAt groups) (take n (standing_rules groups first)) (places_from first n)
+  standing : (first : Place) (n : ℕ) → n ≤ length (standing_rules groups first) → AllZip (StandsAt groups) (take n (standing_rules groups first)) (places_from first n)
   standing first zero within = tt
   standing first (suc n) within =
       let rules = standing_rules groups first in
       let found = drop_here rules n (omega arith) in
-      subst (λ front. AreRelated (StandsAt groups) front (places_from first (suc n))) (sym (up_to_next rules n found.0 found.2))
-      (related_append (StandsAt groups) (take n rules) (found.0 ∷ []) (places_from first n) ((record first { number = n }) ∷ []) (standing first n (omega arith)) (found.2, tt))
+      subst (λ front. AllZip (StandsAt groups) front (places_from first (suc n))) (sym (up_to_next rules n found.0 found.2))
+      (zip_append (StandsAt groups) (take n rules) (found.0 ∷ []) (places_from first n) ((record first { number = n }) ∷ []) (standing first n (omega arith)) (found.2, tt))
 
   pub adds_item : (first : Place) (rules : List PlacedRule) → standing_rules groups first ≡ rules → (count : ℕ) → count ≡ length rules → (old new : List Place)
       → new ≡ old ++ places_from first count → AddsPlaces groups rules old new
@@ -73,8 +74,7 @@ module _ (groups : List Group) where
       subst (λ rs. AddsPlaces groups rs old new) are (record {
         added = places_from first count;
         are = is;
-        each = pairs_of (StandsAt groups) stand (places_from first count)
-            (subst (λ rs. AreRelated (StandsAt groups) rs (places_from first count)) (ap (λ k. take k stand) len ∙ take-length stand) (standing first count (omega arith)));
+        each = subst (λ rs. AllZip (StandsAt groups) rs (places_from first count)) (ap (λ k. take k stand) len ∙ take-length stand) (standing first count (omega arith));
       })
 
 -- what stands at an item's place, and in its group
@@ -89,7 +89,7 @@ pub in_group : (groups : List Group) (number : ℕ) (group : Group) (items : Lis
 in_group groups number group items is_group are = ap rules_in_group is_group ∙ sym (ap (flat_map rules_at) are)
 
 pub group_related : (groups : List Group) (n : ℕ) (group : Group) (flat : FlatGroup) (flat_groups new : List FlatGroup) → slice_get groups n ≡ Some group
-    → AreRelated IsFlatGroup (take n groups) flat_groups → IsFlatGroup group flat → new ≡ flat_groups ++ flat ∷ [] → AreRelated IsFlatGroup (take (n + 1) groups) new
+    → AllZip IsFlatGroup (take n groups) flat_groups → IsFlatGroup group flat → new ≡ flat_groups ++ flat ∷ [] → AllZip IsFlatGroup (take (n + 1) groups) new
 group_related groups n group flat flat_groups new at related is are =
-    subst (λ gs. AreRelated IsFlatGroup gs new) (sym (up_to groups n group at))
-    (subst (AreRelated IsFlatGroup (take n groups ++ group ∷ [])) (sym are) (related_append IsFlatGroup (take n groups) (group ∷ []) flat_groups (flat ∷ []) related (is, tt)))
+    subst (λ gs. AllZip IsFlatGroup gs new) (sym (up_to groups n group at))
+    (subst (AllZip IsFlatGroup (take n groups ++ group ∷ [])) (sym are) (zip_append IsFlatGroup (take n groups) (group ∷ []) flat_groups (flat ∷ []) related (is, tt)))

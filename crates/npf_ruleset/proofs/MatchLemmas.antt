@@ -1,5 +1,6 @@
 -- A flat rule matches where the rule does that it stands for.
 use Rattle.std.proofs.Common.{◌≡◌, ℕ, ◌+◌, Bool, true, false, not, ◌&&◌, List, [], ◌∷◌, Option, Some, None, refl, sym, ap, ◌∙◌, arith, ◌==◌}
+use Rattle.std.specs.List.{AllZip}
 use Rattle.std.specs.Prelude.{if◌then◌else◌}
 use Rattle.std.specs.Option.{option_map, option_or}
 use Rattle.std.proofs.lemmas.Option.{none-some}
@@ -18,7 +19,6 @@ use Rattle.npf_ruleset.specs.Packet.{coprocessor, flat_answer, flat_decides, fla
 use Rattle.npf_ruleset.specs.Row.{meets_row}
 use Rattle.npf_ruleset.specs.Tables.{entries}
 use Rattle.npf_ruleset.proofs.BindingLemmas.{bound_rule}
-use Rattle.npf_ruleset.proofs.PairLemmas.{AreRelated}
 use Rattle.npf_ruleset.proofs.PlaceLemmas.{first_from, last_from}
 
 -- the exact tests of the binding and the program decide, since the row holds where the rule describes
@@ -61,7 +61,7 @@ module _ (packet : Packet) (bytes : AreBytes packet.ip.now) (seen : IsPacketOf p
     matches_alike placed flat is =
         combined (fits_dir placed.within_dir packet.dir) (fits_on placed.within_on packet.ifid) (fits_dir placed.rule.dir packet.dir) (fits_on placed.rule.on packet.ifid)
         (is_bound flat.binding packet.ifid packet.dir) (meets_row flat.row packet.facts.now) (describes_packet placed.rule (entries packet.tables.now) packet.facts.now) (program_value flat.program packet.ip.now (coprocessor packet))
-        (bound_rule placed flat.binding is.binding packet.ifid packet.dir) (is.row (entries packet.tables.now) packet.facts.now) (is.program.value packet.ip.now (coprocessor packet) (entries packet.tables.now) packet.facts.now told)
+        (bound_rule placed flat.binding is.binding packet.ifid packet.dir) (is.row (entries packet.tables.now) packet.facts.now) (is.value packet.ip.now (coprocessor packet) (entries packet.tables.now) packet.facts.now told)
 
     decides_alike : (placed : PlacedRule) (flat : FlatRule) → IsFlatRule groups placed flat
         → flat_decides packet flat ≡ decides (entries packet.tables.now) packet.facts.now packet.ifid packet.dir placed
@@ -69,20 +69,20 @@ module _ (packet : Packet) (bytes : AreBytes packet.ip.now) (seen : IsPacketOf p
 
     -- tests that agree on related elements find the same places
     module _ (test : FlatRule → Bool) (asked : PlacedRule → Bool) (alike : (placed : PlacedRule) (flat : FlatRule) → IsFlatRule groups placed flat → test flat ≡ asked placed) where
-      first_alike : (n : ℕ) (placed : List PlacedRule) (flats : List FlatRule) → AreRelated (IsFlatRule groups) placed flats → first_where test n flats ≡ first_where asked n placed
+      first_alike : (n : ℕ) (placed : List PlacedRule) (flats : List FlatRule) → AllZip (IsFlatRule groups) placed flats → first_where test n flats ≡ first_where asked n placed
       first_alike n [] [] all = refl
       first_alike n (p ∷ ps) (f ∷ fs) all = rw (alike p f all.0) (ap (λ o. if asked p then Some n else o) (first_alike (n + 1) ps fs all.1))
       first_alike n [] (f ∷ fs) all = absurd all
       first_alike n (p ∷ ps) [] all = absurd all
 
-      last_alike : (n : ℕ) (placed : List PlacedRule) (flats : List FlatRule) → AreRelated (IsFlatRule groups) placed flats → last_where test n flats ≡ last_where asked n placed
+      last_alike : (n : ℕ) (placed : List PlacedRule) (flats : List FlatRule) → AllZip (IsFlatRule groups) placed flats → last_where test n flats ≡ last_where asked n placed
       last_alike n [] [] all = refl
       last_alike n (p ∷ ps) (f ∷ fs) all = rw (alike p f all.0) (ap (λ o. option_or o (if asked p then Some n else None)) (last_alike (n + 1) ps fs all.1))
       last_alike n [] (f ∷ fs) all = absurd all
       last_alike n (p ∷ ps) [] all = absurd all
 
     -- a group's answer on its flat rules, counted from where the group begins
-    pub answer_alike : (n : ℕ) (placed : List PlacedRule) (flats : List FlatRule) → AreRelated (IsFlatRule groups) placed flats
+    pub answer_alike : (n : ℕ) (placed : List PlacedRule) (flats : List FlatRule) → AllZip (IsFlatRule groups) placed flats
         → group_answer (entries packet.tables.now) packet.facts.now packet.ifid packet.dir n placed ≡ option_map (λ k. n + k) (flat_answer packet flats)
     answer_alike n placed flats all =
         let D = decides (entries packet.tables.now) packet.facts.now packet.ifid packet.dir in

@@ -1,10 +1,11 @@
 -- The flat rules of a configuration whose interfaces' numbers are set anew.
 use Rattle.std.proofs.Common.{◌≡◌, ℕ, ◌||◌, List, [], ◌∷◌, ◌++◌, Option, Some, None, length, map, flat_map, option_and_then, slice_get, refl, sym, subst, ap, ◌∙◌}
-use Rattle.std.specs.List.{list_any}
+use Rattle.std.specs.List.{AllZip, list_any}
 use Rattle.std.specs.Option.{option_map}
 use Rattle.std.proofs.lemmas.List.{length-map, map-append}
 use Rattle.std.proofs.lemmas.List.Concat.{flat_map-cons}
 use Rattle.std.proofs.lemmas.Option.{slice_get-map}
+use Rattle.std.proofs.lemmas.Slice.Zip.{AllZip-long}
 use Rattle.npf_types.specs.declared.direction.Dir.{Dir}
 use Rattle.npf_model.specs.declared.group.Group.{Group}
 use Rattle.npf_model.specs.declared.group.Item.{Item}
@@ -20,7 +21,7 @@ use Rattle.npf_ruleset.specs.declared.place.Place.{Place}
 use Rattle.npf_ruleset.specs.Flat.{IsFlat, IsFlatGroup, IsFlatRule, item_has_final, programs_of}
 use Rattle.npf_ruleset.specs.Numbered.{numbered_flat_group, numbered_flat_rule}
 use Rattle.npf_ruleset.specs.Place.{placed_at, rules_in}
-use Rattle.npf_ruleset.proofs.PairLemmas.{AreRelated, pairs_of, related_of}
+use Rattle.npf_ruleset.proofs.PairLemmas.{zip_each, zip_of}
 
 module _ (ifaces : List Iface) where
   numbered_placed : PlacedRule → PlacedRule
@@ -82,12 +83,13 @@ module _ (ifaces : List Iface) where
       };
       last = is.last;
       row = is.row;
-      program = record { value = is.program.value; size = is.program.size };
+      value = is.value;
+      count = is.count;
       weight = is.weight;
     }
 
-    rules_numbered : (rules : List PlacedRule) (flats : List FlatRule) → AreRelated (IsFlatRule groups) rules flats
-        → AreRelated (IsFlatRule (map (numbered_group ifaces) groups)) (map (numbered_placed ifaces) rules) (map (numbered_flat_rule ifaces) flats)
+    rules_numbered : (rules : List PlacedRule) (flats : List FlatRule) → AllZip (IsFlatRule groups) rules flats
+        → AllZip (IsFlatRule (map (numbered_group ifaces) groups)) (map (numbered_placed ifaces) rules) (map (numbered_flat_rule ifaces) flats)
     rules_numbered [] [] all = tt
     rules_numbered (p ∷ ps) (f ∷ fs) all = (rule_numbered p f all.0, rules_numbered ps fs all.1)
     rules_numbered [] (f ∷ fs) all = absurd all
@@ -105,7 +107,7 @@ module _ (ifaces : List Iface) where
   same_finals [] = refl
   same_finals (item ∷ items) = rw (item_final item) (ap (λ b. item_has_final item || b) (same_finals items))
 
-  groups_numbered : (groups : List Group) (flats : List FlatGroup) → AreRelated IsFlatGroup groups flats → AreRelated IsFlatGroup (map (numbered_group ifaces) groups) (map (numbered_flat_group ifaces) flats)
+  groups_numbered : (groups : List Group) (flats : List FlatGroup) → AllZip IsFlatGroup groups flats → AllZip IsFlatGroup (map (numbered_group ifaces) groups) (map (numbered_flat_group ifaces) flats)
   groups_numbered [] [] all = tt
   groups_numbered (g ∷ gs) (f ∷ fs) all = (
     record {
@@ -125,12 +127,19 @@ module _ (ifaces : List Iface) where
 
   pub flat_numbered : (groups : List Group) (flat_groups : List FlatGroup) (flat_rules : List FlatRule) → IsFlat groups flat_groups flat_rules
       → IsFlat (map (numbered_group ifaces) groups) (map (numbered_flat_group ifaces) flat_groups) (map (numbered_flat_rule ifaces) flat_rules)
-  flat_numbered groups flat_groups flat_rules flat = record {
-    for_groups = pairs_of IsFlatGroup (map (numbered_group ifaces) groups) (map (numbered_flat_group ifaces) flat_groups) (groups_numbered groups flat_groups (related_of IsFlatGroup groups flat_groups flat.for_groups));
-    for_rules = pairs_of (IsFlatRule (map (numbered_group ifaces) groups)) (all_rules (map (numbered_group ifaces) groups)) (map (numbered_flat_rule ifaces) flat_rules)
-        (subst (λ rules. AreRelated (IsFlatRule (map (numbered_group ifaces) groups)) rules (map (numbered_flat_rule ifaces) flat_rules)) (sym (in_all groups))
-        (rules_numbered groups (all_rules groups) flat_rules (related_of (IsFlatRule groups) (all_rules groups) flat_rules flat.for_rules)));
-  }
+  flat_numbered groups flat_groups flat_rules flat =
+      let new = map (numbered_group ifaces) groups in
+      let new_groups = map (numbered_flat_group ifaces) flat_groups in
+      let new_rules = map (numbered_flat_rule ifaces) flat_rules in
+      let for_groups = groups_numbered groups flat_groups (zip_of IsFlatGroup groups flat_groups flat.group_count flat.each_group) in
+      let for_rules = subst (λ rules. AllZip (IsFlatRule new) rules new_rules) (sym (in_all groups))
+      (rules_numbered groups (all_rules groups) flat_rules (zip_of (IsFlatRule groups) (all_rules groups) flat_rules flat.rule_count flat.each_rule)) in
+      record {
+        group_count = AllZip-long IsFlatGroup new new_groups for_groups;
+        each_group = zip_each IsFlatGroup new new_groups for_groups;
+        rule_count = AllZip-long (IsFlatRule new) (all_rules new) new_rules for_rules;
+        each_rule = zip_each (IsFlatRule new) (all_rules new) new_rules for_rules;
+      }
 
   pub programs_numbered : (rules : List FlatRule) → programs_of (map (numbered_flat_rule ifaces) rules) ≡ programs_of rules
   programs_numbered [] = refl

@@ -1,5 +1,6 @@
 -- A walk over the flat rules gives the configuration's verdict.
 use Rattle.std.proofs.Common.{◌≡◌, ◌≤◌, ℕ, ◌+◌, Bool, true, false, List, [], ◌∷◌, ◌++◌, All, Option, Some, None, length, take, drop, refl, sym, subst, ap, ◌∙◌, arith, suc, slice_get, drop_of_length-le}
+use Rattle.std.specs.List.{AllZip}
 use Rattle.std.proofs.lemmas.List.{length-append, length-drop}
 use Rattle.std.proofs.lemmas.Option.{slice_get_within}
 use Rattle.std.specs.Prelude.{if◌then◌else◌}
@@ -20,58 +21,59 @@ use Rattle.npf_ruleset.specs.Packet.{answer_in, flat_answer}
 use Rattle.npf_ruleset.specs.Tables.{entries}
 use Rattle.npf_ruleset.proofs.BindingLemmas.{bound_group}
 use Rattle.npf_ruleset.proofs.FinalLemmas.{none_final}
-use Rattle.npf_ruleset.proofs.PairLemmas.{AreRelated, drop_here, related_behind, related_front, related_len, related_of}
+use Rattle.std.proofs.lemmas.Slice.Zip.{AllZip-long}
+use Rattle.npf_ruleset.proofs.PairLemmas.{drop_here, zip_behind, zip_front, zip_of}
 use Rattle.npf_ruleset.proofs.MatchLemmas.{answer_alike}
 
 -- what is left of a walk: the groups from a place on, and their rules
 pub record Remains (config : Config) (packet : Packet) (first index : ℕ) (rules : List FlatRule) : Type 0 where
   pub verdict_is : verdict_of (configuration config) packet.facts.now packet.ifid packet.dir
       ≡ verdict (entries packet.tables.now) packet.facts.now packet.ifid packet.dir first (drop index config.model.groups)
-  pub related : AreRelated (IsFlatRule config.model.groups) (all_rules (drop index config.model.groups)) rules
+  pub related : AllZip (IsFlatRule config.model.groups) (all_rules (drop index config.model.groups)) rules
   pub room : first + length rules ≡ length config.rules
 
 module _ (config : Config) (packet : Packet) where
   pub begins : packet.tables.now ≡ config.tables.items → Remains config packet 0 0 config.rules
   begins same = record {
     verdict_is = ap (λ tables. verdict (entries tables) packet.facts.now packet.ifid packet.dir 0 config.model.groups) (sym same);
-    related = related_of (IsFlatRule config.model.groups) (all_rules config.model.groups) config.rules config.flat.for_rules;
+    related = zip_of (IsFlatRule config.model.groups) (all_rules config.model.groups) config.rules config.flat.rule_count config.flat.each_rule;
     room = (let whole : 0 + length config.rules ≡ length config.rules = omega arith in whole);
   }
 
   pub ends : (first index : ℕ) (rules : List FlatRule) → Remains config packet first index rules → length config.groups ≤ index
       → None ≡ verdict_of (configuration config) packet.facts.now packet.ifid packet.dir
   ends first index rules left past =
-      let none : drop index config.model.groups ≡ [] = drop_of_length-le config.model.groups (let e = config.flat.for_groups.len in omega arith) in
+      let none : drop index config.model.groups ≡ [] = drop_of_length-le config.model.groups (let e = config.flat.group_count in omega arith) in
       sym (left.verdict_is ∙ ap (verdict (entries packet.tables.now) packet.facts.now packet.ifid packet.dir first) none)
 
   module _ (first index : ℕ) (rules : List FlatRule) (left : Remains config packet first index rules) (flat : FlatGroup)
       (is : slice_get config.groups index ≡ Some flat) where
     -- the group there, which is the first of those that are left
     here : (group : Group) × (drop index config.model.groups ≡ group ∷ drop (suc index) config.model.groups) × (slice_get config.model.groups index ≡ Some group)
-    here = drop_here config.model.groups index (let within = slice_get_within config.groups index flat is in let e = config.flat.for_groups.len in omega arith)
+    here = drop_here config.model.groups index (let within = slice_get_within config.groups index flat is in let e = config.flat.group_count in omega arith)
 
     stands : IsFlatGroup here.0 flat
-    stands = config.flat.for_groups.each index here.0 flat here.2 is
+    stands = config.flat.each_group index here.0 flat here.2 is
 
-    parts : AreRelated (IsFlatRule config.model.groups) (rules_of here.0 ++ all_rules (drop (suc index) config.model.groups)) rules
-    parts = subst (λ groups. AreRelated (IsFlatRule config.model.groups) (all_rules groups) rules) here.1 left.related
+    parts : AllZip (IsFlatRule config.model.groups) (rules_of here.0 ++ all_rules (drop (suc index) config.model.groups)) rules
+    parts = subst (λ groups. AllZip (IsFlatRule config.model.groups) (all_rules groups) rules) here.1 left.related
 
     pub count_fits : flat.count ≤ length rules
     count_fits =
-        let len = related_len (IsFlatRule config.model.groups) (rules_of here.0 ++ all_rules (drop (suc index) config.model.groups)) rules parts in
+        let len = AllZip-long (IsFlatRule config.model.groups) (rules_of here.0 ++ all_rules (drop (suc index) config.model.groups)) rules parts in
         let sum = length-append (rules_of here.0) (all_rules (drop (suc index) config.model.groups)) in
         let count = stands.count in omega arith
 
-    inside : AreRelated (IsFlatRule config.model.groups) (rules_of here.0) (take flat.count rules)
-    inside = subst (λ k. AreRelated (IsFlatRule config.model.groups) (rules_of here.0) (take k rules)) (sym stands.count)
-        (related_front (IsFlatRule config.model.groups) (rules_of here.0) (all_rules (drop (suc index) config.model.groups)) rules parts)
+    inside : AllZip (IsFlatRule config.model.groups) (rules_of here.0) (take flat.count rules)
+    inside = subst (λ k. AllZip (IsFlatRule config.model.groups) (rules_of here.0) (take k rules)) (sym stands.count)
+        (zip_front (IsFlatRule config.model.groups) (rules_of here.0) (all_rules (drop (suc index) config.model.groups)) rules parts)
 
     pub no_finals : flat.finals ≡ false → All (λ (rule : FlatRule). rule.last ≡ false) (take flat.count rules)
     no_finals none = none_final config.model.groups here.0 (take flat.count rules) inside (sym stands.finals ∙ none)
 
-    behind : AreRelated (IsFlatRule config.model.groups) (all_rules (drop (suc index) config.model.groups)) (drop flat.count rules)
-    behind = subst (λ k. AreRelated (IsFlatRule config.model.groups) (all_rules (drop (suc index) config.model.groups)) (drop k rules)) (sym stands.count)
-        (related_behind (IsFlatRule config.model.groups) (rules_of here.0) (all_rules (drop (suc index) config.model.groups)) rules parts)
+    behind : AllZip (IsFlatRule config.model.groups) (all_rules (drop (suc index) config.model.groups)) (drop flat.count rules)
+    behind = subst (λ k. AllZip (IsFlatRule config.model.groups) (all_rules (drop (suc index) config.model.groups)) (drop k rules)) (sym stands.count)
+        (zip_behind (IsFlatRule config.model.groups) (rules_of here.0) (all_rules (drop (suc index) config.model.groups)) rules parts)
 
     module _ (bytes : AreBytes packet.ip.now) (seen : IsPacketOf packet.ip.now packet.facts.now) where
       -- the group's answer, or else that of those behind it

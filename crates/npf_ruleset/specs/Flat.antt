@@ -7,7 +7,9 @@ use Rattle.npf_model.specs.declared.group.Item.TheVariants.{One, Dynamic}
 use Rattle.npf_model.specs.declared.rule.Rule.{Rule}
 use Rattle.npf_model.specs.Verdict.{PlacedRule, all_rules, rules_of}
 use Rattle.npf_bpf.specs.declared.insn.Insn.{Insn}
+use Rattle.npf_bpf.specs.Validity.{IsValid}
 use Rattle.npf_bpfgen.specs.Program.{IsProgramOf}
+use Rattle.npf_bpfgen.specs.ProgramLength.{program_length}
 use Rattle.npf_bpfgen.specs.RuleWeight.{weight_of}
 use Rattle.npf_ruleset.specs.declared.flat.FlatGroup.{FlatGroup}
 use Rattle.npf_ruleset.specs.declared.flat.FlatRule.{FlatRule}
@@ -15,9 +17,11 @@ use Rattle.npf_ruleset.specs.Binding.{IsBindingOf, IsBoundTo}
 use Rattle.npf_ruleset.specs.Place.{placed_at}
 use Rattle.npf_ruleset.specs.Row.{IsRowOf}
 
--- the program is one of the rule, of at most the rule's weight in instructions
+-- the program is a valid one of the rule, and has as many instructions as the rule's parts ask for, which the rule's weight bounds
 pub record IsCompiled (rule : Rule) (program : List Insn) : Type 0 where
   pub value : IsProgramOf rule program
+  pub valid : IsValid program
+  pub count : length program ≡ program_length rule
   pub size : length program ≤ weight_of rule
 
 -- the flat rule stands for a rule of the groups
@@ -26,7 +30,8 @@ pub record IsFlatRule (groups : List Group) (placed : PlacedRule) (flat : FlatRu
   pub binding : IsBindingOf placed flat.binding
   pub last : flat.last ≡ placed.rule.last
   pub row : IsRowOf placed.rule flat.row
-  pub program : IsCompiled placed.rule flat.program
+  pub value : IsProgramOf placed.rule flat.program
+  pub count : length flat.program ≡ program_length placed.rule
   pub weight : weight_of placed.rule ≤ 4096
 
 -- whether a rule of a ruleset, at an item's place, or of a group is `final`
@@ -45,15 +50,13 @@ pub record IsFlatGroup (group : Group) (flat : FlatGroup) : Type 0 where
   pub count : flat.count ≡ length (rules_of group)
   pub finals : flat.finals ≡ has_final group
 
--- as many of the one as of the other, and each is related to what has its place
-pub record IsPairwise {X Y : Type 0} (Rel : X → Y → Type 0) (xs : List X) (ys : List Y) : Type 0 where
-  pub len : length ys ≡ length xs
-  pub each : (k : ℕ) (x : X) (y : Y) → slice_get xs k ≡ Some x → slice_get ys k ≡ Some y → Rel x y
-
--- the groups and all their rules in the order of inspection are laid out
+-- the groups and all their rules in the order of inspection are laid out: as many as there are, each at its place
 pub record IsFlat (groups : List Group) (flat_groups : List FlatGroup) (flat_rules : List FlatRule) : Type 0 where
-  pub for_groups : IsPairwise IsFlatGroup groups flat_groups
-  pub for_rules : IsPairwise (IsFlatRule groups) (all_rules groups) flat_rules
+  pub group_count : length flat_groups ≡ length groups
+  pub each_group : (k : ℕ) (group : Group) (flat : FlatGroup) → slice_get groups k ≡ Some group → slice_get flat_groups k ≡ Some flat → IsFlatGroup group flat
+  pub rule_count : length flat_rules ≡ length (all_rules groups)
+  pub each_rule : (k : ℕ) (placed : PlacedRule) (flat : FlatRule) → slice_get (all_rules groups) k ≡ Some placed → slice_get flat_rules k ≡ Some flat
+      → IsFlatRule groups placed flat
 
 -- the programs, and how many instructions they have together
 abbrev pub programs_of : List FlatRule → List (List Insn)
@@ -61,3 +64,7 @@ programs_of rules = map (λ rule. rule.program) rules
 
 abbrev pub instructions : List (List Insn) → ℕ
 instructions programs = sum_by length programs
+
+-- how many instructions the programs of these rules have together
+abbrev pub instructions_of : List PlacedRule → ℕ
+instructions_of rules = sum_by (λ placed. program_length placed.rule) rules

@@ -1,5 +1,6 @@
 -- How rules are laid out one after another: where they stand, and what a part of the work adds.
 use Rattle.std.specs.Prelude.{◌≡◌, ℕ, zero, suc, List, [], ◌∷◌, ◌++◌, Option, Some, None}
+use Rattle.std.specs.List.{AllZip}
 use Rattle.npf_model.specs.declared.group.Group.{Group}
 use Rattle.npf_model.specs.Verdict.{PlacedRule, all_rules, rules_of}
 use Rattle.npf_bpfgen.specs.declared.fault.GenFault.{GenFault}
@@ -7,7 +8,6 @@ use Rattle.npf_bpfgen.specs.declared.fault.GenFault.TheVariants as Gen
 use Rattle.npf_ruleset.specs.declared.fault.BuildFault.{BuildFault}
 use Rattle.npf_ruleset.specs.declared.fault.BuildFault.TheVariants.{TooLong, NoMemory}
 use Rattle.npf_ruleset.specs.declared.place.Place.{Place}
-use Rattle.npf_ruleset.specs.Flat.{IsPairwise}
 use Rattle.npf_ruleset.specs.Place.{placed_at}
 
 -- the rule stands at the place
@@ -16,7 +16,7 @@ StandsAt groups placed place = placed_at groups place ≡ Some placed
 
 -- the places of all rules, in the order of inspection
 abbrev pub ArePlacesOf : List Group → List Place → Type 0
-ArePlacesOf groups places = IsPairwise (StandsAt groups) (all_rules groups) places
+ArePlacesOf groups places = AllZip (StandsAt groups) (all_rules groups) places
 
 -- the compiler's fault at a rule, as the fault of all
 abbrev pub fault_there : ℕ → GenFault → BuildFault
@@ -37,4 +37,4 @@ places_from first (suc n) = places_from first n ++ (record first { number = n })
 pub record AddsPlaces (groups : List Group) (rules : List PlacedRule) (old new : List Place) : Type 0 where
   pub added : List Place
   pub are : new ≡ old ++ added
-  pub each : IsPairwise (StandsAt groups) rules added
+  pub each : AllZip (StandsAt groups) rules added

@@ -1,5 +1,6 @@
 -- Which models are laid out, and for what one is refused.
 use Rattle.std.specs.Prelude.{◌≡◌, ℕ, ◌≤◌, ◌<◌, List, ◌∷◌, ◌++◌, length, All}
+use Rattle.std.specs.List.{AllZip}
 use Rattle.npf_types.specs.declared.limits.TheConstants.{MAX_INSTRUCTIONS, MAX_MAPS, MAX_RULES, MAX_RULE_WEIGHT}
 use Rattle.npf_model.specs.declared.model.Model.{Model}
 use Rattle.npf_model.specs.Verdict.{PlacedRule, all_rules}
@@ -8,7 +9,7 @@ use Rattle.npf_bpfgen.specs.Condition.{HasTableNumbers}
 use Rattle.npf_bpfgen.specs.RuleWeight.{HasShortLists, weight_of}
 use Rattle.npf_ruleset.specs.declared.fault.BuildFault.{BuildFault}
 use Rattle.npf_ruleset.specs.declared.fault.BuildFault.TheVariants.{TooLong, TooMuch, NoMemory}
-use Rattle.npf_ruleset.specs.Flat.{IsCompiled, IsPairwise, instructions}
+use Rattle.npf_ruleset.specs.Flat.{IsCompiled, instructions, instructions_of}
 
 -- a rule that the compiler takes
 pub record IsCompilable (placed : PlacedRule) : Type 0 where
@@ -36,7 +37,7 @@ pub record IsFirstHeavy (rules : List PlacedRule) (place weight : ℕ) : Type 0 
 
 -- each rule has its program, and no rule is too heavy
 pub record AreProgramsOf (rules : List PlacedRule) (programs : List (List Insn)) : Type 0 where
-  pub each : IsPairwise (λ placed. IsCompiled placed.rule) rules programs
+  pub each : AllZip (λ placed. IsCompiled placed.rule) rules programs
   pub light : All IsLight rules
 
 pub record IsWithinLimits (model : Model) (programs : List (List Insn)) : Type 0 where
@@ -45,9 +46,8 @@ pub record IsWithinLimits (model : Model) (programs : List (List Insn)) : Type 0
 
 -- no rule is too heavy, but all programs together have so many instructions
 pub record IsTooMuch (rules : List PlacedRule) (count : ℕ) : Type 0 where
-  pub programs : List (List Insn)
-  pub compiled : AreProgramsOf rules programs
-  pub counted : count ≡ instructions programs
+  pub light : All IsLight rules
+  pub counted : count ≡ instructions_of rules
   pub over : MAX_INSTRUCTIONS < count
 
 -- why a model is refused for its rules; want of memory says nothing of it

@@ -1,7 +1,8 @@
 // The rules of a model compiled, one after another in the order of inspection, and laid out flat.
 ghost use Rattle.std.specs.Prelude.{◌≡◌, ◌≤◌, ◌<◌, All, IfOk, IfErr, length};
+ghost use Rattle.std.specs.List.{AllZip};
 ghost use Rattle.npf_model.specs.Verdict.{PlacedRule, all_rules};
-ghost use Rattle.npf_ruleset.specs.Flat.{IsCompiled, IsFlatRule, IsPairwise, programs_of};
+ghost use Rattle.npf_ruleset.specs.Flat.{IsCompiled, IsFlatRule, programs_of};
 ghost use Rattle.npf_ruleset.specs.Layout.{ArePlacesOf, fault_there};
 ghost use Rattle.npf_ruleset.specs.Place.{IsPlaceOfRule, placed_at};
 ghost use Rattle.npf_ruleset.specs.Refusal.{AreProgramsOf, IsCompilable, IsLight, RefusesAllRules};
@@ -60,7 +61,7 @@ pub(crate) fn lay_out(
 ) -> Result<Vec<FlatRule>, NoMemory>
     requires places { ArePlacesOf groups.now places.now }
     requires programs { AreProgramsOf (all_rules groups.now) programs.items }
-    ensures rules { IfOk result (λ rules. IsPairwise (IsFlatRule groups.now) (all_rules groups.now) rules.items) }
+    ensures rules { IfOk result (λ rules. AllZip (IsFlatRule groups.now) (all_rules groups.now) rules.items) }
     ensures programs { IfOk result (λ rules. programs_of rules.items ≡ programs.items) }
 {
     let mut rules = Vec::with_capacity(alloc, programs.len())?;

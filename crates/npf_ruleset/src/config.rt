@@ -54,7 +54,10 @@ impl Config {
         ensures value { slice_get (programs self.now) i ≡ Some result.now }
         ensures describes { IsProgramAt self.now.model i result.now }
     {
-        &self.rules.as_slice()[i as usize].program
+        let program = &self.rules.as_slice()[i as usize].program;
+        // whose contract says that every program is valid
+        let _insns = program.insns();
+        program
     }
 
     /// The model that was laid out, with the interfaces' numbers that were set since.

@@ -1,6 +1,7 @@
 // The places of a model's rules, one after another in the order of inspection.
 ghost use Rattle.std.specs.Prelude.{◌≡◌, ◌<◌, ◌++◌, IfOk, OnOk, length, slice_get};
-ghost use Rattle.npf_ruleset.specs.Flat.{IsFlatGroup, IsPairwise, has_final, item_has_final, rules_have_final};
+ghost use Rattle.std.specs.List.{AllZip};
+ghost use Rattle.npf_ruleset.specs.Flat.{IsFlatGroup, has_final, item_has_final, rules_have_final};
 ghost use Rattle.npf_ruleset.specs.Layout.{AddsPlaces, ArePlacesOf, places_from, rules_in_group};
 
 use crate::binding::Binding;
@@ -19,7 +20,7 @@ pub(crate) struct Layout {
 
 impl Layout {
     pub(crate) fn of(alloc: Global, groups: &[Group]) -> Result<Layout, NoMemory>
-        ensures groups { IfOk result (λ layout. IsPairwise IsFlatGroup groups.now layout.groups.items) }
+        ensures groups { IfOk result (λ layout. AllZip IsFlatGroup groups.now layout.groups.items) }
         ensures places { IfOk result (λ layout. ArePlacesOf groups.now layout.places.items) }
     {
         let mut layout = Layout {

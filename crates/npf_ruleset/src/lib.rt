@@ -12,8 +12,9 @@
 // that doesn't apply is one step.
 //
 // The contract in words: a walk gives the place of the rule that decides on the packet by the
-// configuration's meaning, and none exactly where no rule matches. A configuration is refused
-// exactly for its first rule whose weight passes 4,096, or else for its count of instructions.
+// configuration's meaning, and none exactly where no rule matches. Each program is valid. A
+// configuration is refused exactly for its first rule whose weight passes 4,096, or else exactly
+// where the instructions of all its programs pass 524,288, with their number.
 #![tactic(auto)]
 
 mod addr_hull;
@@ -41,4 +42,5 @@ pub use config::Config;
 pub use fault::BuildFault;
 pub use flat::FlatRule;
 pub use map_choice::map_for;
+pub use place::count_of;
 pub use walking::walk;

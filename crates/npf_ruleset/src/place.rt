@@ -51,7 +51,7 @@ fn placed_in(item: &Item, number: usize) -> Placed<'_>
 }
 
 /// How many rules stand at an item's place.
-pub(crate) fn count_of(item: &Item) -> usize
+pub fn count_of(item: &Item) -> usize
     ensures { result ≡ length (rules_at item.now) }
 {
     match item {

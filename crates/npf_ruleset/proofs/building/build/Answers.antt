@@ -1,15 +1,26 @@
-use Rattle.std.proofs.Common.{◌≤◌, subst, sym, ap, ◌∙◌}
-use Rattle.npf_ruleset.specs.Flat.{instructions}
+use Rattle.std.proofs.Common.{◌≡◌, ◌≤◌, length, subst, sym, ap, ◌∙◌, arith}
+use Rattle.std.proofs.lemmas.Slice.Zip.{AllZip-long}
+use Rattle.npf_model.specs.Verdict.{PlacedRule, all_rules}
+use Rattle.npf_ruleset.specs.Flat.{IsCompiled, instructions}
 use Rattle.npf_ruleset.specs.Refusal.{IsWithinLimits}
+use Rattle.npf_ruleset.proofs.CompileLemmas.{instructions_counted}
 use Rattle.npf_ruleset.proofs.building.build.Goals as goal
 
 pub returns-then-total-clause-refuses : goal.returns-then-total-clause-refuses
 returns-then-total-clause-refuses c = record {
-  programs = c.in_ok-programs.programs.items;
-  compiled = c.in_ok-programs.ensures.ok;
-  counted = c.instructions-total.ensures ∙ ap instructions c.deref.ensures.value;
+  light = c.in_ok-programs.ensures.ok.light;
+  counted = c.instructions-total.ensures ∙ ap instructions c.deref.ensures.value
+      ∙ instructions_counted (all_rules c.args.model.groups) c.in_ok-programs.programs.items c.in_ok-programs.ensures.ok;
   over = c.if-total.true;
 }
+
+pub instructions-total-requires : goal.instructions-total-requires
+instructions-total-requires c =
+    let programs = c.in_ok-programs.programs.items in
+    let same : length c.deref.result.now ≡ length programs = ap length c.deref.ensures.value in
+    let many = AllZip-long (λ (placed : PlacedRule). IsCompiled placed.rule) (all_rules c.args.model.groups) programs c.in_ok-programs.ensures.ok.each in
+    let few = c.requires.rules in
+    omega arith
 
 pub returns-clause-accepts : goal.returns-clause-accepts
 returns-clause-accepts c =

@@ -1,8 +1,10 @@
-use Rattle.std.proofs.Common.{refl, subst, sym, ap, ◌∙◌}
+use Rattle.std.proofs.Common.{◌≡◌, length, refl, subst, sym, ap, ◌∙◌}
 use Rattle.std.specs.Prelude.{unwrap_or}
 use Rattle.npf_ruleset.specs.declared.flat.FlatRule.{FlatRule}
 use Rattle.npf_model.specs.Verdict.{PlacedRule}
-use Rattle.npf_ruleset.specs.Flat.{IsCompiled, IsFlatRule}
+use Rattle.npf_bpfgen.specs.Program.{IsProgramOf}
+use Rattle.npf_bpfgen.specs.ProgramLength.{program_length}
+use Rattle.npf_ruleset.specs.Flat.{IsFlatRule}
 use Rattle.npf_ruleset.specs.Refusal.{IsLight}
 use Rattle.npf_ruleset.proofs.compiling.flat_rule.Goals as goal
 
@@ -15,6 +17,7 @@ returns-clause-stands c = λ placed at compiled light.
       binding = c.of_rule.ensures;
       last = refl;
       row = c.of.ensures;
-      program = subst (λ (p : PlacedRule). IsCompiled p.rule c.args.program) (sym same) compiled;
+      value = subst (λ (p : PlacedRule). IsProgramOf p.rule c.args.program) (sym same) compiled.value;
+      count = subst (λ (p : PlacedRule). length c.args.program ≡ program_length p.rule) (sym same) compiled.count;
       weight = subst IsLight (sym same) light;
     })

@@ -1,11 +1,13 @@
 use Rattle.std.proofs.Common.{◌≡◌, ◌<◌, ◌++◌, [], ◌∷◌, Some, List, length, take, slice_get, refl, subst, sym, ap, ◌∙◌, append-nil, rules}
+use Rattle.std.proofs.lemmas.Slice.Zip.{AllZip-long}
+use Rattle.std.specs.List.{AllZip}
 use Rattle.std.proofs.Math.Seq.{take-length}
 use Rattle.std.proofs.lemmas.List.{length-map}
 use Rattle.std.proofs.lemmas.Option.{slice_get-get_or}
-use Rattle.npf_model.specs.Verdict.{all_rules}
+use Rattle.npf_model.specs.Verdict.{PlacedRule, all_rules}
 use Rattle.npf_ruleset.specs.declared.flat.FlatRule.{FlatRule}
-use Rattle.npf_ruleset.specs.Flat.{IsFlatRule, IsPairwise, programs_of}
-use Rattle.npf_ruleset.proofs.PairLemmas.{pairs_of}
+use Rattle.npf_ruleset.specs.Flat.{IsCompiled, IsFlatRule, programs_of}
+use Rattle.npf_ruleset.specs.Layout.{StandsAt}
 use Rattle.npf_ruleset.proofs.CompileLemmas.{is_place, laid_more, left_more, rule_here, stands, within_places}
 use Rattle.npf_ruleset.proofs.compiling.lay_out.Goals as goal
 
@@ -15,7 +17,7 @@ empty (x ∷ xs) none = cc
 
 pub loop-program-init : goal.loop-program-init
 loop-program-init c = rw c.in_ok-rules.ensures.items (record {
-  laid = pairs_of (IsFlatRule c.args.groups.now) [] [] tt;
+  laid = tt;
   left = sym c.into_iter-program-iterator.ensures.into_iter_gives.0;
 })
 
@@ -23,7 +25,7 @@ pub offset_bounds-places-len : goal.offset_bounds-places-len
 offset_bounds-places-len c =
     let within = within_places c.args.groups.now c.args.places.now c.requires.places c.args.programs.items c.requires.programs c.loop-program.rules.items c.in-Some.program
     c.next.new.self.rest.items (c.loop-program.invariant.left ∙ ap (λ rest. programs_of c.loop-program.rules.items ++ rest) c.in-Some.ensures.steps.0) in
-    let many = c.requires.places.len in
+    let many = AllZip-long (StandsAt c.args.groups.now) (all_rules c.args.groups.now) c.args.places.now c.requires.places in
     search rules
 
 pub bounds-places-len : goal.bounds-places-len
@@ -63,10 +65,10 @@ pub returns-clause-rules : goal.returns-clause-rules
 returns-clause-rules c =
     let none = empty c.loop-program.program-iterator.rest.items (sym c.loop-program.program-iterator.rest.ok.0 ∙ c.in-None.ensures.steps.0) in
     let left = c.loop-program.invariant.left ∙ ap (λ rest. programs_of c.loop-program.rules.items ++ rest) none ∙ append-nil (programs_of c.loop-program.rules.items) in
-    let all = c.requires.programs.each.len in
+    let all = AllZip-long (λ (placed : PlacedRule). IsCompiled placed.rule) (all_rules c.args.groups.now) c.args.programs.items c.requires.programs.each in
     let flats = length-map c.loop-program.rules.items (λ (flat : FlatRule). flat.program) in
     let len : length c.loop-program.rules.items ≡ length (all_rules c.args.groups.now) = sym (ap length left ∙ flats) ∙ all in
-    subst (λ front. IsPairwise (IsFlatRule c.args.groups.now) front c.loop-program.rules.items)
+    subst (λ front. AllZip (IsFlatRule c.args.groups.now) front c.loop-program.rules.items)
     (ap (λ k. take k (all_rules c.args.groups.now)) len ∙ take-length (all_rules c.args.groups.now)) c.loop-program.invariant.laid
 
 pub returns-clause-programs : goal.returns-clause-programs

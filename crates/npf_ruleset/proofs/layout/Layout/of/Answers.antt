@@ -1,11 +1,11 @@
 use Rattle.std.proofs.Common.{◌≡◌, ◌<◌, ◌-◌, ℕ, Some, List, [], length, slice_get, take, get_or, refl, subst, sym, ap, ◌∙◌, arith}
+use Rattle.std.specs.List.{AllZip}
 use Rattle.std.proofs.Math.Seq.{take-length}
 use Rattle.std.proofs.lemmas.Option.{slice_get_read}
 use Rattle.npf_model.specs.Verdict.{all_rules, rules_of}
 use Rattle.npf_ruleset.specs.declared.flat.FlatGroup.{FlatGroup}
 use Rattle.npf_ruleset.specs.Flat.{IsFlatGroup}
 use Rattle.npf_ruleset.specs.Layout.{AddsPlaces, ArePlacesOf, rules_in_group}
-use Rattle.npf_ruleset.proofs.PairLemmas.{AreRelated, pairs_of}
 use Rattle.npf_ruleset.proofs.LayoutLemmas.{adds_both, adds_len, adds_none, group_related, next_part}
 use Rattle.npf_ruleset.proofs.layout.Layout.of.Goals as goal
 
@@ -15,7 +15,7 @@ read xs n x lt is = slice_get_read xs (length xs) n x refl lt is
 pub loop-number-init : goal.loop-number-init
 loop-number-init c = (
   subst (AddsPlaces c.args.groups.now [] []) (sym c.new.ensures.items) (adds_none c.args.groups.now []),
-  subst (AreRelated IsFlatGroup []) (sym c.in_ok-with_capacity.ensures.items) tt,
+  subst (AllZip IsFlatGroup []) (sym c.in_ok-with_capacity.ensures.items) tt,
 )
 
 pub loop-number-preserved : goal.loop-number-preserved
@@ -39,8 +39,7 @@ returns-clause-groups c =
     let end = c.loop-number.auto.number-end in let past = c.loop-number-test.false in
     let last : c.loop-number.number ≡ length c.args.groups.now = omega arith in
     let whole : take c.loop-number.number c.args.groups.now ≡ c.args.groups.now = ap (λ k. take k c.args.groups.now) last ∙ take-length c.args.groups.now in
-    pairs_of IsFlatGroup c.args.groups.now c.loop-number.layout.groups.items
-    (subst (λ groups. AreRelated IsFlatGroup groups c.loop-number.layout.groups.items) whole c.loop-number.invariant.1)
+    subst (λ groups. AllZip IsFlatGroup groups c.loop-number.layout.groups.items) whole c.loop-number.invariant.1
 
 pub returns-clause-places : goal.returns-clause-places
 returns-clause-places c =

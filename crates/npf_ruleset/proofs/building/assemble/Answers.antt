@@ -1,0 +1,34 @@
+use Rattle.std.proofs.Common.{◌≡◌, List, length, subst, sym, ap, ◌∙◌, arith}
+use Rattle.std.specs.List.{AllZip}
+use Rattle.std.proofs.lemmas.Slice.Zip.{AllZip-long}
+use Rattle.npf_model.specs.declared.group.Group.{Group}
+use Rattle.npf_model.specs.Verdict.{all_rules}
+use Rattle.npf_ruleset.specs.declared.flat.FlatGroup.{FlatGroup}
+use Rattle.npf_ruleset.specs.declared.flat.FlatRule.{FlatRule}
+use Rattle.npf_ruleset.specs.Flat.{IsFlatGroup, IsFlatRule}
+use Rattle.npf_ruleset.proofs.PairLemmas.{zip_each}
+use Rattle.npf_ruleset.proofs.building.assemble.Goals as goal
+
+pub invariant_of-result : goal.invariant_of-result
+invariant_of-result c =
+    let groups = c.args.model.groups in
+    let flat_groups = c.of_vec.result in
+    let rules = c.of_vec-2.result in
+    let for_groups : AllZip IsFlatGroup groups flat_groups =
+    subst (AllZip IsFlatGroup groups) (sym c.of_vec.ensures) (subst (λ (all : List Group). AllZip IsFlatGroup all c.in_ok-layout.layout.groups.items) c.as_slice.ensures c.in_ok-layout.ensures.groups) in
+    let for_rules : AllZip (IsFlatRule groups) (all_rules groups) rules =
+    subst (AllZip (IsFlatRule groups) (all_rules groups)) (sym c.of_vec-2.ensures)
+    (subst (λ (all : List Group). AllZip (IsFlatRule all) (all_rules all) c.in_ok-rules.rules.items) c.as_slice-2.ensures c.in_ok-rules.ensures.rules) in
+    let count = AllZip-long (IsFlatRule groups) (all_rules groups) rules for_rules in
+    let few_rules = c.requires.buildable.rules in
+    let few_maps = c.requires.buildable.maps in
+    record {
+      flat = record {
+        group_count = AllZip-long IsFlatGroup groups flat_groups for_groups;
+        each_group = zip_each IsFlatGroup groups flat_groups for_groups;
+        rule_count = count;
+        each_rule = zip_each (IsFlatRule groups) (all_rules groups) rules for_rules;
+      };
+      few_rules = omega arith;
+      few_maps = few_maps;
+    }
