@@ -1,4 +1,5 @@
 pub mod AddressLemmas
+pub mod AlignedLemmas
 pub mod CarriesLemmas
 pub mod ChainLemmas
 pub mod DecodedLemmas
@@ -10,6 +11,7 @@ pub mod NormalisedCarriedLemmas
 pub mod NormalisedDecodedLemmas
 pub mod NormalisedHeaderLemmas
 pub mod NormalisedLemmas
+pub mod NormalisedSumLemmas
 pub mod OptionLemmas
 pub mod PlacedLemmas
 pub mod PortLemmas

@@ -67,12 +67,12 @@ cleared-rest bytes ip a true =
     cleared-if (ip + 6) (slice_index bytes (ip + 6)) (slice_index bytes (ip + 6 + 1)) _ refl
 cleared-rest bytes ip a false = refl
 
-raised-v4 : (bytes : List ℕ) (ip a : ℕ) (least : Option ℕ)
+pub raised-v4 : (bytes : List ℕ) (ip a : ℕ) (least : Option ℕ)
     → Between (ip + 8) (ip + 10) (word_list (raised_ttl bytes ip (V4 a) least))
 raised-v4 bytes ip a (Some least) = chosen-between _ _ _ _ (omega arith) (omega arith)
 raised-v4 bytes ip a None = tt
 
-cleared-v4 : (bytes : List ℕ) (ip a : ℕ) (no_df : Bool)
+pub cleared-v4 : (bytes : List ℕ) (ip a : ℕ) (no_df : Bool)
     → Between (ip + 6) (ip + 8) (word_list (cleared_fragment bytes ip (V4 a) no_df))
 cleared-v4 bytes ip a true = chosen-between _ _ _ _ (omega arith) (omega arith)
 cleared-v4 bytes ip a false = tt

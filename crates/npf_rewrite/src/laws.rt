@@ -1,6 +1,7 @@
 // What holds of packets that are rewritten. The functions do nothing: each is a theorem.
 ghost use Rattle.npf_rewrite.specs.Lengths.{NormalisedKeepsLengths, SentKeepsLengths, TranslatedKeepsLengths};
 ghost use Rattle.npf_rewrite.specs.NormalisedFacts.{NormalisedDecodes};
+ghost use Rattle.npf_rewrite.specs.NormalisedVerified.{NormalisedHeaderFollows, NormalisedUpperFollows};
 ghost use Rattle.npf_rewrite.specs.Room.{DecodedHasRoom};
 ghost use Rattle.npf_rewrite.specs.TranslatedFacts.{TranslatedDecodes};
 ghost use Rattle.npf_rewrite.specs.Verified.{AbsentSumStays, HeaderSumFollows, NeutralHeaderSumFollows, NeutralUpperSumFollows, UpperSumFollows};
@@ -53,4 +54,11 @@ pub fn sent_keeps_lengths()
 /// A normalised packet decodes to the same facts.
 pub fn normalised_decodes()
     ensures { NormalisedDecodes }
+{}
+
+/// The sum of an IPv4 header and that of what is carried, where they verified, still verify in a
+/// normalised packet.
+pub fn normalised_sums_follow()
+    ensures header { NormalisedHeaderFollows }
+    ensures upper { NormalisedUpperFollows }
 {}
