@@ -6,6 +6,7 @@ use Rattle.std.proofs.lemmas.List.Sums.{sum_by-append, sum_by_push, sum_by-take-
 use mathlib.Core.Option.{some}
 use lib.ListN.{get_elem?}
 use Rattle.atomic_table.proofs.Lists.{at_set, at_snoc, set_else}
+use Rattle.npf_connections.specs.Worn.{last_epoch}
 use Rattle.npf_cells.specs.declared.views.Pin.{Pin}
 use Rattle.npf_cells.specs.declared.views.Pin.TheVariants.{Idle}
 use Rattle.npf_cells.specs.Cells.{idle_side}
@@ -18,6 +19,11 @@ use Rattle.npf_cells.proofs.SumLemmas.{sum-set}
 nothing_either : (b : Bool) (n : ℕ) → n ≡ 0 → cond b n 0 ≡ 0
 nothing_either true n e = e
 nothing_either false n e = refl
+
+-- no seat loaded an epoch past the last
+pub within_last : (now : ℕ) (reader : ℕ → ℕ) (readings : List ReaderView) → Epochs now reader readings → (j : ℕ) (r : ReaderView) → get_elem? readings j ≡ some r →
+    r.side.greatest ≤ last_epoch
+within_last now reader readings kept j r at = let known = (kept.each j r at).greatest in let most = kept.most in omega (arith, known, most)
 
 -- the reader words of a pass that isn't pinned are idle
 pub idle_holds : (r : ReaderView) → r.side.pin ≡ Idle → (place : ℕ) → reader_holds r place ≡ 0

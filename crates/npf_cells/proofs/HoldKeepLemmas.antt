@@ -34,7 +34,7 @@ use Rattle.npf_cells.specs.declared.views.CellView.{CellView}
 use Rattle.npf_cells.specs.declared.views.LoadedLeaf.{LoadedLeaf}
 use Rattle.npf_cells.specs.declared.views.PathPlace.{PathPlace}
 use Rattle.npf_cells.specs.declared.views.TrieSide.{TrieSide}
-use Rattle.npf_cells.specs.Cells.{seat_side, IsCells}
+use Rattle.npf_cells.specs.Cells.{seat_side, reader_view, IsCells}
 use Rattle.npf_cells.specs.Conns.{inc_word}
 use Rattle.npf_cells.specs.HoldKinds.{MayHoldSo, renewed, leaf_holder, meeting, taken_by, HasMetHolder, MeetsLeaf, HoldsAt, LoadsForHold}
 use Rattle.npf_cells.specs.LookKinds.{StandsOnPath, level_at, with_trie, sighting, descending, FitsLayout}
@@ -45,6 +45,7 @@ use Rattle.npf_cells.specs.Trie.{IsInTrie, place_at, cell_in, digits_of, TrieWor
 use Rattle.npf_cells.proofs.BuiltLemmas.{bare_in_log}
 use Rattle.npf_cells.proofs.ConnLemmas.{BuildsIn, builds-kept, unstored-set}
 use Rattle.npf_cells.proofs.EntryLemmas.{adds_entry, sole_entries}
+use Rattle.npf_cells.proofs.EpochLemmas.{within_last}
 use Rattle.npf_cells.proofs.Frames.{entry_step}
 use Rattle.npf_cells.proofs.LookKeepLemmas.{some_same, load_step, on, sees, fits_table, shallow}
 use Rattle.npf_cells.proofs.PoolLemmas.{pools-same, taken-set}
@@ -192,6 +193,7 @@ module _ {S A R F : Type 0} (m : Meaning S A R) (digest : Key → ℕ) (layout :
                 unanswered = λ out. absurd (true≢false (sym (pinned_in me.0.epochs.pin stays) ∙ out));
                 idle = λ out. absurd (true≢false (sym (pinned_in me.0.epochs.pin stays) ∙ out));
                 alone = sole_entries layout.slots kept.log (map seat_side s.views) id me.0 kept.seats there lives place entry refl settled;
+                most = within_last _ _ _ kept.epochs id (reader_view me.0) (at_map reader_view s.views id me.0 at);
               };
               is = refl;
             }

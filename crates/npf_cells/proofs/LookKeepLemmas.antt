@@ -35,7 +35,7 @@ use Rattle.npf_cells.specs.declared.views.LoadedLeaf.{LoadedLeaf}
 use Rattle.npf_cells.specs.declared.views.PathPlace.{PathPlace}
 use Rattle.npf_cells.specs.declared.views.SeenCell.{SeenCell}
 use Rattle.npf_cells.specs.declared.views.TrieSide.{TrieSide}
-use Rattle.npf_cells.specs.Cells.{seat_side, IsCells}
+use Rattle.npf_cells.specs.Cells.{seat_side, reader_view, IsCells}
 use Rattle.npf_cells.specs.Conns.{inc_word}
 use Rattle.npf_cells.specs.Layout.{root_at, key_field, field_at}
 use Rattle.npf_cells.specs.LookKinds.{StandsOnPath, level_of, level_at, with_trie, descending, TellsHolder, looked, HasLooked, FitsLayout, LooksAt, LoadsPlace, reading, LoadsKey}
@@ -45,6 +45,7 @@ use Rattle.npf_cells.specs.Seats.{FitsSeats}
 use Rattle.npf_cells.specs.Trie.{IsInTrie, place_at, cell_in, key_in, digits_of, TrieWords, trie_words, holder_at, StaysLeaf, StaysSighted, FitsTrie, Trie}
 use Rattle.npf_cells.proofs.ConnLemmas.{builds-kept, unstored-set}
 use Rattle.npf_cells.proofs.EntryLemmas.{adds_entry, sole_entries}
+use Rattle.npf_cells.proofs.EpochLemmas.{within_last}
 use Rattle.npf_cells.proofs.Frames.{conns_apart, stored_apart, locks_apart, entry_step, private_step}
 use Rattle.npf_cells.proofs.PrefixLemmas.{cons_cases}
 use Rattle.npf_cells.proofs.PoolLemmas.{pools-same, taken-set}
@@ -204,6 +205,7 @@ module _ {S A R F : Type 0} (m : Meaning S A R) (digest : Key → ℕ) (layout :
         unanswered = λ out. absurd (true≢false (sym (pinned_in me.0.epochs.pin stays) ∙ out));
         idle = λ out. absurd (true≢false (sym (pinned_in me.0.epochs.pin stays) ∙ out));
         alone = sole_entries layout.slots kept.log (map seat_side s.views) id me.0 kept.seats there lives place entry refl settled;
+        most = within_last _ _ _ kept.epochs id (reader_view me.0) (at_map reader_view s.views id me.0 at);
       };
       tells = subst (λ x. TellsHolder (t.cell p) key x me.0.trie.leaf (leaf_after t (t.cell p) me.0.trie.leaf)) (sym (kept.trie.ends key level p (record { on_path = on; is_end = end }))) (tells t (λ slot way. refl) (t.cell p) key me.0.trie.leaf end);
       is = refl;

@@ -27,7 +27,7 @@ use Rattle.npf_cells.specs.Pools.{taken, OwnsNothing}
 use Rattle.npf_cells.specs.Seats.{Seats}
 use Rattle.npf_cells.specs.Stored.{FitsStored}
 use Rattle.npf_cells.specs.Trie.{TrieWords, trie_words, FitsTrie}
-use Rattle.npf_cells.proofs.EpochLemmas.{epochs-split, epochs-join}
+use Rattle.npf_cells.proofs.EpochLemmas.{epochs-split, epochs-join, within_last}
 use Rattle.npf_cells.proofs.ConnLemmas.{fits_nothing, owes_nothing, builds-set, builds-kept, builds-push, unstored-set, unstored-push, conns-same}
 use Rattle.npf_cells.proofs.Frames.{pushed_side, merged_side, framed, seats_step, spent-set, spent-push}
 use Rattle.npf_cells.proofs.LockLemmas.{locks-same, holders-set, holders-push}
@@ -152,6 +152,7 @@ module _ {S A R F : Type 0} (m : Meaning S A R) (digest : Key → ℕ) (layout :
           apart = λ j c e. unspent layout.slots kept.log sides id j v.seats there place (fits.theirs j c).spent (e ∙ seated.number);
           legal = Legal-prefix m v.seats.slots long.history kept.log long.within (rw (fits.sized place) kept.connections.legal);
           most = most_places layout.slots kept.log sides id v.seats kept.seats there lives;
+          epoch = within_last _ _ _ kept.epochs id (reader_view v) (at_map reader_view s.views id v at);
           sole = λ all j. ⊎_elim
               (λ none. inl (none_in_prefix j long.history kept.log long.within none))
               (λ seat. inr (⊎_elim (λ e. inl (e ∙ sym seated.number)) (λ c. inr c) (only_seat layout.slots kept.log sides id v.seats kept.seats there lives all j seat)))
@@ -210,6 +211,7 @@ module _ {S A R F : Type 0} (m : Meaning S A R) (st : Step F) (v w : CellView S 
     unanswered = λ _. answered;
     idle = λ _. builds;
     alone = λ all e c. ⊎_elim (λ none. absurd (seen_entry l.history e none (rw view at c))) (λ own. own) (l.sole (sym (ap (λ (y : CellView S A R). length y.seats.readers) view) ∙ all) e.seat);
+    most = rw view l.epoch;
   }
     where
       answered : next.0.trie.answered ≡ []
@@ -231,6 +233,7 @@ given_pass m st v found given places born =
       unanswered = λ _. refl;
       idle = λ _. refl;
       alone = λ all. absurd (omega (arith, dropped, all));
+      most = omega arith;
     })
 
 -- the pass that gave a place up, the new one, and the one that took another in are passes of the table

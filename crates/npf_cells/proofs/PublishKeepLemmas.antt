@@ -56,6 +56,7 @@ use Rattle.npf_cells.proofs.AgainKeepLemmas.{stands_there}
 use Rattle.npf_cells.proofs.BuiltLemmas.{bare_in_log}
 use Rattle.npf_cells.proofs.ConnLemmas.{BuildsIn, builds-kept, unstored-set, inc_shown}
 use Rattle.npf_cells.proofs.EntryLemmas.{adds_entry, sole_entries}
+use Rattle.npf_cells.proofs.EpochLemmas.{within_last}
 use Rattle.npf_cells.proofs.FillLemmas.{FillsFor, fills_place, trie_filled}
 use Rattle.npf_cells.proofs.Frames.{spent-set, framed, epochs_apart}
 use Rattle.npf_cells.proofs.GivenLemmas.{GivesKey, fits_still, place_lock, locks_alone, others-fit}
@@ -220,6 +221,7 @@ module _ {S A R F : Type 0} (m : Meaning S A R) (digest : Key → ℕ) (layout :
         unanswered = λ out. refl;
         idle = λ out. absurd (true≢false (sym (pinned_in me.0.epochs.pin stays) ∙ out));
         alone = sole_entries layout.slots kept.log (map seat_side s.views) id me.0 kept.seats there lives place entry refl settled;
+        most = within_last _ _ _ kept.epochs id (reader_view me.0) (at_map reader_view s.views id me.0 at);
       };
       is = refl;
     }

@@ -26,7 +26,7 @@ use Rattle.npf_cells.specs.declared.layout.Pool.TheVariants.{Slots, Nodes}
 use Rattle.npf_cells.specs.declared.views.CellView.{CellView}
 use Rattle.npf_cells.specs.declared.views.Pin.{Pin}
 use Rattle.npf_cells.specs.declared.views.Pin.TheVariants.{Idle, Pinned, Protected}
-use Rattle.npf_cells.specs.Cells.{seat_side, IsCells}
+use Rattle.npf_cells.specs.Cells.{seat_side, reader_view, IsCells}
 use Rattle.npf_cells.specs.Conns.{inc_word}
 use Rattle.npf_cells.specs.Layout.{place_word}
 use Rattle.npf_cells.specs.Passes.{is_pinned, IsProtected, cell_pass}
@@ -36,6 +36,7 @@ use Rattle.npf_cells.specs.Stored.{IsOwnField, FitsStored}
 use Rattle.npf_cells.specs.SlotKinds.{claiming_slot, HasClaimed, ClaimsSlot}
 use Rattle.npf_cells.proofs.ConnLemmas.{BuildsIn}
 use Rattle.npf_cells.proofs.EntryLemmas.{adds_entry, sole_entries}
+use Rattle.npf_cells.proofs.EpochLemmas.{within_last}
 use Rattle.npf_cells.proofs.Frames.{pools_step, entry_step}
 use Rattle.npf_cells.proofs.PoolKeepLemmas.{pool_step, stood_so}
 use Rattle.npf_cells.proofs.PoolLemmas.{pools-set, taken-set}
@@ -117,6 +118,7 @@ module _ {S A R F : Type 0} (m : Meaning S A R) (digest : Key → ℕ) (layout :
         unanswered = λ out. absurd (true≢false (sym (pinned_in me.0.epochs.pin stays) ∙ out));
         idle = λ out. absurd (true≢false (sym (pinned_in me.0.epochs.pin stays) ∙ out));
         alone = sole_entries layout.slots kept.log (map seat_side s.views) id me.0 kept.seats there lives place entry refl settled;
+        most = within_last _ _ _ kept.epochs id (reader_view me.0) (at_map reader_view s.views id me.0 at);
       };
       is = refl;
     }

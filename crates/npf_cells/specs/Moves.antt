@@ -5,6 +5,7 @@ use Rattle.npf_core.specs.declared.entry.Entry.{Entry}
 use Rattle.npf_core.specs.History.{Legal, IsPrefix, by}
 use Rattle.npf_core.specs.Meaning.{Meaning}
 use Rattle.npf_connections.specs.Pass.{IsOwn, all_places}
+use Rattle.npf_connections.specs.Worn.{last_epoch}
 use Rattle.npf_cells.specs.declared.views.CellView.{CellView}
 use Rattle.npf_cells.specs.declared.views.EpochSide.{EpochSide}
 use Rattle.npf_cells.specs.declared.views.PoolSide.{PoolSide}
@@ -102,4 +103,5 @@ pub record HasRead {S A R F : Type 0} (m : Meaning S A R) (step : Step F) (me : 
   pub apart : (n : ℕ) → Contains me.0.seats.theirs n → n ≢ me.0.seats.number
   pub legal : Legal m me.0.seats.slots history
   pub most : length me.0.seats.readers ≤ all_places
+  pub epoch : me.0.epochs.greatest ≤ last_epoch
   pub sole : length me.0.seats.readers ≡ all_places → (n : ℕ) → (by n history ≡ []) ⊎ IsOwn (cell_pass next.0) n

@@ -4,7 +4,7 @@ use Rattle.std.specs.List.{AllPairs, AllZip, sum_by}
 use Rattle.std.specs.Str.{IsUtf8}
 use Rattle.std.specs.declared.sync.Arc.{Arc}
 use Rattle.std.specs.Arc.{arc_value}
-use Rattle.npf_types.specs.declared.limits.TheConstants.{MAX_TABLE_ENTRIES}
+use Rattle.npf_types.specs.declared.limits.TheConstants.{MAX_TABLE_ENTRIES, MAX_TEXT_BYTES}
 use Rattle.npf_types.specs.declared.prefix.Prefix.{Prefix}
 use Rattle.npf_types.specs.declared.span.Span.{Span}
 use Rattle.npf_model.specs.declared.table.TableDecl.{TableDecl}
@@ -23,10 +23,10 @@ abbrev pub entry_count : Tables → ℕ
 entry_count tables = sum_by length tables
 
 module _ (contents : Option FileTree) where
-  -- what a table's entries are read from: its file, or nothing
+  -- what a table's entries are read from: its file, which has at most as many bytes as a text may, or nothing
   abbrev pub IsTableText : Option (List ℕ) → List ℕ → Type 0
   IsTableText None text = text ≡ []
-  IsTableText (Some name) text = Has contents name text
+  IsTableText (Some name) text = Has contents name text × (length text ≤ MAX_TEXT_BYTES)
 
   -- the entries that a declared table begins with, each once
   pub record AreFirstEntries (decl : TableDecl) (entries : List Prefix) : Type 0 where

@@ -1,4 +1,5 @@
 pub mod AddLemmas
 pub mod RecordLemmas
+pub mod RestLemmas
 pub mod SaidLemmas
 pub mod StayLemmas

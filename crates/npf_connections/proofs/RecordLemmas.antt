@@ -1,10 +1,10 @@
 -- What the records of passes refuse.
-use Rattle.std.proofs.Common.{◌≡◌, List, [], ◌∷◌, ◌++◌, refl, inl, inr, rules}
+use Rattle.std.proofs.Common.{◌≡◌, List, [], ◌∷◌, ◌++◌, refl, inl, inr, arith, rules}
 use Rattle.npf_core.specs.declared.entry.Entry.{Entry}
 use Rattle.npf_core.specs.History.{by}
 use Rattle.npf_core.specs.Meaning.{Meaning}
 use Rattle.npf_connections.specs.Pass.{IsOwn}
-use Rattle.npf_connections.specs.RecordLaw.{ListedAddNothing, EndsWithOwn, SoleIsAlone, look_by, resting}
+use Rattle.npf_connections.specs.RecordLaw.{ListedAddNothing, EndsWithOwn, SoleIsAlone, EpochsEnd, look_by, resting}
 
 -- a list of one item is no other list
 head : {E : Type 0} (x y : E) (before : List E) → x ∷ [] ≡ before ++ y ∷ [] → x ≡ y
@@ -34,3 +34,6 @@ sole_is_alone {S} {A} {R} m key pass = by_owner (pass.alone refl (look_by 2 key)
     by_owner : IsOwn (resting {E = Entry S A R} 1 [] 66 []) 2 → ⊥
     by_owner (inl e) = absurd cc
     by_owner (inr c) = absurd (search rules)
+
+pub epochs_end : {S A R : Type 0} (m : Meaning S A R) → EpochsEnd m
+epochs_end m pass = let most = pass.most in absurd (omega (arith, most))

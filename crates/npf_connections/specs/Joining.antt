@@ -1,9 +1,24 @@
 -- How passes are split and joined.
-use Rattle.std.specs.Prelude.{◌≡◌, ◌≢◌, ℕ, ◌+◌, ◌-◌, max, false, ◌⊎◌, [], ◌∷◌, ◌++◌, Contains}
+use Rattle.std.specs.Prelude.{◌≡◌, ◌≢◌, ℕ, ◌+◌, ◌-◌, max, false, ◌⊎◌, List, [], ◌∷◌, ◌++◌, Contains}
 use Rattle.npf_core.specs.declared.entry.Entry.{Entry}
 use Rattle.npf_core.specs.History.{IsPrefix, by}
 use Rattle.npf_connections.specs.Adding.{Adds}
 use Rattle.npf_connections.specs.Pass.{Pass}
+
+-- a pass that has done nothing and owns one reader place
+abbrev pub new_pass : {E : Type 0} → ℕ → ℕ → List E → Pass E
+new_pass slots number history = record {
+  slots = slots;
+  number = number;
+  history = history;
+  entered = false;
+  answered = [];
+  builds = [];
+  places = 1;
+  joined = [];
+  sweeps = 0;
+  epoch = 0;
+}
 
 -- a pass gives up one of its reader places to a new pass of the same history, whose number has no entry and was never joined
 pub record IsSplit {S A R : Type 0} (old now given : Pass (Entry S A R)) : Type 0 where
@@ -12,18 +27,7 @@ pub record IsSplit {S A R : Type 0} (old now given : Pass (Entry S A R)) : Type 
   pub another : given.number ≢ old.number
   pub unlisted : ¬ Contains old.joined given.number
   pub unused : by given.number now.history ≡ []
-  pub gives : given ≡ record {
-    slots = old.slots;
-    number = given.number;
-    history = now.history;
-    entered = false;
-    answered = [];
-    builds = [];
-    places = 1;
-    joined = [];
-    sweeps = 0;
-    epoch = 0;
-  }
+  pub gives : given ≡ new_pass old.slots given.number now.history
 
 -- a pass takes another of its table in, and with it its reader places. It holds the longer of both histories, and in it stand
 -- the entries of either and of those that were joined into either, as each of them had seen its own

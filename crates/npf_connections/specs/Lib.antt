@@ -9,6 +9,7 @@ pub mod Expiring
 pub mod Joining
 pub mod Pass
 pub mod RecordLaw
+pub mod Rest
 pub mod Said
 pub mod SaidLaw
 pub mod StayLaw

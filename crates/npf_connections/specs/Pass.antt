@@ -1,11 +1,12 @@
 -- What a pass of a table shows.
-use Rattle.std.specs.Prelude.{◌≡◌, ℕ, Bool, false, ◌⊎◌, List, [], Contains}
+use Rattle.std.specs.Prelude.{◌≡◌, ℕ, ◌≤◌, Bool, false, ◌⊎◌, List, [], Contains}
 use Rattle.npf_core.specs.declared.conn_id.ConnId.{ConnId}
 use Rattle.npf_core.specs.declared.entry.Entry.{Entry}
 use Rattle.npf_core.specs.declared.stage.Stage.TheVariants.{Building}
 use Rattle.npf_core.specs.History.{Legal, state_of}
 use Rattle.npf_core.specs.Machine.{stage_of, IsClaimed}
 use Rattle.npf_core.specs.Meaning.{Meaning}
+use Rattle.npf_connections.specs.Worn.{last_epoch}
 
 -- its table's number of slots; the number under which its entries stand; the history that it has seen; whether it is entered;
 -- the identities that it was answered in this stay, and those that it is building; how many reader places it owns; the
@@ -32,8 +33,8 @@ abbrev pub IsOwn : {E : Type 0} → Pass E → ℕ → Type 0
 IsOwn pass seat = (seat ≡ pass.number) ⊎ Contains pass.joined seat
 
 -- its history is legal; what it was answered in this stay is claimed, so it wasn't freed since; what it builds is Building
--- under its number; outside a stay it was answered nothing and builds nothing; and where it owns all reader places, each entry
--- is its own or that of a pass which was joined into it
+-- under its number; outside a stay it was answered nothing and builds nothing; where it owns all reader places, each entry is
+-- its own or that of a pass which was joined into it; and it loaded no epoch past the last
 pub record IsPass {S A R : Type 0} (m : Meaning S A R) (pass : Pass (Entry S A R)) : Type 0 where
   pub legal : Legal m pass.slots pass.history
   pub stays : (id : ConnId) → Contains pass.answered id → IsClaimed (stage_of (state_of m pass.history) id)
@@ -41,6 +42,7 @@ pub record IsPass {S A R : Type 0} (m : Meaning S A R) (pass : Pass (Entry S A R
   pub unanswered : pass.entered ≡ false → pass.answered ≡ []
   pub idle : pass.entered ≡ false → pass.builds ≡ []
   pub alone : pass.places ≡ all_places → (entry : Entry S A R) → Contains pass.history entry → IsOwn pass entry.seat
+  pub most : pass.epoch ≤ last_epoch
 
 -- the pass was answered the identity in this stay, or is building it
 abbrev pub Knows : {E : Type 0} → Pass E → ConnId → Type 0

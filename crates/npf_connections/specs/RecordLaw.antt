@@ -1,5 +1,5 @@
 -- What the records of passes refuse, by one example each.
-use Rattle.std.specs.Prelude.{ℕ, false, List, [], ◌∷◌, None}
+use Rattle.std.specs.Prelude.{ℕ, ◌+◌, false, List, [], ◌∷◌, None}
 use Rattle.npf_types.specs.declared.key.Key.{Key}
 use Rattle.npf_core.specs.declared.act.Act.TheVariants.{Look, Claim}
 use Rattle.npf_core.specs.declared.conn_id.ConnId.{ConnId}
@@ -9,6 +9,7 @@ use Rattle.npf_core.specs.Meaning.{Meaning}
 use Rattle.npf_connections.specs.Adding.{Adds, AddsOwn}
 use Rattle.npf_connections.specs.Joining.{IsSplit, IsJoined}
 use Rattle.npf_connections.specs.Pass.{Pass, IsPass}
+use Rattle.npf_connections.specs.Worn.{last_epoch}
 
 -- a pass outside a stay
 abbrev pub resting : {E : Type 0} → ℕ → List E → ℕ → List ℕ → Pass E
@@ -56,6 +57,10 @@ RestsUnanswered m = ¬ IsPass m (record (resting 1 (first_claim ∷ []) 66 []) {
 
 abbrev pub RestsIdle : {S A R : Type 0} → Meaning S A R → Type 0
 RestsIdle m = ¬ IsPass m (record (resting 1 (first_claim ∷ []) 66 []) { builds = first_id ∷ [] })
+
+-- no pass loaded an epoch past the last
+abbrev pub EpochsEnd : {S A R : Type 0} → Meaning S A R → Type 0
+EpochsEnd m = ¬ IsPass m (record (resting 1 [] 66 []) { epoch = last_epoch + 1 })
 
 -- no split gives the number 2 again, whose pass was joined into this one
 abbrev pub NumbersAreNew : (S A R : Type 0) → Type 0

@@ -1,4 +1,4 @@
-use npf_core::{ConnId, Entry, Found, Held, Law, Stepped};
+use npf_core::{ConnId, Entry, Found, Held, Kept, Law, Stepped};
 use npf_types::{Key, Way};
 use std::sync::Wait;
 
@@ -7,11 +7,12 @@ use std::sync::Wait;
 /// A pass is a thread's sight of the table. Each call wants a pass of this table (`own`) that is as a pass is (`legal`), and
 /// leaves it so; `adds` names the entries by which the pass's history goes on, and `view` all that the pass shows after it.
 pub trait Connections<L: Law>: Sync {
-    ghost use Rattle.std.specs.Prelude.{◌≡◌, ◌≤◌, ◌+◌, true, false, ◌++◌, ◌∷◌, [], Contains};
+    ghost use Rattle.std.specs.Prelude.{◌≡◌, ◌<◌, ◌≤◌, ◌+◌, true, false, ◌++◌, ◌∷◌, [], Contains};
     ghost use Rattle.npf_core.specs.declared.act.Act.TheVariants.{Look, Step, Start};
     ghost use Rattle.npf_core.specs.declared.entry.Entry.{Entry};
     ghost use Rattle.npf_core.specs.declared.held.Held.{Held};
     ghost use Rattle.npf_core.specs.declared.reply.Reply.TheVariants.{Nothing, ToLook, ToStep};
+    ghost use Rattle.npf_core.specs.Copying.{Copies};
     ghost use Rattle.npf_core.specs.History.{state_of};
     ghost use Rattle.npf_core.specs.Machine.{HoldsNone};
     ghost use Rattle.npf_connections.specs.Abandoning.{Abandons};
@@ -22,7 +23,7 @@ pub trait Connections<L: Law>: Sync {
     ghost use Rattle.npf_connections.specs.Entries.{entry_of, claim_entries, hold_entries};
     ghost use Rattle.npf_connections.specs.Expiring.{Expires};
     ghost use Rattle.npf_connections.specs.Joining.{IsSplit, IsJoined};
-    ghost use Rattle.npf_connections.specs.Pass.{Pass, IsPass, Knows};
+    ghost use Rattle.npf_connections.specs.Pass.{Pass, IsPass, Knows, all_places};
     ghost use Rattle.npf_connections.specs.Ways.{KeepsWays, KeepsBare};
 
     /// What a thread calls the table with.
@@ -33,6 +34,10 @@ pub trait Connections<L: Law>: Sync {
 
     /// The pass is one of this table.
     ghost fits: { Self → Self.Pass → Type 0 };
+
+    /// How many slots the table has: each of its passes shows so many.
+    fn slots(&self) -> u32
+        ensures { (pass : Self.Pass) → fits self.now pass → (view pass).slots ≡ result };
 
     /// Begins a stay.
     fn enter(&self, rt: &impl Wait, pass: &mut Self::Pass)
@@ -91,7 +96,7 @@ pub trait Connections<L: Law>: Sync {
         ensures epoch { (view pass.old).epoch ≤ (view pass.new).epoch };
 
     /// A new connection, which is Building under this pass and holds no key. None means full: each slot was claimed at some
-    /// point of this call.
+    /// point of the pass's history from what it had seen before this call on.
     fn begin(&self, rt: &impl Wait, pass: &mut Self::Pass, n: u64) -> Option<ConnId>
         requires own { fits self.now pass.old }
         requires legal { IsPass L.meaning (view pass.old) }
@@ -147,8 +152,8 @@ pub trait Connections<L: Law>: Sync {
         ensures view { view pass.new ≡ record (view pass.old) { history = (view pass.new).history; builds = without id (view pass.old).builds; epoch = (view pass.new).epoch } }
         ensures epoch { (view pass.old).epoch ≤ (view pass.new).epoch };
 
-    /// Kills connections that are due at that time, gives up their keys, and answers how many it killed. One that was Live
-    /// before the call and isn't killed by it was not due at some point of it.
+    /// Kills connections that are due at that time, gives up their keys, and answers how many it killed. One that was Live in
+    /// what the pass had seen before the call and isn't killed by it was not due at some point of the history from there on.
     fn expire(&self, rt: &impl Wait, pass: &mut Self::Pass, now: u64) -> u64
         requires own { fits self.now pass.old }
         requires legal { IsPass L.meaning (view pass.old) }
@@ -170,6 +175,19 @@ pub trait Connections<L: Law>: Sync {
         ensures clean { IsClean L.meaning (view pass.new) }
         ensures view { view pass.new ≡ record (view pass.old) { history = (view pass.new).history; epoch = (view pass.new).epoch } }
         ensures epoch { (view pass.old).epoch ≤ (view pass.new).epoch };
+
+    /// A copy of the slot's connection, with the keys that it holds. None exactly where none is Live there. The call adds no entry;
+    /// the pass owns all reader places, so no other is left.
+    fn copy_slot(&self, rt: &impl Wait, pass: &mut Self::Pass, slot: u32) -> Option<Kept<L::State>>
+        requires own { fits self.now pass.old }
+        requires legal { IsPass L.meaning (view pass.old) }
+        requires out { (view pass.old).entered ≡ false }
+        requires sole { (view pass.old).places ≡ all_places }
+        requires exists { slot < (view pass.old).slots }
+        ensures own { fits self.now pass.new }
+        ensures legal { IsPass L.meaning (view pass.new) }
+        ensures same { view pass.new ≡ view pass.old }
+        ensures copies { Copies (state_of L.meaning (view pass.old).history) slot result };
 
     /// Gives one of the pass's reader places to a new pass, which has seen the same history.
     fn split(&self, rt: &impl Wait, pass: &mut Self::Pass) -> Self::Pass

@@ -1,6 +1,6 @@
 // What holds of every pass of every table. The functions do nothing: each is a theorem.
 ghost use Rattle.npf_connections.specs.AddLaw.{BeginsWithOld, GoesOnByOwn, AddsMore, AddsAlone};
-ghost use Rattle.npf_connections.specs.RecordLaw.{ListedAddNothing, EndsWithOwn, SoleIsAlone, RestsUnanswered, RestsIdle, NumbersAreNew, JoinsAnother, JoinsOneTable};
+ghost use Rattle.npf_connections.specs.RecordLaw.{ListedAddNothing, EndsWithOwn, SoleIsAlone, RestsUnanswered, RestsIdle, EpochsEnd, NumbersAreNew, JoinsAnother, JoinsOneTable};
 ghost use Rattle.npf_connections.specs.SaidLaw.{DidNothing, DidMore, DidAbandon};
 ghost use Rattle.npf_connections.specs.StayLaw.{KnownIsNotFreed, ClaimedHoldsNone, HoldingKeepsWays, HoldingKeepsBare};
 
@@ -24,14 +24,15 @@ pub fn stay_law<L: Law>()
 {}
 
 /// What the records refuse: an entry under the number of a pass that was joined, an end by another's entry, an unknown entry in the
-/// history of a pass that owns all reader places, answers and building outside a stay, a number that is given again, and a
-/// join with itself or across tables.
+/// history of a pass that owns all reader places, answers and building outside a stay, an epoch past the last, a number that is
+/// given again, and a join with itself or across tables.
 pub fn record_law<L: Law>()
     ensures listed { ListedAddNothing L.State L.Arg L.Reply }
     ensures ends { EndsWithOwn L.State L.Arg L.Reply }
     ensures alone { SoleIsAlone L.meaning }
     ensures unanswered { RestsUnanswered L.meaning }
     ensures idle { RestsIdle L.meaning }
+    ensures epochs { EpochsEnd L.meaning }
     ensures numbers { NumbersAreNew L.State L.Arg L.Reply }
     ensures another { JoinsAnother L.State L.Arg L.Reply }
     ensures tables { JoinsOneTable L.State L.Arg L.Reply }

@@ -1,6 +1,7 @@
 pub mod Allowed
 pub mod BuildingLaw
 pub mod ClaimedLaw
+pub mod Copying
 pub mod History
 pub mod HistoryLaw
 pub mod HolderLaw

@@ -43,31 +43,56 @@ const ACTION: Action = Action {
 
 pub fn answer(alloc: Global, flow: &mut Flow, words: &[&str]) -> Result<String> {
     match *words {
-        ["open", seconds, ref segment @ ..] => {
-            *flow = opened_flow(parse_seconds(seconds)?, parse_packet(segment)?);
+        ["open", "strict", ref packet @ ..] => {
+            *flow = opened_flow(parse_arg(packet)?, true);
+            kind_text(alloc, flow)
+        }
+        ["open", ref packet @ ..] => {
+            *flow = opened_flow(parse_arg(packet)?, false);
             kind_text(alloc, flow)
         }
         ["due", kind, ref times @ ..] => {
             let flow = Flow {
                 kind: parse_kind(kind)?,
-                ..opened_flow(100 * SECOND, None)
+                ..opened_flow(bare_packet(100 * SECOND), false)
             };
             due_text(alloc, &flow, times)
         }
-        [way, seconds, ref segment @ ..] => {
+        ["peek", way, ref packet @ ..] => {
             let arg = FlowArg {
-                now: parse_seconds(seconds)?,
-                seg: parse_packet(segment)?,
+                peek: true,
+                ..parse_arg(packet)?
             };
             step_text(alloc, flow, parse_way(way)?, &arg)
         }
-        _ => Err(anyhow!("no such row of a flow")),
+        [way, ref packet @ ..] => { step_text(alloc, flow, parse_way(way)?, &parse_arg(packet)?) }
+        [] => Err(anyhow!("no row of a flow")),
     }
 }
 
-/// The flow that packet 7 opens at this time.
-pub fn opened_flow(now: u64, seg: Option<Segment>) -> Flow {
-    open_flow(FlowArg { now, seg }, 7, THERE, BACK, ACTION)
+/// The flow that packet 7 opens by this.
+pub fn opened_flow(arg: FlowArg, strict: bool) -> Flow {
+    open_flow(arg, strict, 7, THERE, BACK, ACTION)
+}
+
+/// What a packet without a segment brings at this time.
+pub fn bare_packet(now: u64) -> FlowArg {
+    FlowArg {
+        now,
+        seg: None,
+        peek: false,
+    }
+}
+
+/// What a packet brings, `SECONDS` and its segment, if it has one.
+fn parse_arg(words: &[&str]) -> Result<FlowArg> {
+    let [seconds, ref segment @ ..] = *words else {
+        return Err(anyhow!("a packet of a flow is SECONDS and maybe SEGMENT"));
+    };
+    Ok(FlowArg {
+        seg: parse_packet(segment)?,
+        ..bare_packet(parse_seconds(seconds)?)
+    })
 }
 
 fn parse_seconds(word: &str) -> Result<u64> {
@@ -109,7 +134,7 @@ fn due_by<L: Law>(state: &L::State, now: u64) -> bool {
 }
 
 /// What a packet makes of the flow, whether it is accepted, which way it is changed, and the flow's last time in nanoseconds. All
-/// else must stay as the flow's opening made it.
+/// else must stay as the flow's opening made it, and at a packet that only peeks the whole flow.
 fn step_text(alloc: Global, flow: &mut Flow, way: Way, arg: &FlowArg) -> Result<String> {
     let (next, reply) = step_by::<FlowLaw>(flow, way, arg);
     let rest = Flow {
@@ -117,9 +142,10 @@ fn step_text(alloc: Global, flow: &mut Flow, way: Way, arg: &FlowArg) -> Result<
         last: next.last,
         ..*flow
     };
-    let accepted = match (reply.pass, next == rest, next == *flow) {
-        (true, true, _) => "accepted",
-        (false, _, true) => "refused",
+    let accepted = match (arg.peek, reply.pass, next == rest, next == *flow) {
+        (true, true, _, true) => "peeked",
+        (false, true, true, _) => "accepted",
+        (false, false, _, true) => "refused",
         _ => "changed where it stays",
     };
     *flow = next;

@@ -2,7 +2,7 @@
 
 use crate::words::parse_addr;
 use anyhow::{Context, Result, anyhow};
-use npf_key::{key_of, keys_of, port_key};
+use npf_key::{fitting, key_between, key_of, keys_of, named_port, port_key, shares_family};
 use npf_types::{Addr, Change, End, Facts, IfId, Key, L4, Segment};
 use std::alloc::Global;
 
@@ -20,6 +20,16 @@ pub fn answer(alloc: Global, words: &[&str]) -> Result<String> {
             let (_, backward) = keys_of(&parse_packet(packet)?, IfId(ifid.parse()?), &there);
             key_text(alloc, backward)
         }
+        ["between", ifid, proto, src, sport, dst, dport] => {
+            let ifid = IfId(ifid.parse()?);
+            let (src, dst) = (parse_addr(src)?, parse_addr(dst)?);
+            let (sport, dport) = (sport.parse()?, dport.parse()?);
+            key_text(
+                alloc,
+                key_between(proto.parse()?, src, sport, dst, dport, ifid),
+            )
+        }
+        ["named", addr, end] => named_text(alloc, parse_addr(addr)?, &parse_end(end)?),
         ["port", addr, port] => key_text(alloc, port_key(parse_addr(addr)?, port.parse()?)),
         _ => Err(anyhow!("no such row of a key")),
     }
@@ -29,6 +39,20 @@ pub fn answer(alloc: Global, words: &[&str]) -> Result<String> {
 fn key_text(alloc: Global, key: Key) -> Result<String> {
     let Key([first, a, b, c, d]) = key;
     Ok(format!(in alloc; "{first:016x} {a:x} {b:x} {c:x} {d:x}")?)
+}
+
+/// What a change names by this end for a packet of the family of `addr`.
+fn named_text(alloc: Global, addr: Addr, end: &Option<End>) -> Result<String> {
+    match (fitting(addr, end), named_port(end)) {
+        (Some(end), Some(port)) if shares_family(addr, end.addr) => {
+            Ok(format!(in alloc; "its address and the port {port}")?)
+        }
+        (Some(end), None) if shares_family(end.addr, addr) => {
+            Ok(format!(in alloc; "its address")?)
+        }
+        (None, _) => Ok(format!(in alloc; "nothing")?),
+        _ => Err(anyhow!("an end of another family")),
+    }
 }
 
 /// A packet, `PROTOCOL SOURCE DESTINATION` and what it carries.

@@ -13,6 +13,7 @@ pub fn call_all() {
 fn of_segments() {
     npf_tcp::laws::refused_changes_nothing();
     npf_tcp::laws::reset_closes();
+    npf_tcp::laws::strictness_stays();
     npf_tcp::laws::closed_takes_only_reset();
     npf_tcp::laws::invalid_is_refused();
     npf_tcp::laws::seen_stays_seen();
@@ -25,6 +26,7 @@ fn of_segments() {
 fn of_flows() {
     npf_flow::laws::meaning_is_flow_law();
     npf_flow::laws::refused_leaves_flow();
+    npf_flow::laws::peek_leaves_flow();
     npf_flow::laws::last_never_falls();
     npf_flow::laws::opening_stays();
     npf_flow::laws::protocol_stays();

@@ -9,10 +9,8 @@ use std::fmt;
 
 pub fn answer(alloc: Global, state: &mut TcpState, words: &[&str]) -> Result<String> {
     match *words {
-        ["open", ref segment @ ..] => {
-            *state = open_tcp(&parse_segment(segment)?);
-            Ok(format!(in alloc; "{:?}", state.phase)?)
-        }
+        ["open", "strict", ref segment @ ..] => open_text(alloc, state, segment, true),
+        ["open", ref segment @ ..] => open_text(alloc, state, segment, false),
         ["windows"] => Ok(format!(in alloc; "{} {}", state.forward.maxwin, state.backward.maxwin)?),
         ["side", "there"] => Ok(format!(in alloc; "{:?}", state.forward)?),
         ["side", "back"] => Ok(format!(in alloc; "{:?}", state.backward)?),
@@ -27,6 +25,17 @@ pub fn answer(alloc: Global, state: &mut TcpState, words: &[&str]) -> Result<Str
         }
         [] => Err(anyhow!("no row")),
     }
+}
+
+/// The phase of the connection that this segment opens.
+fn open_text(
+    alloc: Global,
+    state: &mut TcpState,
+    segment: &[&str],
+    strict: bool,
+) -> Result<String> {
+    *state = open_tcp(&parse_segment(segment)?, strict);
+    Ok(format!(in alloc; "{:?}", state.phase)?)
 }
 
 /// What a segment is answered.
@@ -90,6 +99,7 @@ pub fn nothing_seen(phase: TcpPhase) -> TcpState {
         phase,
         forward: side,
         backward: side,
+        strict: false,
     }
 }
 

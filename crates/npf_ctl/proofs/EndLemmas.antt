@@ -12,7 +12,7 @@ use Rattle.npf_ctl_input.specs.Unless.{IfTold}
 use Rattle.npf_ctl_output.specs.Putting.{HasPutFault}
 use Rattle.npf_ctl_output.specs.Report.{report_text}
 use Rattle.npf_ctl_prepare.specs.Prepares.{RunPlan, PreparesRun}
-use Rattle.npf_runner.specs.declared.packet.Packet.{Packet}
+use Rattle.npf_traffic.specs.declared.packet.Packet.{Packet}
 use Rattle.npf_ctl_words.specs.declared.command.Command.{Command}
 use Rattle.npf_ctl_words.specs.declared.command.Command.TheVariants.{Run}
 use Rattle.npf_ctl_words.specs.declared.command.Run.{Run as RunWords}

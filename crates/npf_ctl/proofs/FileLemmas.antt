@@ -6,7 +6,7 @@ use Rattle.npf_outside.specs.Files.{FilesMoment, SameFiles, SameOthers, Tree}
 use Rattle.npf_outside.specs.Sink.{Appends, AppendsFront, SinkMoment}
 use Rattle.npf_packet.specs.declared.extent.IpExtent.{IpExtent}
 use Rattle.npf_ctl_output.specs.Extents.{AreExtentsOf}
-use Rattle.npf_runner.specs.declared.packet.Packet.{Packet}
+use Rattle.npf_traffic.specs.declared.packet.Packet.{Packet}
 use Rattle.npf_outside.proofs.SinkLemmas.{Appends-nothing, IsPutTo-stops}
 use Rattle.npf_ctl.specs.Ends.{HasReadOn}
 use Rattle.npf_ctl.specs.Faults.{IsUntouched}

@@ -8,7 +8,7 @@ use Rattle.npf_ctl_output.specs.Putting.{HasPutFault}
 use Rattle.npf_ctl_prepare.specs.declared.prepare.Prepared.{Prepared}
 use Rattle.npf_ctl_prepare.specs.View.{run_plan_of}
 use Rattle.npf_report.specs.TotalText.{total_text}
-use Rattle.npf_runner.specs.declared.packet.Packet.{Packet}
+use Rattle.npf_traffic.specs.declared.packet.Packet.{Packet}
 use Rattle.npf_runner.specs.declared.phase.Spread.TheVariants.{Rr}
 use Rattle.npf_runner.specs.Plays.{PlaysPhases}
 use Rattle.npf_ctl_words.specs.declared.command.Command.TheVariants.{Gen}

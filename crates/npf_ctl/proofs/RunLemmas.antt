@@ -4,7 +4,7 @@ use Rattle.npf_engine.specs.declared.outcome.Outcome.{Outcome}
 use Rattle.npf_ctl_messages.specs.declared.fault.CommandFault.{CommandFault}
 use Rattle.npf_ctl_input.specs.Unless.{IfTold}
 use Rattle.npf_ctl_prepare.specs.Prepares.{PreparesRun, RunPlan}
-use Rattle.npf_runner.specs.declared.packet.Packet.{Packet}
+use Rattle.npf_traffic.specs.declared.packet.Packet.{Packet}
 use Rattle.npf_ctl_words.specs.declared.command.Command.TheVariants.{Run}
 use Rattle.npf_ctl_words.specs.declared.command.Run.{Run as RunWords}
 use Rattle.npf_ctl_words.specs.CommandLine.{SaysCommand, given_text}

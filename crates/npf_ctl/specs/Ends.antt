@@ -16,7 +16,7 @@ use Rattle.npf_ctl_output.specs.Report.{report_text}
 use Rattle.npf_ctl_prepare.specs.declared.prepare.Prepared.{Prepared}
 use Rattle.npf_ctl_prepare.specs.Prepares.{RunPlan}
 use Rattle.npf_ctl_prepare.specs.View.{run_plan_of}
-use Rattle.npf_runner.specs.declared.packet.Packet.{Packet}
+use Rattle.npf_traffic.specs.declared.packet.Packet.{Packet}
 use Rattle.npf_runner.specs.declared.phase.Spread.{Spread}
 use Rattle.npf_runner.specs.Plays.{PlaysPhases}
 use Rattle.npf_ctl.specs.Faults.{IsFaulted, MeetsFault, PutsLine}

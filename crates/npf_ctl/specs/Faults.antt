@@ -6,7 +6,7 @@ use Rattle.npf_outside.specs.Sink.{SinkMoment, Appends, AppendsFront}
 use Rattle.npf_engine.specs.declared.outcome.Outcome.{Outcome}
 use Rattle.npf_ctl_input.specs.Loading.{LoadsAlone}
 use Rattle.npf_ctl_prepare.specs.Prepares.{RunPlan, PreparesRun}
-use Rattle.npf_runner.specs.declared.packet.Packet.{Packet}
+use Rattle.npf_traffic.specs.declared.packet.Packet.{Packet}
 use Rattle.npf_ctl_messages.specs.declared.fault.CommandFault.{CommandFault}
 use Rattle.npf_ctl_messages.specs.declared.fault.CommandFault.TheVariants.{Usage, Unwritten, OutputUnwritten, NoMemory}
 use Rattle.npf_ctl_messages.specs.Message.{message_line, status_of_fault}

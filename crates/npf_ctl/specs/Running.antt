@@ -7,7 +7,7 @@ use Rattle.npf_outside.specs.Files.{FilesMoment, Has}
 use Rattle.npf_outside.specs.Sink.{SinkMoment, Appends}
 use Rattle.npf_pcap.specs.declared.capture.Record.{Record}
 use Rattle.npf_pcap.specs.Spelling.{capture_bytes}
-use Rattle.npf_runner.specs.declared.packet.Packet.{Packet}
+use Rattle.npf_traffic.specs.declared.packet.Packet.{Packet}
 use Rattle.npf_runner.specs.declared.phase.Spread.{Spread}
 use Rattle.npf_runner.specs.Plays.{PlaysPhases}
 use Rattle.npf_ctl_prepare.specs.Prepares.{RunPlan, PreparesRun, RunNames}

@@ -14,7 +14,7 @@ use Rattle.npf_model.specs.Verdict.{all_rules}
 use Rattle.npf_report.specs.TotalText.{total_text}
 use Rattle.npf_ctl_output.specs.Report.{report_text}
 use Rattle.npf_ruleset.specs.Refusal.{IsWithinLimits}
-use Rattle.npf_runner.specs.declared.packet.Packet.{Packet}
+use Rattle.npf_traffic.specs.declared.packet.Packet.{Packet}
 use Rattle.npf_runner.specs.declared.phase.Spread.TheVariants.{Rr}
 use Rattle.npf_show.specs.Piece.{spelled}
 use Rattle.npf_show.specs.Model.{model_pieces}

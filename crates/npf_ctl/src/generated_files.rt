@@ -3,7 +3,7 @@ ghost use Rattle.std.specs.Prelude.{◌≡◌, IfOk};
 ghost use Rattle.npf_ctl.specs.Generated.{HoldsWorkload, contents_of, generated_moment};
 
 use npf_gen::{Workload, generate};
-use npf_outside::{FileFault, Files};
+use npf_outside::{FileFault, Files, Parts};
 use npf_types::NoMemory;
 use std::alloc::Global;
 
@@ -58,6 +58,16 @@ impl Files for GeneratedFiles {
     }
 
     fn write(&mut self, _name: &str, _bytes: &[u8]) -> Result<(), FileFault> {
+        self.write_faults = self.write_faults.saturating_add(1);
+        Err(FileFault::Failed)
+    }
+
+    fn write_parts<P: Parts>(
+        &mut self,
+        _alloc: Global,
+        _name: &str,
+        _parts: &mut P,
+    ) -> Result<(), FileFault> {
         self.write_faults = self.write_faults.saturating_add(1);
         Err(FileFault::Failed)
     }

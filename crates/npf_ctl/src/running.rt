@@ -4,7 +4,7 @@ ghost use Rattle.npf_outside.specs.Counts.{Rose};
 ghost use Rattle.npf_outside.specs.Files.{Has, SameFiles, SameOthers};
 ghost use Rattle.npf_outside.specs.Sink.{Appends};
 ghost use Rattle.npf_ctl_arrivals.specs.Within.{HasCaptureTime};
-ghost use Rattle.npf_runner.specs.declared.packet.Packet.{Packet as PacketType};
+ghost use Rattle.npf_traffic.specs.declared.packet.Packet.{Packet as PacketType};
 ghost use Rattle.npf_runner.specs.Plays.{PlaysPhases};
 ghost use Rattle.npf_ctl_output.specs.Extents.{AreExtentsOf, EndsInPacket};
 ghost use Rattle.npf_ctl_output.specs.Outputs.{AreOutputsOf};

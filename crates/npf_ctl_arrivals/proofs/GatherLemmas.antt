@@ -8,7 +8,7 @@ use Rattle.npf_types.specs.Stages.{asks_that, stops, goes_on}
 use Rattle.npf_pcap.specs.declared.capture.Record.{Record}
 use Rattle.npf_pcap.specs.Extent.{IsShort, IsTimely, records_at}
 use Rattle.npf_ctl_messages.specs.declared.fault.CommandFault.{CommandFault}
-use Rattle.npf_runner.specs.Plays.{IsShortPacket}
+use Rattle.npf_traffic.specs.Packet.{IsShortPacket}
 use Rattle.npf_ctl_arrivals.specs.declared.arrivals.Arrivals.{Arrivals}
 use Rattle.npf_ctl_arrivals.specs.declared.trace.Trace.{Trace}
 use Rattle.npf_ctl_arrivals.specs.Arrivals.{GathersCapture, Gathered, KeepsWithinRun, ReadsCapture, with_capture}

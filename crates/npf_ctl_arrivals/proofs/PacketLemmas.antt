@@ -7,8 +7,8 @@ use Rattle.npf_types.specs.declared.interface.IfId.{IfId}
 use Rattle.npf_types.specs.declared.link.Link.{Link}
 use Rattle.npf_pcap.specs.declared.extent.Extent.{Extent}
 use Rattle.npf_pcap.specs.Extent.{IsShort, IsTimely, record_at, records_at}
-use Rattle.npf_runner.specs.declared.packet.Packet.{Packet}
-use Rattle.npf_runner.specs.Plays.{IsShortPacket}
+use Rattle.npf_traffic.specs.declared.packet.Packet.{Packet}
+use Rattle.npf_traffic.specs.Packet.{IsShortPacket}
 use Rattle.npf_ctl_arrivals.specs.Arrivals.{packet_of}
 use Rattle.npf_ctl_arrivals.specs.Within.{CrossesOneOf, HasCaptureTime, IsInterfaceNumber}
 

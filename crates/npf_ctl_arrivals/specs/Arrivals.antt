@@ -1,5 +1,5 @@
 -- The packets of a run: those of its captures, one capture after another, and then all of them by time.
-use Rattle.std.specs.Prelude.{◌≢◌, ◌+◌, ℕ, nat_le, Result, Ok, Err, List, [], ◌++◌, length, map}
+use Rattle.std.specs.Prelude.{◌≢◌, ◌+◌, ℕ, nat_le, None, Result, Ok, Err, List, [], ◌++◌, length, map}
 use Rattle.std.specs.List.Sorted.{IsPermutation, IsSortedByKey, IsStableByKey}
 use Rattle.std.specs.Ordering.{nat_cmp}
 use Rattle.npf_types.specs.declared.direction.Dir.{Dir}
@@ -11,7 +11,7 @@ use Rattle.npf_pcap.specs.declared.capture.Record.{Record}
 use Rattle.npf_pcap.specs.declared.fault.CaptureFault.{CaptureFault}
 use Rattle.npf_pcap.specs.declared.fault.CaptureFault.TheVariants as Captures
 use Rattle.npf_pcap.specs.Capture.{IsCapture, HasCaptureFault}
-use Rattle.npf_runner.specs.declared.packet.Packet.{Packet}
+use Rattle.npf_traffic.specs.declared.packet.Packet.{Packet}
 use Rattle.npf_ctl_messages.specs.declared.fault.CommandFault.{CommandFault}
 use Rattle.npf_ctl_messages.specs.declared.fault.CommandFault.TheVariants.{Capture, Many}
 use Rattle.npf_ctl_messages.specs.declared.fault.Quantity.TheVariants.{CaptureBytes, Packets}
@@ -21,9 +21,9 @@ pub data ReadsCapture (file bytes : List ℕ) : Result (Link × List Record) Com
   spelled : {link : Link} {records : List Record} → IsCapture bytes link records → ReadsCapture file bytes (Ok (link, records))
   refused : {fault : CaptureFault} → HasCaptureFault bytes fault → fault ≢ Captures.NoMemory → ReadsCapture file bytes (Err (Capture file fault))
 
--- the packet of a record that crossed this interface, this way
+-- the packet of a record that crossed this interface, this way, and isn't held
 abbrev pub packet_of : Link → IfId → Dir → Record → Packet
-packet_of link ifid dir r = record { time = r.time; link = link; ifid = ifid; dir = dir; bytes = r.bytes }
+packet_of link ifid dir r = record { time = r.time; link = link; ifid = ifid; dir = dir; held = None; bytes = r.bytes }
 
 -- the captures that were read so far: how many bytes they have, and their packets
 pub record Gathered : Type 0 where

@@ -4,7 +4,7 @@ use Rattle.std.specs.Coded.{×_prop, le_prop}
 use Rattle.std.specs.List.{flat_map}
 use Rattle.npf_pcap.specs.declared.extent.Extent.{Extent}
 use Rattle.npf_pcap.specs.Extent.{StandApart, records_at}
-use Rattle.npf_runner.specs.declared.packet.Packet.{Packet}
+use Rattle.npf_traffic.specs.declared.packet.Packet.{Packet}
 use Rattle.npf_ctl_arrivals.specs.declared.trace.Trace.{Trace}
 use Rattle.npf_ctl_arrivals.specs.Arrivals.{packet_of}
 

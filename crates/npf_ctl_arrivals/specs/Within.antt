@@ -3,8 +3,8 @@ use Rattle.std.specs.Prelude.{◌≤◌, ℕ, All, length}
 use Rattle.npf_types.specs.declared.interface.IfId.{IfId}
 use Rattle.npf_types.specs.declared.limits.TheConstants.{MAX_BYTES_OF_CAPTURES, MAX_PACKETS}
 use Rattle.npf_pcap.specs.Spelling.{IsCaptureTime}
-use Rattle.npf_runner.specs.declared.packet.Packet.{Packet}
-use Rattle.npf_runner.specs.Plays.{IsShortPacket}
+use Rattle.npf_traffic.specs.declared.packet.Packet.{Packet}
+use Rattle.npf_traffic.specs.Packet.{IsShortPacket}
 use Rattle.npf_ctl_arrivals.specs.Arrivals.{Gathered}
 
 -- a capture can hold its time

@@ -1,5 +1,5 @@
 ghost use Rattle.std.specs.Prelude.{◌≡◌, ◌≢◌, ◌≤◌, ℕ, All, length, Ok, Err, IfOk, IfErr, OnOk, OnErr};
-ghost use Rattle.npf_runner.specs.Plays.{IsShortPacket};
+ghost use Rattle.npf_traffic.specs.Packet.{IsShortPacket};
 ghost use Rattle.npf_ctl_arrivals.specs.Arrivals.{AreByTime, GathersCapture, none_gathered};
 ghost use Rattle.npf_ctl_arrivals.specs.Traces.{IsApart, StandApart-prop, packets_in_traces};
 ghost use Rattle.npf_ctl_arrivals.specs.Within.{CrossesOneOf, HasCaptureTime, IsInterfaceNumber, IsWithinRun};

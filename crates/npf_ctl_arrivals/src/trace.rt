@@ -57,6 +57,7 @@ fn cut<'a>(bytes: &'a mut [u8], extents: &[Extent], tap: Tap, packets: &mut Vec<
             link: tap.link,
             ifid: tap.ifid,
             dir: tap.dir,
+            held: None,
             bytes: PacketBytes::of(own),
         });
         rest = more;

@@ -14,7 +14,7 @@ use Rattle.npf_engine.specs.Arrival.{Arrival}
 use Rattle.npf_engine.specs.Explains.{Explains, Sight}
 use Rattle.npf_engine.specs.Histories.{FlowEntry, History}
 use Rattle.npf_engine.specs.Outcome.{passes}
-use Rattle.npf_runner.specs.declared.packet.Packet.{Packet}
+use Rattle.npf_traffic.specs.declared.packet.Packet.{Packet}
 use Rattle.npf_runner.specs.declared.phase.Phase.{Phase}
 use Rattle.npf_runner.specs.declared.phase.Spread.{Spread}
 use Rattle.npf_runner.specs.Plays.{AreAnswered, PlaysFrom, published_by}
@@ -25,10 +25,11 @@ use Rattle.npf_ctl_output.specs.Report.{lines_from, report_text}
 -- only a packet of IP passes
 passes_ip : {configs : List Configuration} {sight : Sight} {arrival : Arrival} {asked : Option ℕ} {said : _} {outcome : Outcome} {sent : Option (List ℕ)} →
     Explains configs sight arrival asked said outcome sent → passes outcome ≡ true → (facts : Facts) × Decodes arrival.link arrival.bytes (Ip facts)
-passes_ip (Explains.skip decodes) goes_on = absurd (false≢true goes_on)
-passes_ip (Explains.malformed decodes) goes_on = absurd (false≢true goes_on)
-passes_ip (Explains.to_conn {facts = facts} decodes looks by) goes_on = (facts, decodes)
-passes_ip (Explains.to_rules {facts = facts} decodes looks there ruled) goes_on = (facts, decodes)
+passes_ip (Explains.fragment held) goes_on = absurd (false≢true goes_on)
+passes_ip (Explains.skip free decodes) goes_on = absurd (false≢true goes_on)
+passes_ip (Explains.malformed free decodes) goes_on = absurd (false≢true goes_on)
+passes_ip (Explains.to_conn {facts = facts} free decodes looks by) goes_on = (facts, decodes)
+passes_ip (Explains.to_rules {facts = facts} free decodes looks there ruled) goes_on = (facts, decodes)
 
 module _ (configs : List Configuration) (workers : ℕ) (spread : Spread) (slots : ℕ) (history end : History) where
   answered_outputs : (n : ℕ) (packets : List Packet) (dealt : List ℕ) (asked : List (Option ℕ)) (outcomes : List Outcome) (outputs : List Packet) →

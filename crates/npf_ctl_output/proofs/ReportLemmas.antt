@@ -7,7 +7,7 @@ use Rattle.npf_outside.proofs.SinkLemmas.{IsPutTo-goes_on, IsPutTo-fails, IsPutT
 use Rattle.npf_engine.specs.declared.outcome.Outcome.{Outcome}
 use Rattle.npf_report.specs.LineText.{line_text}
 use Rattle.npf_report.specs.TotalText.{total_text}
-use Rattle.npf_runner.specs.declared.packet.Packet.{Packet}
+use Rattle.npf_traffic.specs.declared.packet.Packet.{Packet}
 use Rattle.npf_ctl_output.specs.Report.{lines_from, name_of_interface, report_text}
 
 -- the line of a packet with its outcome

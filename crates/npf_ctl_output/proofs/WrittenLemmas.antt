@@ -7,7 +7,7 @@ use Rattle.npf_pcap.specs.declared.capture.Record.{Record}
 use Rattle.npf_pcap.specs.Spelling.{record_bytes}
 use Rattle.npf_engine.specs.declared.outcome.Outcome.{Outcome}
 use Rattle.npf_engine.specs.Outcome.{passes}
-use Rattle.npf_runner.specs.declared.packet.Packet.{Packet}
+use Rattle.npf_traffic.specs.declared.packet.Packet.{Packet}
 use Rattle.npf_packet.specs.declared.extent.IpExtent.{IpExtent}
 use Rattle.npf_ctl_output.specs.Extents.{AreExtentsOf, IsExtentOf}
 use Rattle.npf_ctl_output.specs.Outputs.{AreOutputsOf, IsOutputOf}

@@ -7,7 +7,7 @@ use Rattle.npf_packet.specs.declared.decoded.Decoded.TheVariants.{Ip}
 use Rattle.npf_packet.specs.declared.extent.IpExtent.{IpExtent}
 use Rattle.npf_packet.specs.Decoding.{Decodes}
 use Rattle.npf_packet.specs.Extent.{IsIpExtent}
-use Rattle.npf_runner.specs.declared.packet.Packet.{Packet}
+use Rattle.npf_traffic.specs.declared.packet.Packet.{Packet}
 
 -- if the packet is one of IP, it has this extent
 abbrev pub IsExtentOf : Packet → IpExtent → Type 0

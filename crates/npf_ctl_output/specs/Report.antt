@@ -6,7 +6,7 @@ use Rattle.npf_model.specs.declared.iface.Iface.{Iface}
 use Rattle.npf_engine.specs.declared.outcome.Outcome.{Outcome}
 use Rattle.npf_report.specs.LineText.{line_text}
 use Rattle.npf_report.specs.TotalText.{total_text}
-use Rattle.npf_runner.specs.declared.packet.Packet.{Packet}
+use Rattle.npf_traffic.specs.declared.packet.Packet.{Packet}
 
 -- the name of an interface of the run, by its number from 1
 abbrev pub interface_name : Option Iface → List ℕ

@@ -9,7 +9,7 @@ use Rattle.npf_packet.specs.declared.extent.IpExtent.{IpExtent}
 use Rattle.npf_packet.specs.Decoding.{Decodes}
 use Rattle.npf_engine.specs.declared.outcome.Outcome.{Outcome}
 use Rattle.npf_engine.specs.Outcome.{passes}
-use Rattle.npf_runner.specs.declared.packet.Packet.{Packet}
+use Rattle.npf_traffic.specs.declared.packet.Packet.{Packet}
 
 -- the bytes of the IP packet that a record with these facts carries
 abbrev pub ip_bytes : Facts → List ℕ → List ℕ

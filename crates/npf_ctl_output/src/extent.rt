@@ -1,6 +1,6 @@
 // Where the records have their IP packets.
 ghost use Rattle.std.specs.Prelude.{IfOk, All};
-ghost use Rattle.npf_runner.specs.Plays.{IsShortPacket};
+ghost use Rattle.npf_traffic.specs.Packet.{IsShortPacket};
 ghost use Rattle.npf_ctl_output.specs.Extents.{AreExtentsOf, IsExtentOf, EndsInPacket};
 
 use npf_packet::{IpExtent, ip_extent};

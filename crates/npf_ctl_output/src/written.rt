@@ -3,7 +3,7 @@ ghost use Rattle.std.specs.Prelude.{◌≡◌, ◌≤◌, ◌++◌, ◌-◌, Lis
 ghost use Rattle.std.specs.List.{flat_map};
 ghost use Rattle.npf_pcap.specs.declared.capture.Record.{Record};
 ghost use Rattle.npf_pcap.specs.Spelling.{capture_bytes, record_bytes};
-ghost use Rattle.npf_runner.specs.declared.packet.Packet.{Packet as PacketType};
+ghost use Rattle.npf_traffic.specs.declared.packet.Packet.{Packet as PacketType};
 ghost use Rattle.npf_ctl_arrivals.specs.Within.{HasCaptureTime};
 ghost use Rattle.npf_ctl_output.specs.Extents.{AreExtentsOf, EndsInPacket};
 ghost use Rattle.npf_ctl_output.specs.Outputs.{AreOutputsOf};

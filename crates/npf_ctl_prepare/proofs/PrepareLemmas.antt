@@ -8,7 +8,7 @@ use Rattle.npf_outside.specs.Files.{FilesMoment}
 use Rattle.npf_ctl_arrivals.specs.Arrivals.{AreByTime, Gathered, none_gathered}
 use Rattle.npf_ctl_schedule.specs.Schedule.{phases_of, unnumbered}
 use Rattle.npf_ctl_script.specs.declared.script.ScriptLine.{ScriptLine}
-use Rattle.npf_runner.specs.declared.packet.Packet.{Packet}
+use Rattle.npf_traffic.specs.declared.packet.Packet.{Packet}
 use Rattle.npf_runner.specs.declared.phase.Phase.{Phase}
 use Rattle.npf_ctl_messages.specs.declared.fault.CommandFault.{CommandFault}
 use Rattle.npf_ctl_input.specs.File.{ReadsFile}

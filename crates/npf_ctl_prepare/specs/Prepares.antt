@@ -7,7 +7,7 @@ use Rattle.npf_model.specs.declared.iface.Iface.{Iface}
 use Rattle.npf_model.specs.Configuration.{Configuration}
 use Rattle.npf_model.specs.Numbering.{numbered}
 use Rattle.npf_outside.specs.Files.{FilesMoment}
-use Rattle.npf_runner.specs.declared.packet.Packet.{Packet}
+use Rattle.npf_traffic.specs.declared.packet.Packet.{Packet}
 use Rattle.npf_runner.specs.declared.phase.Phase.{Phase}
 use Rattle.npf_ctl_script.specs.declared.script.ScriptLine.{ScriptLine}
 use Rattle.npf_ctl_schedule.specs.Schedule.{captures_in, changes_in, phases_in, phases_of, run_interfaces, unnumbered}

@@ -8,6 +8,7 @@ use npf_engine::{DropWhy, Kept, Outcome};
 use npf_outside::MemSink;
 use npf_packet::BadPacket;
 use npf_report::line;
+use npf_runner::FragWhy;
 use npf_types::{Decision, Dir, Name, Return, Way};
 
 const ID: ConnId = ConnId { slot: 3, inc: 2 };
@@ -46,11 +47,14 @@ pub fn print_total(rt: &(impl Print + AllocGlobal), setting: &mut Setting) -> Re
     print_lines(rt, sink.bytes())
 }
 
-/// `skip`, `cut AT`, `bad AT`, `conn OPENER PLACE pass|block [LOG]`, `none CONFIG [LOG]`, `pass CONFIG RULE KEPT [LOG]`, `block CONFIG RULE
-/// RETURN [LOG]` or `drop CONFIG RULE WHY`; rules by their places, from 0.
+/// `skip`, `fragment WHY`, `cut AT`, `bad AT`, `conn OPENER PLACE pass|block [LOG]`, `none CONFIG [LOG]`, `pass CONFIG RULE KEPT [LOG]`,
+/// `block CONFIG RULE RETURN [LOG]` or `drop CONFIG RULE WHY`; rules by their places, from 0.
 fn parse_outcome(words: &[&str]) -> Result<Outcome> {
     match *words {
         ["skip"] => Ok(Outcome::Skip),
+        ["fragment", why] => Ok(Outcome::Fragment {
+            why: parse_fragment(why)?,
+        }),
         ["cut", at] => Ok(Outcome::Malformed {
             why: BadPacket::Cut,
             at: at.parse()?,
@@ -105,6 +109,15 @@ fn by_rule(
         kept,
         log: parse_log(log)?,
     })
+}
+
+fn parse_fragment(word: &str) -> Result<FragWhy> {
+    match word {
+        "held" => Ok(FragWhy::Held),
+        "overlap" => Ok(FragWhy::Overlap),
+        "bad" => Ok(FragWhy::Bad),
+        _ => bail!("no fragment is held for this"),
+    }
 }
 
 fn parse_why(word: &str) -> Result<DropWhy> {

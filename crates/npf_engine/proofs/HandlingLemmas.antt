@@ -75,7 +75,7 @@ module _ (crossing : Crossing) (arg : FlowArg) (own every : Key) (arg_is : arg �
       said = finds.said;
       asks = (refl, refl);
       did = finds.did;
-      explains = λ sight sent spans so. Explains.to_conn decodes (asks finds.said (Some taken) finds.described) (by crossing.bytes.now crossing.facts.now sent so);
+      explains = λ sight sent spans so. Explains.to_conn refl decodes (asks finds.said (Some taken) finds.described) (by crossing.bytes.now crossing.facts.now sent so);
     }
 
     pub answers_by_rules : (mid new : Pass FlowEntry) (next : ConfReader) (number : ℕ) (config : Config) → slice_get (configurations configs) number ≡ Some (configuration config) →
@@ -88,7 +88,7 @@ module _ (crossing : Crossing) (arg : FlowArg) (own every : Key) (arg_is : arg �
       asks = reads;
       did = did_more old mid new finds.said ruled.said finds.did ruled.did;
       explains = λ sight sent spans so.
-          Explains.to_rules decodes (asks finds.said None finds.described) there (ruled.described sight sent (later_part sight old mid new finds.said finds.did spans) so);
+          Explains.to_rules refl decodes (asks finds.said None finds.described) there (ruled.described sight sent (later_part sight old mid new finds.said finds.did spans) so);
     }
 
 -- what is sent is there exactly where the packet passes

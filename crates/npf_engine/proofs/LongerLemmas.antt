@@ -38,10 +38,11 @@ ruled_told (IsDecided.tried decided one opens tried) = opens_told opens
 -- what explains an outcome is told
 pub explained_told : {configs : List Configuration} {sight : Sight} {arrival : Arrival} {asked : Option ℕ} {said : List FlowSaid} {outcome : Outcome} {sent : Option (List ℕ)} →
     Explains configs sight arrival asked said outcome sent → TellsOpening arrival.number said
-explained_told (Explains.skip decodes) = none_claimed nothing
-explained_told (Explains.malformed decodes) = none_claimed nothing
-explained_told {arrival = arrival} (Explains.to_conn decodes looks by) = none_claimed (either_told arrival.number [] looks)
-explained_told {arrival = arrival} (Explains.to_rules {looked = looked} decodes looks there ruled) =
+explained_told (Explains.fragment held) = none_claimed nothing
+explained_told (Explains.skip free decodes) = none_claimed nothing
+explained_told (Explains.malformed free decodes) = none_claimed nothing
+explained_told {arrival = arrival} (Explains.to_conn free decodes looks by) = none_claimed (either_told arrival.number [] looks)
+explained_told {arrival = arrival} (Explains.to_rules {looked = looked} free decodes looks there ruled) =
     let opening = ruled_told ruled in
     record {
       last = opening.last;

@@ -23,13 +23,14 @@ use Rattle.npf_packet.specs.declared.decoded.BadPacket.{BadPacket}
 use Rattle.npf_packet.specs.declared.decoded.Decoded.TheVariants as Says
 use Rattle.npf_packet.specs.Decoding.{Decodes}
 use Rattle.npf_rewrite.specs.Sent.{Sent}
+use Rattle.npf_traffic.specs.declared.packet.FragWhy.{FragWhy}
 use Rattle.npf_engine.specs.declared.finding.Met.{Met}
 use Rattle.npf_engine.specs.declared.outcome.DropWhy.{DropWhy}
 use Rattle.npf_engine.specs.declared.outcome.DropWhy.TheVariants as Drops
 use Rattle.npf_engine.specs.declared.outcome.Kept.{Kept}
 use Rattle.npf_engine.specs.declared.outcome.Kept.TheVariants as Keeps
 use Rattle.npf_engine.specs.declared.outcome.Outcome.{Outcome}
-use Rattle.npf_engine.specs.declared.outcome.Outcome.TheVariants.{Skip, Malformed, ByConn, ByRule, Dropped}
+use Rattle.npf_engine.specs.declared.outcome.Outcome.TheVariants.{Skip, Fragment, Malformed, ByConn, ByRule, Dropped}
 use Rattle.npf_engine.specs.declared.ruling.Mapping.{Mapping}
 use Rattle.npf_engine.specs.declared.ruling.Mapping.TheVariants.{Unmapped}
 use Rattle.npf_engine.specs.declared.ruling.Ruling.{Ruling}
@@ -130,16 +131,18 @@ AsksConnections arrival facts =
     FindsEither arrival.number (arg_of arrival.time facts) (key_of facts arrival.ifid) (key_of facts any_interface)
 
 -- The packet has this outcome, and is sent so, by what it asked of connections and was answered, and by the configuration of this
--- number, if it asked one.
+-- number, if it asked one. A fragment that is held asks nothing.
 pub data Explains (configs : List Configuration) (sight : Sight) (arrival : Arrival) : Option ℕ → List FlowSaid → Outcome → Option (List ℕ) → Type 0 where
-  skip : Decodes arrival.link arrival.bytes Says.Skip → Explains configs sight arrival None [] Skip None
-  malformed : {why : BadPacket} {at : ℕ} → Decodes arrival.link arrival.bytes (Says.Malformed why at) →
+  fragment : {why : FragWhy} → arrival.held ≡ Some why → Explains configs sight arrival None [] (Fragment why) None
+  skip : arrival.held ≡ None → Decodes arrival.link arrival.bytes Says.Skip → Explains configs sight arrival None [] Skip None
+  malformed : {why : BadPacket} {at : ℕ} → arrival.held ≡ None → Decodes arrival.link arrival.bytes (Says.Malformed why at) →
       Explains configs sight arrival None [] (Malformed why at) None
   to_conn : {facts : Facts} {said : List FlowSaid} {taken : Met} {outcome : Outcome} {sent : Option (List ℕ)} →
-      Decodes arrival.link arrival.bytes (Says.Ip facts) → AsksConnections arrival facts said (Some taken) →
+      arrival.held ≡ None → Decodes arrival.link arrival.bytes (Says.Ip facts) → AsksConnections arrival facts said (Some taken) →
       IsByConn arrival.bytes facts taken outcome sent → Explains configs sight arrival None said outcome sent
   to_rules : {facts : Facts} {number : ℕ} {config : Configuration} {looked said : List FlowSaid} {outcome : Outcome} {sent : Option (List ℕ)} →
-      Decodes arrival.link arrival.bytes (Says.Ip facts) → AsksConnections arrival facts looked None → slice_get configs number ≡ Some config →
+      arrival.held ≡ None → Decodes arrival.link arrival.bytes (Says.Ip facts) → AsksConnections arrival facts looked None →
+      slice_get configs number ≡ Some config →
       IsDecided arrival.bytes facts sight arrival number (mapping_of config facts arrival.ifid arrival.dir)
       (ruling_of config facts arrival.ifid arrival.dir) said outcome sent →
       Explains configs sight arrival (Some number) (looked ++ said) outcome sent

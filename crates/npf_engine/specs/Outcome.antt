@@ -5,7 +5,7 @@ use Rattle.npf_types.specs.declared.decision.Decision.TheVariants.{Pass, Block}
 use Rattle.npf_engine.specs.declared.outcome.DropWhy.TheVariants as Drops
 use Rattle.npf_engine.specs.declared.outcome.Kept.TheVariants as Keeps
 use Rattle.npf_engine.specs.declared.outcome.Outcome.{Outcome}
-use Rattle.npf_engine.specs.declared.outcome.Outcome.TheVariants.{Skip, Malformed, ByConn, ByRule, Dropped}
+use Rattle.npf_engine.specs.declared.outcome.Outcome.TheVariants.{Skip, Fragment, Malformed, ByConn, ByRule, Dropped}
 
 abbrev pub is_pass : Decision → Bool
 is_pass Pass = true
@@ -13,6 +13,7 @@ is_pass (Block answer) = false
 
 abbrev pub passes : Outcome → Bool
 passes Skip = false
+passes (Fragment why) = false
 passes (Malformed why at) = false
 passes (ByConn id opener place pass log) = pass
 passes (ByRule decision log rule config kept) = is_pass decision

@@ -104,13 +104,14 @@ key_interface Not ifid = ifid
 key_interface OnInterface ifid = ifid
 key_interface Everywhere ifid = any_interface
 
--- what the packet would open
+-- what the packet would open, which isn't strict about resets
 abbrev pub attempt_of : Arrival → Facts → Ruling → Mapping → Attempt
 attempt_of arrival facts ruled mapped = record {
   packet = arrival.number;
   facts = facts;
   ifid = key_interface ruled.state arrival.ifid;
   arg = arg_of arrival.time facts;
+  strict = false;
   action = ruled.action;
   plan = plan_of mapped;
 }

@@ -40,6 +40,7 @@ pub(crate) fn arg_of(time: u64, facts: &Facts) -> FlowArg
     FlowArg {
         now: time,
         seg: tcp_segment(&facts.l4),
+        peek: false,
     }
 }
 

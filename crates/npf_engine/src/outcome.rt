@@ -3,6 +3,7 @@ ghost use Rattle.npf_engine.specs.Outcome.{passes};
 
 use npf_core::{ConnId, Found};
 use npf_packet::BadPacket;
+use npf_traffic::FragWhy;
 use npf_types::{Decision, Name};
 
 /// What became of the connection that a passed packet was to open.
@@ -38,6 +39,10 @@ pub enum DropWhy {
 pub enum Outcome {
     /// It isn't looked into, and doesn't pass.
     Skip,
+    /// It is a fragment that is held, and goes no further.
+    Fragment {
+        why: FragWhy,
+    },
     /// It is malformed at this place of its bytes.
     Malformed {
         why: BadPacket,
@@ -77,7 +82,10 @@ impl Outcome {
         match *self {
             Outcome::ByConn { pass, .. } => pass,
             Outcome::ByRule { decision, .. } => decision == Decision::Pass,
-            Outcome::Skip | Outcome::Malformed { .. } | Outcome::Dropped { .. } => false,
+            Outcome::Skip
+            | Outcome::Fragment { .. }
+            | Outcome::Malformed { .. }
+            | Outcome::Dropped { .. } => false,
         }
     }
 }

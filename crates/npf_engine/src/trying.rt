@@ -73,6 +73,7 @@ fn attempt_of(crossing: &Crossing, arg: &FlowArg, passed: &Passed) -> Attempt
         facts: *crossing.facts,
         ifid: key_interface(passed.ruling.state, crossing.ifid),
         arg: *arg,
+        strict: false,
         action: passed.ruling.action,
         plan: plan_of(&passed.mapping),
     }

@@ -4,13 +4,15 @@ use npf_nat::MapPlan;
 use npf_types::{Action, Change, Facts, IfId};
 
 /// A packet that would open a connection, by its number `packet` in the run. `ifid` is the interface of its keys: 0 for a
-/// connection of all interfaces. `plan` is what a map makes of the packet: two changes that name nothing where there is none.
+/// connection of all interfaces. `strict` says whether a connection of TCP is to take its resets in order alone. `plan` is what a map
+/// makes of the packet: two changes that name nothing where there is none.
 #[derive(Clone, Copy, Debug, PartialEq, Eq)]
 pub struct Attempt {
     pub packet: u64,
     pub facts: Facts,
     pub ifid: IfId,
     pub arg: FlowArg,
+    pub strict: bool,
     pub action: Action,
     pub plan: MapPlan,
 }

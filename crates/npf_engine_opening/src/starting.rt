@@ -100,6 +100,7 @@ fn flow_of(attempt: &Attempt, changes: Changes) -> Flow
 {
     open_flow(
         attempt.arg,
+        attempt.strict,
         attempt.packet,
         changes.there,
         changes.back,

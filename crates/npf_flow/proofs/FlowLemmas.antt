@@ -1,5 +1,5 @@
 -- What a packet makes of a flow.
-use Rattle.std.proofs.Common.{◌≡◌, ◌≤◌, Bool, true, false, Option, Some, None, cond, refl, max, arith}
+use Rattle.std.proofs.Common.{◌≡◌, ◌≤◌, Bool, true, false, not, ◌&&◌, ◌||◌, Option, Some, None, cond, refl, max, arith}
 use Rattle.std.specs.Prelude.{◌↔◌}
 use Rattle.npf_types.specs.declared.facts.Segment.{Segment}
 use Rattle.npf_types.specs.declared.key.Way.{Way}
@@ -9,26 +9,35 @@ use Rattle.npf_flow.specs.declared.flow.Flow.{Flow}
 use Rattle.npf_flow.specs.declared.flow.FlowKind.{FlowKind}
 use Rattle.npf_flow.specs.declared.flow.FlowKind.TheVariants.{Tcp, Other}
 use Rattle.npf_flow.specs.declared.step.FlowArg.{FlowArg}
-use Rattle.npf_flow.specs.Flows.{opening_kind, accepts, kind_after, next_flow}
+use Rattle.npf_flow.specs.Flows.{opening_kind, moves_on, kind_after, next_flow}
 use Rattle.npf_flow.specs.Laws.{KeepsOpening, IsTcp, OfState, OfStates}
 
--- the flow after an accepted packet
+-- the flow after a packet that moves it on
 abbrev pub went_on : Flow → Way → FlowArg → Flow
 went_on flow way arg = record flow { kind = kind_after flow.kind way arg.seg; last = max flow.last arg.now }
 
--- what holds after an accepted packet, and of the flow as it is, holds after a packet
+-- what holds after such a packet, and of the flow as it is, holds after a packet
 pub next_cases : (flow : Flow) (way : Way) (arg : FlowArg) (P : Flow → Type 0) → P (went_on flow way arg) → P flow → P (next_flow flow way arg)
-next_cases flow way arg P accepted refused = by (accepts flow.kind way arg.seg)
+next_cases flow way arg P accepted refused = by (moves_on flow.kind way arg)
   where
     by : (b : Bool) → P (cond b (went_on flow way arg) flow)
     by true = accepted
     by false = refused
 
-pub refused_leaves : (flow : Flow) (way : Way) (arg : FlowArg) → accepts flow.kind way arg.seg ≡ false → next_flow flow way arg ≡ flow
-refused_leaves flow way arg h = rw h refl
+pub unmoved_stays : (flow : Flow) (way : Way) (arg : FlowArg) → moves_on flow.kind way arg ≡ false → next_flow flow way arg ≡ flow
+unmoved_stays flow way arg h = rw h refl
 
-pub accepted_goes_on : (flow : Flow) (way : Way) (arg : FlowArg) → accepts flow.kind way arg.seg ≡ true → next_flow flow way arg ≡ went_on flow way arg
-accepted_goes_on flow way arg h = rw h refl
+pub moved_goes_on : (flow : Flow) (way : Way) (arg : FlowArg) → moves_on flow.kind way arg ≡ true → next_flow flow way arg ≡ went_on flow way arg
+moved_goes_on flow way arg h = rw h refl
+
+-- a packet that doesn't pass is refused, and one that passes and doesn't only peek is accepted
+pub not_passed : (peek accepted : Bool) → (peek || accepted) ≡ false → (not peek && accepted) ≡ false
+not_passed true accepted h = refl
+not_passed false accepted h = h
+
+pub passed_moves : (peek accepted : Bool) → peek ≡ false → (peek || accepted) ≡ true → (not peek && accepted) ≡ true
+passed_moves true accepted p h = absurd cc
+passed_moves false accepted p h = h
 
 pub last_rises : (flow : Flow) (way : Way) (arg : FlowArg) → flow.last ≤ (next_flow flow way arg).last
 last_rises flow way arg = next_cases flow way arg (λ next. flow.last ≤ next.last) (omega arith) (omega arith)
@@ -54,9 +63,9 @@ answered_kept flow way arg h = next_cases flow way arg (λ next. next.kind ≡ O
 abbrev pub IsQuiet : FlowKind → Type 0
 IsQuiet = OfState (BothSides IsQuietUnseen)
 
-pub quiet_opening : OpeningIsQuiet → (seg : Option Segment) → IsQuiet (opening_kind seg)
-quiet_opening opens (Some seg) = opens seg
-quiet_opening opens None = tt
+pub quiet_opening : OpeningIsQuiet → (strict : Bool) (seg : Option Segment) → IsQuiet (opening_kind strict seg)
+quiet_opening opens strict (Some seg) = opens seg strict
+quiet_opening opens strict None = tt
 
 quiet_kind : StepKeepsQuiet → (kind : FlowKind) (way : Way) (seg : Option Segment) → IsQuiet kind → IsQuiet (kind_after kind way seg)
 quiet_kind keeps (Tcp state) way (Some seg) quiet = keeps state way seg quiet

@@ -1,6 +1,6 @@
 -- How a connection's flow goes on (npf.conf(5), "Stateful"): one of TCP by the law of segments, and one of another protocol with
 -- every packet, as NetBSD's npf follows UDP and ICMP.
-use Rattle.std.specs.Prelude.{ℕ, max, Bool, true, false, ◌||◌, Option, Some, None, if◌then◌else◌}
+use Rattle.std.specs.Prelude.{ℕ, max, Bool, true, false, not, ◌&&◌, ◌||◌, Option, Some, None, if◌then◌else◌}
 use Rattle.npf_types.specs.declared.action.Action.{Action}
 use Rattle.npf_types.specs.declared.change.Change.{Change}
 use Rattle.npf_types.specs.declared.facts.Segment.{Segment}
@@ -16,15 +16,15 @@ use Rattle.npf_flow.specs.declared.step.FlowArg.{FlowArg}
 use Rattle.npf_flow.specs.declared.step.FlowReply.{FlowReply}
 use Rattle.npf_flow.specs.Timeout.{is_due}
 
--- what a packet opens: a connection of TCP by its segment, and otherwise one that nobody has answered
-abbrev pub opening_kind : Option Segment → FlowKind
-opening_kind (Some seg) = Tcp (opening_state seg)
-opening_kind None = Other false
+-- what a packet opens: a connection of TCP by its segment, strict about resets or not, and otherwise one that nobody has answered
+abbrev pub opening_kind : Bool → Option Segment → FlowKind
+opening_kind strict (Some seg) = Tcp (opening_state seg strict)
+opening_kind strict None = Other false
 
 -- the flow that a packet opens, at the packet's time
-abbrev pub opening_flow : FlowArg → ℕ → Change → Change → Action → Flow
-opening_flow arg opener there back action = record {
-  kind = opening_kind arg.seg;
+abbrev pub opening_flow : FlowArg → Bool → ℕ → Change → Change → Action → Flow
+opening_flow arg strict opener there back action = record {
+  kind = opening_kind strict arg.seg;
   last = arg.now;
   opener = opener;
   there = there;
@@ -50,10 +50,14 @@ kind_after (Tcp state) way (Some seg) = Tcp (next_state state way seg)
 kind_after (Tcp state) way None = Tcp state
 kind_after (Other answered) way seg = Other (answered || is_backward way)
 
--- the flow after a packet: an accepted one sets the last time to the greater of both, and a refused one changes nothing
+-- a packet moves the flow on where it is accepted and doesn't only peek
+abbrev pub moves_on : FlowKind → Way → FlowArg → Bool
+moves_on kind way arg = not arg.peek && accepts kind way arg.seg
+
+-- the flow after a packet: one that moves it on sets the last time to the greater of both, and another changes nothing
 abbrev pub next_flow : Flow → Way → FlowArg → Flow
 next_flow flow way arg =
-    if accepts flow.kind way arg.seg
+    if moves_on flow.kind way arg
     then record flow { kind = kind_after flow.kind way arg.seg; last = max flow.last arg.now }
     else flow
 
@@ -63,11 +67,11 @@ change_of flow Forward = flow.there
 change_of flow Backward = flow.back
 change_of flow Port = flow.there
 
--- what a packet is answered: whether it is accepted, who opened the flow, how the packet is translated, and what its rule does
--- to it
+-- what a packet is answered: whether it passes, who opened the flow, how the packet is translated, and what its rule does to it.
+-- One that only peeks always passes.
 abbrev pub flow_reply : Flow → Way → FlowArg → FlowReply
 flow_reply flow way arg = record {
-  pass = accepts flow.kind way arg.seg;
+  pass = arg.peek || accepts flow.kind way arg.seg;
   opener = flow.opener;
   change = change_of flow way;
   action = flow.action;

@@ -26,13 +26,20 @@ pub struct Flow {
     pub action: Action,
 }
 
-/// The flow that the packet with the number `opener` opens: a connection of TCP where the packet has a segment, and
-/// otherwise one that isn't answered.
-pub fn open_flow(arg: FlowArg, opener: u64, there: Change, back: Change, action: Action) -> Flow
-    ensures { result ≡ opening_flow arg opener there back action }
+/// The flow that the packet with the number `opener` opens: a connection of TCP where the packet has a segment, which is `strict`
+/// about resets or isn't, and otherwise one that isn't answered.
+pub fn open_flow(
+    arg: FlowArg,
+    strict: bool,
+    opener: u64,
+    there: Change,
+    back: Change,
+    action: Action,
+) -> Flow
+    ensures { result ≡ opening_flow arg strict opener there back action }
 {
     Flow {
-        kind: opening_kind(arg.seg),
+        kind: opening_kind(strict, arg.seg),
         last: arg.now,
         opener,
         there,
@@ -41,11 +48,11 @@ pub fn open_flow(arg: FlowArg, opener: u64, there: Change, back: Change, action:
     }
 }
 
-fn opening_kind(seg: Option<Segment>) -> FlowKind
-    ensures { result ≡ opening_kind seg }
+fn opening_kind(strict: bool, seg: Option<Segment>) -> FlowKind
+    ensures { result ≡ opening_kind strict seg }
 {
     match seg {
-        Some(seg) => FlowKind::Tcp(open_tcp(&seg)),
+        Some(seg) => FlowKind::Tcp(open_tcp(&seg, strict)),
         None => FlowKind::Other { answered: false },
     }
 }

@@ -2,7 +2,7 @@
 // `FlowLaw`, `due` and `open_flow` equal.
 ghost use Rattle.std.specs.Prelude.{◌≡◌};
 ghost use Rattle.npf_flow.specs.Flows.{flow_law};
-ghost use Rattle.npf_flow.specs.Laws.{RefusedLeavesFlow, RefusedLeaveNoTrace, LastNeverFalls, LastIsLatest, OpeningStays, ProtocolStays, StaysAnswered, IsDueExactly, IsNotDueByLast, IsNotDueAtPacket, IsNotDueAtOpening, StaysDue, IsAsItsPackets, ReachedIsQuiet, MaxwinStaysUp};
+ghost use Rattle.npf_flow.specs.Laws.{RefusedLeavesFlow, RefusedLeaveNoTrace, PeekLeavesFlow, LastNeverFalls, LastIsLatest, OpeningStays, ProtocolStays, StaysAnswered, IsDueExactly, IsNotDueByLast, IsNotDueAtPacket, IsNotDueAtOpening, StaysDue, IsAsItsPackets, ReachedIsQuiet, MaxwinStaysUp};
 
 use crate::law::FlowLaw;
 use npf_core::Law;
@@ -13,13 +13,20 @@ pub fn meaning_is_flow_law()
     ensures { ⟦<FlowLaw as Law>⟧.meaning ≡ flow_law }
 {}
 
-/// A refused packet leaves the flow as it is, and so a flow after any packets is what those make of it that it accepts.
+/// A refused packet leaves the flow as it is, and so does one that only peeks. So a flow after any packets is what those of the others
+/// make of it that it accepts.
 pub fn refused_leaves_flow()
     ensures packet { RefusedLeavesFlow }
     ensures packets { RefusedLeaveNoTrace }
 {}
 
-/// No packet takes a flow's last time back, and after any packets it is the latest of its own and of those that were accepted.
+/// A packet that only peeks passes, with the change of its way, and leaves the flow as it is.
+pub fn peek_leaves_flow()
+    ensures { PeekLeavesFlow }
+{}
+
+/// No packet takes a flow's last time back, and after any packets it is the latest of its own and of those that were accepted and didn't
+/// only peek.
 pub fn last_never_falls()
     ensures packet { LastNeverFalls }
     ensures packets { LastIsLatest }
@@ -41,7 +48,7 @@ pub fn stays_answered()
 {}
 
 /// A flow is due exactly from its last time and its timeout on. So it isn't due at its last time or before it, neither at the
-/// time of an accepted packet nor at its opening, and one that is due stays due until its next packet.
+/// time of an accepted packet that doesn't only peek nor at its opening, and one that is due stays due until its next packet.
 pub fn due_by_idle_time()
     ensures exactly { IsDueExactly }
     ensures last { IsNotDueByLast }
@@ -51,7 +58,7 @@ pub fn due_by_idle_time()
 {}
 
 /// After any packets a flow of a protocol other than TCP is answered exactly where it was or one of them came backward, its
-/// last time is the latest of all, and all else is what its opening made it.
+/// last time is the latest of all, and all else is what its opening made it. Packets that only peek don't count.
 pub fn flow_is_as_its_packets()
     ensures { IsAsItsPackets }
 {}

@@ -1,19 +1,20 @@
 ghost use Rattle.std.specs.Prelude.{◌≡◌};
-ghost use Rattle.npf_flow.specs.Flows.{accepts, kind_after, is_backward, next_flow, change_of, flow_reply};
+ghost use Rattle.npf_flow.specs.Flows.{accepts, kind_after, is_backward, moves_on, next_flow, change_of, flow_reply};
 
 use crate::flow::{Flow, FlowKind};
 use npf_tcp::step_tcp;
 use npf_types::{Action, Change, Segment, Way};
 
-/// What a packet brings to a step: its time in nanoseconds, and its TCP segment, if it has one. Flows of other protocols
-/// take no notice of a segment.
+/// What a packet brings to a step: its time in nanoseconds, its TCP segment, if it has one, and whether it only peeks, as an ICMP
+/// error (RFC 792) does that quotes a packet of the flow. Flows of other protocols take no notice of a segment.
 #[derive(Clone, Copy, Debug, PartialEq, Eq)]
 pub struct FlowArg {
     pub now: u64,
     pub seg: Option<Segment>,
+    pub peek: bool,
 }
 
-/// What a step answers: whether the packet is accepted, the number of the packet that opened the flow, and what translates
+/// What a step answers: whether the packet passes, the number of the packet that opened the flow, and what translates
 /// the packet and is done to it.
 #[derive(Clone, Copy, Debug, PartialEq, Eq)]
 pub struct FlowReply {
@@ -23,19 +24,20 @@ pub struct FlowReply {
     pub action: Action,
 }
 
-/// The flow after a packet that goes this way, and what the packet is answered. A refused packet changes nothing.
+/// The flow after a packet that goes this way, and what the packet is answered. A refused packet changes nothing, nor does one that
+/// only peeks, which always passes.
 pub fn step_flow(flow: &Flow, way: Way, arg: FlowArg) -> (Flow, FlowReply)
     ensures next { result.0 ≡ next_flow flow.now way arg }
     ensures answer { result.1 ≡ flow_reply flow.now way arg }
 {
-    let (kind, pass) = step_kind(flow.kind, way, arg.seg);
+    let (kind, accepted) = step_kind(flow.kind, way, arg.seg);
     let reply = FlowReply {
-        pass,
+        pass: arg.peek || accepted,
         opener: flow.opener,
         change: change_of(flow, way),
         action: flow.action,
     };
-    let (kind, last) = if pass {
+    let (kind, last) = if !arg.peek && accepted {
         (kind, flow.last.max(arg.now))
     } else {
         (flow.kind, flow.last)

@@ -25,14 +25,17 @@ lower (V6 address) = address % 2 ^ 64
 
 -- the first number of a packet's key, from the highest bits: the version, which is that of the source's family (a packet has
 -- both addresses of one), the protocol, the interface and both ports
-abbrev pub first_word : Facts → IfId → ℕ
-first_word facts ifid =
-    version facts.src * 2 ^ 56 + facts.proto * 2 ^ 48 + ifid.0 * 2 ^ 32 + source_port facts.l4 * 2 ^ 16 + destination_port facts.l4
+abbrev pub first_word : ℕ → Addr → ℕ → ℕ → IfId → ℕ
+first_word proto src sport dport ifid = version src * 2 ^ 56 + proto * 2 ^ 48 + ifid.0 * 2 ^ 32 + sport * 2 ^ 16 + dport
 
--- a packet's key: then the source and the destination
+-- the key of what has this protocol and goes from one port of an address to another: then the source and the destination
+abbrev pub key_between : ℕ → Addr → ℕ → Addr → ℕ → IfId → Key
+key_between proto src sport dst dport ifid =
+    record { 0 = first_word proto src sport dport ifid ∷ upper src ∷ lower src ∷ upper dst ∷ lower dst ∷ [] }
+
+-- a packet's key
 abbrev pub key_of : Facts → IfId → Key
-key_of facts ifid =
-    record { 0 = first_word facts ifid ∷ upper facts.src ∷ lower facts.src ∷ upper facts.dst ∷ lower facts.dst ∷ [] }
+key_of facts ifid = key_between facts.proto facts.src (source_port facts.l4) facts.dst (destination_port facts.l4) ifid
 
 -- the key of the answers to a packet that this change translates: that of the translated packet with source and destination
 -- changed about

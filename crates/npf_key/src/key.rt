@@ -1,6 +1,7 @@
 ghost use Rattle.std.specs.Prelude.{◌≡◌};
-ghost use Rattle.npf_key.specs.Key.{key_of, backward_key, port_key};
+ghost use Rattle.npf_key.specs.Key.{key_between, key_of, backward_key, port_key};
 
+use crate::port::{destination_port, source_port};
 use crate::translated::{about, facts_there};
 use crate::word::{first_word, lower, marked_word, upper};
 use npf_types::{Addr, Change, Facts, IfId, Key};
@@ -9,12 +10,22 @@ use npf_types::{Addr, Change, Facts, IfId, Key};
 pub fn key_of(facts: &Facts, ifid: IfId) -> Key
     ensures { result ≡ key_of facts.now ifid }
 {
+    let sport = source_port(&facts.l4);
+    let dport = destination_port(&facts.l4);
+    key_between(facts.proto, facts.src, sport, facts.dst, dport, ifid)
+}
+
+/// The key on this interface of what has the protocol `proto` and goes from the port `sport` of `src` to the port `dport` of `dst`.
+/// An echo's identifier stands for both ports, and 0 where there are none. Both addresses are of the family of `src`.
+pub fn key_between(proto: u8, src: Addr, sport: u16, dst: Addr, dport: u16, ifid: IfId) -> Key
+    ensures { result ≡ key_between proto src sport dst dport ifid }
+{
     Key([
-        first_word(facts, ifid),
-        upper(facts.src),
-        lower(facts.src),
-        upper(facts.dst),
-        lower(facts.dst),
+        first_word(proto, src, sport, dport, ifid),
+        upper(src),
+        lower(src),
+        upper(dst),
+        lower(dst),
     ])
 }
 

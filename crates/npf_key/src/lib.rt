@@ -6,7 +6,9 @@
 // numbers is this project's own.
 //
 // The contract: `key_of` and `port_key` are sums of their parts, each at a power of two of its own, and the backward key of
-// `keys_of` is the key of the translated packet with source and destination changed about, for packets of IPv4 and IPv6.
+// `keys_of` is the key of the translated packet with source and destination changed about, for packets of IPv4 and IPv6. A key of
+// what isn't a packet of its own, as what an ICMP error quotes, is made by `key_between`; a packet's ports, and
+// what a change names in it, are said here for the crates above.
 #![tactic(auto)]
 
 mod key;
@@ -15,4 +17,6 @@ mod port;
 mod translated;
 mod word;
 
-pub use key::{key_of, keys_of, port_key};
+pub use key::{key_between, key_of, keys_of, port_key};
+pub use port::{destination_port, source_port};
+pub use translated::{fitting, named_port, shares_family};

@@ -7,12 +7,12 @@ use npf_types::{Addr, Change, End, Facts, L4};
 pub fn facts_there(facts: &Facts, there: &Change) -> Facts
     ensures { result ≡ facts_there there.now facts.now }
 {
-    let src = fitting(facts.src, there.src);
-    let dst = fitting(facts.src, there.dst);
+    let src = fitting(facts.src, &there.src);
+    let dst = fitting(facts.src, &there.dst);
     Facts {
         src: address_there(src, facts.src),
         dst: address_there(dst, facts.dst),
-        l4: l4_there(named_port(src), named_port(dst), facts.l4),
+        l4: l4_there(named_port(&src), named_port(&dst), facts.l4),
         ..*facts
     }
 }
@@ -29,17 +29,18 @@ pub fn about(facts: &Facts) -> Facts
     }
 }
 
-/// The end where its address is of the same family as `addr`.
-fn fitting(addr: Addr, end: Option<End>) -> Option<End>
-    ensures { result ≡ fitting addr end }
+/// The end that a change names for a packet of the family of `addr`: one of the other family names nothing.
+pub fn fitting(addr: Addr, end: &Option<End>) -> Option<End>
+    ensures { result ≡ fitting addr end.now }
 {
-    match end {
+    match *end {
         Some(end) if shares_family(end.addr, addr) => Some(end),
         _ => None,
     }
 }
 
-fn shares_family(a: Addr, b: Addr) -> bool
+/// Whether both addresses are of IPv4 or both of IPv6.
+pub fn shares_family(a: Addr, b: Addr) -> bool
     ensures { result ≡ shares_family a b }
 {
     matches!(
@@ -57,10 +58,11 @@ fn address_there(end: Option<End>, addr: Addr) -> Addr
     }
 }
 
-fn named_port(end: Option<End>) -> Option<u16>
-    ensures { result ≡ named_port end }
+/// The port that a change names for an end, if it names the end and a port.
+pub fn named_port(end: &Option<End>) -> Option<u16>
+    ensures { result ≡ named_port end.now }
 {
-    match end {
+    match *end {
         Some(end) => end.port,
         None => None,
     }

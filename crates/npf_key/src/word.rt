@@ -1,20 +1,19 @@
 ghost use Rattle.std.specs.Prelude.{◌≡◌};
 ghost use Rattle.npf_key.specs.Key.{version, upper, lower, first_word, marked_word};
 
-use crate::port::{destination_port, source_port};
-use npf_types::{Addr, Facts, IfId};
+use npf_types::{Addr, IfId};
 
 /// The bit of a version number that marks the key of a port.
 const PORT_MARK: u8 = 0x80;
 
 /// Version, protocol, interface and ports of a packet's key.
-pub fn first_word(facts: &Facts, ifid: IfId) -> u64
-    ensures { result ≡ first_word facts.now ifid }
+pub fn first_word(proto: u8, src: Addr, sport: u16, dport: u16, ifid: IfId) -> u64
+    ensures { result ≡ first_word proto src sport dport ifid }
 {
-    let version = u64::from(version(facts.src));
-    let proto = u64::from(facts.proto);
-    let sport = u64::from(source_port(&facts.l4));
-    let dport = u64::from(destination_port(&facts.l4));
+    let version = u64::from(version(src));
+    let proto = u64::from(proto);
+    let sport = u64::from(sport);
+    let dport = u64::from(dport);
     (version << 56) + (proto << 48) + (u64::from(ifid.0) << 32) + (sport << 16) + dport
 }
 

@@ -1,9 +1,9 @@
 ghost use Rattle.std.specs.Prelude.{◌≡◌};
 ghost use Rattle.std.specs.Option.{option_map};
-ghost use Rattle.npf_key.specs.Port.{source_port, destination_port};
 ghost use Rattle.npf_nat.specs.Answer.{own_end, answer_change};
 
-use npf_types::{Addr, Change, End, Facts, L4};
+use npf_key::{destination_port, source_port};
+use npf_types::{Addr, Change, End, Facts};
 
 /// The change of the answers to a packet that `there` translates: back to the packet's own ends.
 pub fn answer_change(facts: &Facts, there: &Change) -> Change
@@ -28,25 +28,5 @@ fn own_end(addr: Addr, port: u16, named: Option<End>) -> Option<End>
         }),
         Some(End { port: None, .. }) => Some(End { addr, port: None }),
         None => None,
-    }
-}
-
-fn source_port(l4: &L4) -> u16
-    ensures { result ≡ source_port l4.now }
-{
-    match *l4 {
-        L4::Tcp { sport, .. } | L4::Udp { sport, .. } => sport,
-        L4::Icmp { echo, .. } | L4::Icmp6 { echo, .. } => echo.unwrap_or(0),
-        L4::Other => 0,
-    }
-}
-
-fn destination_port(l4: &L4) -> u16
-    ensures { result ≡ destination_port l4.now }
-{
-    match *l4 {
-        L4::Tcp { dport, .. } | L4::Udp { dport, .. } => dport,
-        L4::Icmp { echo, .. } | L4::Icmp6 { echo, .. } => echo.unwrap_or(0),
-        L4::Other => 0,
     }
 }

@@ -29,10 +29,11 @@ use Rattle.npf_connections.specs.Adding.{AddsOwn}
 use Rattle.npf_connections.specs.Entries.{entry_of, hold_entries}
 use Rattle.npf_connections.specs.Pass.{Pass, IsPass, IsOwn, Knows, all_places}
 use Rattle.npf_connections.specs.StayLaw.{Holding}
+use Rattle.npf_connections.proofs.AddLemmas.{adds_alone}
 use Rattle.npf_oneturn_store.specs.Represents.{Represents}
 use Rattle.npf_oneturn.specs.declared.contents.Contents.{Contents}
 use Rattle.npf_oneturn.specs.declared.rule.Ending.{Ending}
-use Rattle.npf_oneturn.specs.declared.rule.Ending.TheVariants.{Asks}
+use Rattle.npf_oneturn.specs.declared.rule.Ending.TheVariants.{Asks, Nothing}
 use Rattle.npf_oneturn.specs.declared.view.View.{View}
 use Rattle.npf_oneturn.specs.Endings.{entries_from, Plan, planned_entries, ended, EndsBy, act_plan, MayEnd, MayEndTurn, HasEnded}
 use Rattle.npf_oneturn.specs.Taking.{IsResting, Taken}
@@ -126,6 +127,7 @@ module _ {S A R : Type 0} (m : Meaning S A R) (v : View S A R) (me : Me (Content
         unanswered = may.tidy.unanswered;
         idle = may.tidy.idle;
         alone = alone;
+        most = omega arith;
       }
 
 -- what a call leaves that ended by a plan
@@ -214,6 +216,31 @@ rested m v me t lives theirs place ending contents next h none =
     let f = finished m v me t lives theirs place ending contents next h in
     let u = taker m v me t in
     (subst (λ (acts : List (Act _ _)). AddsOwn (show v) next.0.history (entries_from m (k m v me t) v.number acts)) none f.adds, f.legal)
+
+-- what a call that asks for nothing leaves to a pass that owns all reader places: it is as it was, and had seen all
+pub record IsLeft {S A R : Type 0} (m : Meaning S A R) (v : View S A R) (me : Me (Contents S) (View S A R)) (t : Taken m v me) (next : Me (Contents S) (View S A R)) : Type 0 where
+  pub legal : IsPass m (show next.0)
+  pub same : show next.0 ≡ show v
+  pub newest : t.log ≡ v.history
+
+pub left : {S A R : Type 0} (m : Meaning S A R) (v : View S A R) (me : Me (Contents S) (View S A R)) (t : Taken m v me) (lives : v.lives ≡ true) (theirs : v.theirs ≡ []) (place : 1 ≤ v.places) (all : v.places ≡ all_places)
+    (contents : Contents S) (next : Me (Contents S) (View S A R)) (h : HasEnded m Nothing (me.0, (0, contents) ∷ rest me.1) next) → IsLeft m v me t next
+left {S} {A} {R} m v me t lives theirs place all contents next h =
+    let r = rested m v me t lives theirs place Nothing contents next h (ap (λ (p : Plan S A). p.acts) h.by_plan) in
+    let u = taker m v me t in
+    let f = finished m v me t lives theirs place Nothing contents next h in
+    let plan : h.plan ≡ record { acts = []; entered = v.entered; answered = v.answered; builds = v.builds } =
+    h.by_plan ∙ ap (λ (y : Me (Contents S) (View S A R)). record { acts = []; entered = y.0.entered; answered = y.0.answered; builds = y.0.builds }) t.is in
+    let shown : show next.0 ≡ record (show v) { history = t.log ++ [] } = ap (λ (w : View S A R). show w) (f.view ∙ ap (λ (p : Plan S A). ended m p u) plan) in
+    let places : next.0.places ≡ all_places = ap (λ (p : Pass (Entry S A R)). p.places) shown ∙ all in
+    let mine : next.0.history ≡ v.history ++ [] =
+    adds_alone m (show v) (show next.0) [] r.1 places (ap (λ (p : Pass (Entry S A R)). p.number) shown) (ap (λ (p : Pass (Entry S A R)). p.joined) shown) r.0.adds in
+    let newest : t.log ++ [] ≡ v.history = sym (ap (λ (p : Pass (Entry S A R)). p.history) shown) ∙ (mine ∙ append-nil v.history) in
+    record {
+      legal = r.1;
+      same = shown ∙ ap (λ (history : List (Entry S A R)). record (show v) { history = history }) newest;
+      newest = sym (append-nil t.log) ∙ newest;
+    }
 
 -- what a pass knows is claimed at its turn
 pub known_claimed : {S A R : Type 0} (k0 : Machine S) (v : View S A R) (id : ConnId) → Stays k0 v → Knows (show v) id → IsClaimed (stage_of k0 id)

@@ -366,4 +366,5 @@ module _ {S A R : Type 0} (m : Meaning S A R) (st : Step (Contents S)) (v w : Vi
         unanswered = pass.unanswered;
         idle = pass.idle;
         alone = λ all e c. ⊎_elim (λ none. absurd (seen_by l.history e none c)) (λ own. own) (sole all e.seat);
+        most = pass.most;
       })

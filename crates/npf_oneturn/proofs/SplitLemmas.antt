@@ -307,4 +307,5 @@ giver_pass m v places most pass = record {
   unanswered = pass.unanswered;
   idle = pass.idle;
   alone = λ all. absurd (omega (arith, all, places, most));
+  most = pass.most;
 }

@@ -9,7 +9,7 @@ use Rattle.npf_core.specs.declared.act.Why.TheVariants.{Abandoned, Expired}
 use Rattle.npf_core.specs.declared.conn_id.ConnId.{ConnId}
 use Rattle.npf_core.specs.declared.entry.Entry.{Entry}
 use Rattle.npf_core.specs.declared.reply.Reply.{Reply}
-use Rattle.npf_core.specs.declared.reply.Reply.TheVariants.{Nothing, ToClaim, ToLook, ToHold, ToStep}
+use Rattle.npf_core.specs.declared.reply.Reply.TheVariants.{ToClaim, ToLook, ToHold, ToStep}
 use Rattle.npf_core.specs.History.{LegalFrom, state_of, state_from, frees}
 use Rattle.npf_core.specs.Machine.{Machine, stage_of, HoldsNone}
 use Rattle.npf_core.specs.Meaning.{Meaning}
@@ -24,7 +24,7 @@ use Rattle.npf_oneturn_store.specs.Represents.{Represents}
 use Rattle.npf_oneturn.specs.declared.contents.Contents.{Contents}
 use Rattle.npf_oneturn.specs.declared.view.View.{View}
 use Rattle.npf_oneturn.specs.declared.rule.Ending.{Ending}
-use Rattle.npf_oneturn.specs.declared.rule.Ending.TheVariants.{Enters, Leaves, Full, Asks, Abandons, Expires, Collects}
+use Rattle.npf_oneturn.specs.declared.rule.Ending.TheVariants.{Enters, Leaves, Nothing, Asks, Abandons, Expires, Collects}
 use Rattle.npf_oneturn.specs.Rule.{DeadHoldNone}
 use Rattle.npf_oneturn.specs.Views.{one_if, Stays, IsTidy}
 
@@ -71,7 +71,7 @@ replied_ids (ToLook found) = found_ids found
 replied_ids (ToClaim id) = id ∷ []
 replied_ids (ToHold held) = taken_ids held
 replied_ids (ToStep stepped) = []
-replied_ids Nothing = []
+replied_ids Reply.Nothing = []
 
 -- what was answered in the stay after an act: a Hold begins a new stay
 abbrev pub answered_after : {S A R : Type 0} → Act S A → Reply R → List ConnId → List ConnId
@@ -128,7 +128,7 @@ pub record CollectsBy {S A R : Type 0} (m : Meaning S A R) (v : View S A R) (p :
 abbrev pub EndsBy : {S A R : Type 0} → Meaning S A R → Ending S A → View S A R → Plan S A → Type 0
 EndsBy m Enters v p = p ≡ record { acts = []; entered = true; answered = v.answered; builds = v.builds }
 EndsBy m Leaves v p = p ≡ record { acts = []; entered = false; answered = []; builds = v.builds }
-EndsBy m Full v p = p ≡ record { acts = []; entered = v.entered; answered = v.answered; builds = v.builds }
+EndsBy m Nothing v p = p ≡ record { acts = []; entered = v.entered; answered = v.answered; builds = v.builds }
 EndsBy m (Asks act) v p = p ≡ act_plan m act v
 EndsBy m (Abandons id) v p = AbandonsBy m id v p
 EndsBy m (Expires now count) v p = ExpiresBy m now count v p

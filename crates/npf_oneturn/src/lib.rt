@@ -7,10 +7,11 @@
 // and Shavit, "The Art of Multiprocessor Programming", chapter 7.
 //
 // A connection is freed only while no pass is entered: the slot counts those that are, so that what a pass was answered in its stay
-// stays. The one contract: `OneTurn` meets `Connections<L>` for every law `L`.
+// stays. The one contract: `OneTurn` meets `Connections<L>` for every law `L` whose flows may go to another thread.
 #![tactic(auto)]
 
 mod contents;
+pub mod laws;
 mod one_turn;
 mod passing;
 mod rule;

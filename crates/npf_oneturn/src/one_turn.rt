@@ -1,3 +1,5 @@
+ghost use Rattle.std.specs.Prelude.{◌≡◌};
+
 use crate::contents::Contents;
 use crate::passing::{Cut, GetsNumber, Learns, Merge};
 use crate::rule::{Ending, OneTurnRule};
@@ -6,7 +8,7 @@ use crate::view::View;
 use crate::working::{collect_contents, end_connection, expire_all};
 use atomic_table::{Refused, Seat, Table};
 use npf_connections::Connections;
-use npf_core::{Act, ConnId, Found, Held, Law, Stepped};
+use npf_core::{Act, ConnId, Found, Held, Kept, Law, Stepped};
 use npf_oneturn_store::{Store, step};
 use npf_types::{Key, NoMemory, Way};
 use std::alloc::Global;
@@ -16,6 +18,8 @@ use std::sync::Wait;
 #[derive(Drop)]
 pub struct OneTurn<L: Law> {
     table: Table<Contents<L::State>, View<L::State, L::Arg, L::Reply>, u32, OneTurnRule<L>, Global>,
+    slots: u32,
+    ghost sized: { table.shared.key ≡ slots },
 }
 
 /// A pass of a table under one turn.
@@ -25,7 +29,7 @@ pub struct OneTurnPass<L: Law> {
 }
 
 impl<L: Law> OneTurn<L> {
-    ghost use Rattle.std.specs.Prelude.{◌≡◌, IfOk};
+    ghost use Rattle.std.specs.Prelude.{IfOk};
     ghost use Rattle.npf_connections.specs.Pass.{IsPass, IsFirstPass};
     ghost use Rattle.npf_oneturn.specs.Seats.{IsSeatOf};
     ghost use Rattle.npf_oneturn.specs.Taking.{IsResting};
@@ -45,7 +49,7 @@ impl<L: Law> OneTurn<L> {
             entered: 0,
         })?;
         match Table::new(alloc, &[FREE], homes, &slots) {
-            Ok((table, seat)) => Ok((OneTurn { table }, OneTurnPass { seat })),
+            Ok((table, seat)) => Ok((OneTurn { table, slots }, OneTurnPass { seat })),
             Err(Refused { .. }) => Err(NoMemory),
         }
     }
@@ -55,7 +59,6 @@ impl<L: Law> Connections<L> for OneTurn<L>
 where
     L::State: Send,
 {
-    ghost use Rattle.std.specs.Prelude.{◌≡◌};
     ghost use Rattle.npf_oneturn.specs.Seats.{IsSeatOf};
     ghost use Rattle.npf_oneturn.specs.Taking.{IsResting};
     ghost use Rattle.npf_oneturn.specs.Views.{show};
@@ -65,6 +68,10 @@ where
     ghost view = { λ pass. show pass.seat.me.0 };
 
     ghost fits = { λ conns pass. IsSeatOf conns.table.shared.table_id pass.seat.table_id × IsResting pass.seat.me × (pass.seat.me.0.slots ≡ conns.table.shared.key) };
+
+    fn slots(&self) -> u32 {
+        self.slots
+    }
 
     fn enter(&self, rt: &impl Wait, pass: &mut OneTurnPass<L>) {
         take::<L>(rt, &self.table.shared, &mut pass.seat);
@@ -121,7 +128,7 @@ where
     fn begin(&self, rt: &impl Wait, pass: &mut OneTurnPass<L>, n: u64) -> Option<ConnId> {
         take::<L>(rt, &self.table.shared, &mut pass.seat);
         let Some(id) = pass.seat.slot_mut(&self.table.shared, 0).store.claim() else {
-            end::<L>(&self.table.shared, &mut pass.seat, Ending::Full);
+            end::<L>(&self.table.shared, &mut pass.seat, Ending::Nothing);
             return None;
         };
         end::<L>(
@@ -195,6 +202,18 @@ where
         take::<L>(rt, &self.table.shared, &mut pass.seat);
         collect_contents::<L>(pass.seat.slot_mut(&self.table.shared, 0));
         end::<L>(&self.table.shared, &mut pass.seat, Ending::Collects);
+    }
+
+    fn copy_slot(
+        &self,
+        rt: &impl Wait,
+        pass: &mut OneTurnPass<L>,
+        slot: u32,
+    ) -> Option<Kept<L::State>> {
+        take::<L>(rt, &self.table.shared, &mut pass.seat);
+        let kept = pass.seat.slot_mut(&self.table.shared, 0).store.kept(slot);
+        end::<L>(&self.table.shared, &mut pass.seat, Ending::Nothing);
+        kept
     }
 
     fn split(&self, _rt: &impl Wait, pass: &mut OneTurnPass<L>) -> OneTurnPass<L> {

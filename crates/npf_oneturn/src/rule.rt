@@ -38,8 +38,8 @@ pub enum Ending<S, A> {
     Enters,
     /// It is in none.
     Leaves,
-    /// Each slot is claimed.
-    Full,
+    /// The machine was asked for nothing.
+    Nothing,
     /// The machine was asked for this act.
     Asks(Act<S, A>),
     /// A connection that it was building is given up.

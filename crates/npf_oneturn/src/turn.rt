@@ -47,9 +47,9 @@ trait Aim<S, A> {
 }
 
 impl<S, A> Aim<S, A> for Brand {
-    ghost use Rattle.npf_oneturn.specs.declared.rule.Ending.TheVariants.{Full};
+    ghost use Rattle.npf_oneturn.specs.declared.rule.Ending.TheVariants.{Nothing};
 
-    ghost ending = { Full };
+    ghost ending = { Nothing };
 }
 
 struct EndsAs<L: Law, W> {

@@ -3,9 +3,9 @@ use Rattle.std.proofs.Common.{◌≡◌, ◌≢◌, ℕ, zero, suc, ◌<◌, Boo
 use Rattle.std.proofs.lemmas.List.{get_or-set_other}
 use Rattle.npf_types.specs.declared.key.Key.{Key}
 use Rattle.npf_core.specs.declared.found.Found.{Found}
+use Rattle.npf_core.specs.declared.holding.Holding.{Holding}
 use Rattle.npf_core.specs.Machine.{is_key}
 use Rattle.npf_core.proofs.EqualityLemmas.{is_key-Decides}
-use Rattle.npf_oneturn_store.specs.declared.holding.Holding.{Holding}
 use Rattle.npf_oneturn_store.specs.Places.{standing, found_in, found_at, first_found, holder_among}
 
 -- what stands there with the key, and is found

@@ -3,7 +3,7 @@ use Rattle.std.proofs.Common.{◌≡◌, ◌≢◌, ℕ, zero, suc, ◌+◌, ◌
 use Rattle.std.proofs.lemmas.Bool.{cases_eq}
 use Rattle.std.proofs.lemmas.List.{get_or-set_same, get_or-set_other}
 use Rattle.npf_types.specs.declared.key.Key.{Key}
-use Rattle.npf_oneturn_store.specs.declared.holding.Holding.{Holding}
+use Rattle.npf_core.specs.declared.holding.Holding.{Holding}
 use Rattle.npf_oneturn_store.specs.Hash.{bucket_of}
 use Rattle.npf_oneturn_store.specs.Places.{standing, found_in, first_found, holder_among, key_place, IsStale, IsUnnamed, AreKept}
 use Rattle.npf_oneturn_store.proofs.HolderLemmas.{still_there}

@@ -1,7 +1,17 @@
 -- A store that represents a state of the machine is answered as the machine is, and represents the state that the act leaves.
-use Rattle.std.proofs.Common.{rules}
+use Rattle.std.proofs.Common.{◌≡◌, ◌∙◌, ℕ, Option, Some, None, refl, sym, ap, rules}
+use Rattle.npf_types.specs.declared.key.Key.{Key}
+use Rattle.npf_types.specs.declared.key.Way.{Way}
+use Rattle.npf_core.specs.declared.conn_id.ConnId.{ConnId}
+use Rattle.npf_core.specs.declared.stage.Stage.{Stage}
+use Rattle.npf_core.specs.Copying.{HoldsIf}
+use Rattle.npf_core.specs.Machine.{Machine, IsLive}
 use Rattle.npf_core.specs.Meaning.{Meaning}
-use Rattle.npf_oneturn_store.specs.RepresentLaw.{NewIsOpening, StaysSame, ShowsPhases, ShowsBuilding, ShowsAlive, LookIsAct, ClaimIsAct, FullIsClaimed, HoldIsAct, StartIsAct, StepIsAct, KillIsAct, UnholdIsAct, FreeIsAct, ShowsBare, ShowsKeys, ShowsDead, ShowsDue}
+use Rattle.npf_oneturn_store.specs.declared.phase.Phase.{Phase}
+use Rattle.npf_oneturn_store.specs.declared.store.Store.{Store}
+use Rattle.npf_oneturn_store.specs.Represents.{Represents, phase_in}
+use Rattle.npf_oneturn_store.specs.Store.{IsLivePhase, TellsKey}
+use Rattle.npf_oneturn_store.specs.RepresentLaw.{NewIsOpening, StaysSame, ShowsPhases, ShowsBuilding, ShowsAlive, LookIsAct, ClaimIsAct, FullIsClaimed, HoldIsAct, StartIsAct, StepIsAct, KillIsAct, UnholdIsAct, FreeIsAct, ShowsBare, ShowsKeys, ShowsKept, ShowsDead, ShowsDue}
 
 module _ (S : Type 0) where
   pub new_is_opening : NewIsOpening S
@@ -30,6 +40,34 @@ module _ (S : Type 0) where
 
   pub shows_dead : ShowsDead S
   shows_dead = search rules
+
+  -- a stage is Live where its phase is, with the same flow and steps
+  live_phase : (stage : Stage S) → IsLive stage → IsLivePhase (phase_in stage)
+  live_phase Stage.Vacant live = live
+  live_phase (Stage.Building seat) live = live
+  live_phase (Stage.Live flow steps) live = tt
+  live_phase Stage.Dead live = live
+
+  live_stage : (stage : Stage S) (flow : S) (steps : ℕ) → phase_in stage ≡ Phase.Live flow steps → stage ≡ Stage.Live flow steps
+  live_stage Stage.Vacant flow steps is = absurd cc
+  live_stage (Stage.Building seat) flow steps is = absurd cc
+  live_stage (Stage.Live now count) flow steps is = cc
+  live_stage Stage.Dead flow steps is = absurd cc
+
+  holds_if : (slots : ℕ) (store : Store S) (k : Machine S) (id : ConnId) (way : Way) (key : Option Key) → Represents slots store k →
+      TellsKey store id way key → HoldsIf k id way key
+  holds_if slots store k id way None r none = (shows_bare slots store k id way r).1 none
+  holds_if slots store k id way (Some key) r held = shows_keys slots store k id way key r held
+
+  pub shows_kept : ShowsKept S
+  shows_kept slots store k slot None r none = λ live. none (rw (r.placed slot) (live_phase (k.slot slot).stage live))
+  shows_kept slots store k slot (Some kept) r has = record {
+    there = has.there;
+    live = (has.live.0, live_stage _ kept.state has.live.0 (sym (shows_phases slots store k kept.id r) ∙ has.live.1));
+    forward = holds_if slots store k kept.id _ kept.forward r has.forward;
+    port = holds_if slots store k kept.id _ kept.port r has.port;
+    backward = holds_if slots store k kept.id _ kept.backward r has.backward;
+  }
 
 module _ {S A R : Type 0} (m : Meaning S A R) where
   pub look_is_act : LookIsAct m

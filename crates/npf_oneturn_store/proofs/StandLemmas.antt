@@ -6,8 +6,8 @@ use Rattle.npf_types.specs.declared.key.Way.{Way}
 use Rattle.npf_types.specs.declared.key.Way.TheVariants.{Forward, Backward, Port}
 use Rattle.npf_core.specs.declared.conn_id.ConnId.{ConnId}
 use Rattle.npf_core.specs.declared.found.Found.{Found}
+use Rattle.npf_core.specs.declared.holding.Holding.{Holding}
 use Rattle.npf_oneturn_store.specs.declared.connection.Connection.{Connection}
-use Rattle.npf_oneturn_store.specs.declared.holding.Holding.{Holding}
 use Rattle.npf_oneturn_store.specs.declared.phase.Phase.TheVariants.{Vacant}
 use Rattle.npf_oneturn_store.specs.Connection.{connection_in, phase_at, phase_among, HoldersStand}
 use Rattle.npf_oneturn_store.specs.Places.{standing, holder_among, key_place, way_number, AreKept}

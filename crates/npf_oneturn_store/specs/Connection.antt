@@ -3,8 +3,8 @@ use Rattle.std.specs.Prelude.{◌≡◌, ◌≢◌, ℕ, ◌-◌, ◌^◌, ◌<�
 use Rattle.npf_types.specs.declared.key.Key.{Key}
 use Rattle.npf_core.specs.declared.conn_id.ConnId.{ConnId}
 use Rattle.npf_core.specs.declared.found.Found.{Found}
+use Rattle.npf_core.specs.declared.holding.Holding.{Holding}
 use Rattle.npf_oneturn_store.specs.declared.connection.Connection.{Connection}
-use Rattle.npf_oneturn_store.specs.declared.holding.Holding.{Holding}
 use Rattle.npf_oneturn_store.specs.declared.phase.Phase.{Phase}
 use Rattle.npf_oneturn_store.specs.declared.phase.Phase.TheVariants.{Vacant}
 use Rattle.npf_oneturn_store.specs.Places.{holder_among}

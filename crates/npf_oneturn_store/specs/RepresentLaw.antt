@@ -1,15 +1,17 @@
 -- The calls of a store are the acts of the machine: where the store represents a state, it is answered as the machine is, and
 -- represents the state that the act leaves.
-use Rattle.std.specs.Prelude.{◌≡◌, ℕ, ◌<◌, ◌↔◌, Some}
+use Rattle.std.specs.Prelude.{◌≡◌, ℕ, ◌<◌, ◌↔◌, Option, Some}
 use Rattle.npf_types.specs.declared.key.Key.{Key}
 use Rattle.npf_types.specs.declared.key.Way.{Way}
 use Rattle.npf_core.specs.declared.act.Act.TheVariants.{Claim, Look, Hold, Start, Step, Kill, Unhold, Free}
 use Rattle.npf_core.specs.declared.act.Why.{Why}
 use Rattle.npf_core.specs.declared.conn_id.ConnId.{ConnId}
 use Rattle.npf_core.specs.declared.held.Held.{Held}
+use Rattle.npf_core.specs.declared.kept.Kept.{Kept}
 use Rattle.npf_core.specs.declared.stage.Stage.TheVariants.{Building, Dead}
 use Rattle.npf_core.specs.declared.stepped.Stepped.{Stepped}
 use Rattle.npf_core.specs.Allowed.{MayClaim, IsDue}
+use Rattle.npf_core.specs.Copying.{Copies}
 use Rattle.npf_core.specs.Machine.{Machine, opening, stage_of, IsClaimed, IsAlive, Holds, HoldsNone}
 use Rattle.npf_core.specs.Meaning.{Meaning}
 use Rattle.npf_core.specs.NextState.{after_act}
@@ -18,7 +20,7 @@ use Rattle.npf_oneturn_store.specs.declared.phase.Phase.{Phase}
 use Rattle.npf_oneturn_store.specs.declared.store.Store.{Store}
 use Rattle.npf_oneturn_store.specs.Represents.{Represents, phase_in}
 use Rattle.npf_oneturn_store.specs.Store as calls
-use Rattle.npf_oneturn_store.specs.Store.{holder_of, phase_of, IsNew, IsSame, Claims, IsFull, AnswersHold, Starts, AnswersStep, Kills, Unholds, Frees, HoldsNoKey, TellsKey, IsDuePhase}
+use Rattle.npf_oneturn_store.specs.Store.{holder_of, phase_of, IsNew, IsSame, Claims, IsFull, AnswersHold, Starts, AnswersStep, Kills, Unholds, Frees, HoldsNoKey, TellsKey, TellsKept, IsDuePhase}
 
 -- a new store is in the opening state
 abbrev pub NewIsOpening : (S : Type 0) → Type 0
@@ -125,6 +127,12 @@ abbrev pub ShowsKeys : (S : Type 0) → Type 0
 ShowsKeys S =
     (slots : ℕ) (store : Store S) (k : Machine S) (id : ConnId) (way : Way) (key : Key) → Represents slots store k →
     TellsKey store id way (Some key) → Holds k id way key
+
+-- what the store tells of a slot is a copy of the connection there
+abbrev pub ShowsKept : (S : Type 0) → Type 0
+ShowsKept S =
+    (slots : ℕ) (store : Store S) (k : Machine S) (slot : ℕ) (kept : Option (Kept S)) → Represents slots store k →
+    TellsKept store slot kept → Copies k slot kept
 
 -- a connection is Dead in the state where it is in the store
 abbrev pub ShowsDead : (S : Type 0) → Type 0

@@ -7,6 +7,7 @@ use Rattle.npf_types.specs.declared.key.Way.TheVariants.{Forward, Backward, Port
 use Rattle.npf_core.specs.declared.conn_id.ConnId.{ConnId}
 use Rattle.npf_core.specs.declared.found.Found.{Found}
 use Rattle.npf_core.specs.declared.held.Held.{Held}
+use Rattle.npf_core.specs.declared.kept.Kept.{Kept}
 use Rattle.npf_core.specs.declared.stepped.Stepped.{Stepped}
 use Rattle.npf_core.specs.Meaning.{Meaning}
 use Rattle.npf_core.specs.NextState.{given_up}
@@ -74,6 +75,19 @@ IsDuePhase m now Dead = ⊥
 abbrev pub TellsDue : {S A R : Type 0} → Meaning S A R → Store S → ℕ → ℕ → Option ConnId → Type 0
 TellsDue m store slot now None = ¬ IsDuePhase m now (slot_of store slot).phase
 TellsDue m store slot now (Some id) = (id.slot ≡ slot) × IsDuePhase m now (phase_of store id)
+
+-- the slot's connection is this one, Live with this flow, and holds these keys
+pub record HasKept {S : Type 0} (store : Store S) (slot : ℕ) (kept : Kept S) : Type 0 where
+  pub there : kept.id.slot ≡ slot
+  pub live : (steps : ℕ) × (phase_of store kept.id ≡ Live kept.state steps)
+  pub forward : TellsKey store kept.id Forward kept.forward
+  pub port : TellsKey store kept.id Port kept.port
+  pub backward : TellsKey store kept.id Backward kept.backward
+
+-- a copy of the slot's connection if it is Live, or none where it isn't
+abbrev pub TellsKept : {S : Type 0} → Store S → ℕ → Option (Kept S) → Type 0
+TellsKept store slot None = ¬ IsLivePhase (slot_of store slot).phase
+TellsKept store slot (Some kept) = HasKept store slot kept
 
 -- the slot's connection if it is Dead, or none where it isn't
 abbrev pub TellsDead : {S : Type 0} → Store S → ℕ → Option ConnId → Type 0

@@ -5,8 +5,7 @@ ghost use Rattle.npf_oneturn_store.specs.Hash.{bucket_of};
 ghost use Rattle.npf_oneturn_store.specs.Places.{AreKept, AreSized, holder_among, key_place, way_number};
 
 use crate::hash::bucket_of;
-use crate::holding::Holding;
-use npf_core::Found;
+use npf_core::{Found, Holding};
 use npf_types::{Key, NoMemory, Way};
 use std::alloc::Global;
 

@@ -1,5 +1,5 @@
 // What ties a store to the machine of connections. The functions do nothing: each is a theorem.
-ghost use Rattle.npf_oneturn_store.specs.RepresentLaw.{NewIsOpening, StaysSame, ShowsPhases, ShowsBuilding, ShowsAlive, LookIsAct, ClaimIsAct, FullIsClaimed, HoldIsAct, StartIsAct, StepIsAct, KillIsAct, UnholdIsAct, FreeIsAct, ShowsBare, ShowsKeys, ShowsDead, ShowsDue};
+ghost use Rattle.npf_oneturn_store.specs.RepresentLaw.{NewIsOpening, StaysSame, ShowsPhases, ShowsBuilding, ShowsAlive, LookIsAct, ClaimIsAct, FullIsClaimed, HoldIsAct, StartIsAct, StepIsAct, KillIsAct, UnholdIsAct, FreeIsAct, ShowsBare, ShowsKeys, ShowsKept, ShowsDead, ShowsDue};
 
 use npf_core::Law;
 
@@ -56,8 +56,9 @@ pub fn free_law<L: Law>()
     ensures { FreeIsAct L.meaning }
 {}
 
-/// A store shows which keys a connection holds, and of which ways it holds none.
+/// A store shows which keys a connection holds, of which ways it holds none, and which connection is Live in a slot.
 pub fn held_law<L: Law>()
     ensures bare { ShowsBare L.State }
     ensures keys { ShowsKeys L.State }
+    ensures kept { ShowsKept L.State }
 {}

@@ -14,7 +14,6 @@
 mod connection;
 mod hash;
 mod held_keys;
-mod holding;
 mod keys;
 pub mod laws;
 mod phase;

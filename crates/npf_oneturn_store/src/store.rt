@@ -5,7 +5,7 @@ use crate::connection::Connection;
 use crate::held_keys::HeldKeys;
 use crate::keys::Keys;
 use crate::phase::Phase;
-use npf_core::{ConnId, Found, Held};
+use npf_core::{ConnId, Found, Held, Kept};
 use npf_types::{Key, NoMemory, Way};
 use std::alloc::Global;
 
@@ -29,7 +29,7 @@ pub struct Store<S> {
 impl<S: Copy> Store<S> {
     ghost use Rattle.npf_types.specs.declared.key.Way.{Way};
     ghost use Rattle.npf_core.specs.declared.conn_id.ConnId.{ConnId};
-    ghost use Rattle.npf_oneturn_store.specs.Store.{slots_of, slot_of, holder_of, phase_of, HoldsNoKey, TellsKey, TellsKeys, TellsDead, IsNew, AnswersClaim, IsLowest, IsFull, AnswersHold, StaysBare, Starts, IsAlivePhase, IsLivePhase, Kills, Unholds, Frees, Puts, IsSame};
+    ghost use Rattle.npf_oneturn_store.specs.Store.{slots_of, slot_of, holder_of, phase_of, HoldsNoKey, TellsKey, TellsKeys, TellsKept, TellsDead, IsNew, AnswersClaim, IsLowest, IsFull, AnswersHold, StaysBare, Starts, IsAlivePhase, IsLivePhase, Kills, Unholds, Frees, Puts, IsSame};
 
     /// A store of so many slots of which none is claimed. All the memory that it ever has is taken here.
     pub fn new(alloc: Global, slots: u32) -> Result<Store<S>, NoMemory>
@@ -190,6 +190,31 @@ impl<S: Copy> Store<S> {
             forward: self.held(id, Way::Forward),
             backward: self.held(id, Way::Backward),
             port: self.held(id, Way::Port),
+        }
+    }
+
+    /// A copy of the slot's connection with the keys that it holds, if it is Live.
+    pub fn kept(&self, slot: u32) -> Option<Kept<S>>
+        ensures { TellsKept self.now slot result }
+    {
+        match self.connection(slot) {
+            Some(
+                Connection {
+                    inc,
+                    phase: Phase::Live { flow, .. },
+                },
+            ) => {
+                let id = ConnId { slot, inc: *inc };
+                let keys = self.keys_held(id);
+                Some(Kept {
+                    id,
+                    forward: keys.forward,
+                    port: keys.port,
+                    backward: keys.backward,
+                    state: *flow,
+                })
+            }
+            _ => None,
         }
     }
 

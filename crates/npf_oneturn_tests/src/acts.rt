@@ -1,6 +1,6 @@
 // Acts of one pass, one after the other, and what each is answered.
 ghost use Rattle.std.specs.Prelude.{◌≡◌, ◌≤◌, false};
-ghost use Rattle.npf_connections.specs.Pass.{IsPass};
+ghost use Rattle.npf_connections.specs.Pass.{IsPass, all_places};
 ghost use Rattle.npf_oneturn_tests.specs.Sum.{sum_law};
 
 use crate::answers::put;
@@ -24,6 +24,8 @@ pub(crate) enum Act {
     Fill(u64),
     Expire(u64),
     Collect,
+    /// Each slot is copied, in order.
+    Copy,
 }
 
 // How many of so many flows, each with a key of its own, are opened before one is refused.
@@ -46,6 +48,26 @@ fn fill<C: Connections<Sum>>(rt: &impl Wait, conns: &C, pass: &mut C::Pass, flow
     flows
 }
 
+// Copies each slot, in order, and tells what was copied.
+fn copy_all<C: Connections<Sum>>(
+    rt: &impl Wait,
+    conns: &C,
+    pass: &mut C::Pass,
+    told: &mut String,
+) -> Result<(), Fail>
+    requires own { C.fits conns.now pass.old }
+    requires legal { IsPass sum_law (C.view pass.old) }
+    requires out { (C.view pass.old).entered ≡ false }
+    requires sole { (C.view pass.old).places ≡ all_places }
+    ensures own { C.fits conns.now pass.new }
+    ensures same { C.view pass.new ≡ C.view pass.old }
+{
+    for slot in 0..conns.slots() {
+        put(told, &conns.copy_slot(rt, pass, slot))?;
+    }
+    Ok(())
+}
+
 // Does the act with this number, and tells what it was answered.
 fn answer<C: Connections<Sum>>(
     rt: &impl Wait,
@@ -58,7 +80,7 @@ fn answer<C: Connections<Sum>>(
     requires own { C.fits conns.now pass.old }
     requires legal { IsPass sum_law (C.view pass.old) }
     requires out { (C.view pass.old).entered ≡ false }
-    requires place { 1 ≤ (C.view pass.old).places }
+    requires sole { (C.view pass.old).places ≡ all_places }
     ensures own { C.fits conns.now pass.new }
     ensures legal { IsPass sum_law (C.view pass.new) }
     ensures out { (C.view pass.new).entered ≡ false }
@@ -74,6 +96,7 @@ fn answer<C: Connections<Sum>>(
             conns.collect(rt, pass);
             Ok(())
         }
+        Act::Copy => copy_all(rt, conns, pass, told),
     }
 }
 
@@ -88,7 +111,7 @@ pub(crate) fn answer_all<C: Connections<Sum>>(
     requires own { C.fits conns.now pass.old }
     requires legal { IsPass sum_law (C.view pass.old) }
     requires out { (C.view pass.old).entered ≡ false }
-    requires place { 1 ≤ (C.view pass.old).places }
+    requires sole { (C.view pass.old).places ≡ all_places }
 {
     for (n, act) in acts.iter().enumerate() {
         answer(rt, conns, pass, n as u64, *act, told)?;

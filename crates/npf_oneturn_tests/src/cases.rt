@@ -1,6 +1,6 @@
 // What is put to a table, and what it answers.
-ghost use Rattle.std.specs.Prelude.{◌≡◌, ◌≤◌, false};
-ghost use Rattle.npf_connections.specs.Pass.{IsPass};
+ghost use Rattle.std.specs.Prelude.{◌≡◌, false};
+ghost use Rattle.npf_connections.specs.Pass.{IsPass, all_places};
 ghost use Rattle.npf_oneturn_tests.specs.Sum.{sum_law};
 
 use crate::acts::{Act, answer_all};
@@ -24,7 +24,7 @@ enum Question {
 }
 
 // A table's slots, and what is put to it.
-const CASES: [(u32, Question); 6] = [
+const CASES: [(u32, Question); 7] = [
     // a connection is due at 107, and the slot's next one comes once it was collected
     (
         1,
@@ -56,6 +56,11 @@ const CASES: [(u32, Question); 6] = [
         64,
         Question::Acts(&[Act::Fill(65), Act::Abandon(KEY), Act::Expire(100)]),
     ),
+    // a live connection is copied with its key, and a dead one isn't
+    (
+        2,
+        Question::Acts(&[Act::Ask(KEY), Act::Copy, Act::Expire(100), Act::Copy]),
+    ),
     (1, Question::Known),
     (1, Question::Resting),
     (3, Question::Shared),
@@ -79,6 +84,13 @@ Some((ConnId { slot: 0, inc: 2 }, Done))
 None
 64
 
+Some((ConnId { slot: 0, inc: 1 }, Done))
+Some(Kept { id: ConnId { slot: 0, inc: 1 }, forward: Some(Key([17, 1, 2, 3, 4])), port: None, backward: None, state: 100 })
+None
+1
+None
+None
+
 (1, None, Some(NotLive), Some((ConnId { slot: 0, inc: 2 }, Done)))
 
 Some((ConnId { slot: 0, inc: 2 }, Done))
@@ -98,7 +110,7 @@ fn answer<R: Threads + Wait + Sync, C: Connections<Sum>>(
     requires own { C.fits conns.now pass.old }
     requires legal { IsPass sum_law (C.view pass.old) }
     requires out { (C.view pass.old).entered ≡ false }
-    requires places { 65 ≤ (C.view pass.old).places }
+    requires sole { (C.view pass.old).places ≡ all_places }
 {
     match question {
         Question::Acts(acts) => answer_all(rt, conns, pass, acts, told),

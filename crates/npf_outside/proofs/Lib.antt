@@ -1,2 +1,4 @@
 pub mod SinkLemmas
 mod MemFilesLemmas
+mod PartLemmas
+mod StreamLemmas

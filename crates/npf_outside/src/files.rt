@@ -1,7 +1,8 @@
-ghost use Rattle.std.specs.Prelude.{◌≡◌, ℕ, ◌≤◌, List, length, IfOk, OnOk, IsErrOf};
+ghost use Rattle.std.specs.Prelude.{◌≡◌, ℕ, ◌≤◌, List, [], length, IfOk, OnOk, IsErrOf};
 ghost use Rattle.npf_outside.specs.Counts.{Rose, count_after};
 ghost use Rattle.npf_outside.specs.Files.{FilesMoment, Has, IsLonger, SameFiles, SameOthers, SameReadFaults};
 
+use crate::parts::Parts;
 use std::alloc::Global;
 
 /// Why a file was not read or written.
@@ -14,8 +15,8 @@ pub enum FileFault {
     NoMemory,
 }
 
-/// Files by name, read and written whole. `moment` is what the object shows: the contents, if it tells them, the counts of its
-/// failures, and the bytes that reads took. No count falls.
+/// Files by name, read whole, and written whole or part by part. `moment` is what the object shows: the contents, if it tells them,
+/// the counts of its failures, and the bytes that reads took. No count falls.
 pub trait Files {
     ghost moment: { Self → FilesMoment };
 
@@ -42,6 +43,26 @@ pub trait Files {
     /// Replaces the file's contents. After `Failed` they are unknown, and all other files are as before; `Long` never comes.
     fn write(&mut self, name: &str, bytes: &[u8]) -> Result<(), FileFault>
         ensures whole { OnOk result (Has (moment self.new).contents name.now bytes.now) }
+        ensures faultless { OnOk result ((moment self.new).write_faults ≡ (moment self.old).write_faults) }
+        ensures short { IsErrOf result FileFault.Long → ⊥ }
+        ensures failed { IsErrOf result FileFault.Failed
+            → Rose (moment self.old).write_faults (moment self.new).write_faults }
+        ensures memory { IsErrOf result FileFault.NoMemory
+            → SameFiles (moment self.old).contents (moment self.new).contents }
+        ensures others { SameOthers (moment self.old).contents (moment self.new).contents name.now }
+        ensures writes { (moment self.old).write_faults ≤ (moment self.new).write_faults }
+        ensures reads { SameReadFaults (moment self.old) (moment self.new) }
+        ensures taken { (moment self.new).taken ≡ (moment self.old).taken };
+
+    /// As `write`, of the parts put together in their order.
+    fn write_parts<P: Parts>(
+        &mut self,
+        alloc: Global,
+        name: &str,
+        parts: &mut P,
+    ) -> Result<(), FileFault>
+        ensures whole { OnOk result (Has (moment self.new).contents name.now (P.rest parts.old)) }
+        ensures given { OnOk result (P.rest parts.new ≡ []) }
         ensures faultless { OnOk result ((moment self.new).write_faults ≡ (moment self.old).write_faults) }
         ensures short { IsErrOf result FileFault.Long → ⊥ }
         ensures failed { IsErrOf result FileFault.Failed

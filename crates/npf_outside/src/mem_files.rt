@@ -5,6 +5,7 @@ ghost use Rattle.npf_outside.specs.Files.{Has, IsLonger, SameFiles, SameOthers, 
 
 use crate::calls::Calls;
 use crate::files::{FileFault, Files};
+use crate::parts::{Parts, gather};
 use npf_types::NoMemory;
 use std::alloc::Global;
 use std::collections::BTreeMap;
@@ -142,6 +143,41 @@ impl Files for MemFiles {
             return Err(FileFault::Failed);
         }
         match self.put_file(name, bytes) {
+            Ok(()) => Ok(()),
+            Err(NoMemory) => Err(FileFault::NoMemory),
+        }
+    }
+
+    fn write_parts<P: Parts>(
+        &mut self,
+        alloc: Global,
+        name: &str,
+        parts: &mut P,
+    ) -> Result<(), FileFault>
+        ensures whole { OnOk result (Has (Some (tree_of self.new)) name.now (P.rest parts.old)) }
+        ensures given { OnOk result (P.rest parts.new ≡ []) }
+        ensures faultless { OnOk result (self.new.write_faults ≡ self.old.write_faults) }
+        ensures short { IsErrOf result FileFault.Long → ⊥ }
+        ensures failed { IsErrOf result FileFault.Failed → Rose self.old.write_faults self.new.write_faults }
+        ensures memory { IsErrOf result FileFault.NoMemory
+            → SameFiles (Some (tree_of self.old)) (Some (tree_of self.new)) }
+        ensures others { SameOthers (Some (tree_of self.old)) (Some (tree_of self.new)) name.now }
+        ensures writes { self.old.write_faults ≤ self.new.write_faults }
+        ensures reads { SameReadFaults (files_moment self.old) (files_moment self.new) }
+        ensures taken { self.new.taken ≡ self.old.taken }
+        ensures exactly { IsErrOf result FileFault.Failed
+            ↔ Contains (planned self.old.calls) (next_call self.old.calls) }
+        ensures plan { planned self.new.calls ≡ planned self.old.calls }
+        ensures calls { self.new.calls.made ≡ next_call self.old.calls }
+    {
+        if self.calls.begin() {
+            self.write_faults = self.write_faults.saturating_add(1);
+            return Err(FileFault::Failed);
+        }
+        let Ok(bytes) = gather(alloc, parts) else {
+            return Err(FileFault::NoMemory);
+        };
+        match self.put_file(name, bytes.as_slice()) {
             Ok(()) => Ok(()),
             Err(NoMemory) => Err(FileFault::NoMemory),
         }

@@ -1,4 +1,4 @@
-ghost use Rattle.std.specs.Prelude.{◌≡◌, ◌↔◌, ◌++◌, [], ◌∷◌, ℕ, ◌≤◌, Some, IfOk, OnOk, OnErr, IsErrOf, Contains};
+ghost use Rattle.std.specs.Prelude.{◌≡◌, ◌↔◌, ◌++◌, [], ◌∷◌, ℕ, ◌+◌, ◌≤◌, Some, length, IfOk, OnOk, OnErr, IsErrOf, Contains, vec_len};
 ghost use Rattle.npf_outside.specs.Calls.{planned, next_call};
 ghost use Rattle.npf_outside.specs.Counts.{Rose};
 ghost use Rattle.npf_outside.specs.Sink.{Appends, AppendsFront};
@@ -17,6 +17,7 @@ pub struct MemSink {
     flushed: usize,
     calls: Calls,
     faults: u64,
+    ghost within: { flushed ≤ vec_len bytes },
 }
 
 impl MemSink {
@@ -68,7 +69,10 @@ impl Sink for MemSink {
         ensures counted { self.old.faults ≤ self.new.faults }
         ensures exactly { IsErrOf result SinkFault.Failed
             ↔ Contains (planned self.old.calls) (next_call self.old.calls) }
+        ensures waits { OnOk result
+            ((sink_moment self.new).waiting ≡ (sink_moment self.old).waiting + length bytes.now) }
         ensures nothing { OnErr result (bytes_of self.new ≡ bytes_of self.old) }
+        ensures unmoved { OnErr result ((sink_moment self.new).waiting ≡ (sink_moment self.old).waiting) }
         ensures plan { planned self.new.calls ≡ planned self.old.calls }
         ensures calls { self.new.calls.made ≡ next_call self.old.calls }
     {

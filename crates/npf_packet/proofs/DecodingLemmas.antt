@@ -22,7 +22,7 @@ abbrev pub IsOne : {A : Type 0} → (A → Type 0) → Type 0
 IsOne {A} P = (one other : A) → P one → P other → one ≡ other
 
 -- where a test's answer stands there is one, and where what was read goes on to one there is one
-one_through : {T A E : Type 0} (r : Result T E) (P : T → A → Type 0) (answer : E → A) → ((x : T) → IsOne (P x)) → IsOne (λ a. MatchResult r (λ x. P x a) (λ e. a ≡ answer e))
+pub one_through : {T A E : Type 0} (r : Result T E) (P : T → A → Type 0) (answer : E → A) → ((x : T) → IsOne (P x)) → IsOne (λ a. MatchResult r (λ x. P x a) (λ e. a ≡ answer e))
 one_through (Ok x) P answer each one other p q = each x one other p q
 one_through (Err e) P answer each one other p q = p ∙ sym q
 

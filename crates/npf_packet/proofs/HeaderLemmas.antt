@@ -1,5 +1,5 @@
 -- What the IP headers say of a packet that was decoded.
-use Rattle.std.proofs.Common.{◌≡◌, ℕ, ◌+◌, ◌≤◌, Some, List, length, Ok, Err, refl, sym, ap, ◌∙◌, subst, arith}
+use Rattle.std.proofs.Common.{◌≡◌, ℕ, ◌+◌, ◌≤◌, true, false, Some, List, length, Ok, Err, refl, sym, ap, ◌∙◌, subst, arith}
 use Rattle.std.proofs.lemmas.Bool.Decides.{nat_tests}
 use Rattle.std.specs.Prelude.{Result, MatchResult}
 use Rattle.npf_fields.specs.Field.{number128}
@@ -8,7 +8,7 @@ use Rattle.npf_types.specs.declared.facts.Facts.{Facts}
 use Rattle.npf_types.specs.declared.link.Link.{Link}
 use Rattle.npf_types.specs.declared.link.Link.TheVariants.{Ethernet, Raw}
 use Rattle.npf_packet.specs.declared.decoded.Decoded.{Decoded}
-use Rattle.npf_packet.specs.declared.decoded.Decoded.TheVariants.{Ip}
+use Rattle.npf_packet.specs.declared.decoded.Decoded.TheVariants.{Ip, Skip}
 use Rattle.npf_packet.specs.declared.ipv6.Header.{Header}
 use Rattle.npf_packet.specs.declared.version.Version.{Version}
 use Rattle.npf_packet.specs.declared.version.Version.TheVariants.{V4, V6}
@@ -16,7 +16,7 @@ use Rattle.npf_packet.specs.declared.packet.Packet.{Packet}
 use Rattle.npf_packet.specs.Decoding.{Decodes, DecodesIp, packet_at, version_behind}
 use Rattle.npf_packet.specs.Extent.{told_end}
 use Rattle.npf_packet.specs.Field.{ipv6_source, ipv6_destination}
-use Rattle.npf_packet.specs.Ipv4.{packet_v4, fields_v4, header_len, total_len}
+use Rattle.npf_packet.specs.Ipv4.{packet_v4, whole_v4, unless_fragment, is_fragment, fields_v4, header_len, total_len}
 use Rattle.npf_packet.specs.Ipv6.{IsPacketV6, IsBehindChain, behind_last, end_v6, first_header, next_header, payload_len}
 use Rattle.npf_packet.specs.PacketField.{HasIpHeader}
 use Rattle.npf_packet.specs.Place.{least_ip_header}
@@ -40,14 +40,40 @@ pub record IsWholeV4 (bytes : List ℕ) (ip_at : ℕ) (packet : Packet) : Type 0
   pub whole : ip_at + total_len bytes ip_at ≤ length bytes
   pub is : fields_v4 bytes ip_at ≡ packet
 
-pub whole_v4 : (bytes : List ℕ) (ip_at : ℕ) (packet : Packet)
-    → packet_v4 bytes ip_at ≡ Ok packet → IsWholeV4 bytes ip_at packet
-whole_v4 bytes ip_at packet h = record {
+-- what was read goes on unless it is a fragment, whose answer is no packet's facts
+pub record GoesOn (bytes : List ℕ) (ip_at : ℕ) (whole : Result Packet Decoded) (packet : Packet) : Type 0 where
+  pub is : whole ≡ Ok packet
+  pub rest : is_fragment bytes ip_at ≡ false
+
+goes_on : (bytes : List ℕ) (ip_at : ℕ) (whole : Result Packet Decoded) (packet : Packet)
+    → unless_fragment bytes ip_at whole ≡ Ok packet → GoesOn bytes ip_at whole packet
+goes_on bytes ip_at (Ok read) packet h = record { is = grind (arith, nat_tests); rest = grind (arith, nat_tests) }
+goes_on bytes ip_at (Err answer) packet h = absurd (cc)
+
+pub no_fragment : (bytes : List ℕ) (ip_at : ℕ) (packet : Packet)
+    → packet_v4 bytes ip_at ≡ Ok packet → GoesOn bytes ip_at (whole_v4 bytes ip_at) packet
+no_fragment bytes ip_at packet h = goes_on bytes ip_at (whole_v4 bytes ip_at) packet h
+
+pub when_fragment : (bytes : List ℕ) (ip_at : ℕ) (whole : Result Packet Decoded) (packet : Packet)
+    → whole ≡ Ok packet → is_fragment bytes ip_at ≡ true → unless_fragment bytes ip_at whole ≡ Err Skip
+when_fragment bytes ip_at whole packet is part = rw is (rw part refl)
+
+pub when_whole : (bytes : List ℕ) (ip_at : ℕ) (whole : Result Packet Decoded) (packet : Packet)
+    → whole ≡ Ok packet → is_fragment bytes ip_at ≡ false → unless_fragment bytes ip_at whole ≡ Ok packet
+when_whole bytes ip_at whole packet is rest = rw is (rw rest refl)
+
+pub read_whole_v4 : (bytes : List ℕ) (ip_at : ℕ) (packet : Packet)
+    → whole_v4 bytes ip_at ≡ Ok packet → IsWholeV4 bytes ip_at packet
+read_whole_v4 bytes ip_at packet h = record {
   header = grind (arith, nat_tests);
   total = grind (arith, nat_tests);
   whole = grind (arith, nat_tests);
   is = grind (arith, nat_tests);
 }
+
+pub is_whole_v4 : (bytes : List ℕ) (ip_at : ℕ) (packet : Packet)
+    → packet_v4 bytes ip_at ≡ Ok packet → IsWholeV4 bytes ip_at packet
+is_whole_v4 bytes ip_at packet h = read_whole_v4 bytes ip_at packet (no_fragment bytes ip_at packet h).is
 
 -- the version behind a link's header is that of the IP header
 pub version_v4 : (link : Link) (bytes : List ℕ)
@@ -83,9 +109,9 @@ ends_v6 : (bytes : List ℕ) (ip_at end : ℕ)
     → (ip_at + 40 + payload_len bytes ip_at ≡ end) × (end ≤ length bytes)
 ends_v6 bytes ip_at end h = (grind (arith, nat_tests), grind (arith, nat_tests))
 
-pub whole_v6 : (bytes : List ℕ) (ip_at : ℕ) (packet : Packet)
+pub is_whole_v6 : (bytes : List ℕ) (ip_at : ℕ) (packet : Packet)
     → IsPacketV6 bytes ip_at (Ok packet) → IsWholeV6 bytes ip_at packet
-whole_v6 bytes ip_at packet h =
+is_whole_v6 bytes ip_at packet h =
     let found = of_ok (end_v6 bytes ip_at) (λ end. IsBehindChain bytes ip_at end (Ok packet))
     (λ answer. Ok packet ≡ Err answer) (λ answer e no. cc) h in
     let end = found.0 in
@@ -165,14 +191,22 @@ never_version : (link : Link) (bytes : List ℕ) (facts : Facts)
 never_version Raw bytes facts = λ h. grind (arith, nat_tests)
 never_version Ethernet bytes facts = λ h. grind (arith, nat_tests)
 
-never_v4 : (bytes : List ℕ) (ip_at : ℕ) (facts : Facts) → ¬ (packet_v4 bytes ip_at ≡ Err (Ip facts))
-never_v4 bytes ip_at facts = λ h. grind (arith, nat_tests)
+never_whole_v4 : (bytes : List ℕ) (ip_at : ℕ) (facts : Facts) → ¬ (whole_v4 bytes ip_at ≡ Err (Ip facts))
+never_whole_v4 bytes ip_at facts = λ h. grind (arith, nat_tests)
 
-never_end_v6 : (bytes : List ℕ) (ip_at : ℕ) (facts : Facts)
+never_goes_on : (bytes : List ℕ) (ip_at : ℕ) (whole : Result Packet Decoded) (facts : Facts)
+    → ¬ (whole ≡ Err (Ip facts)) → ¬ (unless_fragment bytes ip_at whole ≡ Err (Ip facts))
+never_goes_on bytes ip_at (Ok packet) facts never = λ h. grind (arith, nat_tests)
+never_goes_on bytes ip_at (Err answer) facts never = never
+
+pub never_v4 : (bytes : List ℕ) (ip_at : ℕ) (facts : Facts) → ¬ (packet_v4 bytes ip_at ≡ Err (Ip facts))
+never_v4 bytes ip_at facts = never_goes_on bytes ip_at (whole_v4 bytes ip_at) facts (never_whole_v4 bytes ip_at facts)
+
+pub never_end_v6 : (bytes : List ℕ) (ip_at : ℕ) (facts : Facts)
     → ¬ (end_v6 bytes ip_at ≡ Err (Ip facts))
 never_end_v6 bytes ip_at facts = λ h. grind (arith, nat_tests)
 
-never_behind_v6 : (bytes : List ℕ) (ip_at end : ℕ) (last : Header) (facts : Facts)
+pub never_behind_v6 : (bytes : List ℕ) (ip_at end : ℕ) (last : Header) (facts : Facts)
     → ¬ (behind_last bytes ip_at end last ≡ Err (Ip facts))
 never_behind_v6 bytes ip_at end last facts = λ h. grind (arith, nat_tests)
 
@@ -198,7 +232,7 @@ read_v4 link bytes facts version decodes =
     (λ answer. Ip facts ≡ answer)
     (λ answer e same. never_v4 bytes (packet_at link) facts
     (sym decodes.read ∙ e ∙ ap (λ a. Err a) (sym same))) decodes.says in
-    let whole = whole_v4 bytes (packet_at link) found.0 (sym decodes.read ∙ found.1.0) in
+    let whole = is_whole_v4 bytes (packet_at link) found.0 (sym decodes.read ∙ found.1.0) in
     record {
       packet = found.0;
       ip = ip_packet_v4 link bytes found.0 (version_v4 link bytes version) whole;
@@ -213,7 +247,7 @@ read_v6 link bytes facts version decodes =
     (λ answer. Ip facts ≡ answer)
     (λ answer e same. never_v6 bytes (packet_at link) facts
     (subst P (e ∙ ap (λ a. Err a) (sym same)) decodes.read)) decodes.says in
-    let whole = whole_v6 bytes (packet_at link) found.0 (subst P found.1.0 decodes.read) in
+    let whole = is_whole_v6 bytes (packet_at link) found.0 (subst P found.1.0 decodes.read) in
     record {
       packet = found.0;
       ip = ip_packet_v6 link bytes found.0 (version_v6 link bytes version) whole;

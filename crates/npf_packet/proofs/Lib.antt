@@ -1,5 +1,6 @@
 pub mod ChainLemmas
 pub mod DecodingLemmas
+pub mod FragmentAtLemmas
 pub mod HeaderLemmas
 pub mod PacketFieldLemmas
 pub mod TcpOptionLemmas

@@ -26,7 +26,7 @@ module _ (bytes : List ℕ) (ip_at : ℕ) where
   abbrev pub is_fragment : Bool
   is_fragment = not (number16 bytes (ip_at + ipv4_fragment) % 0x4000 == 0)
 
-  -- a whole packet's fields; what it carries begins behind the header
+  -- the packet's fields; what it carries begins behind the header
   abbrev pub fields_v4 : Packet
   fields_v4 = record {
     src = V4 (number32 bytes (ip_at + ipv4_source));
@@ -37,10 +37,19 @@ module _ (bytes : List ℕ) (ip_at : ℕ) where
     end = ip_at + total_len;
   }
 
-  abbrev pub packet_v4 : Result Packet Decoded
-  packet_v4 =
+  -- a packet that is whole, or is one fragment of one
+  abbrev pub whole_v4 : Result Packet Decoded
+  whole_v4 =
       if nat_lt (length bytes) (ip_at + 20) then Err (cut (length bytes))
       else (if nat_lt header_len 20 then Err (bad ip_at)
       else (if nat_lt total_len header_len then Err (bad (ip_at + ipv4_total_length))
       else (if nat_lt (length bytes) (ip_at + total_len) then Err (cut (length bytes))
-      else (if is_fragment then Err Skip else Ok fields_v4))))
+      else Ok fields_v4)))
+
+  -- a fragment isn't looked into
+  abbrev pub unless_fragment : Result Packet Decoded → Result Packet Decoded
+  unless_fragment (Ok packet) = if is_fragment then Err Skip else Ok packet
+  unless_fragment (Err answer) = Err answer
+
+  abbrev pub packet_v4 : Result Packet Decoded
+  packet_v4 = unless_fragment whole_v4

@@ -5,7 +5,8 @@
 --    8: source address
 --   24: destination address
 --
--- An extension header begins with 0: next header, 1: length (RFC 8200 section 4.2, RFC 4302 section 2).
+-- An extension header begins with 0: next header, 1: length (RFC 8200 section 4.2, RFC 4302 section 2). A fragment header
+-- has 8 bytes and begins with 0: next header (RFC 8200 section 4.5).
 use Rattle.std.specs.Prelude.{◌≡◌, ℕ, ◌+◌, ◌*◌, ◌==◌, ◌||◌, nat_lt, if◌then◌else◌, Bool, Option, Some, None, Result, Ok, Err, MatchResult, List, length, slice_index}
 use Rattle.npf_types.specs.declared.address.Addr.TheVariants.{V6}
 use Rattle.npf_packet.specs.declared.decoded.Decoded.{Decoded}
@@ -26,15 +27,20 @@ is_extension kind = kind == 0 || kind == 43 || kind == 51 || kind == 60
 abbrev pub extension_len : ℕ → ℕ → ℕ
 extension_len kind len = if kind == 51 then 4 * (len + 2) else 8 * (len + 1)
 
--- the header behind an extension header that is whole before the packet's end: its kind is the one that this tells
+-- the header behind an extension header that is whole before the packet's end: its kind is the one that this names in its
+-- first byte
 abbrev pub next_header : List ℕ → ℕ → Header → Option Header
 next_header bytes end header =
     let next_at = header.at + extension_len header.kind (slice_index bytes (header.at + 1)) in
     if is_extension header.kind
     then (if nat_lt end (header.at + 2) then None
     else (if nat_lt end next_at then None
-    else Some (record { kind = slice_index bytes header.at; at = next_at })))
+    else Some (record { kind = slice_index bytes header.at; named_at = header.at; at = next_at })))
     else None
+
+-- the answer to a fragment header that begins here: it isn't looked into, where it is whole before the packet's end
+abbrev pub fragment_answer : ℕ → ℕ → Decoded
+fragment_answer end at = if nat_lt end (at + 8) then cut end else Skip
 
 module _ (bytes : List ℕ) (ip_at : ℕ) where
   -- the length in bytes of what follows the header
@@ -50,7 +56,11 @@ module _ (bytes : List ℕ) (ip_at : ℕ) where
 
   -- the header behind this one
   abbrev pub first_header : Header
-  first_header = record { kind = slice_index bytes (ip_at + ipv6_next_header); at = ip_at + 40 }
+  first_header = record {
+    kind = slice_index bytes (ip_at + ipv6_next_header);
+    named_at = ip_at + ipv6_next_header;
+    at = ip_at + 40;
+  }
 
   -- the headers from the first on are a chain of kinds and offsets, of which this is the last
   pub record HasLast (end : ℕ) (last : Header) : Type 0 where
@@ -62,7 +72,7 @@ module _ (bytes : List ℕ) (ip_at : ℕ) where
   abbrev pub behind_last : ℕ → Header → Result Packet Decoded
   behind_last end last =
       if is_extension last.kind then Err (cut end)
-      else (if last.kind == 44 then Err Skip
+      else (if last.kind == 44 then Err (fragment_answer end last.at)
       else Ok (record {
         src = V6 (number128 bytes (ip_at + ipv6_source));
         dst = V6 (number128 bytes (ip_at + ipv6_destination));

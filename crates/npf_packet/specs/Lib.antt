@@ -5,6 +5,7 @@ pub mod DecodingLaw
 pub mod Ethernet
 pub mod Extent
 pub mod Field
+pub mod FragmentAt
 pub mod Icmp
 pub mod Icmpv6
 pub mod Ipv4

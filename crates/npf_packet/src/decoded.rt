@@ -10,7 +10,7 @@ pub enum BadPacket {
 /// What a record's bytes say. `at` is a place in bytes from the record's first.
 #[derive(Clone, Copy, Debug, PartialEq, Eq)]
 pub enum Decoded {
-    /// A packet that this project doesn't look into: another EtherType, or a fragment.
+    /// A packet that this project doesn't look into: another EtherType, or a fragment, which `fragment` tells.
     Skip,
     Malformed { why: BadPacket, at: u32 },
     Ip(Facts),

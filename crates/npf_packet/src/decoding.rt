@@ -34,7 +34,7 @@ pub(crate) fn packet_at(link: Link) -> usize
 }
 
 /// The version of the IP packet behind the link's header.
-fn version_behind(link: Link, bytes: &[u8]) -> Result<Version, Decoded>
+pub(crate) fn version_behind(link: Link, bytes: &[u8]) -> Result<Version, Decoded>
     requires { length bytes.now ≤ MAX_PACKET_BYTES }
     ensures { result ≡ version_behind link bytes.now }
 {

@@ -1,6 +1,6 @@
 // IPv4 (RFC 791 section 3.1); specs/Ipv4.antt has the picture of its header.
 ghost use Rattle.std.specs.Prelude.{◌≡◌, ◌+◌, ◌*◌, ◌%◌, ◌==◌, ◌≤◌, not, length, IfOk};
-ghost use Rattle.npf_packet.specs.Ipv4.{packet_v4, total_len};
+ghost use Rattle.npf_packet.specs.Ipv4.{is_fragment, packet_v4, total_len, whole_v4};
 ghost use Rattle.npf_packet.specs.Packet.{IsPlaced};
 
 use crate::decoded::Decoded;
@@ -32,6 +32,24 @@ pub(crate) fn packet_v4(bytes: &[u8], ip_at: usize) -> Result<Packet, Decoded>
     ensures value { result ≡ packet_v4 bytes.now ip_at }
     ensures placed { IfOk result (IsPlaced bytes.now) }
 {
+    let packet = match whole_v4(bytes, ip_at) {
+        Ok(packet) => packet,
+        Err(answer) => return Err(answer),
+    };
+    if is_fragment(bytes, ip_at) {
+        return Err(Decoded::Skip);
+    }
+    Ok(packet)
+}
+
+/// The same of a packet that may be a fragment.
+pub(crate) fn whole_v4(bytes: &[u8], ip_at: usize) -> Result<Packet, Decoded>
+    requires size { length bytes.now ≤ MAX_PACKET_BYTES }
+    requires place { ip_at ≤ 14 }
+    ensures value { result ≡ whole_v4 bytes.now ip_at }
+    ensures placed { IfOk result (IsPlaced bytes.now) }
+    ensures header { IfOk result (λ packet. ip_at + 20 ≤ packet.l4_at) }
+{
     let size = bytes.len();
     if size < ip_at + HEADER {
         return Err(Decoded::cut(size));
@@ -46,9 +64,6 @@ pub(crate) fn packet_v4(bytes: &[u8], ip_at: usize) -> Result<Packet, Decoded>
     }
     if size < ip_at + total_len {
         return Err(Decoded::cut(size));
-    }
-    if is_fragment(get16(bytes, ip_at + field::FRAGMENT)) {
-        return Err(Decoded::Skip);
     }
     Ok(Packet {
         src: Addr::V4(get32(bytes, ip_at + field::SOURCE)),
@@ -77,8 +92,10 @@ pub(crate) fn total_len(bytes: &[u8], ip_at: usize) -> usize
 }
 
 /// Whether more fragments follow or the offset isn't 0.
-fn is_fragment(field: u16) -> bool
-    ensures { result ≡ not (field % 0x4000 == 0) }
+pub(crate) fn is_fragment(bytes: &[u8], ip_at: usize) -> bool
+    requires header { ip_at + 20 ≤ length bytes.now }
+    requires size { length bytes.now ≤ MAX_PACKET_BYTES }
+    ensures { result ≡ is_fragment bytes.now ip_at }
 {
-    field & 0x3fff != 0
+    get16(bytes, ip_at + field::FRAGMENT) & 0x3fff != 0
 }

@@ -1,6 +1,6 @@
 // IPv6 and its extension headers (RFC 8200 sections 3 and 4); specs/Ipv6.antt has the picture of the header.
-ghost use Rattle.std.specs.Prelude.{◌≡◌, ◌+◌, ◌<◌, ◌≤◌, length, IfOk, IfSome};
-ghost use Rattle.npf_packet.specs.Ipv6.{IsPacketV6, HasLast, end_v6, is_extension, extension_len, next_header, payload_len};
+ghost use Rattle.std.specs.Prelude.{◌≡◌, ◌+◌, ◌<◌, ◌≤◌, ◌==◌, ◌&&◌, nat_le, length, IfOk, IfSome};
+ghost use Rattle.npf_packet.specs.Ipv6.{IsPacketV6, HasLast, end_v6, is_extension, extension_len, next_header, payload_len, fragment_answer};
 ghost use Rattle.npf_packet.specs.Packet.{IsPlaced};
 
 use crate::decoded::Decoded;
@@ -23,6 +23,9 @@ mod field {
 /// The header, in bytes.
 pub(crate) const HEADER: usize = 40;
 
+/// The fragment header, in bytes.
+const FRAGMENT_HEADER: usize = 8;
+
 /// The kinds of extension headers (assigned Internet protocol numbers).
 mod kind {
     pub const HOP_BY_HOP: u8 = 0;
@@ -36,11 +39,12 @@ mod kind {
     pub const DESTINATION: u8 = 60;
 }
 
-/// One header of the chain: the kind that the header before it tells, and where it begins.
+/// One header of the chain: the kind that the header before it names, in the byte at `named_at`, and where it begins.
 #[derive(Clone, Copy)]
-struct Header {
+pub(crate) struct Header {
     kind: u8,
-    at: usize,
+    pub(crate) named_at: usize,
+    pub(crate) at: usize,
 }
 
 /// What the headers say of which the first begins at `ip_at`, or the answer where one of their tests fits.
@@ -59,7 +63,7 @@ pub(crate) fn packet_v6(bytes: &[u8], ip_at: usize) -> Result<Packet, Decoded>
         return Err(Decoded::cut(end));
     }
     if last.kind == kind::FRAGMENT {
-        return Err(Decoded::Skip);
+        return Err(fragment_answer(end, last.at));
     }
     Ok(Packet {
         src: Addr::V6(get128(bytes, ip_at + field::SOURCE)),
@@ -71,8 +75,30 @@ pub(crate) fn packet_v6(bytes: &[u8], ip_at: usize) -> Result<Packet, Decoded>
     })
 }
 
+/// The answer to a fragment header that begins at `at`.
+fn fragment_answer(end: usize, at: usize) -> Decoded
+    requires place { at ≤ end }
+    requires size { end ≤ MAX_PACKET_BYTES }
+    ensures { result ≡ fragment_answer end at }
+{
+    if end < at + FRAGMENT_HEADER {
+        Decoded::cut(end)
+    } else {
+        Decoded::Skip
+    }
+}
+
+/// Whether this is a fragment header of which all bytes stand before the packet's end.
+pub(crate) fn is_fragment(header: Header, end: usize) -> bool
+    requires place { header.at ≤ end }
+    requires size { end ≤ MAX_PACKET_BYTES }
+    ensures { result ≡ (header.kind == 44 && nat_le (header.at + 8) end) }
+{
+    header.kind == kind::FRAGMENT && header.at + FRAGMENT_HEADER <= end
+}
+
 /// Where the packet ends whose header begins at `ip_at`.
-fn end_v6(bytes: &[u8], ip_at: usize) -> Result<usize, Decoded>
+pub(crate) fn end_v6(bytes: &[u8], ip_at: usize) -> Result<usize, Decoded>
     requires size { length bytes.now ≤ MAX_PACKET_BYTES }
     requires place { ip_at ≤ 14 }
     ensures value { result ≡ end_v6 bytes.now ip_at }
@@ -100,16 +126,19 @@ pub(crate) fn payload_len(bytes: &[u8], ip_at: usize) -> usize
 }
 
 /// The last header of the chain that the header at `ip_at` begins.
-fn last_header(bytes: &[u8], ip_at: usize, end: usize) -> Header
+pub(crate) fn last_header(bytes: &[u8], ip_at: usize, end: usize) -> Header
     requires header { ip_at + 40 ≤ end }
     requires whole { end ≤ length bytes.now }
     requires size { length bytes.now ≤ MAX_PACKET_BYTES }
     ensures last { HasLast bytes.now ip_at end result }
     ensures after { ip_at + 40 ≤ result.at }
     ensures before { result.at ≤ end }
+    ensures named_behind { ip_at ≤ result.named_at }
+    ensures named_before { result.named_at < result.at }
 {
     let mut header = Header {
         kind: bytes[ip_at + field::NEXT_HEADER],
+        named_at: ip_at + field::NEXT_HEADER,
         at: ip_at + HEADER,
     };
     'headers: while let Some(next) = next_header(bytes, end, header) {
@@ -126,6 +155,7 @@ fn next_header(bytes: &[u8], end: usize, header: Header) -> Option<Header>
     ensures value { result ≡ next_header bytes.now end header }
     ensures after { IfSome result (λ next. header.at < next.at) }
     ensures before { IfSome result (λ next. next.at ≤ end) }
+    ensures named { IfSome result (λ next. next.named_at ≡ header.at) }
 {
     if !is_extension(header.kind) || end < header.at + 2 {
         return None;
@@ -136,6 +166,7 @@ fn next_header(bytes: &[u8], end: usize, header: Header) -> Option<Header>
     }
     Some(Header {
         kind: bytes[header.at],
+        named_at: header.at,
         at: next_at,
     })
 }

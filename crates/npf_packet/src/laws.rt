@@ -1,5 +1,6 @@
-// What holds of every packet that is decoded. The functions do nothing: each is a theorem.
+// What holds of every packet that is decoded, and of every fragment. The functions do nothing: each is a theorem.
 ghost use Rattle.npf_packet.specs.DecodingLaw.{DecodedHasFields, DecodedHasPlaces, DecodedHasProtocol, DecodedIsPacket, OneDecoding};
+ghost use Rattle.npf_packet.specs.FragmentAt.{FragmentIsSkipped, OneFragment};
 
 /// For each link and bytes there is one decoding, so `decode` answers a decoding exactly where it
 /// is the one.
@@ -23,4 +24,14 @@ pub fn decoded_has_fields()
 /// A packet's facts are fields of its own bytes, from the IP header to its end.
 pub fn decoded_is_packet()
     ensures { DecodedIsPacket }
+{}
+
+/// For each link and bytes there is one answer of `fragment`.
+pub fn one_fragment()
+    ensures { OneFragment }
+{}
+
+/// A record in which `fragment` finds one is skipped by `decode`.
+pub fn fragment_is_skipped()
+    ensures { FragmentIsSkipped }
 {}

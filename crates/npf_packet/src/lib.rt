@@ -10,13 +10,14 @@
 // each link and bytes there is one such answer. Each field is the number at a stated offset;
 // extension headers and options are lists in which each follows from the one before. `decode` takes
 // no memory and always returns. `ip_extent` tells where a record has its IP packet, by the IP header
-// alone, as `decode` would.
+// alone, as `decode` would. `fragment` tells where a record that `decode` skips as a fragment has what makes it one.
 #![tactic(auto)]
 
 mod decoded;
 mod decoding;
 mod ethernet;
 mod extent;
+mod fragment_at;
 mod icmp;
 mod icmpv6;
 mod ipv4;
@@ -32,4 +33,8 @@ mod version;
 pub use decoded::{BadPacket, Decoded};
 pub use decoding::decode;
 pub use extent::{IpExtent, ip_extent};
-pub use laws::{decoded_has_fields, decoded_has_places, decoded_is_packet, one_decoding};
+pub use fragment_at::{FragmentAt, fragment};
+pub use laws::{
+    decoded_has_fields, decoded_has_places, decoded_is_packet, fragment_is_skipped, one_decoding,
+    one_fragment,
+};

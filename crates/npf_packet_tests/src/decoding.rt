@@ -2,7 +2,7 @@
 ghost use Rattle.std.specs.Prelude.{◌≤◌, length};
 
 use anyhow::Result;
-use npf_packet::{Decoded, decode, ip_extent};
+use npf_packet::{Decoded, decode, fragment, ip_extent};
 use npf_types::limits::MAX_PACKET_BYTES;
 use npf_types::{Addr, Facts, Link};
 use std::alloc::{AllocError, Global};
@@ -45,4 +45,11 @@ pub fn extent_text(alloc: Global, link: Link, packet: &[u8]) -> Result<String>
 {
     let extent = ip_extent(link, packet);
     Ok(format!(in alloc; "{} {}", extent.at, extent.end)?)
+}
+
+/// Where the fragment is, if the record is one.
+pub fn fragment_text(alloc: Global, link: Link, packet: &[u8]) -> Result<String>
+    requires { length packet.now ≤ MAX_PACKET_BYTES }
+{
+    Ok(format!(in alloc; "{:?}", fragment(link, packet))?)
 }

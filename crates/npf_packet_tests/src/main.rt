@@ -11,7 +11,7 @@ mod rewriting;
 use anyhow::{Context, Result, anyhow};
 use bytes::{parse_bytes, parse_link, parse_packet};
 use capture::{fault_text, read_text, written_text};
-use decoding::{decoding_text, extent_text};
+use decoding::{decoding_text, extent_text, fragment_text};
 use npf_pcap::CaptureFault;
 use rewriting::rewritten_text;
 use std::alloc::Global;
@@ -32,6 +32,8 @@ fn laws() {
     npf_packet::decoded_has_places();
     npf_packet::decoded_has_fields();
     npf_packet::decoded_is_packet();
+    npf_packet::one_fragment();
+    npf_packet::fragment_is_skipped();
     npf_rewrite::header_sum_follows();
     npf_rewrite::upper_sum_follows();
     npf_rewrite::neutral_sums_follow();
@@ -66,6 +68,9 @@ fn answer(alloc: Global, words: &[&str]) -> Result<String> {
         }
         ["extent", link, ref bytes @ ..] => {
             extent_text(alloc, parse_link(link)?, &parse_packet(alloc, bytes)?)
+        }
+        ["fragment", link, ref bytes @ ..] => {
+            fragment_text(alloc, parse_link(link)?, &parse_packet(alloc, bytes)?)
         }
         ["rewrite", ref changes @ .., link, bytes] => {
             rewritten_text(

@@ -13,6 +13,7 @@ mod capture;
 mod extent;
 mod fault;
 mod format;
+pub mod laws;
 mod read;
 mod write;
 

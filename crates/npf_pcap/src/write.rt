@@ -25,7 +25,7 @@ pub fn write_capture(alloc: Global, records: &[Record]) -> Result<Vec<u8>, NoMem
 }
 
 /// Appends the header that `write_capture` writes: the magic number, the version, the time zone, the accuracy, the snap length
-/// and the link type. Where memory is wanting, a part of it may be appended.
+/// and the link type. Where memory runs out, nothing is said of what `out` holds.
 pub fn append_header(out: &mut Vec<u8>) -> Result<(), NoMemory>
     ensures { OnOk result (out.new.items ≡ out.old.items ++ header_bytes) }
 {
@@ -38,7 +38,7 @@ pub fn append_header(out: &mut Vec<u8>) -> Result<(), NoMemory>
 }
 
 /// Appends the record of a packet with this time, in nanoseconds since 1970, and these bytes, as `write_capture` writes it and
-/// under what it requires. Where memory is wanting, a part of it may be appended.
+/// under what it requires. Where memory runs out, nothing is said of what `out` holds.
 pub fn append_record(out: &mut Vec<u8>, time: u64, bytes: &[u8]) -> Result<(), NoMemory>
     requires { FitsCapture (record_with time bytes.now) }
     ensures { OnOk result (out.new.items ≡ out.old.items ++ record_bytes (record_with time bytes.now)) }

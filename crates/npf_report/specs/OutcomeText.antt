@@ -9,12 +9,14 @@ use Rattle.npf_types.specs.declared.name.Name.{Name}
 use Rattle.npf_types.specs.Name.{name_bytes}
 use Rattle.npf_packet.specs.declared.decoded.BadPacket.{BadPacket}
 use Rattle.npf_packet.specs.declared.decoded.BadPacket.TheVariants.{Cut, Bad}
+use Rattle.npf_traffic.specs.declared.packet.FragWhy.{FragWhy}
+use Rattle.npf_traffic.specs.declared.packet.FragWhy.TheVariants as Frags
 use Rattle.npf_engine.specs.declared.outcome.DropWhy.{DropWhy}
 use Rattle.npf_engine.specs.declared.outcome.DropWhy.TheVariants as Drops
 use Rattle.npf_engine.specs.declared.outcome.Kept.{Kept}
 use Rattle.npf_engine.specs.declared.outcome.Kept.TheVariants as Keeps
 use Rattle.npf_engine.specs.declared.outcome.Outcome.{Outcome}
-use Rattle.npf_engine.specs.declared.outcome.Outcome.TheVariants.{Skip, Malformed, ByConn, ByRule, Dropped}
+use Rattle.npf_engine.specs.declared.outcome.Outcome.TheVariants.{Skip, Fragment, Malformed, ByConn, ByRule, Dropped}
 
 -- two numbers, each behind its text
 abbrev pub two_numbers : List ℕ → ℕ → List ℕ → ℕ → List ℕ
@@ -24,6 +26,12 @@ two_numbers first one second other = first ++ (decimal one ++ (second ++ decimal
 abbrev pub log_text : Option Name → List ℕ
 log_text None = []
 log_text (Some name) = codes " log " ++ name_bytes name
+
+-- a fragment that is held: it waits or has gone into its datagram, or its datagram is refused, or it belongs to none
+abbrev pub fragment_text : FragWhy → List ℕ
+fragment_text Frags.Held = codes "skip fragment"
+fragment_text Frags.Overlap = codes "skip fragment overlap"
+fragment_text Frags.Bad = codes "skip fragment bad"
 
 abbrev pub malformed_text : BadPacket → ℕ → List ℕ
 malformed_text Cut at = codes "malformed cut " ++ decimal at
@@ -66,6 +74,7 @@ dropped_text config place why = two_numbers (codes "drop config ") config (codes
 -- what follows the direction in a packet's line
 abbrev pub outcome_text : Outcome → List ℕ
 outcome_text Skip = codes "skip"
+outcome_text (Fragment why) = fragment_text why
 outcome_text (Malformed why at) = malformed_text why at
 outcome_text (ByConn id opener place pass log) = conn_text opener place pass log
 outcome_text (ByRule decision log rule config kept) = verdict_text config rule decision kept ++ log_text log

@@ -2,7 +2,7 @@
 use Rattle.std.specs.Prelude.{◌≡◌, ◌<◌, ℕ, ◌+◌, ◌-◌, ◌^◌, if◌then◌else◌, Bool, true, false, not, List, ◌++◌, length, count_by, codes}
 use Rattle.std.specs.Fmt.{decimal}
 use Rattle.npf_engine.specs.declared.outcome.Outcome.{Outcome}
-use Rattle.npf_engine.specs.declared.outcome.Outcome.TheVariants.{Skip, Malformed, ByConn, ByRule, Dropped}
+use Rattle.npf_engine.specs.declared.outcome.Outcome.TheVariants.{Skip, Fragment, Malformed, ByConn, ByRule, Dropped}
 use Rattle.npf_engine.specs.Outcome.{passes, is_pass}
 use Rattle.npf_report.specs.declared.totals.Counts.{Counts}
 
@@ -18,6 +18,7 @@ is_dropped _ = false
 
 abbrev pub is_skipped : Outcome → Bool
 is_skipped Skip = true
+is_skipped (Fragment why) = true
 is_skipped _ = false
 
 abbrev pub is_malformed : Outcome → Bool

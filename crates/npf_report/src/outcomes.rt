@@ -1,10 +1,11 @@
 // What a line says of a packet's outcome, by the rows of the table.
 ghost use Rattle.std.specs.Prelude.{◌≡◌, ◌+◌, ◌++◌, OnOk};
-ghost use Rattle.npf_report.specs.OutcomeText.{outcome_text, malformed_text, conn_text, verdict_text, dropped_text, drop_text, kept_text, return_text, log_text};
+ghost use Rattle.npf_report.specs.OutcomeText.{outcome_text, fragment_text, malformed_text, conn_text, verdict_text, dropped_text, drop_text, kept_text, return_text, log_text};
 
 use crate::writing::{write_counted, write_text, write_two};
 use npf_engine::{DropWhy, Kept, Outcome};
 use npf_packet::BadPacket;
+use npf_traffic::FragWhy;
 use npf_types::{Decision, Name, NoMemory, Return};
 
 pub(crate) fn write_outcome(into: &mut Vec<u8>, outcome: &Outcome) -> Result<(), NoMemory>
@@ -12,6 +13,7 @@ pub(crate) fn write_outcome(into: &mut Vec<u8>, outcome: &Outcome) -> Result<(),
 {
     match *outcome {
         Outcome::Skip => write_text(into, "skip"),
+        Outcome::Fragment { why } => write_text(into, fragment_text(why)),
         Outcome::Malformed { why, at } => write_malformed(into, why, at),
         Outcome::ByConn {
             opener,
@@ -31,6 +33,16 @@ pub(crate) fn write_outcome(into: &mut Vec<u8>, outcome: &Outcome) -> Result<(),
             write_log(into, log)
         }
         Outcome::Dropped { config, rule, why } => write_dropped(into, config, rule, why),
+    }
+}
+
+fn fragment_text(why: FragWhy) -> &'static str
+    ensures { result.now ≡ fragment_text why }
+{
+    match why {
+        FragWhy::Held => "skip fragment",
+        FragWhy::Overlap => "skip fragment overlap",
+        FragWhy::Bad => "skip fragment bad",
     }
 }
 

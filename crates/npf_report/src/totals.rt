@@ -90,7 +90,7 @@ fn is_dropped(outcome: &Outcome) -> bool
 fn is_skipped(outcome: &Outcome) -> bool
     ensures { result ≡ is_skipped outcome.now }
 {
-    matches!(outcome, Outcome::Skip)
+    matches!(outcome, Outcome::Skip | Outcome::Fragment { .. })
 }
 
 fn is_malformed(outcome: &Outcome) -> bool

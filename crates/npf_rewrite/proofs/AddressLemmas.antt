@@ -137,7 +137,7 @@ number64-same old new at same =
       number32-same old new (at + 4) (λ k from below. same k (omega arith) (omega arith)),
     )
 
-address-same : (old new : List ℕ) (at : ℕ) (src : Addr)
+pub address-same : (old new : List ℕ) (at : ℕ) (src : Addr)
     → ((k : ℕ) → at ≤ k → k < at + address_size src → slice_index new k ≡ slice_index old k)
     → address_at new at src ≡ address_at old at src
 address-same old new at (V4 _) same = ap V4 (number32-same old new at same)

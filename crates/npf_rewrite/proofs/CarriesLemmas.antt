@@ -67,7 +67,7 @@ upper_of-there src proto end =
     fitted src (λ o. upper_of (address_there o src) proto ≡ upper_of src proto) refl
     (λ e same. same-upper src e.addr proto same) end
 
-same_facts : (one other : Facts) → Ip one ≡ Ip other → one ≡ other
+pub same_facts : (one other : Facts) → Ip one ≡ Ip other → one ≡ other
 same_facts one other h = cc
 
 pub match_ok : {T E : Type 0} (r : Result T E) (P : T → Type 0) (Q : E → Type 0) (x : T) → r ≡ Ok x → P x

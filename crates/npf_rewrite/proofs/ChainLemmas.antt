@@ -89,19 +89,19 @@ module _ {H : Type 0} (next next' : H → Option H) (place : H → ℕ)
       (omega (arith, far, rest.0), (chain.0, rw e rest.1))
 
 module _ (old new : List ℕ) (end : ℕ) where
-  next_header-same : (k a : ℕ) → slice_index new a ≡ slice_index old a
+  next_header-same : (k n a : ℕ) → slice_index new a ≡ slice_index old a
       → slice_index new (a + 1) ≡ slice_index old (a + 1)
-      → next_header new end (record { kind = k; at = a }) ≡ next_header old end (record { kind = k; at = a })
-  next_header-same k a kind size = cc
+      → next_header new end (record { kind = k; named_at = n; at = a }) ≡ next_header old end (record { kind = k; named_at = n; at = a })
+  next_header-same k n a kind size = cc
 
-  next_header-onward : (k a k' a' : ℕ)
-      → next_header old end (record { kind = k; at = a }) ≡ Some (record { kind = k'; at = a' })
+  next_header-onward : (k n a k' n' a' : ℕ)
+      → next_header old end (record { kind = k; named_at = n; at = a }) ≡ Some (record { kind = k'; named_at = n'; at = a' })
       → a + 2 ≤ a'
-  next_header-onward k a k' a' h = grind (arith, nat_tests)
+  next_header-onward k n a k' n' a' h = grind (arith, nat_tests)
 
-  next_header-last : (k a : ℕ) → is_extension k ≡ false
-      → next_header new end (record { kind = k; at = a }) ≡ None
-  next_header-last k a last = cc
+  next_header-last : (k n a : ℕ) → is_extension k ≡ false
+      → next_header new end (record { kind = k; named_at = n; at = a }) ≡ None
+  next_header-last k n a last = cc
 
   pub headers-stay : (from : ℕ) (first last : _) (xs : List _)
       → IsChain (next_header old end) first xs last
@@ -110,8 +110,8 @@ module _ (old new : List ℕ) (end : ℕ) where
       → (first.at ≤ last.at) × IsChain (next_header new end) first xs last
   headers-stay from first last xs chain is behind same =
       places-stay (next_header old end) (next_header new end) (λ x. x.at)
-      (λ x y h. next_header-onward x.kind x.at y.kind y.at h) from last
-      (next_header-last last.kind last.at is)
-      (λ x from to. next_header-same x.kind x.at (same x.at from (omega arith))
+      (λ x y h. next_header-onward x.kind x.named_at x.at y.kind y.named_at y.at h) from last
+      (next_header-last last.kind last.named_at last.at is)
+      (λ x from to. next_header-same x.kind x.named_at x.at (same x.at from (omega arith))
       (same (x.at + 1) (omega arith) (omega arith)))
       first xs behind chain

@@ -30,7 +30,7 @@ carried_total-same f g at end same =
 module _ (f g : ℕ → ℕ) (facts : Facts) (carried : (k : ℕ) → facts.l4_at ≤ k → g k ≡ f k)
     (addresses : addresses_total g facts.ip_at facts.src % 65535
     ≡ addresses_total f facts.ip_at facts.src % 65535) where
-  upper-same : (l4 : L4) → counted_total f facts l4 % 65535 ≡ 0 → counted_total g facts l4 % 65535 ≡ 0
+  pub upper-same : (l4 : L4) → counted_total f facts l4 % 65535 ≡ 0 → counted_total g facts l4 % 65535 ≡ 0
   upper-same (Tcp _ _ _ _) was =
       omega (arith, carried_total-same f g facts.l4_at facts.end carried)
   upper-same (Udp _ _) was = omega (arith, carried_total-same f g facts.l4_at facts.end carried)

@@ -23,7 +23,7 @@ abbrev pub front_at : ℕ → Addr → ℕ
 front_at ip (V4 _) = ip + 10
 front_at ip (V6 _) = ip + 8
 
-header_sum-between : (bytes : List ℕ) (ip : ℕ) (src : Addr) (ws : List WordAt)
+pub header_sum-between : (bytes : List ℕ) (ip : ℕ) (src : Addr) (ws : List WordAt)
     → Between (front_at ip src) (source_at ip src) (word_list (header_sum bytes ip src ws))
 header_sum-between bytes ip (V4 a) ws = (omega arith, (omega arith, tt))
 header_sum-between bytes ip (V6 a) ws = tt
@@ -49,7 +49,7 @@ laid ip (V6 a) = record {
   end = omega arith;
 }
 
-between-append : (lo hi : ℕ) (ws vs : List WordAt) → Between lo hi ws → Between lo hi vs
+pub between-append : (lo hi : ℕ) (ws vs : List WordAt) → Between lo hi ws → Between lo hi vs
     → Between lo hi (ws ++ vs)
 between-append lo hi [] vs p q = q
 between-append lo hi (w ∷ ws) vs p q = (p.0, (p.1.0, between-append lo hi ws vs p.1.1 q))

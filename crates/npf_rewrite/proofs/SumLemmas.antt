@@ -31,7 +31,7 @@ pub left_total-same : (f g : ℕ → ℕ) (at end : ℕ) → ((end - at) % 2 ≡
     → left_total g at end ≡ left_total f at end
 left_total-same f g at end same = grind (arith, nat_tests, same)
 
-addresses_total-is : (byte : ℕ → ℕ) (ip : ℕ) (src : Addr)
+pub addresses_total-is : (byte : ℕ → ℕ) (ip : ℕ) (src : Addr)
     → addresses_total byte ip src ≡ words_total byte (source_at ip src) (2 * length (shifts src))
 addresses_total-is byte ip (V4 a) = refl
 addresses_total-is byte ip (V6 a) = refl

@@ -1,5 +1,8 @@
 pub mod Address
+pub mod Lengths
 pub mod Normalised
+pub mod NormalisedFacts
+pub mod NormalisedVerified
 pub mod Room
 pub mod Sent
 pub mod Sum

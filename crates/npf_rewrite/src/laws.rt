@@ -1,4 +1,7 @@
 // What holds of packets that are rewritten. The functions do nothing: each is a theorem.
+ghost use Rattle.npf_rewrite.specs.Lengths.{NormalisedKeepsLengths, SentKeepsLengths, TranslatedKeepsLengths};
+ghost use Rattle.npf_rewrite.specs.NormalisedFacts.{NormalisedDecodes};
+ghost use Rattle.npf_rewrite.specs.NormalisedVerified.{NormalisedHeaderFollows, NormalisedUpperFollows};
 ghost use Rattle.npf_rewrite.specs.Room.{DecodedHasRoom};
 ghost use Rattle.npf_rewrite.specs.TranslatedFacts.{TranslatedDecodes};
 ghost use Rattle.npf_rewrite.specs.Verified.{AbsentSumStays, HeaderSumFollows, NeutralHeaderSumFollows, NeutralUpperSumFollows, UpperSumFollows};
@@ -39,4 +42,23 @@ pub fn absent_sum_stays()
 /// with the named addresses and ports.
 pub fn translated_decodes()
     ensures { TranslatedDecodes }
+{}
+
+/// All in front of a packet's IP header, its version and its lengths stay whatever is sent of it.
+pub fn sent_keeps_lengths()
+    ensures translated { TranslatedKeepsLengths }
+    ensures normalised { NormalisedKeepsLengths }
+    ensures sent { SentKeepsLengths }
+{}
+
+/// A normalised packet decodes to the same facts.
+pub fn normalised_decodes()
+    ensures { NormalisedDecodes }
+{}
+
+/// The sum of an IPv4 header and that of what is carried, where they verified, still verify in a
+/// normalised packet.
+pub fn normalised_sums_follow()
+    ensures header { NormalisedHeaderFollows }
+    ensures upper { NormalisedUpperFollows }
 {}

@@ -1,6 +1,6 @@
 // Translation (RFC 3022, RFC 6296); specs/Translated.antt says which words it writes.
 ghost use Rattle.std.specs.Prelude.{◌≡◌, ◌<◌, ◌^◌, ◌++◌, length};
-ghost use Rattle.npf_key.specs.Translated.{fitting, named_port, shares_family};
+ghost use Rattle.npf_key.specs.Translated.{named_port};
 ghost use Rattle.npf_rewrite.specs.Room.{HasRoom};
 ghost use Rattle.npf_rewrite.specs.Sum.{sum_after};
 ghost use Rattle.npf_rewrite.specs.Translated.{FitsWithin, Translated, address_writes, destination_at, destination_write, header_sum, identifier_write, named_writes, new_ends, port_writes, source_at, source_write, sum_writes, upper_sum, upper_sum_after, upper_sum_at};
@@ -10,6 +10,7 @@ use crate::address::{sum_after_end, write_end};
 use crate::sum::{UDP_ZERO, ZERO, sum_after_named};
 use crate::word::{WordAt, named_word, write_named};
 use npf_fields::get16;
+use npf_key::{fitting, named_port};
 use npf_types::{Addr, Change, End, Facts, L4};
 
 /// The offsets of the headers' fields, in bytes.
@@ -67,25 +68,6 @@ fn new_ends(facts: &Facts, change: &Change) -> NewEnds
         src: fitting(facts.src, &change.src),
         dst: fitting(facts.src, &change.dst),
     }
-}
-
-/// The end where its address is of the same family as `addr`.
-fn fitting(addr: Addr, end: &Option<End>) -> Option<End>
-    ensures { result ≡ fitting addr end.now }
-{
-    match *end {
-        Some(end) if shares_family(end.addr, addr) => Some(end),
-        _ => None,
-    }
-}
-
-fn shares_family(a: Addr, b: Addr) -> bool
-    ensures { result ≡ shares_family a b }
-{
-    matches!(
-        (a, b),
-        (Addr::V4(_), Addr::V4(_)) | (Addr::V6(_), Addr::V6(_))
-    )
 }
 
 /// Writes the ends, and the sums of what they were written over.
@@ -173,15 +155,6 @@ fn destination_write(facts: &Facts, ends: &NewEnds) -> Option<WordAt>
             named_word(at + field::DESTINATION_PORT, named_port(&ends.dst))
         }
         _ => None,
-    }
-}
-
-fn named_port(end: &Option<End>) -> Option<u16>
-    ensures { result ≡ named_port end.now }
-{
-    match *end {
-        Some(end) => end.port,
-        None => None,
     }
 }
 

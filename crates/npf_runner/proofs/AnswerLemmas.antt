@@ -6,7 +6,7 @@ use Rattle.std.proofs.lemmas.List.Elements.{All-nil, All-cons, All-head, All-tai
 use Rattle.npf_model.specs.Configuration.{Configuration}
 use Rattle.npf_runner_dealing.specs.Dealing.{of_lane}
 use Rattle.npf_engine.specs.Histories.{History}
-use Rattle.npf_runner.specs.declared.packet.Packet.{Packet}
+use Rattle.npf_traffic.specs.declared.packet.Packet.{Packet}
 use Rattle.npf_runner.specs.declared.phase.Spread.{Spread}
 use Rattle.npf_runner.specs.Dealing.{IsWorkerOf}
 use Rattle.npf_runner.specs.Job.{Handled, Job, job_arrival, numbered_from}

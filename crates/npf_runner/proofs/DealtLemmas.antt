@@ -4,11 +4,11 @@ use Rattle.std.specs.List.{range_with_len}
 use Rattle.std.proofs.lemmas.List.{length-map}
 use Rattle.npf_runner_dealing.specs.Dealing.{of_lane, IsDealt}
 use Rattle.npf_runner_dealing.proofs.LaneLemmas.{get_or-map}
-use Rattle.npf_runner.specs.declared.packet.Packet.{Packet}
+use Rattle.npf_traffic.specs.declared.packet.Packet.{Packet}
 use Rattle.npf_runner.specs.declared.worker.Worker.{Worker}
 use Rattle.npf_runner.specs.Crew.{HasJobs, numbers_of_worker, packets_of_worker, jobs_of}
 use Rattle.npf_runner.specs.Job.{Job, IsJob, with_numbers, numbered_from}
-use Rattle.npf_runner.specs.Plays.{IsShortPacket}
+use Rattle.npf_traffic.specs.Packet.{IsShortPacket}
 use Rattle.npf_runner.proofs.JobLemmas.{jobs_numbered, numbered_length}
 use Rattle.npf_runner.proofs.RegatherLemmas.{All-dealt}
 use Rattle.npf_runner.proofs.RunningLemmas.{All-unmap}

@@ -1,14 +1,28 @@
 -- What the engine's explanations give a run.
-use Rattle.std.proofs.Common.{◌≡◌, ℕ, true, List, sym, ap, ◌∙◌, ⊎_elim}
+use Rattle.std.proofs.Common.{◌≡◌, ℕ, true, List, [], Some, None, refl, sym, ap, ◌∙◌, ⊎_elim}
 use Rattle.std.specs.List.{Contains}
 use Rattle.std.proofs.lemmas.Bool.Decides.{Decides-eqb}
 use Rattle.npf_core.specs.declared.act.Act.TheVariants.{Claim, Look, Hold, Start, Step, Kill, Unhold, Free}
 use Rattle.npf_core.specs.declared.conn_id.ConnId.{ConnId}
+use Rattle.npf_connections.specs.Pass.{Pass, IsPass}
+use Rattle.npf_connections.proofs.SaidLemmas.{did_nothing}
+use Rattle.npf_flow.specs.Flows.{flow_law}
+use Rattle.npf_model.specs.Configuration.{Configuration}
+use Rattle.npf_publish.specs.declared.conf_reader.ConfReader.{ConfReader}
+use Rattle.npf_traffic.specs.declared.packet.FragWhy.{FragWhy}
+use Rattle.npf_traffic.specs.declared.packet.Packet.{Packet}
 use Rattle.npf_engine_opening.specs.Saying.{FlowSaid}
-use Rattle.npf_engine.specs.Histories.{FlowAct, builds, carries, is_unhold}
+use Rattle.npf_engine.specs.declared.outcome.Outcome.TheVariants.{Fragment}
+use Rattle.npf_engine.specs.Arrival.{arrival}
+use Rattle.npf_engine.specs.Explains.{Explains}
+use Rattle.npf_engine.specs.Histories.{FlowAct, FlowEntry, builds, carries, is_unhold}
 use Rattle.npf_engine.proofs.LongerLemmas.{entries_in_longer, explained_told, explains_in_longer}
 use Rattle.npf_engine.proofs.TellingLemmas.{IsTold as Telling, nothing, carried, built, given_back}
 use Rattle.npf_runner_passes.proofs.NumberLemmas.{in_none, first_or_later}
+use Rattle.npf_runner.specs.Job.{Job}
+use Rattle.npf_runner.specs.Plays.{arriving}
+use Rattle.npf_runner.specs.Works.{IsHandled}
+use Rattle.npf_runner.proofs.RestLemmas.{rested_self}
 use Rattle.npf_runner.proofs.WorksLemmas.{SaysOwn, TellsInLonger}
 
 -- an act carries one number at most
@@ -65,3 +79,19 @@ tells_in_longer configs old new reader next arrival outcome sent history end one
   explained = explains_in_longer configs old new reader next arrival outcome sent history end one two legal carry within ends h;
   entries = entries_in_longer configs old new reader next arrival outcome sent history legal carry h;
 }
+
+-- a fragment that is held is handled without the engine: it asks nothing
+pub handled_held : (configs : List Configuration) (pass : Pass FlowEntry) (reader : ConfReader) (job : Job) (why : FragWhy) → IsPass flow_law pass →
+    job.packet.held ≡ Some why → IsHandled configs pass pass reader reader job (record { outcome = Fragment why; packet = job.packet })
+handled_held configs pass reader job why legal held = record {
+  handles = record { asked = None; said = []; asks = (refl, refl); did = did_nothing pass; explains = Explains.fragment held };
+  rested = rested_self pass legal;
+  kept = λ no. refl;
+  same = refl;
+  sweep = λ lacks. absurd cc;
+}
+
+-- a packet that isn't held arrives as the engine sees it
+pub arrives_free : (n : ℕ) (packet : Packet) → packet.held ≡ None →
+    arrival n packet.time packet.link packet.ifid packet.dir packet.bytes ≡ arriving n packet
+arrives_free n packet free = rw free refl

@@ -7,12 +7,13 @@ use Rattle.std.proofs.lemmas.List.Elements.{All-nil, All-cons, All-head, All-tai
 use Rattle.npf_publish.specs.declared.conf_reader.ConfReader.{ConfReader}
 use Rattle.npf_publish.specs.ConfReader.{reader_range}
 use Rattle.npf_engine.specs.Handles.{Asks}
-use Rattle.npf_runner.specs.declared.packet.Packet.{Packet}
+use Rattle.npf_traffic.specs.declared.packet.Packet.{Packet}
 use Rattle.npf_runner.specs.declared.phase.Command.{Command}
 use Rattle.npf_runner.specs.declared.phase.Command.TheVariants.{Publish, Expire}
 use Rattle.npf_runner.specs.declared.phase.Phase.{Phase}
 use Rattle.npf_runner.specs.Job.{IsJob, with_numbers, numbered_from}
-use Rattle.npf_runner.specs.Plays.{IsShortPacket, PhasesPublishFrom, PublishFrom, packets_in, published_by}
+use Rattle.npf_runner.specs.Plays.{PhasesPublishFrom, PublishFrom, packets_in, published_by}
+use Rattle.npf_traffic.specs.Packet.{IsShortPacket}
 use Rattle.std.specs.Prelude.{Option, Some, None}
 
 numbered_push : (first : ℕ) (packets : List Packet) (packet : Packet) →

@@ -5,7 +5,7 @@ use Rattle.std.proofs.lemmas.Bool.Decides.{Decides-eqb}
 use Rattle.npf_runner_dealing.specs.Dealing.{of_lane}
 use Rattle.npf_runner_dealing.proofs.LaneLemmas.{of_lane-yes, of_lane-no}
 use Rattle.npf_runner_passes.proofs.NumberLemmas.{in_none, first_or_later}
-use Rattle.npf_runner.specs.declared.packet.Packet.{Packet}
+use Rattle.npf_traffic.specs.declared.packet.Packet.{Packet}
 use Rattle.npf_runner.specs.Job.{Job, numbered_from}
 use Rattle.npf_runner.proofs.WorksLemmas.{numbers_of, Apart}
 

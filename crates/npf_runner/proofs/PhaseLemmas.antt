@@ -22,7 +22,7 @@ use Rattle.npf_runner_passes.specs.Spreading.{IsGiven}
 use Rattle.npf_runner_passes.proofs.NumberLemmas.{in_none, first_or_later}
 use Rattle.npf_runner_dealing.specs.Dealing.{of_lane}
 use Rattle.npf_engine.specs.Histories.{FlowEntry, History, entries_of}
-use Rattle.npf_runner.specs.declared.packet.Packet.{Packet}
+use Rattle.npf_traffic.specs.declared.packet.Packet.{Packet}
 use Rattle.npf_runner.specs.declared.phase.Command.{Command}
 use Rattle.npf_runner.specs.declared.phase.Command.TheVariants.{Publish, Expire}
 use Rattle.npf_runner.specs.declared.phase.Phase.{Phase}

@@ -9,7 +9,7 @@ use Rattle.npf_engine.specs.declared.outcome.Outcome.{Outcome}
 use Rattle.npf_engine.specs.Histories.{FlowEntry}
 use Rattle.npf_model.specs.Configuration.{Configuration}
 use Rattle.npf_runner.specs.declared.crew.Queues.{Queues}
-use Rattle.npf_runner.specs.declared.packet.Packet.{Packet}
+use Rattle.npf_traffic.specs.declared.packet.Packet.{Packet}
 use Rattle.npf_runner.specs.declared.worker.Lane.{Lane}
 use Rattle.npf_runner.specs.Crew.{AreQueuesOf, done_of_lane, outcomes_of_lane, packets_of_lane}
 use Rattle.npf_runner.specs.Job.{Handled}

@@ -17,7 +17,7 @@ use Rattle.npf_runner_passes.specs.Gathering.{IsTakenIn}
 use Rattle.npf_runner_passes.specs.Spreading.{IsGiven}
 use Rattle.npf_runner_passes.proofs.NumberLemmas.{in_none, none_added}
 use Rattle.npf_engine.specs.Histories.{FlowEntry, History, carries}
-use Rattle.npf_runner.specs.declared.packet.Packet.{Packet}
+use Rattle.npf_traffic.specs.declared.packet.Packet.{Packet}
 use Rattle.npf_runner.specs.declared.phase.Command.{Command}
 use Rattle.npf_runner.specs.declared.phase.Spread.{Spread}
 use Rattle.npf_runner.specs.declared.worker.Lane.{Lane}

@@ -4,7 +4,7 @@ use Rattle.npf_runner_dealing.specs.Dealing.{queue_items}
 use Rattle.npf_engine.specs.declared.outcome.Outcome.{Outcome}
 use Rattle.npf_runner.specs.declared.crew.Queues.{Queues}
 use Rattle.npf_runner.specs.declared.crew.Room.{Room}
-use Rattle.npf_runner.specs.declared.packet.Packet.{Packet}
+use Rattle.npf_traffic.specs.declared.packet.Packet.{Packet}
 use Rattle.npf_runner.specs.declared.worker.Lane.{Lane}
 use Rattle.npf_runner.specs.declared.worker.Worker.{Worker}
 use Rattle.npf_runner.specs.Job.{Handled, Job, IsJob, with_numbers}

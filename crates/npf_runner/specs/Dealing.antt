@@ -1,5 +1,5 @@
 -- Which worker takes a packet.
-use Rattle.std.specs.Prelude.{◌≡◌, ◌-◌, ◌%◌, ℕ, bit_xor}
+use Rattle.std.specs.Prelude.{◌≡◌, ◌-◌, ◌%◌, ℕ, bit_xor, MatchOption}
 use Rattle.npf_types.specs.declared.facts.Facts.{Facts}
 use Rattle.npf_engine.specs.Arrival.{Arrival}
 use Rattle.npf_key.specs.Key.{upper, lower}
@@ -23,8 +23,9 @@ worker_by_flow workers Says.Skip = 0
 worker_by_flow workers (Says.Malformed why at) = 0
 worker_by_flow workers (Says.Ip facts) = flow_number facts % workers
 
--- the packet goes to this worker, counted from 0
+-- the packet goes to this worker, counted from 0; by flows a fragment that is held goes to the first
 abbrev pub IsWorkerOf : Spread → ℕ → Arrival → ℕ → Type 0
 IsWorkerOf Rr workers arrival worker = worker ≡ (arrival.number - 1) % workers
-IsWorkerOf Flow workers arrival worker =
-    (decoded : Decoded) → Decodes arrival.link arrival.bytes decoded → worker ≡ worker_by_flow workers decoded
+IsWorkerOf Flow workers arrival worker = MatchOption arrival.held
+    ((decoded : Decoded) → Decodes arrival.link arrival.bytes decoded → worker ≡ worker_by_flow workers decoded)
+    (λ why. worker ≡ 0)

@@ -2,8 +2,9 @@
 use Rattle.std.specs.Prelude.{ℕ, ◌≤◌, ◌+◌, List, [], ◌∷◌}
 use Rattle.npf_engine.specs.declared.outcome.Outcome.{Outcome}
 use Rattle.npf_engine.specs.Arrival.{Arrival}
-use Rattle.npf_runner.specs.declared.packet.Packet.{Packet}
-use Rattle.npf_runner.specs.Plays.{arriving, IsShortPacket}
+use Rattle.npf_traffic.specs.declared.packet.Packet.{Packet}
+use Rattle.npf_runner.specs.Plays.{arriving}
+use Rattle.npf_traffic.specs.Packet.{IsShortPacket}
 
 -- a packet with its number in the run
 pub record Job : Type 0 where

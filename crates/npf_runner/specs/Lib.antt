@@ -1,4 +1,3 @@
-pub mod Bytes
 pub mod Commands
 pub mod Crew
 pub mod Dealing

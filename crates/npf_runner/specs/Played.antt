@@ -1,7 +1,7 @@
 -- What became of packets, taken apart and put together.
 use Rattle.std.specs.Prelude.{List, [], ◌∷◌, map}
 use Rattle.npf_engine.specs.declared.outcome.Outcome.{Outcome}
-use Rattle.npf_runner.specs.declared.packet.Packet.{Packet}
+use Rattle.npf_traffic.specs.declared.packet.Packet.{Packet}
 use Rattle.npf_runner.specs.Job.{Handled}
 
 abbrev pub outcomes_of : List Handled → List Outcome

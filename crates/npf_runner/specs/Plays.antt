@@ -13,13 +13,12 @@ use Rattle.npf_connections.specs.Pass.{Pass}
 use Rattle.npf_connections.specs.Worn.{ClaimsLast, last_epoch}
 use Rattle.npf_flow.specs.Flows.{flow_law}
 use Rattle.npf_model.specs.Configuration.{Configuration}
-use Rattle.npf_types.specs.declared.limits.TheConstants.{MAX_PACKET_BYTES}
 use Rattle.npf_engine.specs.declared.outcome.Outcome.{Outcome}
-use Rattle.npf_engine.specs.Arrival.{Arrival, arrival}
+use Rattle.npf_engine.specs.Arrival.{Arrival}
 use Rattle.npf_engine.specs.Handles.{IsExplained}
 use Rattle.npf_engine.specs.Histories.{FlowEntry, History, carries, entries_of}
 use Rattle.npf_engine.specs.Outcome.{passes, sent_of, lacks_node}
-use Rattle.npf_runner.specs.declared.packet.Packet.{Packet}
+use Rattle.npf_traffic.specs.declared.packet.Packet.{Packet}
 use Rattle.npf_runner.specs.declared.phase.Command.{Command}
 use Rattle.npf_runner.specs.declared.phase.Command.TheVariants.{Publish, Expire}
 use Rattle.npf_runner.specs.declared.phase.Phase.{Phase}
@@ -28,10 +27,15 @@ use Rattle.npf_runner.specs.Dealing.{IsWorkerOf}
 
 -- a packet with its number as it arrives
 abbrev pub arriving : ℕ → Packet → Arrival
-arriving n packet = arrival n packet.time packet.link packet.ifid packet.dir packet.bytes
-
-abbrev pub IsShortPacket : Packet → Type 0
-IsShortPacket packet = length packet.bytes ≤ MAX_PACKET_BYTES
+arriving n packet = record {
+  number = n;
+  time = packet.time;
+  link = packet.link;
+  ifid = packet.ifid;
+  dir = packet.dir;
+  held = packet.held;
+  bytes = packet.bytes;
+}
 
 -- no entry of the history carries a number from 1 to this one
 abbrev pub IsUnnumbered : ℕ → History → Type 0

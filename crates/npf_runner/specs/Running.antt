@@ -10,7 +10,7 @@ use Rattle.npf_runner_passes.specs.Spreading.{IsGiven}
 use Rattle.npf_publish.specs.ConfReader.{IsNewReader}
 use Rattle.npf_runner_dealing.specs.Dealing.{IsDealt}
 use Rattle.npf_engine.specs.Histories.{FlowEntry}
-use Rattle.npf_runner.specs.declared.packet.Packet.{Packet}
+use Rattle.npf_traffic.specs.declared.packet.Packet.{Packet}
 use Rattle.npf_runner.specs.declared.phase.Command.{Command}
 use Rattle.npf_runner.specs.declared.phase.Phase.{Phase}
 use Rattle.npf_runner.specs.declared.phase.Spread.{Spread}

@@ -3,10 +3,10 @@ ghost use Rattle.std.specs.Prelude.{◌≡◌, ◌≤◌, ◌+◌, ◌++◌, [],
 ghost use Rattle.npf_runner_dealing.specs.Dealing.{vec_items, queue_items};
 ghost use Rattle.npf_runner.specs.Crew.{HasRoomFor, IsEquipped, numbers_of_worker, packets_of_worker, worker_of_lane, pass_of_lane, outcomes_of_lane, packets_of_lane};
 
-use crate::packet::Packet;
 use crate::worker::{Lane, Worker};
 use npf_engine::Outcome;
 use npf_publish::ConfReader;
+use npf_traffic::Packet;
 use npf_types::NoMemory;
 use std::alloc::Global;
 use std::collections::VecDeque;

@@ -13,7 +13,6 @@
 mod control;
 mod crew;
 mod gate;
-mod packet;
 mod phase;
 mod played;
 mod playing;
@@ -24,7 +23,7 @@ mod taking;
 mod worker;
 
 pub use gate::{Gate, NoGate};
-pub use packet::{Packet, PacketBytes};
+pub use npf_traffic::{FragWhy, Packet, PacketBytes};
 pub use phase::{Command, Phase, Spread};
 pub use played::Played;
 pub use playing::play;

@@ -1,5 +1,5 @@
-use crate::packet::Packet;
 use npf_engine::Outcome;
+use npf_traffic::Packet;
 use npf_types::List;
 
 /// What a run made of its packets, in their order: each packet's outcome, and its bytes as they then stand.

@@ -11,12 +11,12 @@ ghost use Rattle.npf_runner.specs.Crew.{AreQueuesOf, HasJobs, HasRoomFor, IsEqui
 ghost use Rattle.npf_runner.specs.Dealing.{IsWorkerOf};
 ghost use Rattle.npf_runner.specs.Job.{job_arrival, numbered_from};
 ghost use Rattle.npf_runner.specs.Played.{outcomes_of, outputs_of};
-ghost use Rattle.npf_runner.specs.Plays.{IsShortPacket, published_by};
+ghost use Rattle.npf_runner.specs.Plays.{published_by};
+ghost use Rattle.npf_traffic.specs.Packet.{IsShortPacket};
 ghost use Rattle.npf_runner.specs.Running.{IsBack, RunsCrew, RunsPhase};
 
 use crate::crew::{Queues, Room, apart, lanes_with, workers_with};
 use crate::gate::Gate;
-use crate::packet::Packet;
 use crate::phase::{Command, Spread};
 use crate::played::Answers;
 use crate::side_by_side::side_by_side;
@@ -29,6 +29,7 @@ use npf_publish::Publisher;
 use npf_ruleset::Config;
 use npf_runner_dealing::{deal, gather};
 use npf_runner_passes::{split_off, take_in};
+use npf_traffic::Packet;
 use npf_types::NoMemory;
 use std::alloc::Global;
 use std::sync::Wait;

@@ -4,12 +4,13 @@ ghost use Rattle.npf_key.specs.Port.{source_port, destination_port};
 ghost use Rattle.npf_packet.specs.Decoding.{Decodes};
 ghost use Rattle.npf_runner.specs.Dealing.{flow_number, IsWorkerOf, worker_by_flow};
 ghost use Rattle.npf_runner.specs.Job.{job_arrival, numbered_from};
-ghost use Rattle.npf_runner.specs.Plays.{IsShortPacket, arriving};
+ghost use Rattle.npf_runner.specs.Plays.{arriving};
+ghost use Rattle.npf_traffic.specs.Packet.{IsShortPacket};
 
-use crate::packet::Packet;
 use crate::phase::Spread;
 use npf_key::key_of;
 use npf_packet::{Decoded, decode, one_decoding};
+use npf_traffic::Packet;
 use npf_types::{Facts, IfId, Key, L4, NoMemory};
 use std::alloc::Global;
 
@@ -44,9 +45,10 @@ fn worker_of(number: u64, packet: &Packet<'_>, spread: Spread, workers: u32) -> 
     ensures fits { result < workers }
     ensures is { IsWorkerOf spread workers (arriving number packet.now) result }
 {
-    match spread {
-        Spread::Rr => ((number - 1) % u64::from(workers)) as u32,
-        Spread::Flow => worker_by_flow(packet, workers),
+    match (spread, packet.held) {
+        (Spread::Rr, _) => ((number - 1) % u64::from(workers)) as u32,
+        (Spread::Flow, Some(_)) => 0,
+        (Spread::Flow, None) => worker_by_flow(packet, workers),
     }
 }
 

@@ -1,7 +1,7 @@
 ghost use Rattle.std.specs.Prelude.{◌≡◌, ◌≤◌, ◌<◌, ◌+◌, ◌^◌, IfOk, take, drop, length, vec_len};
 ghost use Rattle.std.specs.List.{range_with_len};
 
-use crate::packet::Packet;
+use npf_traffic::Packet;
 use npf_types::NoMemory;
 use std::alloc::Global;
 use std::collections::VecDeque;

@@ -8,12 +8,12 @@ ghost use Rattle.npf_runner.specs.Lanes.{CanWork, HasWorked};
 ghost use Rattle.npf_runner.specs.Works.{IsHandled};
 
 use crate::gate::Gate;
-use crate::packet::Packet;
 use npf_connections::Connections;
 use npf_engine::Outcome;
 use npf_flow::FlowLaw;
 use npf_publish::ConfReader;
 use npf_ruleset::Config;
+use npf_traffic::Packet;
 use std::sync::Wait;
 
 /// What a worker, counted from 0, needs beside a pass: its reader, its packets in order with their numbers, and room for their outcomes.
@@ -56,19 +56,30 @@ pub fn work<R: Wait, C: Connections<FlowLaw>, G: Gate>(
     } = worker;
     for place in 0..packets.len() {
         let n = numbers[place];
-        gate.before(*number, n);
-        let outcome = handle(rt, conns, configs, pass, reader, n, &mut packets[place]);
-        gate.after(*number, n);
+        let outcome = handle(
+            rt,
+            conns,
+            gate,
+            configs,
+            pass,
+            reader,
+            *number,
+            n,
+            &mut packets[place],
+        );
         outcomes.push_reserved(outcome);
     }
 }
 
-fn handle<R: Wait, C: Connections<FlowLaw>>(
+/// Handles a worker's packet of this number, of which `gate` is told, unless it is a fragment that is held.
+fn handle<R: Wait, C: Connections<FlowLaw>, G: Gate>(
     rt: &R,
     conns: &C,
+    gate: &G,
     configs: &[Config],
     pass: &mut C::Pass,
     reader: &mut ConfReader,
+    worker: u32,
     number: u64,
     packet: &mut Packet<'_>,
 ) -> Outcome
@@ -81,7 +92,11 @@ fn handle<R: Wait, C: Connections<FlowLaw>>(
     ensures own { C.fits conns.now pass.new }
     ensures handled { IsHandled (configurations configs.now) (C.view pass.old) (C.view pass.new) reader.old reader.new (record { number = number; packet = packet.old }) (record { outcome = result; packet = packet.new }) }
 {
-    npf_engine::packet(
+    if let Some(why) = packet.held {
+        return Outcome::Fragment { why };
+    }
+    gate.before(worker, number);
+    let outcome = npf_engine::packet(
         rt,
         conns,
         pass,
@@ -93,5 +108,7 @@ fn handle<R: Wait, C: Connections<FlowLaw>>(
         packet.ifid,
         packet.dir,
         packet.bytes.as_mut_slice(),
-    )
+    );
+    gate.after(worker, number);
+    outcome
 }

@@ -5,10 +5,10 @@ use Rattle.std.proofs.lemmas.List.Elements.{All-nil, All-push}
 use Rattle.npf_core.specs.declared.entry.Entry.{Entry}
 use Rattle.npf_core.specs.History.{by}
 use Rattle.npf_connections.specs.Adding.{Adds}
-use Rattle.npf_connections.specs.Joining.{IsSplit}
+use Rattle.npf_connections.specs.Joining.{IsSplit, new_pass}
 use Rattle.npf_connections.specs.Pass.{Pass}
 use Rattle.npf_connections.proofs.AddLemmas.{adds_more}
-use Rattle.npf_runner_passes.specs.Spreading.{IsGiven, Spreads, new_pass, with_places}
+use Rattle.npf_runner_passes.specs.Spreading.{IsGiven, Spreads, with_places}
 
 module _ {S A R : Type 0} where
   pub spreads_none : (old : Pass (Entry S A R)) → Spreads old old []

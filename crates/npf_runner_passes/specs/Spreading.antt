@@ -1,24 +1,10 @@
 -- How passes are split off a pass, one after the other, and what stands then.
-use Rattle.std.specs.Prelude.{◌≡◌, ℕ, ◌-◌, ◌≤◌, false, List, [], All, length}
+use Rattle.std.specs.Prelude.{◌≡◌, ℕ, ◌-◌, ◌≤◌, List, [], All, length}
 use Rattle.npf_core.specs.declared.entry.Entry.{Entry}
 use Rattle.npf_core.specs.History.{IsPrefix, by}
 use Rattle.npf_connections.specs.Adding.{Adds}
+use Rattle.npf_connections.specs.Joining.{new_pass}
 use Rattle.npf_connections.specs.Pass.{Pass}
-
--- a pass that has done nothing and owns one reader place
-abbrev pub new_pass : {E : Type 0} → ℕ → ℕ → List E → Pass E
-new_pass slots number history = record {
-  slots = slots;
-  number = number;
-  history = history;
-  entered = false;
-  answered = [];
-  builds = [];
-  places = 1;
-  joined = [];
-  sweeps = 0;
-  epoch = 0;
-}
 
 -- a pass that was split off: it has seen what the pass had, and done nothing
 pub record IsGiven {S A R : Type 0} (old given : Pass (Entry S A R)) : Type 0 where

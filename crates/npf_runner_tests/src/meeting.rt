@@ -3,7 +3,7 @@ ghost use Rattle.std.specs.Prelude.{◌≡◌};
 
 use crate::gates::TURNS;
 use npf_connections::Connections;
-use npf_core::{ConnId, Found, Held, Stepped};
+use npf_core::{ConnId, Found, Held, Kept, Stepped};
 use npf_flow::{Flow, FlowArg, FlowLaw, FlowReply};
 use npf_types::{Key, Way};
 use std::sync::Wait;
@@ -68,6 +68,10 @@ impl<C: Connections<FlowLaw> + Drop> Connections<FlowLaw> for Meeting<C> {
 
     ghost fits = { λ conns pass. C.fits conns.table pass };
 
+    fn slots(&self) -> u32 {
+        self.table.slots()
+    }
+
     fn enter(&self, rt: &impl Wait, pass: &mut C::Pass) {
         self.table.enter(rt, pass);
     }
@@ -115,6 +119,10 @@ impl<C: Connections<FlowLaw> + Drop> Connections<FlowLaw> for Meeting<C> {
 
     fn collect(&self, rt: &impl Wait, pass: &mut C::Pass) {
         self.table.collect(rt, pass);
+    }
+
+    fn copy_slot(&self, rt: &impl Wait, pass: &mut C::Pass, slot: u32) -> Option<Kept<Flow>> {
+        self.table.copy_slot(rt, pass, slot)
     }
 
     fn split(&self, rt: &impl Wait, pass: &mut C::Pass) -> C::Pass {

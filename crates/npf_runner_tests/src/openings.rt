@@ -244,7 +244,9 @@ fn attempt(packet: u64, facts: Facts, plan: MapPlan) -> Attempt {
         arg: FlowArg {
             now: packet,
             seg: None,
+            peek: false,
         },
+        strict: false,
         action: NO_ACTION,
         plan,
     }

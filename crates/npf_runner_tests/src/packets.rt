@@ -44,6 +44,7 @@ fn incoming<'a>(time: u64, bytes: Vec<u8>) -> Packet<'a> {
         link: Link::Raw,
         ifid: IfId(1),
         dir: Dir::In,
+        held: None,
         bytes: PacketBytes::of(bytes.leak()),
     }
 }

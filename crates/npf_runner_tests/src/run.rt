@@ -2,7 +2,7 @@
 ghost use Rattle.std.specs.Prelude.{IsTrue, All};
 ghost use Rattle.npf_connections.specs.Pass.{IsFirstPass, IsPass};
 ghost use Rattle.npf_flow.specs.Flows.{flow_law};
-ghost use Rattle.npf_runner.specs.Plays.{IsShortPacket};
+ghost use Rattle.npf_traffic.specs.Packet.{IsShortPacket};
 
 use npf_config::load;
 use npf_connections::Connections;

@@ -1,3 +1,4 @@
+pub mod BoundLemmas
 pub mod CellLemmas
 pub mod FlagLemmas
 pub mod MirrorLemmas

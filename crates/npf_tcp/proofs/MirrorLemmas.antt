@@ -18,7 +18,7 @@ state_after-mirrored phase state Forward seg = refl
 state_after-mirrored phase state Backward seg = refl
 state_after-mirrored phase state Port seg = refl
 
-bounds-mirrored : (state : TcpState) (way : Way) (seg : Segment) → is_in_bounds (sender_of state way) (receiver_of state way) seg ≡ is_in_bounds (sender_of (mirrored_state state) (opposite_way way)) (receiver_of (mirrored_state state) (opposite_way way)) seg
+bounds-mirrored : (state : TcpState) (way : Way) (seg : Segment) → is_in_bounds state.strict (sender_of state way) (receiver_of state way) seg ≡ is_in_bounds (mirrored_state state).strict (sender_of (mirrored_state state) (opposite_way way)) (receiver_of (mirrored_state state) (opposite_way way)) seg
 bounds-mirrored state Forward seg = refl
 bounds-mirrored state Backward seg = refl
 bounds-mirrored state Port seg = refl
@@ -37,6 +37,6 @@ pub step-mirrored : (state : TcpState) (way : Way) (seg : Segment) → is_one_si
 unfolding segment_step
 step-mirrored state way seg h =
     let class = segment_class seg.flags in
-    let here = answer-mirrored (cell state.phase way class) (is_in_bounds (sender_of state way) (receiver_of state way) seg) state way seg in
+    let here = answer-mirrored (cell state.phase way class) (is_in_bounds state.strict (sender_of state way) (receiver_of state way) seg) state way seg in
     let there = subst (λ (b : Bool). IsExchanged (answer (mirrored_cell (cell state.phase way class)) b (mirrored_state state) (opposite_way way) seg) (segment_step state way seg)) (bounds-mirrored state way seg) here in
-    subst (λ (c : Option TcpPhase). IsExchanged (answer c (is_in_bounds (sender_of (mirrored_state state) (opposite_way way)) (receiver_of (mirrored_state state) (opposite_way way)) seg) (mirrored_state state) (opposite_way way) seg) (segment_step state way seg)) (sym (cell-mirrored state.phase class h way)) there
+    subst (λ (c : Option TcpPhase). IsExchanged (answer c (is_in_bounds (mirrored_state state).strict (sender_of (mirrored_state state) (opposite_way way)) (receiver_of (mirrored_state state) (opposite_way way)) seg) (mirrored_state state) (opposite_way way) seg) (segment_step state way seg)) (sym (cell-mirrored state.phase class h way)) there

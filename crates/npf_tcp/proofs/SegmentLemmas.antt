@@ -20,10 +20,10 @@ answer_cases (Some phase) false state way seg P accepted refused = refused
 answer_cases None bounded state way seg P accepted refused = refused
 
 pub step_cases : (state : TcpState) (way : Way) (seg : Segment) (P : TcpState × Bool → Type 0) →
-    ((phase : TcpPhase) → cell state.phase way (segment_class seg.flags) ≡ Some phase → is_in_bounds (sender_of state way) (receiver_of state way) seg ≡ true → P (state_after phase state way seg, true)) →
+    ((phase : TcpPhase) → cell state.phase way (segment_class seg.flags) ≡ Some phase → is_in_bounds state.strict (sender_of state way) (receiver_of state way) seg ≡ true → P (state_after phase state way seg, true)) →
     P (state, false) → P (segment_step state way seg)
 unfolding segment_step
-step_cases state way seg = answer_cases (cell state.phase way (segment_class seg.flags)) (is_in_bounds (sender_of state way) (receiver_of state way) seg) state way seg
+step_cases state way seg = answer_cases (cell state.phase way (segment_class seg.flags)) (is_in_bounds state.strict (sender_of state way) (receiver_of state way) seg) state way seg
 
 -- the segment is accepted where the table has a cell and the numbers lie within the bounds
 answer-accepted : (cell : Option TcpPhase) (phase : TcpPhase) (bounded : Bool) (state : TcpState) (way : Way) (seg : Segment) → cell ≡ Some phase → (answer cell bounded state way seg).1 ≡ bounded
@@ -31,15 +31,21 @@ answer-accepted (Some _) phase true state way seg h = refl
 answer-accepted (Some _) phase false state way seg h = refl
 answer-accepted None phase bounded state way seg h = cc
 
-pub step-accepted : (state : TcpState) (way : Way) (seg : Segment) (phase : TcpPhase) → cell state.phase way (segment_class seg.flags) ≡ Some phase → is_accepted state way seg ≡ is_in_bounds (sender_of state way) (receiver_of state way) seg
+pub step-accepted : (state : TcpState) (way : Way) (seg : Segment) (phase : TcpPhase) → cell state.phase way (segment_class seg.flags) ≡ Some phase → is_accepted state way seg ≡ is_in_bounds state.strict (sender_of state way) (receiver_of state way) seg
 unfolding segment_step
-step-accepted state way seg phase = answer-accepted (cell state.phase way (segment_class seg.flags)) phase (is_in_bounds (sender_of state way) (receiver_of state way) seg) state way seg
+step-accepted state way seg phase = answer-accepted (cell state.phase way (segment_class seg.flags)) phase (is_in_bounds state.strict (sender_of state way) (receiver_of state way) seg) state way seg
 
 pub state_after-phase : (phase : TcpPhase) (state : TcpState) (way : Way) (seg : Segment) → (state_after phase state way seg).phase ≡ phase
 unfolding state_after
 state_after-phase phase state Forward seg = refl
 state_after-phase phase state Backward seg = refl
 state_after-phase phase state Port seg = refl
+
+pub state_after-strict : (phase : TcpPhase) (state : TcpState) (way : Way) (seg : Segment) → (state_after phase state way seg).strict ≡ state.strict
+unfolding state_after
+state_after-strict phase state Forward seg = refl
+state_after-strict phase state Backward seg = refl
+state_after-strict phase state Port seg = refl
 
 -- what a segment makes of a sender and of a receiver, a move makes of each side
 pub state_after_each : (P : TcpSide → TcpSide → Type 0) (phase : TcpPhase) (state : TcpState) (way : Way) (seg : Segment) →

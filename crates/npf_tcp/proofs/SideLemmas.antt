@@ -73,7 +73,7 @@ opening_backward-quiet : (b : Bool) (ack w : ℕ) → IsQuietUnseen (if b then e
 opening_backward-quiet true ack w = λ unseen. refl
 opening_backward-quiet false ack w = λ unseen. refl
 
-pub opening_is_quiet : (seg : Segment) → BothSides IsQuietUnseen (opening_state seg)
+pub opening_is_quiet : (seg : Segment) (strict : Bool) → BothSides IsQuietUnseen (opening_state seg strict)
 unfolding opening_state opening_forward opening_backward
-opening_is_quiet seg =
+opening_is_quiet seg strict =
     (λ unseen. absurd (unseen refl), opening_backward-quiet (has_ack seg.flags) seg.ack (window seg None None))

@@ -1,4 +1,4 @@
-use Rattle.std.specs.Prelude.{ℕ, if◌then◌else◌, ◌&&◌}
+use Rattle.std.specs.Prelude.{ℕ, Bool, true, false, if◌then◌else◌, ◌&&◌}
 use Rattle.npf_tcp.specs.Flag.{has_fin, has_syn, has_rst, has_ack}
 use Rattle.npf_tcp.specs.declared.class.SegmentClass.{SegmentClass}
 use Rattle.npf_tcp.specs.declared.class.SegmentClass.TheVariants.{Rst, Syn, SynAck, Ack, Fin, Invalid}
@@ -13,3 +13,12 @@ segment_class flags =
     else (if has_fin flags then Fin
     else (if has_ack flags then Ack
     else Invalid)))))
+
+-- the segment is a reset
+abbrev pub is_reset : SegmentClass → Bool
+is_reset Rst = true
+is_reset Syn = false
+is_reset SynAck = false
+is_reset Ack = false
+is_reset Fin = false
+is_reset Invalid = false

@@ -3,7 +3,7 @@ use Rattle.npf_types.specs.declared.key.Way.{Way}
 use Rattle.npf_types.specs.declared.facts.Segment.{Segment}
 use Rattle.npf_tcp.specs.declared.class.SegmentClass.{SegmentClass}
 use Rattle.npf_tcp.specs.declared.class.SegmentClass.TheVariants.{Rst, Invalid}
-use Rattle.npf_tcp.specs.declared.state.Known.TheVariants.{Seen}
+use Rattle.npf_tcp.specs.declared.state.Known.TheVariants.{Nothing, Seen}
 use Rattle.npf_tcp.specs.declared.state.TcpPhase.{TcpPhase}
 use Rattle.npf_tcp.specs.declared.state.TcpPhase.TheVariants.{Closed}
 use Rattle.npf_tcp.specs.declared.state.TcpSide.{TcpSide}
@@ -41,11 +41,22 @@ ResetCloses =
     (state : TcpState) (way : Way) (seg : Segment) → segment_class seg.flags ≡ Rst →
     is_accepted state way seg ≡ true → (next_state state way seg).phase ≡ Closed
 
--- and no phase refuses one: only the bounds do
+-- and no phase refuses one: only the bounds do, and among them the one on resets where the connection is strict
 abbrev pub ResetIsBounded : Type 0
 ResetIsBounded =
     (state : TcpState) (way : Way) (seg : Segment) → segment_class seg.flags ≡ Rst →
-    is_accepted state way seg ≡ is_in_bounds (sender_of state way) (receiver_of state way) seg
+    is_accepted state way seg ≡ is_in_bounds state.strict (sender_of state way) (receiver_of state way) seg
+
+-- So a strict connection takes a reset from a side of which something is known only at the end of what that side sent, or one byte
+-- before it.
+abbrev pub StrictResetIsInOrder : Type 0
+StrictResetIsInOrder =
+    (state : TcpState) (way : Way) (seg : Segment) → state.strict ≡ true → segment_class seg.flags ≡ Rst →
+    (sender_of state way).known ≢ Nothing → is_accepted state way seg ≡ true → minus (sender_of state way).end seg.seq ≤ 1
+
+-- no segment makes a connection strict that isn't, or less strict
+abbrev pub StrictStays : Type 0
+StrictStays = (state : TcpState) (way : Way) (seg : Segment) → (next_state state way seg).strict ≡ state.strict
 
 abbrev pub ClosedTakesOnlyReset : Type 0
 ClosedTakesOnlyReset =
@@ -79,7 +90,7 @@ IsQuietUnseen side = side.known ≢ Seen → side.maxwin ≡ 0
 -- So it is from the opening on, and then no side's greatest window ever falls. Of a side that isn't seen and has one,
 -- as no connection's has, it may fall: its first segment sets it.
 abbrev pub OpeningIsQuiet : Type 0
-OpeningIsQuiet = (seg : Segment) → BothSides IsQuietUnseen (opening_state seg)
+OpeningIsQuiet = (seg : Segment) (strict : Bool) → BothSides IsQuietUnseen (opening_state seg strict)
 
 abbrev pub StepKeepsQuiet : Type 0
 StepKeepsQuiet =

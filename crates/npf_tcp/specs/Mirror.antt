@@ -34,7 +34,7 @@ opposite_way Port = Backward
 
 -- the state with the sides exchanged
 abbrev pub mirrored_state : TcpState → TcpState
-mirrored_state state = record { phase = mirrored_phase state.phase; forward = state.backward; backward = state.forward }
+mirrored_state state = record state { phase = mirrored_phase state.phase; forward = state.backward; backward = state.forward }
 
 -- The cells at which the table isn't symmetric: the first SYN and its answers have a side, while the connection opens.
 -- In SYN_SENT only the backward side may answer. In SIMSYN_SENT only the backward side may send FIN. In SYN_RECEIVED the

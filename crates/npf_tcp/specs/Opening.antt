@@ -1,4 +1,4 @@
-use Rattle.std.specs.Prelude.{ℕ, None, if◌then◌else◌}
+use Rattle.std.specs.Prelude.{ℕ, Bool, None, if◌then◌else◌}
 use Rattle.npf_types.specs.declared.facts.Segment.{Segment}
 use Rattle.npf_tcp.specs.declared.class.SegmentClass.{SegmentClass}
 use Rattle.npf_tcp.specs.declared.class.SegmentClass.TheVariants.{Rst, Syn, SynAck, Ack, Fin, Invalid}
@@ -43,10 +43,11 @@ opening_forward seg = record {
 unfoldable pub opening_backward : Segment → TcpSide
 opening_backward seg = if has_ack seg.flags then expected_side seg.ack (window seg None None) else unknown_side
 
--- the state that a connection's first segment opens
-unfoldable pub opening_state : Segment → TcpState
-opening_state seg = record {
+-- the state that a connection's first segment opens, strict about resets or not
+unfoldable pub opening_state : Segment → Bool → TcpState
+opening_state seg strict = record {
   phase = opening_phase (segment_class seg.flags);
   forward = opening_forward seg;
   backward = opening_backward seg;
+  strict = strict;
 }

@@ -25,11 +25,11 @@ receiver_of state Forward = state.backward
 receiver_of state Backward = state.forward
 receiver_of state Port = state.backward
 
--- the state with this phase, sender and receiver
-abbrev pub state_with : TcpPhase → Way → TcpSide → TcpSide → TcpState
-state_with phase Forward sender receiver = record { phase = phase; forward = sender; backward = receiver }
-state_with phase Backward sender receiver = record { phase = phase; forward = receiver; backward = sender }
-state_with phase Port sender receiver = record { phase = phase; forward = sender; backward = receiver }
+-- the state with this phase, sender and receiver in place of its own
+abbrev pub state_with : TcpState → TcpPhase → Way → TcpSide → TcpSide → TcpState
+state_with state phase Forward sender receiver = record state { phase = phase; forward = sender; backward = receiver }
+state_with state phase Backward sender receiver = record state { phase = phase; forward = receiver; backward = sender }
+state_with state phase Port sender receiver = record state { phase = phase; forward = sender; backward = receiver }
 
 -- First, the sender's numbers after a segment that ends at e and offers a window, by how much was known of it.
 abbrev pub side_after_sending_by : Known → TcpSide → ℕ → ℕ → TcpSide
@@ -85,7 +85,7 @@ unfoldable pub state_after : TcpPhase → TcpState → Way → Segment → TcpSt
 state_after phase state way seg =
     let sender : TcpSide = sender_of state way in
     let receiver : TcpSide = receiver_of state way in
-    state_with phase way (sender_after sender receiver seg) (receiver_after sender receiver seg)
+    state_with state phase way (sender_after sender receiver seg) (receiver_after sender receiver seg)
 
 -- the answer where the table has this cell, and the numbers lie within the bounds or not
 abbrev pub answer : Option TcpPhase → Bool → TcpState → Way → Segment → TcpState × Bool
@@ -96,4 +96,4 @@ answer None _ state _ _ = (state, false)
 -- the segment law: the next state, and whether the segment is accepted
 unfoldable pub segment_step : TcpState → Way → Segment → TcpState × Bool
 segment_step state way seg =
-    answer (cell state.phase way (segment_class seg.flags)) (is_in_bounds (sender_of state way) (receiver_of state way) seg) state way seg
+    answer (cell state.phase way (segment_class seg.flags)) (is_in_bounds state.strict (sender_of state way) (receiver_of state way) seg) state way seg

@@ -1,6 +1,6 @@
 // What follows of the segment law, whatever the state and the segment: each is a theorem about the definitions that
 // `open_tcp` and `step_tcp` equal.
-ghost use Rattle.npf_tcp.specs.Laws.{RefusedChangesNothing, ResetCloses, ResetIsBounded, ClosedTakesOnlyReset, InvalidIsRefused, SeenStaysSeen, SeenMaxwinNeverFalls, OpeningIsQuiet, StepKeepsQuiet, MaxwinNeverFalls, OneSidedExactly, SymmetricExactly, SidesExchange, ClassesExchange, OrderIsByDistance, LessIsInverse};
+ghost use Rattle.npf_tcp.specs.Laws.{RefusedChangesNothing, ResetCloses, ResetIsBounded, StrictResetIsInOrder, StrictStays, ClosedTakesOnlyReset, InvalidIsRefused, SeenStaysSeen, SeenMaxwinNeverFalls, OpeningIsQuiet, StepKeepsQuiet, MaxwinNeverFalls, OneSidedExactly, SymmetricExactly, SidesExchange, ClassesExchange, OrderIsByDistance, LessIsInverse};
 
 /// A refused segment changes nothing.
 pub fn refused_changes_nothing()
@@ -8,10 +8,17 @@ pub fn refused_changes_nothing()
 {}
 
 /// A reset leads to CLOSED from every phase, and no phase refuses it: it is accepted exactly where it is within the
-/// bounds.
+/// bounds. In a strict connection one from a side of which something is known is accepted only at the end of what that
+/// side sent, or one byte before it.
 pub fn reset_closes()
     ensures closes { ResetCloses }
     ensures bounded { ResetIsBounded }
+    ensures in_order { StrictResetIsInOrder }
+{}
+
+/// A connection is as strict about resets after a segment as before it.
+pub fn strictness_stays()
+    ensures { StrictStays }
 {}
 
 /// From CLOSED nothing is accepted but a reset.

@@ -9,15 +9,16 @@ use npf_types::Segment;
 
 /// The state that a connection's first segment opens, at any segment: its sender is the forward side. SYN opens
 /// SYN_SENT, RST opens CLOSED, FIN opens FIN_SENT, and all else ESTABLISHED, as a connection that was under way
-/// before the filter saw it.
+/// before the filter saw it. Where it is `strict`, it takes resets in order alone (`TcpState`).
 #[tactic(auto, unfolding(crate::specs::Opening::opening_state))]
-pub fn open_tcp(seg: &Segment) -> TcpState
-    ensures { result ≡ opening_state seg.now }
+pub fn open_tcp(seg: &Segment, strict: bool) -> TcpState
+    ensures { result ≡ opening_state seg.now strict }
 {
     TcpState {
         phase: opening_phase(SegmentClass::of(seg.flags)),
         forward: opening_forward(seg),
         backward: opening_backward(seg),
+        strict,
     }
 }
 

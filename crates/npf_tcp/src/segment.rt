@@ -18,7 +18,7 @@ pub fn step_tcp(state: &TcpState, way: Way, seg: &Segment) -> (TcpState, bool)
 {
     let (sender, receiver) = (sender_of(state, way), receiver_of(state, way));
     match cell(state.phase, way, SegmentClass::of(seg.flags)) {
-        Some(phase) if is_in_bounds(sender, receiver, seg) => {
+        Some(phase) if is_in_bounds(state.strict, sender, receiver, seg) => {
             (state_after(phase, state, way, seg), true)
         }
         _ => (*state, false),
@@ -56,11 +56,13 @@ fn state_after(phase: TcpPhase, state: &TcpState, way: Way, seg: &Segment) -> Tc
             phase,
             forward: sent,
             backward: acked,
+            ..*state
         },
         Way::Backward => TcpState {
             phase,
             forward: acked,
             backward: sent,
+            ..*state
         },
     }
 }

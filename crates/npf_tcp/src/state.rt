@@ -60,4 +60,7 @@ pub struct TcpState {
     /// The side that sent the first segment.
     pub forward: TcpSide,
     pub backward: TcpSide,
+    /// Whether it takes a reset only at the end of what its sender sent, or one byte before it: `state.tcp.strict_order_rst`
+    /// of NetBSD's npf-params(7). No segment changes it.
+    pub strict: bool,
 }

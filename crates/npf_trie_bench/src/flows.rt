@@ -10,7 +10,11 @@ use std::collections::HashMap;
 use std::time::Instant;
 
 /// What each packet brings.
-pub const PACKET: FlowArg = FlowArg { now: 1, seg: None };
+pub const PACKET: FlowArg = FlowArg {
+    now: 1,
+    seg: None,
+    peek: false,
+};
 
 const UNCHANGED: Change = Change {
     src: None,
@@ -27,7 +31,7 @@ const NOTHING: Action = Action {
 
 /// The flow of a key's connection.
 pub fn flow(number: u32) -> Flow {
-    open_flow(PACKET, u64::from(number), UNCHANGED, UNCHANGED, NOTHING)
+    open_flow(PACKET, false, u64::from(number), UNCHANGED, UNCHANGED, NOTHING)
 }
 
 /// Steps a flow for each of so many packets.

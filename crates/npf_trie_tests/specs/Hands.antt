@@ -5,7 +5,7 @@ use Rattle.npf_cells.specs.declared.views.Pin.TheVariants.{Idle}
 use Rattle.npf_cells.specs.Passes.{IsProtected}
 
 -- a pass that rests: it is in no stay, and has neither a node nor a lock
-pub record IsAtRest {S A R : Type 0} (v : CellView S A R) : Type 0 where
+pub record RestsEmptyHanded {S A R : Type 0} (v : CellView S A R) : Type 0 where
   pub out : v.epochs.pin ≡ Idle
   pub nodes : v.pools.nodes ≡ []
   pub locks : v.trie.locks ≡ []

@@ -2,7 +2,7 @@
 ghost use Rattle.std.specs.Prelude.{◌≡◌, ◌<◌, ◌≤◌, length};
 ghost use Rattle.std.specs.Thread.{IsSync};
 ghost use Rattle.npf_cells.specs.Passes.{IsPassOf};
-ghost use Rattle.npf_trie_tests.specs.Hands.{IsAtRest};
+ghost use Rattle.npf_trie_tests.specs.Hands.{RestsEmptyHanded};
 
 use crate::answers::{put, same};
 use crate::by_protocol::ByProtocol;
@@ -46,7 +46,7 @@ fn work(
     number: u32,
 ) -> bool
     requires own { IsPassOf cells.now.table.shared.key cells.now.table.shared.table_id pass.seat.table_id pass.readers.items pass.seat.me }
-    requires rests { IsAtRest pass.seat.me.0 }
+    requires rests { RestsEmptyHanded pass.seat.me.0 }
 {
     let mut pass = pass;
     enter(cells, &mut pass);
@@ -73,7 +73,7 @@ fn work_beside<R: Threads + Wait + Sync>(
     number: u32,
 ) -> bool
     requires own { IsPassOf cells.now.table.shared.key cells.now.table.shared.table_id pass.seat.table_id pass.readers.items pass.seat.me }
-    requires rests { IsAtRest pass.seat.me.0 }
+    requires rests { RestsEmptyHanded pass.seat.me.0 }
     requires places { number < length pass.seat.me.0.seats.readers }
 {
     if number == 0 {
@@ -84,10 +84,10 @@ fn work_beside<R: Threads + Wait + Sync>(
     let (agreed, others_agreed) = join(
         rt,
         move ||
-            requires { IsPassOf cells.now.table.shared.key cells.now.table.shared.table_id other.seat.table_id other.readers.items other.seat.me × IsAtRest other.seat.me.0 }
+            requires { IsPassOf cells.now.table.shared.key cells.now.table.shared.table_id other.seat.table_id other.readers.items other.seat.me × RestsEmptyHanded other.seat.me.0 }
         { work(rt, cells, other, told, crew, number) },
         move ||
-            requires { IsSync R.row × IsPassOf cells.now.table.shared.key cells.now.table.shared.table_id pass.seat.table_id pass.readers.items pass.seat.me × IsAtRest pass.seat.me.0 × (0 < number) × (number ≤ length pass.seat.me.0.seats.readers) }
+            requires { IsSync R.row × IsPassOf cells.now.table.shared.key cells.now.table.shared.table_id pass.seat.table_id pass.readers.items pass.seat.me × RestsEmptyHanded pass.seat.me.0 × (0 < number) × (number ≤ length pass.seat.me.0.seats.readers) }
         { work_beside(rt, cells, pass, told, crew, number - 1) },
     );
     agreed && others_agreed

@@ -1,7 +1,11 @@
+ghost use Rattle.std.specs.Prelude.{refl};
+
 use crate::comparison::same;
 use npf_outside::{
-    FileFault, Files, FolderFiles, MemFiles, MemSink, Sink, SinkFault, StderrSink, StdoutSink,
+    FileFault, Files, FolderFiles, MemFiles, MemSink, Parts, Sink, SinkFault, StderrSink,
+    StdoutSink, Stream, StreamSink,
 };
+use std::io::{Error, ErrorKind, Result as IoResult, Write};
 use std::process::Abort;
 use std::test::Fail;
 
@@ -35,6 +39,56 @@ fn folder_files_are_those_of_the_current_folder(rt: HostRuntime) -> Result<(), F
     );
     std::fs::remove_file(&rt, "npf_outside.test")?;
     Ok(())
+}
+
+#[test]
+fn files_are_written_in_parts(rt: HostRuntime) -> Result<(), Fail> {
+    let mut files = MemFiles::new(rt.alloc())?;
+    files.fail(3)?;
+    writes_parts(&rt, &mut files, "a.pcap", b"one by one", Ok(()));
+    reads(&rt, &mut files, "a.pcap", 10, Ok(b"one by one"));
+    writes_parts(&rt, &mut files, "a.pcap", b"two", Err(FileFault::Failed));
+    reads(&rt, &mut files, "a.pcap", 10, Ok(b"one by one"));
+    Ok(())
+}
+
+#[test]
+fn a_file_of_the_folder_is_replaced_by_parts(rt: HostRuntime) -> Result<(), Fail> {
+    let mut files = FolderFiles::new(&rt);
+    writes(&rt, &mut files, "npf_outside.parts", b"0123456789", Ok(()));
+    writes_parts(&rt, &mut files, "npf_outside.parts", b"abc", Ok(()));
+    reads(&rt, &mut files, "npf_outside.parts", 10, Ok(b"abc"));
+    std::fs::remove_file(&rt, "npf_outside.parts")?;
+    Ok(())
+}
+
+/// Bytes of which each is a part.
+#[derive(Drop)]
+struct OneByOne<'a> {
+    left: &'a [u8],
+}
+
+impl<'a> Parts for OneByOne<'a> {
+    ghost rest = { λ bytes. bytes.left.now };
+
+    fn next(&mut self, part: &mut Vec<u8>) {
+        if let Some((first, left)) = self.left.split_first() {
+            part.push_reserved(*first);
+            self.left = left;
+        }
+    }
+}
+
+fn writes_parts(
+    rt: &(impl Abort + AllocGlobal),
+    files: &mut impl Files,
+    name: &str,
+    bytes: &[u8],
+    wanted: Result<(), FileFault>,
+) {
+    let mut parts = OneByOne { left: bytes };
+    let given = files.write_parts(rt.alloc(), name, &mut parts);
+    same(rt, name, given, wanted);
 }
 
 fn reads(
@@ -91,6 +145,47 @@ fn standard_error_takes_bytes(rt: HostRuntime) {
     let mut err = StderrSink::new(&rt);
     puts(&rt, &mut err, "npf_outside: standard error\n", Ok(()));
     flushes(&rt, &mut err, Ok(()));
+}
+
+/// A stream that takes four bytes a write, and refuses each write once it has so many bytes. It can't pass on what it took.
+#[derive(Drop)]
+struct Narrow {
+    room: usize,
+}
+
+impl Write for Narrow {
+    fn write(&mut self, bytes: &[u8]) -> IoResult<usize> {
+        if self.room == 0 {
+            return Err(Error::from(ErrorKind::BrokenPipe));
+        }
+        let count = bytes.len().min(4).min(self.room);
+        self.room -= count;
+        Ok(count)
+    }
+
+    fn flush(&mut self) -> IoResult<()> {
+        Err(Error::from(ErrorKind::StorageFull))
+    }
+}
+
+impl Stream for Narrow {
+    ghost steady = { λ one other. refl };
+}
+
+#[test]
+fn a_flush_that_the_stream_refuses_fails(rt: HostRuntime) {
+    let mut sink = StreamSink::over(rt.alloc(), Narrow { room: 100 }, 8);
+    puts(&rt, &mut sink, "one\n", Ok(()));
+    puts(&rt, &mut sink, "longer than the buffer\n", Ok(()));
+    flushes(&rt, &mut sink, Err(SinkFault::Failed));
+}
+
+#[test]
+fn a_put_that_the_stream_cuts_fails(rt: HostRuntime) {
+    let mut sink = StreamSink::over(rt.alloc(), Narrow { room: 6 }, 0);
+    puts(&rt, &mut sink, "one\n", Ok(()));
+    puts(&rt, &mut sink, "two\n", Err(SinkFault::Failed));
+    puts(&rt, &mut sink, "three\n", Err(SinkFault::Failed));
 }
 
 fn puts(rt: &impl Abort, sink: &mut impl Sink, text: &str, wanted: Result<(), SinkFault>) {

@@ -13,7 +13,7 @@ returns-in-Skip-clause-handles g c = record {
   said = [];
   asks = (refl, refl);
   did = did_nothing (g.C.Connections.view c.args.pass.now);
-  explains = Explains.skip (rw c.in-Skip.is at c.decode.ensures);
+  explains = Explains.skip refl (rw c.in-Skip.is at c.decode.ensures);
 }
 
 pub returns-in-Malformed-clause-handles : goal.returns-in-Malformed-clause-handles
@@ -22,7 +22,7 @@ returns-in-Malformed-clause-handles g c = record {
   said = [];
   asks = (refl, refl);
   did = did_nothing (g.C.Connections.view c.args.pass.now);
-  explains = Explains.malformed (rw c.in-Malformed.is at c.decode.ensures);
+  explains = Explains.malformed refl (rw c.in-Malformed.is at c.decode.ensures);
 }
 
 pub returns-clause-handles : goal.returns-clause-handles

@@ -1,6 +1,6 @@
 use Rattle.std.proofs.Common.{arith}
-use Rattle.npf_flow.specs.Flows.{opening_flow}
-use Rattle.npf_flow.proofs.FlowLemmas.{went_on, accepted_goes_on}
+use Rattle.npf_flow.specs.Flows.{accepts, opening_flow}
+use Rattle.npf_flow.proofs.FlowLemmas.{went_on, moved_goes_on, passed_moves}
 use Rattle.npf_flow.proofs.TimeoutLemmas.{not_due}
 use Rattle.npf_flow.proofs.laws.due_by_idle_time.Goals as goal
 
@@ -8,7 +8,9 @@ pub returns-clause-last : goal.returns-clause-last
 returns-clause-last c = not_due
 
 pub returns-clause-packet : goal.returns-clause-packet
-returns-clause-packet c = λ flow way arg passed. rw (accepted_goes_on flow way arg passed) (not_due (went_on flow way arg) arg.now (omega arith))
+returns-clause-packet c = λ flow way arg moves passed.
+    rw (moved_goes_on flow way arg (passed_moves arg.peek (accepts flow.kind way arg.seg) moves passed))
+    (not_due (went_on flow way arg) arg.now (omega arith))
 
 pub returns-clause-opening : goal.returns-clause-opening
-returns-clause-opening c = λ arg opener there back action. not_due (opening_flow arg opener there back action) arg.now (omega arith)
+returns-clause-opening c = λ arg strict opener there back action. not_due (opening_flow arg strict opener there back action) arg.now (omega arith)

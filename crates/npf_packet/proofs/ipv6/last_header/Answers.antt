@@ -11,6 +11,8 @@ headers-preserved c =
     record {
       after = omega (arith, c.in-Some.ensures.after);
       before = c.in-Some.ensures.before;
+      named_behind = omega (arith, c.in-Some.ensures.named);
+      named_before = omega (arith, c.in-Some.ensures.named, c.in-Some.ensures.after);
       passed = (passed.0 ++ c.headers.header ∷ [], more);
     }
 

@@ -1,5 +1,5 @@
 -- The headers that were passed are a chain as far as they go.
-use Rattle.std.proofs.Common.{◌+◌, ◌-◌, ◌≤◌, List}
+use Rattle.std.proofs.Common.{◌+◌, ◌-◌, ◌≤◌, ◌<◌, List}
 use Rattle.npf_packet.specs.declared.ipv6.Header.{Header}
 use Rattle.npf_packet.specs.Ipv6.{first_header, next_header}
 use Rattle.npf_packet.proofs.ChainLemmas.{HasPassed}
@@ -9,6 +9,8 @@ abbrev pub invariant-headers : goal.invariant-headers
 invariant-headers l = record {
   after : l.ip_at + 40 ≤ l.header.at;
   before : l.header.at ≤ l.end;
+  named_behind : l.ip_at ≤ l.header.named_at;
+  named_before : l.header.named_at < l.header.at;
   passed : (headers : List Header) × HasPassed (next_header l.bytes l.end) (first_header l.bytes l.ip_at) headers l.header;
 }
 

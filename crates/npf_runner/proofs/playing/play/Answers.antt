@@ -4,7 +4,8 @@ use Rattle.std.proofs.lemmas.List.Elements.{All-drop}
 use Rattle.npf_engine.specs.Handles.{configurations}
 use Rattle.npf_runner.specs.Job.{Handled, numbered_from}
 use Rattle.npf_runner.specs.Played.{handled, outcomes_of, outputs_of}
-use Rattle.npf_runner.specs.Plays.{IsShortPacket, PhasesPublishFrom, PlaysPhases, packets_in, published_by}
+use Rattle.npf_runner.specs.Plays.{PhasesPublishFrom, PlaysPhases, packets_in, published_by}
+use Rattle.npf_traffic.specs.Packet.{IsShortPacket}
 use Rattle.npf_runner.specs.Running.{RunsPhase, RunsPhases}
 use Rattle.npf_runner.proofs.EngineLemmas.{says_own, tells_in_longer}
 use Rattle.npf_runner.proofs.JobLemmas.{phase_ordered, phases_from, numbered_length, packets_first, published_below}

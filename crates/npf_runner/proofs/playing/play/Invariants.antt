@@ -3,7 +3,8 @@ use Rattle.npf_connections.specs.Pass.{IsPass, all_places}
 use Rattle.npf_flow.specs.Flows.{flow_law}
 use Rattle.npf_engine.specs.Handles.{configurations}
 use Rattle.npf_runner.specs.Played.{handled}
-use Rattle.npf_runner.specs.Plays.{IsShortPacket, PhasesPublishFrom, packets_in}
+use Rattle.npf_runner.specs.Plays.{PhasesPublishFrom, packets_in}
+use Rattle.npf_traffic.specs.Packet.{IsShortPacket}
 use Rattle.npf_runner.specs.Running.{IsBack, RunsPhases}
 use Rattle.npf_runner.proofs.playing.play.Given as goal
 

@@ -1,5 +1,5 @@
 use Rattle.std.proofs.Common.{All, take}
-use Rattle.npf_runner.specs.Plays.{IsShortPacket}
+use Rattle.npf_traffic.specs.Packet.{IsShortPacket}
 use Rattle.npf_runner_tests.proofs.run.are_short.Given as goal
 
 abbrev pub invariant-loop-packet : goal.invariant-loop-packet

@@ -1,6 +1,9 @@
-use Rattle.std.proofs.Common.{◌≡◌, ◌∙◌, true, ap}
+use Rattle.std.proofs.Common.{◌≡◌, ◌≤◌, ◌∙◌, true, ap}
 use Rattle.npf_tcp.specs.declared.state.TcpPhase.TheVariants.{Closed}
 use Rattle.npf_tcp.specs.Cell.{cell}
+use Rattle.npf_tcp.specs.Segment.{sender_of, receiver_of}
+use Rattle.npf_tcp.specs.Sequence.{minus}
+use Rattle.npf_tcp.proofs.BoundLemmas.{reset_in_order}
 use Rattle.npf_tcp.proofs.CellLemmas.{cell-rst}
 use Rattle.npf_tcp.proofs.SegmentLemmas.{step_cases, step-accepted, state_after-phase}
 use Rattle.npf_tcp.proofs.laws.reset_closes.Goals as goal
@@ -15,3 +18,9 @@ returns-clause-closes c = λ state way seg rst.
 pub returns-clause-bounded : goal.returns-clause-bounded
 returns-clause-bounded c = λ state way seg rst.
     step-accepted state way seg Closed (ap (cell state.phase way) rst ∙ cell-rst state.phase way)
+
+pub returns-clause-in_order : goal.returns-clause-in_order
+returns-clause-in_order c = λ state way seg strict rst known.
+    step_cases state way seg (λ r. r.1 ≡ true → minus (sender_of state way).end seg.seq ≤ 1)
+    (λ phase led bounded accepted. reset_in_order state.strict (sender_of state way) (receiver_of state way) seg strict rst known bounded)
+    (λ accepted. absurd (cc))

@@ -5,7 +5,7 @@ use Rattle.npf_connections.specs.Adding.{AddsOwn}
 use Rattle.npf_connections.specs.Entries.{entry_of}
 use Rattle.npf_oneturn.specs.Endings.{Plan}
 use Rattle.npf_oneturn.specs.Views.{show}
-use Rattle.npf_oneturn.specs.declared.rule.Ending.TheVariants.{Full}
+use Rattle.npf_oneturn.specs.declared.rule.Ending.TheVariants.{Nothing}
 use Rattle.std.proofs.Common.{arith, [], ◌∷◌}
 use Rattle.npf_oneturn_store.proofs.RepresentLemmas.{claim_is_act, stays_same}
 use Rattle.npf_connections.proofs.StayLemmas.{claimed_holds_none}
@@ -24,7 +24,7 @@ end-requires-clause-may g c =
     let r = c.requires.own.1 in
     let here = represents_here m _ _ t _ c.slot_mut.ensures.value in
     let same = entered_here m _ _ t _ c.slot_mut.ensures.value in
-    may_rest m _ _ t Full _ _ _ _ refl (stays_same _ _ _ _ _ here c.in_default.ensures.1) (omega (arith, same)) t.tidy.unanswered t.tidy.idle r.place t.stays.claimed t.stays.built
+    may_rest m _ _ t Nothing _ _ _ _ refl (stays_same _ _ _ _ _ here c.in_default.ensures.1) (omega (arith, same)) t.tidy.unanswered t.tidy.idle r.place t.stays.claimed t.stays.built
 
 pub returns-in_default-clause-legal : goal.returns-in_default-clause-legal
 returns-in_default-clause-legal g c =

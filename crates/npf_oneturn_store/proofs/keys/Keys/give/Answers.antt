@@ -1,6 +1,6 @@
 use Rattle.std.proofs.Common.{ap, sym, subst, ◌∙◌, ◌≡◌, ◌<◌, refl, length, set, Some, vec_capacity}
 use Rattle.std.proofs.lemmas.List.{length-set}
-use Rattle.npf_oneturn_store.specs.declared.holding.Holding.{Holding}
+use Rattle.npf_core.specs.declared.holding.Holding.{Holding}
 use Rattle.npf_oneturn_store.specs.Hash.{bucket_of}
 use Rattle.npf_oneturn_store.specs.Places.{standing, holder_among, found_in}
 use Rattle.npf_oneturn_store.proofs.HolderLemmas.{holder_put, holder_kept, found_there, found_elsewhere}

@@ -2,7 +2,7 @@
 use Rattle.std.specs.Prelude.{ℕ, List, []}
 use Rattle.std.specs.Borrow.{Lends, MutBor, Fml, Array, u8}
 use mir.Syntax.{named}
-use Rattle.npf_runner.specs.contracts.packet.PacketBytes.{the_row}
+use Rattle.npf_traffic.specs.contracts.packet.PacketBytes.{the_row}
 
 -- when the borrow ends, the packet has the bytes that were written through it
 abbrev pub LendsBytes : MutBor (List ℕ) → MutBor (List ℕ) → Fml

@@ -1,0 +1,5 @@
+use Rattle.std.proofs.Common.{◌≡◌}
+use Rattle.npf_oneturn_tests.proofs.acts.copy_all.Given as goal
+
+abbrev pub invariant-loop-slot : goal.invariant-loop-slot
+invariant-loop-slot g l = g.C.Connections.fits l.conns l.pass × (g.C.Connections.view l.pass ≡ g.C.Connections.view l.initial.pass)

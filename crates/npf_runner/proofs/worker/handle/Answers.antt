@@ -1,0 +1,30 @@
+use Rattle.std.proofs.Common.{rules, subst}
+use Rattle.npf_engine.specs.Arrival.{Arrival}
+use Rattle.npf_engine.specs.Handles.{Handles, configurations}
+use Rattle.npf_engine.specs.Outcome.{sent_of}
+use Rattle.npf_runner.proofs.EngineLemmas.{arrives_free, handled_held}
+use Rattle.npf_runner.proofs.worker.handle.Goals as goal
+
+pub returns-in-Some-clause-handled : goal.returns-in-Some-clause-handled
+returns-in-Some-clause-handled g c =
+    handled_held (configurations c.args.configs.now) (g.C.Connections.view c.args.pass.now) c.args.reader.now
+    (record { number = c.args.number; packet = c.args.packet.now }) c.in-Some.why c.requires.legal c.in-Some.is
+
+pub returns-clause-handled : goal.returns-clause-handled
+returns-clause-handled g c =
+    let done = c.packet-outcome.ensures in
+    let handles = subst
+    (λ (a : Arrival). Handles (configurations c.args.configs.now) (g.C.Connections.view c.args.pass.now) (g.C.Connections.view c.packet-outcome.new.pass) c.args.reader.now c.packet-outcome.new.reader a c.packet-outcome.result (sent_of c.packet-outcome.result c.packet-outcome.new.bytes))
+    (arrives_free c.args.number c.args.packet.now c.in_default.is) done.handles in
+    record {
+      handles = handles;
+      rested = record {
+        same = done.handles.did.same;
+        legal = done.legal;
+        begins = record { rest = done.handles.did.adds.rest; goes_on = done.handles.did.adds.goes_on };
+        sweeps = done.sweeps;
+      };
+      kept = done.kept;
+      same = search rules;
+      sweep = done.sweep;
+    }
