@@ -36,13 +36,8 @@ module _ (old new before after : FilesMoment) (meets : MeetsAll old new before a
 
   tables_last : (decls : List TableDecl) (fault : ConfFault) → RefusesTables old decls fault → RefusesTables before decls fault
   tables_last decls _ (bad_line decl tables comes is) =
-      bad_line decl tables (comes_last decls decl tables comes) (record {
-        text = is.text;
-        told = subst (λ (contents : Option Tree). IsTableText contents decl.file is.text) meets.contents is.told;
-        number = is.number;
-        bad = is.bad;
-        tells = is.tells;
-      })
+      let told = subst (λ (contents : Option Tree). IsTableText contents decl.file is.text) meets.contents is.told in
+      bad_line decl tables (comes_last decls decl tables comes) (record { text = is.text; told = told; number = is.number; bad = is.bad; tells = is.tells })
   tables_last decls _ (too_many decl tables entries comes are many) =
       too_many decl tables entries (comes_last decls decl tables comes) (subst (λ (contents : Option Tree). AreFirstEntries contents decl entries) meets.contents are) many
 
@@ -68,11 +63,7 @@ module _ (old new before after : FilesMoment) (meets : MeetsAll old new before a
         decl = is.refused.decl;
         tables = is.refused.tables;
         comes = comes_last is.model.tables is.refused.decl is.refused.tables is.refused.comes;
-        unread = record {
-          named = is.refused.unread.named;
-          place = is.refused.unread.place;
-          unread = unread_lasts name fault is.refused.unread.unread;
-        };
+        unread = record { named = is.refused.unread.named; place = is.refused.unread.place; unread = unread_lasts name fault is.refused.unread.unread };
       };
     }
 
