@@ -15,6 +15,7 @@ pub mod NormalisedSumLemmas
 pub mod OptionLemmas
 pub mod PlacedLemmas
 pub mod PortLemmas
+pub mod SentLemmas
 pub mod SumLemmas
 pub mod TotalLemmas
 pub mod VersionLemmas

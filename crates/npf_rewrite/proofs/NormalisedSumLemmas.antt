@@ -3,7 +3,8 @@ use Rattle.std.proofs.Common.{◌≡◌, ℕ, ◌+◌, ◌-◌, ◌*◌, ◌<◌
 use Rattle.std.specs.Prelude.{◌==◌, ◌/◌, ◌%◌, ◌^◌, IfSome, nat_lt, if◌then◌else◌, slice_index}
 use Rattle.npf_fields.specs.Field.{number16}
 use Rattle.npf_types.specs.declared.action.Action.{Action}
-use Rattle.npf_types.specs.declared.address.Addr.TheVariants.{V4}
+use Rattle.npf_types.specs.declared.address.Addr.{Addr}
+use Rattle.npf_types.specs.declared.address.Addr.TheVariants.{V4, V6}
 use Rattle.npf_types.specs.declared.facts.Facts.{Facts}
 use Rattle.npf_types.specs.declared.facts.L4.{L4}
 use Rattle.npf_types.specs.declared.facts.L4.TheVariants.{Tcp, Udp, Icmp, Icmp6, Other}
@@ -42,21 +43,23 @@ raised-inside : (bytes : List ℕ) (ip a : ℕ) (least : Option ℕ)
 raised-inside bytes ip a (Some least) = chosen-inside ip 6 4 _ _ (omega arith) (omega arith)
 raised-inside bytes ip a None = tt
 
-raised-fits : (bytes : List ℕ) (ip a : ℕ) (least : Option ℕ) → HasBytes bytes → IfSome least (λ n. n < 2 ^ 8)
-    → AllFit (word_list (raised_ttl bytes ip (V4 a) least))
-raised-fits bytes ip a (Some least) small fits = chosen-fits _ _ (omega (arith, small (ip + 9), fits))
-raised-fits bytes ip a None small fits = tt
+pub raised-fits : (bytes : List ℕ) (ip : ℕ) (src : Addr) (least : Option ℕ) → HasBytes bytes
+    → IfSome least (λ n. n < 2 ^ 8) → AllFit (word_list (raised_ttl bytes ip src least))
+raised-fits bytes ip (V4 a) (Some least) small fits = chosen-fits _ _ (omega (arith, small (ip + 9), fits))
+raised-fits bytes ip (V6 a) (Some least) small fits = chosen-fits _ _ (omega (arith, small (ip + 6), fits))
+raised-fits bytes ip src None small fits = tt
 
 cleared-inside : (bytes : List ℕ) (ip a : ℕ) (no_df : Bool)
     → Inside ip 6 (ip + 6) (word_list (cleared_fragment bytes ip (V4 a) no_df))
 cleared-inside bytes ip a true = chosen-inside ip 6 3 _ _ (omega arith) (omega arith)
 cleared-inside bytes ip a false = tt
 
-cleared-fits : (bytes : List ℕ) (ip a : ℕ) (no_df : Bool) → HasBytes bytes
-    → AllFit (word_list (cleared_fragment bytes ip (V4 a) no_df))
-cleared-fits bytes ip a true small =
+pub cleared-fits : (bytes : List ℕ) (ip : ℕ) (src : Addr) (no_df : Bool) → HasBytes bytes
+    → AllFit (word_list (cleared_fragment bytes ip src no_df))
+cleared-fits bytes ip (V4 a) true small =
     chosen-fits _ _ (omega (arith, small (ip + 6), small (ip + 6 + 1)))
-cleared-fits bytes ip a false small = tt
+cleared-fits bytes ip (V4 a) false small = tt
+cleared-fits bytes ip (V6 a) no_df small = tt
 
 -- the old words, where nothing was written before
 olds-there : (f g : ℕ → ℕ) (lo hi : ℕ) (ws : List WordAt) → Between lo hi ws
@@ -103,8 +106,8 @@ normalised_header_lem bytes normalised facts action a small fits e room n was =
     (omega arith, (omega arith, tt))
     (λ k from to. after-elsewhere (ip + 6) (ip + 8) fragment (after ttl f) k by_fragment (inr (omega (arith, from)))
     ∙ after-elsewhere (ip + 8) (ip + 10) ttl f k by_ttl (inr from)) in
-    let fit = fit-append ttl fragment (raised-fits bytes ip a action.min_ttl small fits.ttl)
-    (cleared-fits bytes ip a action.no_df small) in
+    let fit = fit-append ttl fragment (raised-fits bytes ip (V4 a) action.min_ttl small fits.ttl)
+    (cleared-fits bytes ip (V4 a) action.no_df small) in
     let follows = sum_after-follows 0 (inl refl) bytes (ttl ++ fragment) sum small fit
     (omega (arith, small (ip + 10), small (ip + 10 + 1)))
     (words_total f ip words + 65534 * (olds f (ttl ++ fragment) + sum)) (omega (arith, was)) in
@@ -135,6 +138,21 @@ lowered-fits bytes sport dport seg mss (Some most) fits =
       chosen true false = tt
       chosen false c = tt
 lowered-fits bytes sport dport seg mss None fits = tt
+
+some-fits : (o : Option WordAt) → IfSome o (λ w. w.value < 2 ^ 16) → AllFit (word_list o)
+some-fits (Some w) fits = (fits, tt)
+some-fits None fits = tt
+
+pub lowered-fit : (bytes : List ℕ) (l4 : L4) (most : Option ℕ) → IfSome most (λ n. n < 2 ^ 16)
+    → AllFit (word_list (lowered_mss bytes l4 most))
+lowered-fit bytes (Tcp sport dport seg (Some mss)) most fits =
+    some-fits _ (lowered-fits bytes sport dport seg mss most fits)
+lowered-fit bytes (Tcp sport dport seg None) (Some most) fits = tt
+lowered-fit bytes (Udp sport dport) (Some most) fits = tt
+lowered-fit bytes (Icmp kind code echo) (Some most) fits = tt
+lowered-fit bytes (Icmp6 kind code echo) (Some most) fits = tt
+lowered-fit bytes Other (Some most) fits = tt
+lowered-fit bytes l4 None fits = tt
 
 module _ (bytes : List ℕ) (g : ℕ → ℕ) (small : HasBytes bytes) (facts : Facts)
     (addresses : addresses_total g facts.ip_at facts.src ≡ addresses_total (slice_index bytes) facts.ip_at facts.src) where

@@ -131,6 +131,12 @@ module _ (empty : ℕ) (stands : (empty ≡ 0) ⊎ (empty ≡ 0xffff)) where
       (ap (λ (n : ℕ). n % 65535) (omega arith) ∙ one) in
       ap (λ (n : ℕ). n % 65535) (omega arith) ∙ rest
 
+-- a sum that follows is one
+pub sum_after-fits : (bytes : List ℕ) (ws : List WordAt) (sum : ℕ) → sum < 2 ^ 16 → sum_after 0 bytes ws sum < 2 ^ 16
+sum_after-fits bytes [] sum s = s
+sum_after-fits bytes (w ∷ ws) sum s =
+    sum_after-fits bytes ws _ (sum_after_word-fits 0 (inl refl) sum (number16 bytes w.at) w.value s)
+
 pub olds-append : (f : ℕ → ℕ) (ws vs : List WordAt) → olds f (ws ++ vs) ≡ olds f ws + olds f vs
 olds-append f [] vs = omega arith
 olds-append f (w ∷ ws) vs = omega (arith, olds-append f ws vs)

@@ -5,6 +5,7 @@ pub mod NormalisedFacts
 pub mod NormalisedVerified
 pub mod Room
 pub mod Sent
+pub mod SentLaw
 pub mod Sum
 pub mod Translated
 pub mod TranslatedFacts

@@ -3,6 +3,7 @@ ghost use Rattle.npf_rewrite.specs.Lengths.{NormalisedKeepsLengths, SentKeepsLen
 ghost use Rattle.npf_rewrite.specs.NormalisedFacts.{NormalisedDecodes};
 ghost use Rattle.npf_rewrite.specs.NormalisedVerified.{NormalisedHeaderFollows, NormalisedUpperFollows};
 ghost use Rattle.npf_rewrite.specs.Room.{DecodedHasRoom};
+ghost use Rattle.npf_rewrite.specs.SentLaw.{SentIsPacket};
 ghost use Rattle.npf_rewrite.specs.TranslatedFacts.{TranslatedDecodes};
 ghost use Rattle.npf_rewrite.specs.Verified.{AbsentSumStays, HeaderSumFollows, NeutralHeaderSumFollows, NeutralUpperSumFollows, UpperSumFollows};
 
@@ -61,4 +62,11 @@ pub fn normalised_decodes()
 pub fn normalised_sums_follow()
     ensures header { NormalisedHeaderFollows }
     ensures upper { NormalisedUpperFollows }
+{}
+
+/// What is sent of a packet, normalised and then translated, is that packet with the ends of the
+/// change: it has its lengths, it decodes to the facts of the change, and the sums that verified
+/// verify.
+pub fn sent_is_packet()
+    ensures { SentIsPacket }
 {}
