@@ -31,7 +31,14 @@ const NOTHING: Action = Action {
 
 /// The flow of a key's connection.
 pub fn flow(number: u32) -> Flow {
-    open_flow(PACKET, false, u64::from(number), UNCHANGED, UNCHANGED, NOTHING)
+    open_flow(
+        PACKET,
+        false,
+        u64::from(number),
+        UNCHANGED,
+        UNCHANGED,
+        NOTHING,
+    )
 }
 
 /// Steps a flow for each of so many packets.
