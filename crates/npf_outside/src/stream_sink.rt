@@ -19,7 +19,7 @@ pub struct StreamSink<W: Stream> {
 }
 
 impl<W: Stream> StreamSink<W> {
-    ghost use Rattle.npf_outside.specs.StreamSink.{held_by};
+    ghost use Rattle.npf_outside.specs.StreamSink.{sink_contents};
 
     /// A sink over this stream, behind a buffer of so many bytes. No faults yet, and nothing waits.
     pub fn over(alloc: Global, stream: W, room: usize) -> StreamSink<W>
@@ -39,7 +39,7 @@ impl<W: Stream> StreamSink<W> {
     /// Passes on what waits. After an error a front of it was, and the rest waits.
     fn pass_on(&mut self) -> IoResult<()>
         ensures empty { OnOk result (self.new.buffer.items ≡ []) }
-        ensures stays { Appends (held_by W.contents self.old) (held_by W.contents self.new) [] }
+        ensures stays { Appends (sink_contents W.contents self.old) (sink_contents W.contents self.new) [] }
         ensures capacity { vec_capacity self.new.buffer ≡ vec_capacity self.old.buffer }
         ensures room { self.new.room ≡ self.old.room }
         ensures faults { self.new.faults ≡ self.old.faults }
@@ -52,7 +52,7 @@ impl<W: Stream> StreamSink<W> {
     /// Passes on what waits, and has the stream pass on what it keeps itself.
     fn pass_all_on(&mut self) -> IoResult<()>
         ensures empty { OnOk result (self.new.buffer.items ≡ []) }
-        ensures stays { Appends (held_by W.contents self.old) (held_by W.contents self.new) [] }
+        ensures stays { Appends (sink_contents W.contents self.old) (sink_contents W.contents self.new) [] }
         ensures faults { self.new.faults ≡ self.old.faults }
     {
         self.pass_on()?;
@@ -63,7 +63,7 @@ impl<W: Stream> StreamSink<W> {
     fn make_room(&mut self, count: usize) -> IoResult<()>
         ensures room { OnOk result
             ((length self.new.buffer.items + count ≤ self.new.room) ⊎ (self.new.buffer.items ≡ [])) }
-        ensures stays { Appends (held_by W.contents self.old) (held_by W.contents self.new) [] }
+        ensures stays { Appends (sink_contents W.contents self.old) (sink_contents W.contents self.new) [] }
         ensures capacity { vec_capacity self.new.buffer ≡ vec_capacity self.old.buffer }
         ensures same { self.new.room ≡ self.old.room }
         ensures faults { self.new.faults ≡ self.old.faults }
@@ -78,9 +78,9 @@ impl<W: Stream> StreamSink<W> {
     fn keep(&mut self, bytes: &[u8]) -> Result<(), SinkFault>
         requires { length self.old.buffer.items + length bytes.now ≤ self.old.room }
         ensures whole { OnOk result
-            (Appends (held_by W.contents self.old) (held_by W.contents self.new) bytes.now) }
+            (Appends (sink_contents W.contents self.old) (sink_contents W.contents self.new) bytes.now) }
         ensures memory { IsErrOf result SinkFault.NoMemory
-            → Appends (held_by W.contents self.old) (held_by W.contents self.new) [] }
+            → Appends (sink_contents W.contents self.old) (sink_contents W.contents self.new) [] }
         ensures wants { IsErrOf result SinkFault.NoMemory → vec_capacity self.old.buffer < self.old.room }
         ensures failed { IsErrOf result SinkFault.Failed → ⊥ }
         ensures faults { self.new.faults ≡ self.old.faults }
@@ -98,8 +98,8 @@ impl<W: Stream> StreamSink<W> {
     fn write_at_once(&mut self, bytes: &[u8]) -> Result<(), SinkFault>
         requires { self.old.buffer.items ≡ [] }
         ensures whole { OnOk result
-            (Appends (held_by W.contents self.old) (held_by W.contents self.new) bytes.now) }
-        ensures front { AppendsFront (held_by W.contents self.old) (held_by W.contents self.new) bytes.now }
+            (Appends (sink_contents W.contents self.old) (sink_contents W.contents self.new) bytes.now) }
+        ensures front { AppendsFront (sink_contents W.contents self.old) (sink_contents W.contents self.new) bytes.now }
         ensures memory { IsErrOf result SinkFault.NoMemory → ⊥ }
         ensures faults { self.new.faults ≡ self.old.faults }
     {
@@ -112,10 +112,10 @@ impl<W: Stream> StreamSink<W> {
     /// Puts the bytes into the buffer, or writes them at once where they are longer than it.
     fn append(&mut self, bytes: &[u8]) -> Result<(), SinkFault>
         ensures whole { OnOk result
-            (Appends (held_by W.contents self.old) (held_by W.contents self.new) bytes.now) }
-        ensures front { AppendsFront (held_by W.contents self.old) (held_by W.contents self.new) bytes.now }
+            (Appends (sink_contents W.contents self.old) (sink_contents W.contents self.new) bytes.now) }
+        ensures front { AppendsFront (sink_contents W.contents self.old) (sink_contents W.contents self.new) bytes.now }
         ensures memory { IsErrOf result SinkFault.NoMemory
-            → Appends (held_by W.contents self.old) (held_by W.contents self.new) [] }
+            → Appends (sink_contents W.contents self.old) (sink_contents W.contents self.new) [] }
         ensures wants { IsErrOf result SinkFault.NoMemory → vec_capacity self.old.buffer < self.old.room }
         ensures faults { self.new.faults ≡ self.old.faults }
     {
