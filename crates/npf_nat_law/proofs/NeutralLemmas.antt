@@ -1,5 +1,5 @@
 -- A packet that `npt66` translates keeps its sums.
-use Rattle.std.proofs.Common.{◌≡◌, ℕ, ◌+◌, ◌%◌, Bool, true, false, IsTrue, Some, None, List, [], ◌++◌, length, refl, sym, ap, ◌∙◌, subst, arith}
+use Rattle.std.proofs.Common.{◌≡◌, ℕ, ◌+◌, ◌%◌, Bool, true, false, IsTrue, Some, None, List, [], ◌++◌, refl, sym, ap, ◌∙◌, subst, arith}
 use Rattle.std.specs.Prelude.{if◌then◌else◌, slice_index}
 use Rattle.npf_fields.specs.Field.{number128}
 use Rattle.npf_types.specs.declared.action.Action.{Action}
@@ -23,9 +23,8 @@ use Rattle.npf_nat.specs.Npt.{address_number}
 use Rattle.npf_packet.specs.declared.decoded.Decoded.TheVariants.{Ip}
 use Rattle.npf_packet.specs.Decoding.{Decodes}
 use Rattle.npf_packet.specs.PacketField.{HasIpHeader}
-use Rattle.npf_packet.proofs.PacketFieldLemmas.{has_fields, has_places}
+use Rattle.npf_packet.proofs.PacketFieldLemmas.{has_fields}
 use Rattle.npf_rewrite.specs.NormalisedFacts.{ActionFits}
-use Rattle.npf_rewrite.specs.Room.{HasRoom}
 use Rattle.npf_rewrite.specs.Sent.{Sent}
 use Rattle.npf_rewrite.specs.SentLaw.{IsPacketThere}
 use Rattle.npf_rewrite.specs.Translated.{Translated, destination_write, new_ends, port_writes, source_write}
@@ -33,7 +32,7 @@ use Rattle.npf_rewrite.specs.TranslatedFacts.{AddressesFit}
 use Rattle.npf_rewrite.specs.Verified.{HasBytes, PortsFit, addresses_total}
 use Rattle.npf_rewrite.specs.Word.{word_list}
 use Rattle.npf_rewrite.proofs.DecodedLemmas.{translated_decodes_lem}
-use Rattle.npf_rewrite.proofs.NormalisedDecodedLemmas.{normalised_decodes_lem}
+use Rattle.npf_rewrite.proofs.NormalisedDecodedLemmas.{decoded_room, normalised_decodes_lem}
 use Rattle.npf_rewrite.proofs.NormalisedSumLemmas.{addresses-total}
 use Rattle.npf_rewrite.proofs.SentLemmas.{sent_is_packet_lem}
 use Rattle.npf_nat_law.specs.Neutral.{AnswerIsSent, AnswerKeepsSums, IsAnswer, IsNeutral, PacketIsSent, PacketKeepsSums}
@@ -216,13 +215,7 @@ sent_by : (link : Link) (bytes sent : List ℕ) (facts : Facts) (action : Action
     → IsNeutral middle facts change sent)
     → Sent bytes facts action change sent → IsPacketThere link bytes facts change sent
 sent_by link bytes sent facts action change small numbers addresses ports decodes neutral s =
-    let places = has_places link bytes facts decodes in
-    let room : HasRoom (length bytes) facts = record {
-      upper = places.upper;
-      upper_header = places.upper_header;
-      end = places.end;
-      option = places.option;
-    } in
+    let room = decoded_room link bytes facts decodes in
     let is = neutral s.normalised
     (normalised_decodes_lem link bytes s.normalised facts action small numbers decodes s.first) s.second in
     sent_is_packet_lem link bytes sent facts action change small (record {
