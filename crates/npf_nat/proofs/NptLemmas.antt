@@ -34,7 +34,7 @@ first_carried n = omega arith
 in_order : (a b c d e f g h : ℕ) → a + (b + (c + (d + (e + (f + (g + h)))))) ≡ a + b + c + d + e + f + g + h
 in_order a b c d e f g h = omega arith
 
-words_sum_is : (n : ℕ) → n % 65535 ≡ words_sum n % 65535
+pub words_sum_is : (n : ℕ) → n % 65535 ≡ words_sum n % 65535
 words_sum_is n =
     let w0 : ℕ = n % 65536 in
     let w1 : ℕ = n / 2 ^ 16 % 65536 + w0 in

@@ -53,9 +53,6 @@ lowered-only bytes sport dport seg mss (Some most) =
     chosen-only (seg.flags / 2 % 2 == 1) (nat_lt most (number16 bytes mss)) (word mss most)
 lowered-only bytes sport dport seg mss None = tt
 
-pub lowered-none : (bytes : List ℕ) (l4 : L4) (most : Option ℕ) → lowered_mss bytes l4 None ≡ None
-lowered-none bytes l4 most = refl
-
 -- the words of a segment whose maximum segment size is written, or not
 abbrev pub WritesSegment : List ℕ → (ℕ → ℕ) → ℕ → Option WordAt → Type 0
 WritesSegment bytes g at o =

@@ -19,7 +19,7 @@ use Rattle.npf_packet.proofs.PacketFieldLemmas.{has_places}
 use Rattle.npf_packet.proofs.UpperLemmas.{is_carried}
 use Rattle.npf_rewrite.specs.Normalised.{Normalised}
 use Rattle.npf_rewrite.specs.NormalisedFacts.{ActionFits, NormalisedDecodes}
-use Rattle.npf_rewrite.specs.Room.{HasRoom}
+use Rattle.npf_rewrite.specs.Room.{DecodedHasRoom, HasRoom}
 use Rattle.npf_rewrite.specs.Translated.{source_at}
 use Rattle.npf_rewrite.specs.Verified.{HasBytes}
 use Rattle.npf_rewrite.proofs.AddressLemmas.{address-same}
@@ -154,16 +154,21 @@ module _ (link : Link) (bytes normalised : List ℕ) (small : HasBytes bytes) (f
         subst (λ packet. Carries normalised packet (Ip facts)) (sym same) (there packet between.1 carries),
       )
 
-pub normalised_decodes_lem : NormalisedDecodes
-normalised_decodes_lem link bytes normalised facts action small fits decodes n =
+pub decoded_room : DecodedHasRoom
+decoded_room link bytes facts decodes =
     let places = has_places link bytes facts decodes in
-    let room : HasRoom (length bytes) facts = record {
+    record {
       upper = places.upper;
       upper_header = places.upper_header;
       end = places.end;
       option = places.option;
-    } in
+    }
+
+pub normalised_decodes_lem : NormalisedDecodes
+normalised_decodes_lem link bytes normalised facts action small fits decodes n =
+    let place = (has_places link bytes facts decodes).ip in
+    let room = decoded_room link bytes facts decodes in
     decodes-there link bytes normalised facts facts n.size
-    (front link bytes normalised small facts action fits room places.ip n)
-    (from-v4 link bytes normalised small facts action fits room places.ip n)
-    (from-v6 link bytes normalised small facts action fits room places.ip n) decodes
+    (front link bytes normalised small facts action fits room place n)
+    (from-v4 link bytes normalised small facts action fits room place n)
+    (from-v6 link bytes normalised small facts action fits room place n) decodes

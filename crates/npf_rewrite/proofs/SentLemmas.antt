@@ -23,7 +23,7 @@ use Rattle.npf_rewrite.proofs.DecodedLemmas.{translated_decodes_lem}
 use Rattle.npf_rewrite.proofs.LengthLemmas.{sent_lengths_lem}
 use Rattle.npf_rewrite.proofs.NeutralLemmas.{absent_sum_lem, neutral_header_lem, neutral_upper_lem}
 use Rattle.npf_rewrite.proofs.NormalisedCarriedLemmas.{CarriedStays, carried-stays}
-use Rattle.npf_rewrite.proofs.NormalisedDecodedLemmas.{normalised_decodes_lem}
+use Rattle.npf_rewrite.proofs.NormalisedDecodedLemmas.{decoded_room, normalised_decodes_lem}
 use Rattle.npf_rewrite.proofs.NormalisedSumLemmas.{addresses-total, cleared-fits, lowered-fit, normalised_header_lem, normalised_upper_lem, raised-fits}
 use Rattle.npf_rewrite.proofs.SumLemmas.{header_sum_follows_lem, upper_sum_follows_lem}
 use Rattle.npf_rewrite.proofs.TotalLemmas.{AllFit, fit-append, sum_after-fits}
@@ -95,13 +95,7 @@ module _ (bytes translated : List ℕ) (facts : Facts) (change : Change) (small 
 
 pub sent_is_packet_lem : SentIsPacket
 sent_is_packet_lem link bytes sent facts action change small may decodes s =
-    let places = has_places link bytes facts decodes in
-    let room : HasRoom (length bytes) facts = record {
-      upper = places.upper;
-      upper_header = places.upper_header;
-      end = places.end;
-      option = places.option;
-    } in
+    let room = decoded_room link bytes facts decodes in
     let middle = s.normalised in
     let room' = subst (λ size. HasRoom size facts) (sym s.first.size) room in
     let small' = normalised-small bytes middle facts action small may.numbers s.first in

@@ -27,7 +27,7 @@ abbrev pub byte_there : List WordAt → ℕ → ℕ → ℕ
 byte_there [] at byte = byte
 byte_there (w ∷ ws) at byte = byte_there ws at (byte_after w at byte)
 
--- these words have their values, and every other byte is the same
+-- these words are written in their order, and every other byte is the same
 pub record Rewrites (old : List ℕ) (words : List WordAt) (new : List ℕ) : Type 0 where
   pub size : length new ≡ length old
   pub each : (at : ℕ) → slice_index new at ≡ byte_there words at (slice_index old at)

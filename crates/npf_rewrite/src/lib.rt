@@ -9,8 +9,9 @@
 // The contract: each call writes the words that `Translated` and `Normalised` name, with the
 // values that these name, and changes no other byte. Neither takes memory nor can be refused; each
 // asks that the packet's parts lie within its bytes, which those of a decoded packet do. Laws say
-// that a sum that verified still verifies, also after a neutral change that keeps the sum of the
-// addresses, and that a translated packet decodes to the facts of the change.
+// of what is sent that a sum that verified still verifies, also after a neutral change that writes
+// no port and keeps the sum of the addresses, that its lengths are the packet's, and that it decodes
+// to the facts of the change.
 #![tactic(auto)]
 
 mod address;

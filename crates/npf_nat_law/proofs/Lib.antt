@@ -1,0 +1,3 @@
+pub mod NeutralLemmas
+pub mod PlanLemmas
+pub mod WordsLemmas
