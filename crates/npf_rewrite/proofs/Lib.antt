@@ -9,6 +9,7 @@ pub mod LengthLemmas
 pub mod NeutralLemmas
 pub mod NormalisedCarriedLemmas
 pub mod NormalisedDecodedLemmas
+pub mod NormalisedFieldLemmas
 pub mod NormalisedHeaderLemmas
 pub mod NormalisedLemmas
 pub mod NormalisedSumLemmas

@@ -120,7 +120,7 @@ module _ (bytes normalised : List ℕ) (small : HasBytes bytes) (facts : Facts) 
       (ip + 9) (cleared-v4 bytes ip a action.no_df) (inr (omega arith))
       ∙ protocol-same bytes ip a action.min_ttl small
 
-  fragment-byte : (a : ℕ) → facts.src ≡ V4 a → (k : ℕ) → k < ip + 8 → g k ≡ byte_there (fragment (V4 a)) k (f k)
+  pub fragment-byte : (a : ℕ) → facts.src ≡ V4 a → (k : ℕ) → k < ip + 8 → g k ≡ byte_there (fragment (V4 a)) k (f k)
   fragment-byte a e k below =
       header-is (V4 a) e k (omega (arith, above (V4 a) e))
       ∙ after-elsewhere (ip + 10) (ip + 12) (sum (V4 a))

@@ -53,7 +53,7 @@ lowered-between bytes facts (Icmp6 _ _ _) (Some most) room = tt
 lowered-between bytes facts Other (Some most) room = tt
 lowered-between bytes facts l4 None room = tt
 
-segment_sum-between : (bytes : List ℕ) (at : ℕ) (o : Option WordAt)
+pub segment_sum-between : (bytes : List ℕ) (at : ℕ) (o : Option WordAt)
     → Between (at + 16) (at + 18) (word_list (segment_sum bytes at o))
 segment_sum-between bytes at (Some w) = (omega arith, (omega arith, tt))
 segment_sum-between bytes at None = tt

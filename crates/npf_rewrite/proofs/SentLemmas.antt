@@ -10,7 +10,6 @@ use Rattle.npf_types.specs.declared.change.Change.{Change}
 use Rattle.npf_types.specs.declared.facts.Facts.{Facts}
 use Rattle.npf_types.specs.declared.facts.L4.{L4}
 use Rattle.npf_types.specs.declared.facts.L4.TheVariants.{Tcp, Udp, Icmp, Icmp6, Other}
-use Rattle.npf_packet.proofs.PacketFieldLemmas.{has_places}
 use Rattle.npf_rewrite.specs.declared.word.WordAt.{WordAt}
 use Rattle.npf_rewrite.specs.Normalised.{Normalised, aligned, header_writes, mss_write, raised_ttl, segment_sum}
 use Rattle.npf_rewrite.specs.NormalisedFacts.{ActionFits}

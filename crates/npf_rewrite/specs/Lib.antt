@@ -2,6 +2,7 @@ pub mod Address
 pub mod Lengths
 pub mod Normalised
 pub mod NormalisedFacts
+pub mod NormalisedFields
 pub mod NormalisedVerified
 pub mod Room
 pub mod Sent

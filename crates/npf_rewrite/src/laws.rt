@@ -1,6 +1,7 @@
 // What holds of packets that are rewritten. The functions do nothing: each is a theorem.
 ghost use Rattle.npf_rewrite.specs.Lengths.{NormalisedKeepsLengths, SentKeepsLengths, TranslatedKeepsLengths};
 ghost use Rattle.npf_rewrite.specs.NormalisedFacts.{NormalisedDecodes};
+ghost use Rattle.npf_rewrite.specs.NormalisedFields.{NormalisedHasFields};
 ghost use Rattle.npf_rewrite.specs.NormalisedVerified.{NormalisedHeaderFollows, NormalisedUpperFollows};
 ghost use Rattle.npf_rewrite.specs.Room.{DecodedHasRoom};
 ghost use Rattle.npf_rewrite.specs.SentLaw.{SentIsPacket};
@@ -55,6 +56,12 @@ pub fn sent_keeps_lengths()
 /// A normalised packet decodes to the same facts.
 pub fn normalised_decodes()
     ensures { NormalisedDecodes }
+{}
+
+/// In a normalised packet the time to live, the bit "don't fragment" and the maximum segment size are
+/// as the action says.
+pub fn normalised_has_fields()
+    ensures { NormalisedHasFields }
 {}
 
 /// The sum of an IPv4 header and that of what is carried, where they verified, still verify in a

@@ -23,8 +23,8 @@ mod word;
 
 pub use laws::{
     absent_sum_stays, decoded_has_room, header_sum_follows, neutral_sums_follow,
-    normalised_decodes, normalised_sums_follow, sent_is_packet, sent_keeps_lengths,
-    translated_decodes, upper_sum_follows,
+    normalised_decodes, normalised_has_fields, normalised_sums_follow, sent_is_packet,
+    sent_keeps_lengths, translated_decodes, upper_sum_follows,
 };
 pub use normalised::normalize;
 pub use translated::translate;
