@@ -1,5 +1,5 @@
-use Rattle.std.proofs.Common.{rules, subst}
-use Rattle.npf_engine.specs.Arrival.{Arrival}
+use Rattle.std.proofs.Common.{◌∙◌, ap, rules, subst}
+use Rattle.npf_engine.specs.Arrival.{Arrival, arrival}
 use Rattle.npf_engine.specs.Handles.{Handles, configurations}
 use Rattle.npf_engine.specs.Outcome.{sent_of}
 use Rattle.npf_runner.proofs.EngineLemmas.{arrives_free, handled_held}
@@ -15,7 +15,7 @@ returns-clause-handled g c =
     let done = c.packet-outcome.ensures in
     let handles = subst
     (λ (a : Arrival). Handles (configurations c.args.configs.now) (g.C.Connections.view c.args.pass.now) (g.C.Connections.view c.packet-outcome.new.pass) c.args.reader.now c.packet-outcome.new.reader a c.packet-outcome.result (sent_of c.packet-outcome.result c.packet-outcome.new.bytes))
-    (arrives_free c.args.number c.args.packet.now c.in_default.is) done.handles in
+    (ap (arrival c.args.number c.args.packet.now.time c.args.packet.now.link c.args.packet.now.ifid c.args.packet.now.dir) c.as_mut_slice.ensures.value ∙ arrives_free c.args.number c.args.packet.now c.in_default.is) done.handles in
     record {
       handles = handles;
       rested = record {
@@ -24,7 +24,7 @@ returns-clause-handled g c =
         begins = record { rest = done.handles.did.adds.rest; goes_on = done.handles.did.adds.goes_on };
         sweeps = done.sweeps;
       };
-      kept = done.kept;
+      kept = λ no. done.kept no ∙ c.as_mut_slice.ensures.value;
       same = search rules;
       sweep = done.sweep;
     }
