@@ -1,12 +1,12 @@
 -- A rule that is added: what it means can be compiled, and the limits are kept or passed.
 use Rattle.std.proofs.Common.{◌≡◌, ◌≤◌, ◌<◌, ◌+◌, ℕ, Bool, true, false, Option, Some, None, Result, Ok, Err, List, [], ◌∷◌, ◌++◌, All, length, slice_get, take, refl, sym, ap, subst, ◌∙◌, arith}
 use Rattle.std.specs.Prelude.{if◌then◌else◌}
-use Rattle.std.specs.List.{sum_by}
+use Rattle.std.specs.List.{AllZip, sum_by}
 use Rattle.std.specs.Option.{option_map}
 use Rattle.std.specs.Result.{IfErr, IfOk}
 use Rattle.std.proofs.lemmas.List.{length-map}
 use Rattle.std.proofs.lemmas.List.Elements.{All-map, All-weaker}
-use Rattle.std.proofs.lemmas.List.Sums.{sum_by_more}
+use Rattle.std.proofs.lemmas.List.Sums.{sum_by-cons, sum_by_more}
 use Rattle.std.proofs.lemmas.Option.{get_or_from_slice_get, same_Some, slice_get_within}
 use Rattle.npf_types.specs.declared.limits.TheConstants.{MAX_INSTRUCTIONS, MAX_LIST_ELEMENTS, MAX_RULES, MAX_RULE_WEIGHT}
 use Rattle.npf_types.specs.declared.name.Name.{Name}
@@ -25,6 +25,7 @@ use Rattle.npf_model.specs.Count.{elements_of}
 use Rattle.npf_model.specs.Verdict.{PlacedRule, all_rules}
 use Rattle.npf_bpf.specs.declared.insn.Insn.{Insn}
 use Rattle.npf_bpfgen.specs.Condition.{HasTableNumbers}
+use Rattle.npf_bpfgen.specs.ProgramLength.{program_length}
 use Rattle.npf_bpfgen.specs.RuleWeight.{HasShortLists, weight_of}
 use Rattle.npf_expand_values.specs.Source.{declared_of}
 use Rattle.npf_expand_values.specs.Variable.{env_of}
@@ -35,7 +36,6 @@ use Rattle.npf_types.specs.Stages.{goes_on, stops}
 use Rattle.npf_ruleset.specs.declared.config.Config.{Config}
 use Rattle.npf_ruleset.specs.Flat.{IsCompiled, instructions, instructions_of}
 use Rattle.npf_ruleset.specs.Refusal.{AreProgramsOf}
-use Rattle.npf_ruleset.proofs.CompileLemmas.{instructions_counted}
 use Rattle.npf_config.specs.Loaded.{HasNextIds, IsLoaded, IsNextWithin}
 use Rattle.npf_config.proofs.TableNameLemmas.{env_defined, rule_numbers}
 use Rattle.npf_config_changes.specs.declared.fault.ChangeFault.{ChangeFault}
@@ -44,6 +44,19 @@ use Rattle.npf_config_changes.specs.Kept.{Serves}
 use Rattle.npf_config_changes.specs.Rulesets.{are_one_name, group_with_ruleset, item_with_ruleset, model_with_ruleset, with_rule_added}
 use Rattle.npf_config_changes.specs.Told.{EndsUnlessMemory, too_many}
 use Rattle.npf_config_changes.proofs.AskLemmas.{keeps_limit, passes_limit}
+
+-- programs have as many instructions together as their rules ask for
+counted : (rules : List PlacedRule) (programs : List (List Insn)) → AllZip (λ (placed : PlacedRule). IsCompiled placed.rule) rules programs
+    → instructions programs ≡ instructions_of rules
+counted [] [] are = refl
+counted (placed ∷ rules) (program ∷ programs) are =
+    let here = are.0.count in
+    let rest = counted rules programs are.1 in
+    let longer = sum_by-cons length program programs in
+    let more = sum_by-cons (λ (one : PlacedRule). program_length one.rule) placed rules in
+    omega (arith, here, rest, longer, more)
+counted [] (program ∷ programs) are = absurd are
+counted (placed ∷ rules) [] are = absurd are
 
 front : {X : Type 0} (xs ys : List X) → xs ++ ys ≡ [] → xs ≡ []
 front [] ys none = refl
@@ -103,7 +116,7 @@ module _ (span : Span) (next : Model) where
 
     module _ (elements : model_elements next ≤ MAX_LIST_ELEMENTS) (programs : List (List Insn)) (are : AreProgramsOf (all_rules next.groups) programs) where
       count_is : instructions programs ≡ instructions_of (all_rules next.groups)
-      count_is = instructions_counted (all_rules next.groups) programs are
+      count_is = counted (all_rules next.groups) programs are.each
 
       pub instructions_over : MAX_INSTRUCTIONS < instructions programs → EndsUnlessMemory (KeepsCounts span next) (too_many span Instructions (instructions programs))
       instructions_over over =

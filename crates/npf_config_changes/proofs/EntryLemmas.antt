@@ -108,12 +108,17 @@ module _ (config next : Config) (at : ℕ) (was : Arc Table Global) (new : Table
         few = few;
       }
 
+-- a declaration's place is that of a table
+pub place_within : (config : Config) → IsLoaded config → (at : ℕ) → at < length config.model.tables → at < length config.tables.items
+place_within config loaded at below =
+    let len = AllZip-long HasKind config.model.tables config.tables.items loaded.kinds in
+    omega (arith, len, below)
+
 -- the table at the place of its declaration
 pub there_at : (config : Config) → IsLoaded config → (at : ℕ) → at < length config.model.tables → (tables : List (Arc Table Global)) → tables ≡ config.tables.items
     → (was : Arc Table Global) → was ≡ get_or tables at was → slice_get config.tables.items at ≡ Some was
 there_at config loaded at below tables are was is =
-    let len = AllZip-long HasKind config.model.tables config.tables.items loaded.kinds in
-    let within : at < length config.tables.items = omega arith in
+    let within : at < length config.tables.items = place_within config loaded at below in
     slice_get_read config.tables.items (length config.tables.items) at was refl within (subst (λ all. was ≡ get_or all at was) are is)
 
 -- what a list of tables has at a place

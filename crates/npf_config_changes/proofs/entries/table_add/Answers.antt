@@ -16,8 +16,21 @@ use Rattle.npf_config_changes.specs.declared.fault.ChangeFault.{ChangeFault}
 use Rattle.npf_config_changes.specs.Entries.{AddsEntry, GainsEntry, gained, unknown, with_entries}
 use Rattle.npf_config_changes.specs.Rulesets.{are_one_name}
 use Rattle.npf_config_changes.specs.Told.{too_many}
-use Rattle.npf_config_changes.proofs.EntryLemmas.{addition_refused, adds, count_there, had_entries, next_count, next_is, next_loaded, passes, there_at}
+use Rattle.npf_config_changes.proofs.EntryLemmas.{addition_refused, adds, count_there, had_entries, next_count, next_is, next_loaded, place_within, passes, there_at}
 use Rattle.npf_config_changes.proofs.entries.table_add.Goals as goal
+
+pub bounds-tables-at : goal.bounds-tables-at
+bounds-tables-at c =
+    let config = c.args.config.now in
+    let decls : c.as_slice.result.now ≡ config.model.tables = c.as_slice.ensures ∙ ap (λ m. m.tables) c.model.ensures in
+    subst (λ (all : List (Arc Table Global)). c.in-Some.at < length all) (sym c.tables.ensures)
+    (place_within config c.requires c.in-Some.at (subst (λ (all : List TableDecl). c.in-Some.at < length all) decls c.in-Some.ensures.bound))
+
+pub with_table-requires : goal.with_table-requires
+with_table-requires c =
+    let config = c.args.config.now in
+    let decls : c.as_slice.result.now ≡ config.model.tables = c.as_slice.ensures ∙ ap (λ m. m.tables) c.model.ensures in
+    place_within config c.requires c.in-Some.at (subst (λ (all : List TableDecl). c.in-Some.at < length all) decls c.in-Some.ensures.bound)
 
 pub returns-in_default-clause-err : goal.returns-in_default-clause-err
 returns-in_default-clause-err c = λ _.

@@ -1,6 +1,8 @@
 use Rattle.std.proofs.Common.{◌≡◌, ◌<◌, ◌+◌, Some, Ok, List, length, sym, ap, subst, ◌∙◌, arith}
 use Rattle.std.proofs.lemmas.Result.{err_from_is_err_and}
 use Rattle.std.specs.Arc.{arc_value}
+use Rattle.std.specs.declared.sync.Arc.{Arc}
+use Rattle.std.specs.Global.{Global}
 use Rattle.npf_model.specs.declared.table.TableDecl.{TableDecl}
 use Rattle.npf_model.specs.Verdict.{first_where}
 use Rattle.npf_types.specs.Stages.{stops}
@@ -8,8 +10,21 @@ use Rattle.npf_table.specs.declared.table.Table.{Table}
 use Rattle.npf_table.specs.Table.{MayChange, RefusesRemoval, kind_of, prefixes}
 use Rattle.npf_config_changes.specs.Entries.{LosesEntry, lost, unknown}
 use Rattle.npf_config_changes.specs.Rulesets.{are_one_name}
-use Rattle.npf_config_changes.proofs.EntryLemmas.{next_count, next_is, next_loaded, removal_refused, removes, there_at}
+use Rattle.npf_config_changes.proofs.EntryLemmas.{next_count, next_is, next_loaded, place_within, removal_refused, removes, there_at}
 use Rattle.npf_config_changes.proofs.entries.table_rem.Goals as goal
+
+pub bounds-tables-at : goal.bounds-tables-at
+bounds-tables-at c =
+    let config = c.args.config.now in
+    let decls : c.as_slice.result.now ≡ config.model.tables = c.as_slice.ensures ∙ ap (λ m. m.tables) c.model.ensures in
+    subst (λ (all : List (Arc Table Global)). c.in-Some.at < length all) (sym c.tables.ensures)
+    (place_within config c.requires c.in-Some.at (subst (λ (all : List TableDecl). c.in-Some.at < length all) decls c.in-Some.ensures.bound))
+
+pub with_table-requires : goal.with_table-requires
+with_table-requires c =
+    let config = c.args.config.now in
+    let decls : c.as_slice.result.now ≡ config.model.tables = c.as_slice.ensures ∙ ap (λ m. m.tables) c.model.ensures in
+    place_within config c.requires c.in-Some.at (subst (λ (all : List TableDecl). c.in-Some.at < length all) decls c.in-Some.ensures.bound)
 
 pub returns-in_default-clause-err : goal.returns-in_default-clause-err
 returns-in_default-clause-err c = λ _.

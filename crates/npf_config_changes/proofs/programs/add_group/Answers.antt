@@ -1,4 +1,4 @@
-use Rattle.std.proofs.Common.{◌≡◌, ◌<◌, ◌+◌, ◌++◌, ℕ, Some, List, drop, flat_map, get_or, length, slice_get, take, refl, sym, ap, subst, ◌∙◌}
+use Rattle.std.proofs.Common.{◌≡◌, ◌<◌, ◌+◌, ◌++◌, ℕ, Some, List, drop, flat_map, get_or, length, slice_get, take, refl, sym, ap, subst, ◌∙◌, arith}
 use Rattle.std.specs.List.{AllZip}
 use Rattle.std.proofs.lemmas.List.{append_assoc, take-append-drop}
 use Rattle.std.proofs.lemmas.Option.{slice_get_read}
@@ -8,7 +8,7 @@ use Rattle.npf_ruleset.specs.declared.flat.FlatRule.{FlatRule}
 use Rattle.npf_ruleset.specs.Flat.{programs_of}
 use Rattle.npf_config_changes.specs.Kept.{Keeps, Serves, ruleset_change}
 use Rattle.npf_config_changes.specs.Rulesets.{item_with_ruleset}
-use Rattle.npf_config_changes.proofs.KeptLemmas.{keeps_here, keeps_next, rules_left, serve_behind, serve_front}
+use Rattle.npf_config_changes.proofs.KeptLemmas.{keeps_here, keeps_next, rules_left, serve_behind, serve_front, serve_within}
 use Rattle.npf_config_changes.proofs.programs.add_group.Goals as goal
 
 read : {X : Type 0} (xs all : List X) (n : ℕ) (x : X) → n < length xs → x ≡ get_or xs n x → xs ≡ all → slice_get all n ≡ Some x
@@ -20,6 +20,17 @@ parted : (items : List Item) (i : ℕ) (item : Item) (more : List PlacedRule) (l
 parted items i item more left at serve =
     subst (λ all. AllZip Serves all (programs_of left))
     (ap (λ front. front ++ more) (rules_left rules_at items i item at) ∙ append_assoc (rules_at item) (flat_map rules_at (drop (i + 1) items)) more) serve
+
+pub split_at-requires : goal.split_at-requires
+split_at-requires c =
+    let items = c.args.group.now.items in
+    let i = c.loop-item.item-index in
+    let item = c.item-item.result in
+    let left = c.loop-item.left.now in
+    let at = read c.as_slice-item-items.result.now items i item c.loop-item-test.true c.item-item.is c.as_slice-item-items.ensures in
+    let begins = c.requires.begins in
+    let within = serve_within (rules_at item) (flat_map rules_at (drop (i + 1) items) ++ begins.0) left (parted items i item begins.0 left at (c.loop-item.invariant.left begins.0 begins.1)) in
+    omega (arith, within, c.count_of.ensures)
 
 pub add_item-requires-clause-serve : goal.add_item-requires-clause-serve
 add_item-requires-clause-serve c =
