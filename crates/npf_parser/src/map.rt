@@ -62,13 +62,11 @@ fn read_arrow(tokens: &[Token]) -> Result<(Arrow, &[Token]), Stop>
         let span = span_to(tokens, rest);
         return Ok((Arrow::Left { span }, rest));
     }
-    match behind_sign(Sign::Both, tokens) {
-        Some(rest) => {
-            let span = span_to(tokens, rest);
-            Ok((Arrow::Both { span }, rest))
-        }
-        None => Err(Stop::Before(tokens)),
+    if let Some(rest) = behind_sign(Sign::Both, tokens) {
+        let span = span_to(tokens, rest);
+        return Ok((Arrow::Both { span }, rest));
     }
+    Err(Stop::Before(tokens))
 }
 
 fn read_optional_port<'a>(
