@@ -1,7 +1,8 @@
 -- The file of a run's interfaces: each line has a name and its addresses, parted by spaces, or is blank. A comment goes from `#`
--- to its line's end. No other byte parts words, so a tab or a carriage return stands in a word and makes its line bad.
-use Rattle.std.specs.Prelude.{◌≡◌, ◌≢◌, ◌==◌, ◌+◌, ℕ, Bool, true, false, IsTrue, Some, List, [], ◌∷◌, Contains, length, map, take, slice_get}
-use Rattle.std.specs.List.{AllPairs, before_first, filter, slice_split}
+-- to its line's end. A line is blank where nothing but spaces and tabs stands before its comment. In any other line no byte but a
+-- space parts words, so a tab or a carriage return stands in a word and makes the line bad.
+use Rattle.std.specs.Prelude.{◌≡◌, ◌≢◌, ◌==◌, ◌||◌, ◌+◌, ℕ, Bool, true, false, IsTrue, Some, List, [], ◌∷◌, Contains, length, map, take, slice_get}
+use Rattle.std.specs.List.{AllPairs, before_first, filter, list_all, slice_split}
 use Rattle.npf_types.specs.declared.name.Name.{Name}
 use Rattle.npf_types.specs.declared.span.Span.{Span}
 use Rattle.npf_types.specs.AddressText.{IsAddressText}
@@ -30,9 +31,16 @@ abbrev pub has_some : {X : Type 0} → List X → Bool
 has_some [] = false
 has_some (_ ∷ _) = true
 
--- the words of a line before its comment
+abbrev pub is_blank : ℕ → Bool
+is_blank byte = byte == 32 || byte == 9
+
+abbrev pub words_unless : Bool → List ℕ → List (List ℕ)
+words_unless true text = []
+words_unless false text = filter has_some (slice_split is_space text)
+
+-- the words of a line before its comment, of which a blank line has none
 abbrev pub line_words : List ℕ → List (List ℕ)
-line_words line = filter has_some (slice_split is_space (before_first is_hash line))
+line_words line = words_unless (list_all is_blank (before_first is_hash line)) (before_first is_hash line)
 
 -- the words of each line that isn't blank
 abbrev pub written_lines : List (List ℕ) → List (List (List ℕ))

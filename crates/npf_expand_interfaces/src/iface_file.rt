@@ -1,8 +1,8 @@
 // The file of a run's interfaces and their addresses.
 ghost use Rattle.std.specs.Prelude.{◌≡◌, ◌≤◌, IfOk, IfErr, List, MatchOption, length, map, position};
-ghost use Rattle.std.specs.List.{before_first, filter, slice_split};
+ghost use Rattle.std.specs.List.{before_first, filter, list_all, slice_split};
 ghost use Rattle.npf_types.specs.AddressText.{IsAddressText};
-ghost use Rattle.npf_expand_interfaces.specs.IfaceFile.{Each, IsIfaceFile, IsIfaceLine, RefusesIfaces, has_some, is_hash, is_space, line_words};
+ghost use Rattle.npf_expand_interfaces.specs.IfaceFile.{Each, IsIfaceFile, IsIfaceLine, RefusesIfaces, has_some, is_blank, is_hash, is_space, line_words};
 
 use npf_faults::{ConfFault, Fault, Refused};
 use npf_model::{Iface, Ifaces};
@@ -72,7 +72,7 @@ fn bad_line(number: u32, at: u32) -> Refused
 fn read_line(alloc: Global, line: &[u8]) -> Result<IfaceLine, NoMemory>
     ensures { IfOk result (IsIfaceLine (line_words line.now)) }
 {
-    let words = words_of(alloc, before_comment(line))?;
+    let words = line_words(alloc, line)?;
     let Some((first, rest)) = words.split_first() else {
         return Ok(IfaceLine::Blank);
     };
@@ -83,6 +83,30 @@ fn read_line(alloc: Global, line: &[u8]) -> Result<IfaceLine, NoMemory>
         Some(addrs) => Ok(IfaceLine::Interface(Iface { name, addrs })),
         None => Ok(IfaceLine::Bad),
     }
+}
+
+/// The words of a line before its comment, of which a blank line has none.
+fn line_words(alloc: Global, line: &[u8]) -> Result<Vec<&[u8]>, NoMemory>
+    ensures { IfOk result (λ words. map (λ word. word.now) words.items ≡ line_words line.now) }
+{
+    let text = before_comment(line);
+    if is_blank(text) {
+        return Ok(Vec::new(alloc));
+    }
+    words_of(alloc, text)
+}
+
+/// Whether the text has nothing but spaces and tabs.
+fn is_blank(text: &[u8]) -> bool
+    ensures { result ≡ list_all is_blank text.now }
+{
+    text.iter().all(|byte| is_blank_byte(*byte))
+}
+
+fn is_blank_byte(byte: u8) -> bool
+    ensures { result ≡ is_blank byte }
+{
+    byte == b' ' || byte == b'\t'
 }
 
 fn before_comment(line: &[u8]) -> &[u8]

@@ -2,7 +2,7 @@
 ghost use Rattle.std.specs.Prelude.{codes};
 ghost use Rattle.npf_lexer.specs.declared.token.Sign.TheVariants as Sign;
 ghost use Rattle.npf_phrase.specs.Grammar.{meaning, optional, preceded};
-ghost use Rattle.npf_parser_values.specs.Answer.{Answers};
+ghost use Rattle.npf_parser_values.specs.Answer.{Answers, AnswersAlone};
 ghost use Rattle.npf_parser_values.specs.Token.{quoted, sign, flags, number_to};
 ghost use Rattle.npf_parser.specs.Filter.{family, flags_detail, icmp_detail, detail, proto_part, addresses, ports, ends, the_ends, filter};
 
@@ -16,7 +16,7 @@ use std::alloc::Global;
 
 #[tactic(auto, unfolding(crate::specs::Filter::family))]
 fn read_family(tokens: &[Token]) -> Result<(Family, &[Token]), Stop>
-    ensures { Answers ((meaning family).read tokens.now) result }
+    ensures { AnswersAlone ((meaning family).read tokens.now) result }
 {
     if let Some(rest) = behind_word("inet4", tokens) {
         let span = span_to(tokens, rest);
@@ -30,7 +30,7 @@ fn read_family(tokens: &[Token]) -> Result<(Family, &[Token]), Stop>
 }
 
 fn read_optional_family(tokens: &[Token]) -> Result<(Option<Family>, &[Token]), Stop>
-    ensures { Answers ((meaning (optional (preceded (quoted (codes "family")) family))).read tokens.now) result }
+    ensures { AnswersAlone ((meaning (optional (preceded (quoted (codes "family")) family))).read tokens.now) result }
 {
     match behind_word("family", tokens) {
         Some(rest) => {
@@ -57,7 +57,7 @@ fn read_mask<'a>(
 }
 
 fn read_code(tokens: &[Token]) -> Result<(Option<Number>, &[Token]), Stop>
-    ensures { Answers ((meaning (optional (preceded (quoted (codes "code")) (number_to 255)))).read tokens.now) result }
+    ensures { AnswersAlone ((meaning (optional (preceded (quoted (codes "code")) (number_to 255)))).read tokens.now) result }
 {
     match behind_word("code", tokens) {
         Some(rest) => {
@@ -82,7 +82,7 @@ fn read_flags_detail<'a>(
 }
 
 fn read_icmp_detail(tokens: &[Token]) -> Result<(Detail, &[Token]), Stop>
-    ensures { Answers ((meaning icmp_detail).read tokens.now) result }
+    ensures { AnswersAlone ((meaning icmp_detail).read tokens.now) result }
 {
     let rest = after_word("icmp-type", tokens)?;
     let (number, rest) = read_number_to(255, rest)?;

@@ -17,7 +17,7 @@ pub fn tree_or_halt()
 {}
 
 /// Where tokens halt, those before that place begin a configuration, were every value to fit; and whatever stands behind
-/// the next token, no configuration begins so.
+/// the next token, or behind an unfit value and the token that ends it, no configuration begins so.
 pub fn hopeless()
     ensures { StopsWhereHalted }
 {}

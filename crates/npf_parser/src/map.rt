@@ -1,7 +1,7 @@
 // Maps: a function for each line of the grammar.
 ghost use Rattle.std.specs.Prelude.{codes, false};
 ghost use Rattle.npf_phrase.specs.Grammar.{meaning, optional, preceded};
-ghost use Rattle.npf_parser_values.specs.Answer.{Answers};
+ghost use Rattle.npf_parser_values.specs.Answer.{Answers, AnswersAlone};
 ghost use Rattle.npf_parser_values.specs.Token.{quoted, word};
 ghost use Rattle.npf_parser_values.specs.Value.{one, value};
 ghost use Rattle.npf_parser.specs.Filter.{filter};
@@ -52,7 +52,7 @@ fn read_map_kind<'a>(alloc: Global, tokens: &'a [Token]) -> Result<(MapKind, &'a
 
 #[tactic(auto, unfolding(crate::specs::Map::arrow))]
 fn read_arrow(tokens: &[Token]) -> Result<(Arrow, &[Token]), Stop>
-    ensures { Answers ((meaning arrow).read tokens.now) result }
+    ensures { AnswersAlone ((meaning arrow).read tokens.now) result }
 {
     if let Some(rest) = behind_sign(Sign::Right, tokens) {
         let span = span_to(tokens, rest);
@@ -62,13 +62,11 @@ fn read_arrow(tokens: &[Token]) -> Result<(Arrow, &[Token]), Stop>
         let span = span_to(tokens, rest);
         return Ok((Arrow::Left { span }, rest));
     }
-    match behind_sign(Sign::Both, tokens) {
-        Some(rest) => {
-            let span = span_to(tokens, rest);
-            Ok((Arrow::Both { span }, rest))
-        }
-        None => Err(Stop::Before(tokens)),
+    if let Some(rest) = behind_sign(Sign::Both, tokens) {
+        let span = span_to(tokens, rest);
+        return Ok((Arrow::Both { span }, rest));
     }
+    Err(Stop::Before(tokens))
 }
 
 fn read_optional_port<'a>(

@@ -1,6 +1,6 @@
 // Procedures: a function for each line of the grammar.
 ghost use Rattle.npf_phrase.specs.Grammar.{meaning};
-ghost use Rattle.npf_parser_values.specs.Answer.{Answers};
+ghost use Rattle.npf_parser_values.specs.Answer.{Answers, AnswersAlone};
 ghost use Rattle.npf_parser.specs.Procedure.{log_name, opt, options, call, calls};
 ghost use Rattle.npf_parser.specs.Stmt.{procedure};
 
@@ -39,7 +39,7 @@ fn read_log_name<'a>(alloc: Global, tokens: &'a [Token]) -> Result<(LogName, &'a
 
 #[tactic(auto, unfolding(crate::specs::Procedure::opt))]
 fn read_opt(tokens: &[Token]) -> Result<(Opt, &[Token]), Stop>
-    ensures { Answers ((meaning opt).read tokens.now) result }
+    ensures { AnswersAlone ((meaning opt).read tokens.now) result }
 {
     if let Some(rest) = behind_name("min-ttl", tokens) {
         let (number, rest) = read_number_to(255, rest)?;

@@ -1,7 +1,7 @@
 // Rules: a function for each line of the grammar.
 ghost use Rattle.std.specs.Prelude.{◌≡◌, Ok, codes};
 ghost use Rattle.npf_phrase.specs.Grammar.{meaning, optional, preceded};
-ghost use Rattle.npf_parser_values.specs.Answer.{Answers};
+ghost use Rattle.npf_parser_values.specs.Answer.{Answers, AnswersAlone};
 ghost use Rattle.npf_parser_values.specs.Token.{quoted, string};
 ghost use Rattle.npf_parser.specs.Rule.{answer, action, stateful, direction, ends_walk, on, rule};
 
@@ -32,7 +32,7 @@ fn answer_of(tokens: &[Token]) -> (Option<Answer>, &[Token])
 
 #[tactic(auto, unfolding(crate::specs::Rule::action))]
 fn read_action(tokens: &[Token]) -> Result<(RuleAction, &[Token]), Stop>
-    ensures { Answers ((meaning action).read tokens.now) result }
+    ensures { AnswersAlone ((meaning action).read tokens.now) result }
 {
     if let Some(rest) = behind_word("block", tokens) {
         let (answer, rest) = answer_of(rest);

@@ -6,7 +6,7 @@ ghost use Rattle.npf_syntax.specs.declared.rule.RuleTree.{RuleTree};
 ghost use Rattle.npf_syntax.specs.declared.stmt.Tree.{Tree};
 ghost use Rattle.npf_phrase.specs.Grammar.{meaning, optional, preceded};
 ghost use Rattle.npf_phrase.specs.Phrase.{head};
-ghost use Rattle.npf_parser_values.specs.Answer.{Answers};
+ghost use Rattle.npf_parser_values.specs.Answer.{Answers, AnswersAlone};
 ghost use Rattle.npf_parser_values.specs.Token.{quoted, text_string};
 ghost use Rattle.npf_parser.specs.Stmt.{define, setting, set, alg, table_type, table, stmt, ends_stmt, stmts, file, lone_rule};
 ghost use Rattle.npf_parser.specs.Parse.{Means, Parses, HasMeaning, HaltsAt, StopsAt, OnFault, AnswersUnlessMemory, FaultsUnlessMemory};
@@ -83,7 +83,7 @@ fn read_alg<'a>(alloc: Global, tokens: &'a [Token]) -> Result<(Stmt, &'a [Token]
 
 #[tactic(auto, unfolding(crate::specs::Stmt::table_type))]
 fn read_table_type(tokens: &[Token]) -> Result<(TableType, &[Token]), Stop>
-    ensures { Answers ((meaning table_type).read tokens.now) result }
+    ensures { AnswersAlone ((meaning table_type).read tokens.now) result }
 {
     if let Some(rest) = behind_word("ipset", tokens) {
         let span = span_to(tokens, rest);

@@ -16,6 +16,12 @@ Answers reading (Ok read) = reading ≡ Ok (read.0, read.1.now)
 Answers reading (Err (Before at)) = reading ≡ Err at.now
 Answers reading (Err NoMemory) = ⊤
 
+-- the same, where no memory is taken and none can be wanted
+abbrev pub AnswersAlone : {A : Type 0} → Reading Token A → Result (A × Bor (List Token)) Stop → Type 0
+AnswersAlone reading (Ok read) = reading ≡ Ok (read.0, read.1.now)
+AnswersAlone reading (Err (Before at)) = reading ≡ Err at.now
+AnswersAlone reading (Err NoMemory) = ⊥
+
 -- the tokens behind what has to stand first
 abbrev pub GoesOn : Reading Token ⊤ → Result (Bor (List Token)) Stop → Type 0
 GoesOn reading (Ok rest) = reading ≡ Ok (tt, rest.now)

@@ -4,7 +4,7 @@ ghost use Rattle.std.specs.List.{list_all};
 ghost use Rattle.std.specs.Str.{is_utf8};
 ghost use Rattle.npf_types.specs.NameText.{is_name};
 ghost use Rattle.npf_phrase.specs.Grammar.{meaning};
-ghost use Rattle.npf_parser_values.specs.Answer.{Answers};
+ghost use Rattle.npf_parser_values.specs.Answer.{Answers, AnswersAlone};
 ghost use Rattle.npf_parser_values.specs.Token.{string, word, variable, number, address, number_to, name_word, name_string, text_string, is_flag, flags};
 
 use crate::stop::Stop;
@@ -80,7 +80,7 @@ pub fn read_variable<'a>(alloc: Global, tokens: &'a [Token]) -> Result<(Var, &'a
 
 #[tactic(auto, unfolding(npf_phrase::specs::Phrase::read_token))]
 pub fn read_number(tokens: &[Token]) -> Result<(Number, &[Token]), Stop>
-    ensures { Answers ((meaning number).read tokens.now) result }
+    ensures { AnswersAlone ((meaning number).read tokens.now) result }
 {
     match tokens.split_first() {
         Some(
@@ -106,7 +106,7 @@ pub fn read_number(tokens: &[Token]) -> Result<(Number, &[Token]), Stop>
 
 #[tactic(auto, unfolding(npf_phrase::specs::Phrase::read_token))]
 pub(crate) fn read_address(tokens: &[Token]) -> Result<(Address, &[Token]), Stop>
-    ensures { Answers ((meaning address).read tokens.now) result }
+    ensures { AnswersAlone ((meaning address).read tokens.now) result }
 {
     match tokens.split_first() {
         Some(
@@ -131,7 +131,7 @@ pub(crate) fn read_address(tokens: &[Token]) -> Result<(Address, &[Token]), Stop
 }
 
 pub fn read_number_to(most: u32, tokens: &[Token]) -> Result<(Number, &[Token]), Stop>
-    ensures { Answers ((meaning (number_to most)).read tokens.now) result }
+    ensures { AnswersAlone ((meaning (number_to most)).read tokens.now) result }
 {
     let (number, rest) = read_number(tokens)?;
     if number.value <= most {

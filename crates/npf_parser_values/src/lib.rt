@@ -5,9 +5,9 @@
 // the lines above: filters, rules, statements.
 //
 // The contract: each function answers what its phrase reads. That is what the phrase says and the tokens behind it, or the
-// tokens at which it stops going on (`Answers`); want of memory says nothing. Where nothing is to be copied, an answer says
-// whether the phrase begins here (`Begins`), or what the tokens behind it are (`GoesOn`). `refused_by` makes a stop the
-// fault 20 at its place.
+// tokens at which it stops going on (`Answers`); want of memory says nothing. What takes no memory never answers want of it
+// (`AnswersAlone`). Where nothing is said, an answer tells whether the phrase begins here (`Begins`), or what the tokens
+// behind it are (`GoesOn`). `refused_by` makes a stop the fault 20 at its place.
 #![tactic(auto)]
 
 mod leaf;

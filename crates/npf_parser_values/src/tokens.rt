@@ -2,7 +2,7 @@
 ghost use Rattle.std.specs.Prelude.{◌≡◌, ◌<◌, true, Ok, IfSome, length};
 ghost use Rattle.npf_phrase.specs.Grammar.{meaning};
 ghost use Rattle.npf_phrase.specs.Phrase.{head};
-ghost use Rattle.npf_parser_values.specs.Answer.{Answers, GoesOn, Begins};
+ghost use Rattle.npf_parser_values.specs.Answer.{AnswersAlone, GoesOn, Begins};
 ghost use Rattle.npf_parser_values.specs.Token.{quoted, quoted_name, sign, separator, line_feed, gap, spaced, text_end};
 
 use crate::stop::{NOWHERE, Stop};
@@ -180,7 +180,7 @@ pub fn is_at_separator(tokens: &[Token]) -> bool
 /// The place of the text's end.
 #[tactic(auto, unfolding(npf_phrase::specs::Phrase::read_token))]
 pub fn read_end(tokens: &[Token]) -> Result<(Span, &[Token]), Stop>
-    ensures { Answers ((meaning text_end).read tokens.now) result }
+    ensures { AnswersAlone ((meaning text_end).read tokens.now) result }
 {
     match tokens.split_first() {
         None => Ok((NOWHERE, tokens)),

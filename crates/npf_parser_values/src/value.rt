@@ -2,7 +2,7 @@
 ghost use Rattle.std.specs.Prelude.{◌≡◌, IfOk, IfErr};
 ghost use Rattle.npf_phrase.specs.Grammar.{meaning, optional};
 ghost use Rattle.npf_parser_values.specs.declared.stop.Stop.TheVariants.{NoMemory as no_memory};
-ghost use Rattle.npf_parser_values.specs.Answer.{Answers, Finds};
+ghost use Rattle.npf_parser_values.specs.Answer.{Answers, AnswersAlone, Finds};
 ghost use Rattle.npf_parser_values.specs.Token.{spaced};
 ghost use Rattle.npf_parser_values.specs.Value.{iface, number_behind, is_range, number_value, is_prefix, address_value, table_value, function, word_of, argument, function_value, word_value, variable_value, string_value, written, is_port, is_port_end, can_stand, value, listed_values, values_inside, value_list, values};
 
@@ -58,7 +58,7 @@ fn read_number_behind(
     inside: bool,
     tokens: &[Token],
 ) -> Result<(Option<Number>, &[Token]), Stop>
-    ensures { Answers ((meaning (number_behind joining inside)).read tokens.now) result }
+    ensures { AnswersAlone ((meaning (number_behind joining inside)).read tokens.now) result }
 {
     match behind_spaced(joining, inside, tokens) {
         Some(rest) => {
@@ -80,7 +80,7 @@ fn is_range(first: Number, last: Option<Number>) -> bool
 
 #[tactic(auto, unfolding(crate::specs::Value::number_value))]
 fn read_number_value(inside: bool, tokens: &[Token]) -> Result<(Value, &[Token]), Stop>
-    ensures { Answers ((meaning (number_value inside)).read tokens.now) result }
+    ensures { AnswersAlone ((meaning (number_value inside)).read tokens.now) result }
 {
     let (first, rest) = read_number(tokens)?;
     let (last, rest) = read_number_behind(Sign::Dash, inside, skip(inside, rest))?;
@@ -102,7 +102,7 @@ fn is_prefix(address: Address, len: Option<Number>) -> bool
 
 #[tactic(auto, unfolding(crate::specs::Value::address_value))]
 fn read_address_value(inside: bool, tokens: &[Token]) -> Result<(Value, &[Token]), Stop>
-    ensures { Answers ((meaning (address_value inside)).read tokens.now) result }
+    ensures { AnswersAlone ((meaning (address_value inside)).read tokens.now) result }
 {
     let (address, rest) = read_address(tokens)?;
     let (len, rest) = read_number_behind(Sign::Slash, inside, skip(inside, rest))?;
@@ -154,7 +154,7 @@ fn function_of(tokens: &[Token]) -> Option<(Function, &[Token])>
 }
 
 fn read_function(inside: bool, tokens: &[Token]) -> Result<(Function, &[Token]), Stop>
-    ensures { Answers ((meaning (spaced inside function)).read tokens.now) result }
+    ensures { AnswersAlone ((meaning (spaced inside function)).read tokens.now) result }
 {
     match function_of(tokens) {
         Some((function, rest)) => Ok((function, skip(inside, rest))),

@@ -5,8 +5,9 @@
 // how they are read. specs/Grammar has grammars, which are phrases as they are written down, and the forms that are made
 // of them: `or`, `optional`, `separated`, `block_of`.
 //
-// proofs/ has one theorem for all grammars in which nothing that may be empty is repeated (`advances`): reading gives a
-// value exactly where the tokens say one, and stops exactly where the grammar halts. And one for those whose examples
-// stand apart (`fine`): the tokens before that place begin a text of the grammar without its tests of values (`loose`).
-// Both tests compute. The crate has no code: a parser's functions are proved against `(meaning g).read`.
+// The crate has no code, so it states no contract and no law: a parser's functions are proved against `(meaning g).read`, and
+// its laws stand on lemmas of proofs/. One is of all grammars in which nothing that may be empty is repeated (`advances`):
+// reading gives a value exactly where the tokens say one, and stops exactly where the grammar halts (`settled`). Another is of
+// those whose examples stand apart (`fine`): the tokens before that place begin a text of the grammar without its tests of
+// values (`loose`). Both tests compute.
 #![tactic(auto)]

@@ -1,6 +1,6 @@
 -- A line of a table file: it is blank, or has one entry that the table's kind takes, or is bad. Spaces and tabs may stand
--- round an entry, and a comment from `#` on behind it. A line that has a carriage return is bad.
-use Rattle.std.specs.Prelude.{◌≡◌, ◌==◌, ◌||◌, ◌-◌, ℕ, Bool, None, List, [], take, drop, length, position}
+-- round an entry, and a comment from `#` on behind it. A carriage return is no blank, and part of a comment that it stands in.
+use Rattle.std.specs.Prelude.{◌≡◌, ◌==◌, ◌||◌, ◌-◌, ℕ, Bool, List, [], take, drop, length}
 use Rattle.std.specs.List.{before_first, prefix_len, suffix_len}
 use Rattle.npf_model.specs.declared.table.Kind.{Kind}
 use Rattle.npf_model.specs.declared.table.Kind.TheVariants.{Ipset, Lpm, Const}
@@ -29,16 +29,9 @@ before_blanks text = take (length text - suffix_len is_blank text) text
 abbrev pub entry_text : List ℕ → List ℕ
 entry_text line = before_blanks (after_blanks (before_first is_hash line))
 
-abbrev pub is_return : ℕ → Bool
-is_return byte = byte == 13
-
--- no carriage return stands in the line
-abbrev pub HasNoReturn : List ℕ → Type 0
-HasNoReturn line = position is_return line ≡ None
-
-pub record IsBlankLine (line : List ℕ) : Type 0 where
-  pub no_return : HasNoReturn line
-  pub nothing : entry_text line ≡ []
+-- nothing but blanks stands before a comment
+abbrev pub IsBlankLine : List ℕ → Type 0
+IsBlankLine line = entry_text line ≡ []
 
 -- the prefix is a single address
 abbrev pub IsHost : Prefix → Type 0
@@ -52,7 +45,6 @@ Takes Const prefix = IsHost prefix
 
 -- the line isn't blank and writes the prefix, as a table of this kind may have it
 pub record IsEntry (kind : Kind) (line : List ℕ) (prefix : Prefix) : Type 0 where
-  pub no_return : HasNoReturn line
   pub not_blank : ¬ IsBlankLine line
   pub written : IsPrefixText (entry_text line) prefix
   pub taken : Takes kind prefix

@@ -1,7 +1,7 @@
 // A line of a table file.
-ghost use Rattle.std.specs.Prelude.{◌≡◌, ◌↔◌, IsTrue, false};
+ghost use Rattle.std.specs.Prelude.{◌≡◌, ◌↔◌, IsTrue};
 ghost use Rattle.std.specs.List.{before_first};
-ghost use Rattle.npf_table.specs.Line.{IsLine, IsHost, HasNoReturn, Takes, entry_text, after_blanks, before_blanks, is_blank, is_hash};
+ghost use Rattle.npf_table.specs.Line.{IsLine, IsHost, Takes, entry_text, after_blanks, before_blanks, is_blank, is_hash};
 
 use crate::prefix_text::{first_place, written_prefix};
 use npf_model::Kind;
@@ -19,9 +19,6 @@ pub(crate) enum Line {
 pub(crate) fn read_line(kind: Kind, line: &[u8]) -> Line
     ensures { IsLine kind line.now result }
 {
-    if has_return(line) {
-        return Line::Bad;
-    }
     let text = entry_of(line);
     if text.is_empty() {
         return Line::Blank;
@@ -33,12 +30,6 @@ pub(crate) fn read_line(kind: Kind, line: &[u8]) -> Line
         return Line::Entry(prefix);
     }
     Line::Bad
-}
-
-fn has_return(line: &[u8]) -> bool
-    ensures { (result ≡ false) ↔ HasNoReturn line.now }
-{
-    first_place(line, b'\r').is_some()
 }
 
 fn is_taken(kind: Kind, prefix: &Prefix) -> bool

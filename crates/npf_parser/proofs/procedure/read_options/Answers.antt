@@ -1,19 +1,28 @@
 use Rattle.std.proofs.Common.{◌≡◌, Err, refl, sym, subst, rules, arith}
+use Rattle.npf_phrase.specs.Phrase.{Reading}
 use Rattle.npf_phrase.specs.Grammar.{meaning}
 use Rattle.npf_phrase.proofs.ListLemmas.{leaves}
 use Rattle.npf_lexer.specs.declared.token.Sign.TheVariants.{Comma}
-use Rattle.npf_parser_values.specs.Answer.{Answers}
+use Rattle.npf_lexer.specs.declared.token.Token.{Token}
+use Rattle.npf_parser_values.specs.declared.stop.Stop.{Stop}
+use Rattle.npf_parser_values.specs.declared.stop.Stop.TheVariants.{Before, NoMemory}
+use Rattle.npf_parser_values.specs.Answer.{Answers, AnswersAlone}
 use Rattle.npf_parser.specs.Procedure.{opt, options}
 use Rattle.npf_parser_values.specs.Token.{sign}
 use Rattle.npf_parser.proofs.LineLemmas.{next_opt_advances, opt_advances}
 use Rattle.npf_parser_values.proofs.LoopLemmas.{list_goes, list_ends, list_fails}
 use Rattle.npf_parser.proofs.procedure.read_options.Goals as goal
 
+-- a stop where no memory is taken is one where it may be wanted
+stops : {A : Type 0} (reading : Reading Token A) (stop : Stop) → AnswersAlone reading (Err stop) → Answers reading (Err stop)
+stops reading (Before at) is = is
+stops reading NoMemory never = tt
+
 pub returns-in_err-option : goal.returns-in_err-option
 unfolding options
 returns-in_err-option c =
     let same : c.from_residual.result ≡ Err c.in_err-option.field-0.0 = search rules in
-    subst (Answers ((meaning options).read c.args.tokens.now)) (sym same) (list_fails (sign Comma) opt next_opt_advances refl ((meaning options).read c.args.tokens.now) c.options.options.items c.options.rest.now c.options.invariant c.in_err-option.field-0.0 c.in_err-option.ensures)
+    subst (Answers ((meaning options).read c.args.tokens.now)) (sym same) (list_fails (sign Comma) opt next_opt_advances refl ((meaning options).read c.args.tokens.now) c.options.options.items c.options.rest.now c.options.invariant c.in_err-option.field-0.0 (stops ((meaning opt).read c.options.rest.now) c.in_err-option.field-0.0 c.in_err-option.ensures))
 
 pub options-smaller : goal.options-smaller
 options-smaller c =
