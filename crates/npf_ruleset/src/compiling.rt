@@ -73,7 +73,7 @@ pub(crate) fn lay_out(
 
 fn flat_rule(groups: &[Group], place: Place, program: Program) -> FlatRule
     requires { IsPlaceOfRule groups.now place }
-    ensures stands { (placed : PlacedRule) → placed_at groups.now place ≡ Some placed → IsCompiled placed.rule program → IsLight placed → IsFlatRule groups.now placed result }
+    ensures stands { (placed : PlacedRule) → placed_at groups.now place ≡ Some placed → IsCompiled placed.rule program → IsFlatRule groups.now placed result }
     ensures program { result.program ≡ program }
 {
     let placed = placed_at(groups, place);
