@@ -1,5 +1,5 @@
 -- What a pass said over some calls.
-use Rattle.std.proofs.Common.{◌≡◌, ℕ, Bool, List, [], ◌∷◌, ◌++◌, map, refl, sym, ap, ◌∙◌, subst, append-nil}
+use Rattle.std.proofs.Common.{◌≡◌, ℕ, ◌≤◌, Bool, List, [], ◌∷◌, ◌++◌, map, refl, sym, ap, ◌∙◌, subst, arith, append_assoc, append-nil}
 use Rattle.std.specs.List.{filter}
 use Rattle.npf_types.specs.declared.key.Way.{Way}
 use Rattle.npf_core.specs.declared.act.Act.TheVariants.{Kill, Unhold}
@@ -12,31 +12,27 @@ use Rattle.npf_core.specs.Meaning.{Meaning}
 use Rattle.npf_connections.specs.Adding.{Adds}
 use Rattle.npf_connections.specs.Entries.{end_entries, entry_of}
 use Rattle.npf_connections.specs.Pass.{Pass}
-use Rattle.npf_connections.specs.Said.{Said, under, IsSamePass, ends_said}
+use Rattle.npf_connections.specs.Said.{Said, under, Did, ends_said}
 use Rattle.npf_connections.specs.SaidLaw.{DidNothing, DidMore, DidAbandon}
+use Rattle.npf_connections.specs.Stay.{GoesOn, IsLater}
 use Rattle.npf_connections.specs.Ways.{all_ways}
 use Rattle.npf_connections.proofs.AddLemmas.{adds_more}
 
-module _ {E : Type 0} where
-  -- from what each call says of the whole view
-  pub same_pass : (old new : Pass E) {history : List E} {answered builds : List ConnId} {sweeps epoch : ℕ} →
-      new ≡ record old { history = history; answered = answered; builds = builds; sweeps = sweeps; epoch = epoch } → IsSamePass old new
-  same_pass old new is = record {
-    slots = ap (λ (p : Pass E). p.slots) is;
-    number = ap (λ (p : Pass E). p.number) is;
-    entered = ap (λ (p : Pass E). p.entered) is;
-    places = ap (λ (p : Pass E). p.places) is;
-    joined = ap (λ (p : Pass E). p.joined) is;
-  }
-
-  pub same_more : (old mid new : Pass E) → IsSamePass old mid → IsSamePass mid new → IsSamePass old new
-  same_more old mid new p q = record {
-    slots = q.slots ∙ p.slots;
-    number = q.number ∙ p.number;
-    entered = q.entered ∙ p.entered;
-    places = q.places ∙ p.places;
-    joined = q.joined ∙ p.joined;
-  }
+later_more : {E : Type 0} (old mid new : Pass E) → IsLater old mid → IsLater mid new → IsLater old new
+later_more old mid new p q = record {
+  slots = q.slots ∙ p.slots;
+  number = q.number ∙ p.number;
+  entered = q.entered ∙ p.entered;
+  places = q.places ∙ p.places;
+  begins = record {
+    rest = p.begins.rest ++ q.begins.rest;
+    goes_on = q.begins.goes_on
+        ∙ (ap (λ history. history ++ q.begins.rest) p.begins.goes_on
+        ∙ append_assoc old.history p.begins.rest q.begins.rest);
+  };
+  sweeps = omega (arith, p.sweeps, q.sweeps);
+  epoch = omega (arith, p.epoch, q.epoch);
+}
 
 module _ {S A R : Type 0} where
   pub under-append : (number : ℕ) (xs ys : List (Said S A R)) → under number (xs ++ ys) ≡ under number xs ++ under number ys
@@ -51,23 +47,47 @@ module _ {S A R : Type 0} where
   pub ends_under : (pass : Pass (Entry S A R)) (id : ConnId) (why : Why) (held : Way → Bool) → end_entries pass id why held ≡ under pass.number (ends_said id why held)
   ends_under pass id why held = ap (λ (zs : List (Entry S A R)). entry_of pass (Kill id why) Nothing ∷ zs) (unholds_under pass id (filter held all_ways))
 
+-- from what a call says: what of the view it leaves, and what it adds
+module _ {S A R : Type 0} (old new : Pass (Entry S A R)) {answered builds : List ConnId} (said : List (Said S A R)) where
+  pub did_sweep : {sweeps : ℕ} → GoesOn (record old { answered = answered; builds = builds; sweeps = sweeps }) new →
+      old.sweeps ≤ new.sweeps → Adds old new.history (under old.number said) → Did old new said
+  did_sweep on sweeps adds = record {
+    later = record {
+      slots = ap (λ (p : Pass (Entry S A R)). p.slots) on.view;
+      number = ap (λ (p : Pass (Entry S A R)). p.number) on.view;
+      entered = ap (λ (p : Pass (Entry S A R)). p.entered) on.view;
+      places = ap (λ (p : Pass (Entry S A R)). p.places) on.view;
+      begins = record { rest = adds.rest; goes_on = adds.goes_on };
+      sweeps = sweeps;
+      epoch = on.epoch;
+    };
+    joined = ap (λ (p : Pass (Entry S A R)). p.joined) on.view;
+    adds = adds;
+  }
+
+  pub did_so : GoesOn (record old { answered = answered; builds = builds }) new →
+      Adds old new.history (under old.number said) → Did old new said
+  did_so on adds =
+      let sweeps : new.sweeps ≡ old.sweeps = ap (λ (p : Pass (Entry S A R)). p.sweeps) on.view in
+      did_sweep on (omega (arith, sweeps)) adds
+
 pub did_nothing : {S A R : Type 0} → DidNothing S A R
-did_nothing pass = record {
-  same = record { slots = refl; number = refl; entered = refl; places = refl; joined = refl };
-  adds = record { rest = []; goes_on = sym (append-nil pass.history); own = refl; listed = λ n c. refl };
-}
+did_nothing pass =
+    did_so pass pass [] (record { view = refl; epoch = omega arith })
+    (record { rest = []; goes_on = sym (append-nil pass.history); own = refl; listed = λ n c. refl })
 
 pub did_more : {S A R : Type 0} → DidMore S A R
 did_more {S} {A} {R} old mid new first second p q =
-    let theirs : Adds mid new.history (under old.number second) = subst (λ n. Adds mid new.history (under n second)) p.same.number q.adds in
+    let theirs : Adds mid new.history (under old.number second) =
+    subst (λ n. Adds mid new.history (under n second)) p.later.number q.adds in
     record {
-      same = same_more old mid new p.same q.same;
+      later = later_more old mid new p.later q.later;
+      joined = q.joined ∙ p.joined;
       adds = subst (λ (es : List (Entry S A R)). Adds old new.history es) (sym (under-append old.number first second))
-          (adds_more old mid new.history (under old.number first) (under old.number second) p.same.number p.same.joined p.adds theirs);
+          (adds_more old mid new.history (under old.number first) (under old.number second) p.later.number p.joined p.adds theirs);
     }
 
 pub did_abandon : {S A R : Type 0} (m : Meaning S A R) → DidAbandon m
-did_abandon {S} {A} {R} m old new id same a = record {
-  same = same;
-  adds = subst (λ (es : List (Entry S A R)). Adds old new.history es) (ends_under old id Abandoned a.held) a.adds.adds;
-}
+did_abandon {S} {A} {R} m old new id builds on a =
+    did_so old new (ends_said id Abandoned a.held) on
+    (subst (λ (es : List (Entry S A R)). Adds old new.history es) (ends_under old id Abandoned a.held) a.adds.adds)
