@@ -9,9 +9,9 @@ pub mod Expiring
 pub mod Joining
 pub mod Pass
 pub mod RecordLaw
-pub mod Rest
 pub mod Said
 pub mod SaidLaw
+pub mod Stay
 pub mod StayLaw
 pub mod Ways
 pub mod Worn

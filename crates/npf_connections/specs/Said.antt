@@ -10,6 +10,7 @@ use Rattle.npf_core.specs.declared.reply.Reply.{Reply}
 use Rattle.npf_core.specs.declared.reply.Reply.TheVariants.{Nothing}
 use Rattle.npf_connections.specs.Adding.{Adds}
 use Rattle.npf_connections.specs.Pass.{Pass}
+use Rattle.npf_connections.specs.Stay.{IsLater}
 use Rattle.npf_connections.specs.Ways.{all_ways}
 
 -- an act and its reply
@@ -21,17 +22,10 @@ pub record Said (S A R : Type 0) : Type 0 where
 abbrev pub under : {S A R : Type 0} → ℕ → List (Said S A R) → List (Entry S A R)
 under number = map (λ said. record { seat = number; act = said.act; reply = said.reply })
 
--- the pass is the same, but for its history, what it was answered and builds, and its counts
-pub record IsSamePass {E : Type 0} (old new : Pass E) : Type 0 where
-  pub slots : new.slots ≡ old.slots
-  pub number : new.number ≡ old.number
-  pub entered : new.entered ≡ old.entered
-  pub places : new.places ≡ old.places
-  pub joined : new.joined ≡ old.joined
-
--- the pass went on by these
+-- the pass went on by these, and was joined with none
 pub record Did {S A R : Type 0} (old new : Pass (Entry S A R)) (said : List (Said S A R)) : Type 0 where
-  pub same : IsSamePass old new
+  pub later : IsLater old new
+  pub joined : new.joined ≡ old.joined
   pub adds : Adds old new.history (under old.number said)
 
 -- the pass went on by what is described so

@@ -4,8 +4,8 @@ use std::sync::Wait;
 
 /// A table of connections that many threads use at a time, each by a pass of its own. No call takes memory.
 ///
-/// A pass is a thread's sight of the table. Each call wants a pass of this table (`own`) that is as a pass is (`legal`), and
-/// leaves it so; `adds` names the entries by which the pass's history goes on, and `view` all that the pass shows after it.
+/// A pass is a thread's sight of the table. Each call wants a pass of this table that is outside a stay (`out`) or inside one
+/// (`inside`); `adds` names the entries by which the pass's history goes on, and `view` all that the pass shows after it.
 pub trait Connections<L: Law>: Sync {
     ghost use Rattle.std.specs.Prelude.{◌≡◌, ◌<◌, ◌≤◌, ◌+◌, true, false, ◌++◌, ◌∷◌, [], Contains};
     ghost use Rattle.npf_core.specs.declared.act.Act.TheVariants.{Look, Step, Start};
@@ -23,7 +23,8 @@ pub trait Connections<L: Law>: Sync {
     ghost use Rattle.npf_connections.specs.Entries.{entry_of, claim_entries, hold_entries};
     ghost use Rattle.npf_connections.specs.Expiring.{Expires};
     ghost use Rattle.npf_connections.specs.Joining.{IsSplit, IsJoined};
-    ghost use Rattle.npf_connections.specs.Pass.{Pass, IsPass, Knows, all_places};
+    ghost use Rattle.npf_connections.specs.Pass.{Pass, Knows, all_places};
+    ghost use Rattle.npf_connections.specs.Stay.{IsOut, IsIn, GoesOn};
     ghost use Rattle.npf_connections.specs.Ways.{KeepsWays, KeepsBare};
 
     /// What a thread calls the table with.
@@ -41,38 +42,26 @@ pub trait Connections<L: Law>: Sync {
 
     /// Begins a stay.
     fn enter(&self, rt: &impl Wait, pass: &mut Self::Pass)
-        requires own { fits self.now pass.old }
-        requires legal { IsPass L.meaning (view pass.old) }
-        requires out { (view pass.old).entered ≡ false }
+        requires out { IsOut L.meaning (fits self.now) view pass.old }
         requires place { 1 ≤ (view pass.old).places }
-        ensures own { fits self.now pass.new }
-        ensures legal { IsPass L.meaning (view pass.new) }
+        ensures inside { IsIn L.meaning (fits self.now) view pass.new }
         ensures adds { Adds (view pass.old) (view pass.new).history [] }
-        ensures view { view pass.new ≡ record (view pass.old) { history = (view pass.new).history; entered = true; epoch = (view pass.new).epoch } }
-        ensures epoch { (view pass.old).epoch ≤ (view pass.new).epoch };
+        ensures view { GoesOn (record (view pass.old) { entered = true }) (view pass.new) };
 
     /// Ends the stay: what was answered in it may be freed from now on.
     fn leave(&self, rt: &impl Wait, pass: &mut Self::Pass)
-        requires own { fits self.now pass.old }
-        requires legal { IsPass L.meaning (view pass.old) }
-        requires entered { (view pass.old).entered ≡ true }
+        requires inside { IsIn L.meaning (fits self.now) view pass.old }
         requires idle { (view pass.old).builds ≡ [] }
-        ensures own { fits self.now pass.new }
-        ensures legal { IsPass L.meaning (view pass.new) }
+        ensures out { IsOut L.meaning (fits self.now) view pass.new }
         ensures adds { Adds (view pass.old) (view pass.new).history [] }
-        ensures view { view pass.new ≡ record (view pass.old) { history = (view pass.new).history; entered = false; answered = []; epoch = (view pass.new).epoch } }
-        ensures epoch { (view pass.old).epoch ≤ (view pass.new).epoch };
+        ensures view { GoesOn (record (view pass.old) { entered = false; answered = [] }) (view pass.new) };
 
     /// The key's holder, in whatever phase it is, for the packet of the number `n`. None exactly where the entry replies none.
     fn look(&self, rt: &impl Wait, pass: &mut Self::Pass, n: u64, key: Key) -> Option<Found>
-        requires own { fits self.now pass.old }
-        requires legal { IsPass L.meaning (view pass.old) }
-        requires entered { (view pass.old).entered ≡ true }
-        ensures own { fits self.now pass.new }
-        ensures legal { IsPass L.meaning (view pass.new) }
+        requires inside { IsIn L.meaning (fits self.now) view pass.old }
+        ensures inside { IsIn L.meaning (fits self.now) view pass.new }
         ensures adds { AddsOwn (view pass.old) (view pass.new).history (entry_of (view pass.old) (Look n key) (ToLook result) ∷ []) }
-        ensures view { view pass.new ≡ record (view pass.old) { history = (view pass.new).history; answered = found_ids result ++ (view pass.old).answered; epoch = (view pass.new).epoch } }
-        ensures epoch { (view pass.old).epoch ≤ (view pass.new).epoch };
+        ensures view { GoesOn (record (view pass.old) { answered = found_ids result ++ (view pass.old).answered }) (view pass.new) };
 
     /// The next step of a connection's flow, by a packet of that way. `NotLive` exactly where that incarnation isn't Live at the
     /// entry. `place` is the number of the connection's steps before this one; its start is number 0.
@@ -85,131 +74,91 @@ pub trait Connections<L: Law>: Sync {
         way: Way,
         arg: &L::Arg,
     ) -> Stepped<L::Reply>
-        requires own { fits self.now pass.old }
-        requires legal { IsPass L.meaning (view pass.old) }
-        requires entered { (view pass.old).entered ≡ true }
+        requires inside { IsIn L.meaning (fits self.now) view pass.old }
         requires known { Knows (view pass.old) id }
-        ensures own { fits self.now pass.new }
-        ensures legal { IsPass L.meaning (view pass.new) }
+        ensures inside { IsIn L.meaning (fits self.now) view pass.new }
         ensures adds { AddsOwn (view pass.old) (view pass.new).history (entry_of (view pass.old) (Step n id way arg.now) (ToStep result) ∷ []) }
-        ensures view { view pass.new ≡ record (view pass.old) { history = (view pass.new).history; epoch = (view pass.new).epoch } }
-        ensures epoch { (view pass.old).epoch ≤ (view pass.new).epoch };
+        ensures view { GoesOn (view pass.old) (view pass.new) };
 
     /// A new connection, which is Building under this pass and holds no key. None means full: each slot was claimed at some
     /// point of the pass's history from what it had seen before this call on.
     fn begin(&self, rt: &impl Wait, pass: &mut Self::Pass, n: u64) -> Option<ConnId>
-        requires own { fits self.now pass.old }
-        requires legal { IsPass L.meaning (view pass.old) }
-        requires entered { (view pass.old).entered ≡ true }
-        ensures own { fits self.now pass.new }
-        ensures legal { IsPass L.meaning (view pass.new) }
+        requires inside { IsIn L.meaning (fits self.now) view pass.old }
+        ensures inside { IsIn L.meaning (fits self.now) view pass.new }
         ensures adds { AddsOwn (view pass.old) (view pass.new).history (claim_entries (view pass.old) n result) }
         ensures full { IsFullIfNone L.meaning (view pass.old) (view pass.new).history result }
         ensures bare { HoldsNoneIfSome (state_of L.meaning (view pass.new).history) result }
-        ensures view { view pass.new ≡ record (view pass.old) { history = (view pass.new).history; answered = begun_ids result ++ (view pass.old).answered; builds = begun_ids result ++ (view pass.old).builds; epoch = (view pass.new).epoch } }
-        ensures epoch { (view pass.old).epoch ≤ (view pass.new).epoch };
+        ensures view { GoesOn (record (view pass.old) { answered = begun_ids result ++ (view pass.old).answered; builds = begun_ids result ++ (view pass.old).builds }) (view pass.new) };
 
     /// The key for a connection that this pass is building, as its key of that way. `Taken` exactly where the key has that
     /// holder; `NoNode` only where the pass's count of full sweeps rose. After a refusal the connection holds what it held. The
     /// call begins a new stay: what was answered before it may be freed.
     fn hold(&self, rt: &impl Wait, pass: &mut Self::Pass, id: ConnId, key: Key, way: Way) -> Held
-        requires own { fits self.now pass.old }
-        requires legal { IsPass L.meaning (view pass.old) }
-        requires entered { (view pass.old).entered ≡ true }
+        requires inside { IsIn L.meaning (fits self.now) view pass.old }
         requires builds { Contains (view pass.old).builds id }
         requires none { HoldsNone (state_of L.meaning (view pass.old).history) id way }
-        ensures own { fits self.now pass.new }
-        ensures legal { IsPass L.meaning (view pass.new) }
+        ensures inside { IsIn L.meaning (fits self.now) view pass.new }
         ensures adds { AddsOwn (view pass.old) (view pass.new).history (hold_entries (view pass.old) id key way result) }
         ensures ways { KeepsWays (state_of L.meaning (view pass.old).history) (state_of L.meaning (view pass.new).history) id way result }
         ensures bare { KeepsBare (state_of L.meaning (view pass.old).history) (state_of L.meaning (view pass.new).history) id way result }
         ensures sweep { result ≡ Held.NoNode → (view pass.old).sweeps + 1 ≤ (view pass.new).sweeps }
-        ensures view { view pass.new ≡ record (view pass.old) { history = (view pass.new).history; answered = taken_ids result; sweeps = (view pass.new).sweeps; epoch = (view pass.new).epoch } }
-        ensures sweeps { (view pass.old).sweeps ≤ (view pass.new).sweeps }
-        ensures epoch { (view pass.old).epoch ≤ (view pass.new).epoch };
+        ensures view { GoesOn (record (view pass.old) { answered = taken_ids result; sweeps = (view pass.new).sweeps }) (view pass.new) }
+        ensures sweeps { (view pass.old).sweeps ≤ (view pass.new).sweeps };
 
     /// A connection that this pass was building is Live from now on, with this flow.
     fn start(&self, rt: &impl Wait, pass: &mut Self::Pass, id: ConnId, n: u64, init: L::State)
-        requires own { fits self.now pass.old }
-        requires legal { IsPass L.meaning (view pass.old) }
-        requires entered { (view pass.old).entered ≡ true }
+        requires inside { IsIn L.meaning (fits self.now) view pass.old }
         requires builds { Contains (view pass.old).builds id }
-        ensures own { fits self.now pass.new }
-        ensures legal { IsPass L.meaning (view pass.new) }
+        ensures inside { IsIn L.meaning (fits self.now) view pass.new }
         ensures adds { AddsOwn (view pass.old) (view pass.new).history (entry_of (view pass.old) (Start id n init) Nothing ∷ []) }
-        ensures view { view pass.new ≡ record (view pass.old) { history = (view pass.new).history; builds = without id (view pass.old).builds; epoch = (view pass.new).epoch } }
-        ensures epoch { (view pass.old).epoch ≤ (view pass.new).epoch };
+        ensures view { GoesOn (record (view pass.old) { builds = without id (view pass.old).builds }) (view pass.new) };
 
     /// Kills a connection that this pass was building, and gives up its keys.
     fn abandon(&self, rt: &impl Wait, pass: &mut Self::Pass, id: ConnId)
-        requires own { fits self.now pass.old }
-        requires legal { IsPass L.meaning (view pass.old) }
-        requires entered { (view pass.old).entered ≡ true }
+        requires inside { IsIn L.meaning (fits self.now) view pass.old }
         requires builds { Contains (view pass.old).builds id }
-        ensures own { fits self.now pass.new }
-        ensures legal { IsPass L.meaning (view pass.new) }
+        ensures inside { IsIn L.meaning (fits self.now) view pass.new }
         ensures adds { Abandons L.meaning (view pass.old) (view pass.new).history id }
-        ensures view { view pass.new ≡ record (view pass.old) { history = (view pass.new).history; builds = without id (view pass.old).builds; epoch = (view pass.new).epoch } }
-        ensures epoch { (view pass.old).epoch ≤ (view pass.new).epoch };
+        ensures view { GoesOn (record (view pass.old) { builds = without id (view pass.old).builds }) (view pass.new) };
 
     /// Kills connections that are due at that time, gives up their keys, and answers how many it killed. One that was Live in
     /// what the pass had seen before the call and isn't killed by it was not due at some point of the history from there on.
     fn expire(&self, rt: &impl Wait, pass: &mut Self::Pass, now: u64) -> u64
-        requires own { fits self.now pass.old }
-        requires legal { IsPass L.meaning (view pass.old) }
-        requires out { (view pass.old).entered ≡ false }
-        ensures own { fits self.now pass.new }
-        ensures legal { IsPass L.meaning (view pass.new) }
+        requires out { IsOut L.meaning (fits self.now) view pass.old }
+        ensures out { IsOut L.meaning (fits self.now) view pass.new }
         ensures adds { Expires L.meaning (view pass.old) (view pass.new).history now result }
-        ensures view { view pass.new ≡ record (view pass.old) { history = (view pass.new).history; epoch = (view pass.new).epoch } }
-        ensures epoch { (view pass.old).epoch ≤ (view pass.new).epoch };
+        ensures view { GoesOn (view pass.old) (view pass.new) };
 
     /// Frees what may be freed. Where the pass owns all reader places and isn't worn, no connection is Dead after it.
     fn collect(&self, rt: &impl Wait, pass: &mut Self::Pass)
-        requires own { fits self.now pass.old }
-        requires legal { IsPass L.meaning (view pass.old) }
-        requires out { (view pass.old).entered ≡ false }
-        ensures own { fits self.now pass.new }
-        ensures legal { IsPass L.meaning (view pass.new) }
+        requires out { IsOut L.meaning (fits self.now) view pass.old }
+        ensures out { IsOut L.meaning (fits self.now) view pass.new }
         ensures adds { FreesAlone (view pass.old) (view pass.new).history }
         ensures clean { IsClean L.meaning (view pass.new) }
-        ensures view { view pass.new ≡ record (view pass.old) { history = (view pass.new).history; epoch = (view pass.new).epoch } }
-        ensures epoch { (view pass.old).epoch ≤ (view pass.new).epoch };
+        ensures view { GoesOn (view pass.old) (view pass.new) };
 
     /// A copy of the slot's connection, with the keys that it holds. None exactly where none is Live there. The call adds no entry;
     /// the pass owns all reader places, so no other is left.
     fn copy_slot(&self, rt: &impl Wait, pass: &mut Self::Pass, slot: u32) -> Option<Kept<L::State>>
-        requires own { fits self.now pass.old }
-        requires legal { IsPass L.meaning (view pass.old) }
-        requires out { (view pass.old).entered ≡ false }
+        requires out { IsOut L.meaning (fits self.now) view pass.old }
         requires sole { (view pass.old).places ≡ all_places }
         requires exists { slot < (view pass.old).slots }
-        ensures own { fits self.now pass.new }
-        ensures legal { IsPass L.meaning (view pass.new) }
+        ensures out { IsOut L.meaning (fits self.now) view pass.new }
         ensures same { view pass.new ≡ view pass.old }
         ensures copies { Copies (state_of L.meaning (view pass.old).history) slot result };
 
     /// Gives one of the pass's reader places to a new pass, which has seen the same history.
     fn split(&self, rt: &impl Wait, pass: &mut Self::Pass) -> Self::Pass
-        requires own { fits self.now pass.old }
-        requires legal { IsPass L.meaning (view pass.old) }
-        requires out { (view pass.old).entered ≡ false }
+        requires out { IsOut L.meaning (fits self.now) view pass.old }
         requires places { 2 ≤ (view pass.old).places }
-        ensures own { fits self.now pass.new }
-        ensures legal { IsPass L.meaning (view pass.new) }
-        ensures given { fits self.now result }
-        ensures given_legal { IsPass L.meaning (view result) }
+        ensures out { IsOut L.meaning (fits self.now) view pass.new }
+        ensures given { IsOut L.meaning (fits self.now) view result }
         ensures splits { IsSplit (view pass.old) (view pass.new) (view result) };
 
     /// Takes in another pass of this table, with its reader places. The pass has then seen the longer of both histories.
     fn join(&self, rt: &impl Wait, pass: &mut Self::Pass, other: Self::Pass)
-        requires own { fits self.now pass.old }
-        requires legal { IsPass L.meaning (view pass.old) }
-        requires out { (view pass.old).entered ≡ false }
-        requires other_own { fits self.now other }
-        requires other_legal { IsPass L.meaning (view other) }
-        requires other_out { (view other).entered ≡ false }
-        ensures own { fits self.now pass.new }
-        ensures legal { IsPass L.meaning (view pass.new) }
+        requires out { IsOut L.meaning (fits self.now) view pass.old }
+        requires other { IsOut L.meaning (fits self.now) view other }
+        ensures out { IsOut L.meaning (fits self.now) view pass.new }
         ensures joins { IsJoined (view pass.old) (view other) (view pass.new) };
 }

@@ -1,5 +1,5 @@
 -- The draw of a port goes on from port to port.
-use Rattle.std.proofs.Common.{◌≡◌, ℕ, List, [], ◌∷◌, ◌++◌, sym, ap, ◌∙◌, subst, append_assoc, append-nil, Some, None, slice_get, drop}
+use Rattle.std.proofs.Common.{◌≡◌, ℕ, List, [], ◌∷◌, ◌++◌, sym, ap, ◌∙◌, subst, append_assoc, append-nil, Ok, Err, Some, None, slice_get, drop}
 use Rattle.std.proofs.lemmas.List.{map-append}
 use Rattle.npf_types.specs.declared.address.Addr.{Addr}
 use Rattle.npf_types.specs.declared.key.Way.{Way}
@@ -9,7 +9,7 @@ use Rattle.npf_core.specs.declared.held.Held.{Held}
 use Rattle.npf_key.specs.Key.{port_key}
 use Rattle.npf_connections.specs.Said.{Did, Does}
 use Rattle.npf_connections.proofs.SaidLemmas.{did_more}
-use Rattle.npf_engine_opening.specs.declared.drawing.DrawnPort.{DrawnPort}
+use Rattle.npf_engine_opening.specs.declared.attempt.Refusal.TheVariants as Refusals
 use Rattle.npf_engine_opening.specs.Drawing.{TakenPort, taken_ports, taken_said, Draws}
 use Rattle.npf_engine_opening.specs.Saying.{FlowSaid, said_by_hold, hold_said}
 use Rattle.npf_engine_opening.proofs.SayingLemmas.{View}
@@ -40,7 +40,7 @@ module _ (old mid new : View) (id : ConnId) (addr : Addr) (ports left : List ℕ
       }
 
   -- the port is given
-  pub gives : Did mid new (said_by_hold id (port_key addr port) Way.Port Held.Done) → Does old new (λ said. Draws id addr ports said (DrawnPort.Port port))
+  pub gives : Did mid new (said_by_hold id (port_key addr port) Way.Port Held.Done) → Does old new (λ said. Draws id addr ports said (Ok port))
   gives did = record {
     said = taken_said id addr d.before ++ hold_said id (port_key addr port) Way.Port Held.Done ∷ [];
     described = Draws.given d.before port left d.split;
@@ -48,7 +48,7 @@ module _ (old mid new : View) (id : ConnId) (addr : Addr) (ports left : List ℕ
   }
 
   -- there is no node for it
-  pub stops : Did mid new [] → Does old new (λ said. Draws id addr ports said DrawnPort.NoNode)
+  pub stops : Did mid new [] → Does old new (λ said. Draws id addr ports said (Err Refusals.NoNode))
   stops did = record {
     said = taken_said id addr d.before;
     described = Draws.no_node d.before port left d.split;
@@ -57,7 +57,7 @@ module _ (old mid new : View) (id : ConnId) (addr : Addr) (ports left : List ℕ
 
 -- no port is left
 pub ends : (old now : View) (id : ConnId) (addr : Addr) (ports left : List ℕ) → None ≡ slice_get left 0 → IsDrawing old now id addr ports left →
-    Does old now (λ said. Draws id addr ports said DrawnPort.AllTaken)
+    Does old now (λ said. Draws id addr ports said (Err Refusals.NoPort))
 ends old now id addr ports [] none d = record {
   said = taken_said id addr d.before;
   described = Draws.all_taken d.before (d.split ∙ append-nil (taken_ports d.before));

@@ -1,4 +1,5 @@
 pub mod DrawingLemmas
+pub mod RoomLemmas
 pub mod SayingLemmas
 pub mod StartingLemmas
 pub mod WayLemmas

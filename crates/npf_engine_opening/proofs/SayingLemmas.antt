@@ -1,5 +1,5 @@
 -- What the calls of a table say.
-use Rattle.std.proofs.Common.{◌≡◌, ℕ, Bool, List, [], ◌∷◌, ◌++◌, subst}
+use Rattle.std.proofs.Common.{◌≡◌, ℕ, ◌≤◌, Bool, List, [], ◌∷◌, ◌++◌, refl, ap, ◌∙◌, subst}
 use Rattle.npf_types.specs.declared.key.Key.{Key}
 use Rattle.npf_types.specs.declared.key.Way.{Way}
 use Rattle.npf_core.specs.declared.act.Act.TheVariants.{Start}
@@ -10,12 +10,13 @@ use Rattle.npf_core.specs.declared.held.Held.{Held}
 use Rattle.npf_core.specs.declared.reply.Reply.TheVariants.{Nothing}
 use Rattle.npf_core.specs.History.{state_of}
 use Rattle.npf_connections.specs.Abandoning.{Abandons}
-use Rattle.npf_connections.specs.Adding.{AddsOwn}
+use Rattle.npf_connections.specs.Adding.{Adds, AddsOwn}
 use Rattle.npf_connections.specs.Entries.{entry_of, hold_entries}
 use Rattle.npf_connections.specs.Pass.{Pass}
-use Rattle.npf_connections.specs.Said.{IsSamePass, Did, Does, ends_said}
+use Rattle.npf_connections.specs.Said.{Did, Does, ends_said, under}
+use Rattle.npf_connections.specs.Stay.{GoesOn}
 use Rattle.npf_connections.specs.Ways.{HoldsThese}
-use Rattle.npf_connections.proofs.SaidLemmas.{did_abandon, did_more}
+use Rattle.npf_connections.proofs.SaidLemmas.{did_abandon, did_more, did_so, did_sweep}
 use Rattle.npf_flow.specs.declared.flow.Flow.{Flow}
 use Rattle.npf_flow.specs.declared.step.FlowArg.{FlowArg}
 use Rattle.npf_flow.specs.declared.step.FlowReply.{FlowReply}
@@ -28,28 +29,38 @@ use Rattle.npf_engine_opening.proofs.WayLemmas.{these_same}
 abbrev pub View : Type 0
 View = Pass (Entry Flow FlowArg FlowReply)
 
-module _ (old new : View) (id : ConnId) (same : IsSamePass old new) where
-  did_hold : (key : Key) (way : Way) (held : Held) → AddsOwn old new.history (hold_entries old id key way held) → Did old new (said_by_hold id key way held)
-  did_hold key way Held.Done own = record { same = same; adds = own.adds }
-  did_hold key way (Held.Taken holder) own = record { same = same; adds = own.adds }
-  did_hold key way Held.NoNode own = record { same = same; adds = own.adds }
+module _ (old new : View) (id : ConnId) where
+  hold_under : (key : Key) (way : Way) (held : Held) →
+      hold_entries old id key way held ≡ under old.number (said_by_hold id key way held)
+  hold_under key way Held.Done = refl
+  hold_under key way (Held.Taken holder) = refl
+  hold_under key way Held.NoNode = refl
 
   -- a hold of this key, which the code has found
-  pub did_hold_of : (found key : Key) (way : Way) (held : Held) → found ≡ key → AddsOwn old new.history (hold_entries old id found way held) →
-      Did old new (said_by_hold id key way held)
-  did_hold_of found key way held is own = subst (λ (k : Key). Did old new (said_by_hold id k way held)) is (did_hold found way held own)
+  pub did_hold_of : {answered : List ConnId} → GoesOn (record old { answered = answered; sweeps = new.sweeps }) new →
+      old.sweeps ≤ new.sweeps → (found key : Key) (way : Way) (held : Held) → found ≡ key →
+      AddsOwn old new.history (hold_entries old id found way held) → Did old new (said_by_hold id key way held)
+  did_hold_of on sweeps found key way held is own =
+      let entries = ap (λ (k : Key). hold_entries old id k way held) is ∙ hold_under key way held in
+      did_sweep old new (said_by_hold id key way held) on sweeps
+      (subst (λ (es : List (Entry Flow FlowArg FlowReply)). Adds old new.history es) entries own.adds)
 
   -- a start with this flow, which the code has made
-  pub did_start_of : (packet : ℕ) (made flow : Flow) → made ≡ flow → AddsOwn old new.history (entry_of old (Start id packet made) Nothing ∷ []) →
+  pub did_start_of : {builds : List ConnId} → GoesOn (record old { builds = builds }) new →
+      (packet : ℕ) (made flow : Flow) → made ≡ flow →
+      AddsOwn old new.history (entry_of old (Start id packet made) Nothing ∷ []) →
       Did old new (start_said id packet flow ∷ [])
-  did_start_of packet made flow is own = subst (λ (f : Flow). Did old new (start_said id packet f ∷ [])) is (record { same = same; adds = own.adds })
+  did_start_of on packet made flow is own =
+      subst (λ (f : Flow). Did old new (start_said id packet f ∷ [])) is
+      (did_so old new (start_said id packet made ∷ []) on own.adds)
 
 -- who abandons a connection gives up the keys that it is known to hold
 pub did_end : (old new : View) (id : ConnId) (ways : List Way) → HoldsThese (state_of flow_law old.history) id (is_one_of ways) →
-    Abandons flow_law old new.history id → IsSamePass old new → Did old new (abandon_said id ways)
-did_end old new id ways these a same =
+    Abandons flow_law old new.history id → {builds : List ConnId} → GoesOn (record old { builds = builds }) new →
+    Did old new (abandon_said id ways)
+did_end old new id ways these a {builds} on =
     subst (λ (held : Way → Bool). Did old new (ends_said id Abandoned held)) (these_same (state_of flow_law old.history) id a.held (is_one_of ways) a.holds these)
-    (did_abandon flow_law old new id same a)
+    (did_abandon flow_law old new id builds on a)
 
 -- What is described goes on by what is described next.
 module _ (old mid new : View) {All : List FlowSaid → Type 0} where

@@ -1,5 +1,5 @@
 -- How a port is drawn for a connection that holds its forward key.
-use Rattle.std.specs.Prelude.{◌≡◌, ℕ, List, [], ◌∷◌, ◌++◌, map}
+use Rattle.std.specs.Prelude.{◌≡◌, ℕ, Result, Ok, Err, List, [], ◌∷◌, ◌++◌, map}
 use Rattle.npf_types.specs.declared.address.Addr.{Addr}
 use Rattle.npf_types.specs.declared.key.Way.{Way}
 use Rattle.npf_types.specs.declared.key.Way.TheVariants.{Forward, Port}
@@ -7,7 +7,8 @@ use Rattle.npf_core.specs.declared.conn_id.ConnId.{ConnId}
 use Rattle.npf_core.specs.declared.found.Found.{Found}
 use Rattle.npf_core.specs.declared.held.Held.{Held}
 use Rattle.npf_key.specs.Key.{port_key}
-use Rattle.npf_engine_opening.specs.declared.drawing.DrawnPort.{DrawnPort}
+use Rattle.npf_engine_opening.specs.declared.attempt.Refusal.{Refusal}
+use Rattle.npf_engine_opening.specs.declared.attempt.Refusal.TheVariants as Refusals
 use Rattle.npf_engine_opening.specs.Saying.{FlowSaid, hold_said}
 
 -- a port that isn't given, since its key has this holder
@@ -24,15 +25,14 @@ taken_said id addr = map (λ (taken : TakenPort). hold_said id (port_key addr ta
 
 -- the port that is drawn is the first of the ports whose key at the address has no holder: each before it is Taken. None is drawn
 -- where all are Taken, or where there is no node for the next
-pub data Draws (id : ConnId) (addr : Addr) (ports : List ℕ) : List FlowSaid → DrawnPort → Type 0 where
+pub data Draws (id : ConnId) (addr : Addr) (ports : List ℕ) : List FlowSaid → Result ℕ Refusal → Type 0 where
   given : (before : List TakenPort) (port : ℕ) (behind : List ℕ) → ports ≡ taken_ports before ++ port ∷ behind →
-      Draws id addr ports (taken_said id addr before ++ hold_said id (port_key addr port) Port Held.Done ∷ []) (DrawnPort.Port port)
-  all_taken : (all : List TakenPort) → ports ≡ taken_ports all → Draws id addr ports (taken_said id addr all) DrawnPort.AllTaken
+      Draws id addr ports (taken_said id addr before ++ hold_said id (port_key addr port) Port Held.Done ∷ []) (Ok port)
+  all_taken : (all : List TakenPort) → ports ≡ taken_ports all → Draws id addr ports (taken_said id addr all) (Err Refusals.NoPort)
   no_node : (before : List TakenPort) (port : ℕ) (behind : List ℕ) → ports ≡ taken_ports before ++ port ∷ behind →
-      Draws id addr ports (taken_said id addr before) DrawnPort.NoNode
+      Draws id addr ports (taken_said id addr before) (Err Refusals.NoNode)
 
 -- the ways of the keys that the connection holds then
-abbrev pub drawn_ways : DrawnPort → List Way
-drawn_ways (DrawnPort.Port port) = Port ∷ Forward ∷ []
-drawn_ways DrawnPort.AllTaken = Forward ∷ []
-drawn_ways DrawnPort.NoNode = Forward ∷ []
+abbrev pub drawn_ways : Result ℕ Refusal → List Way
+drawn_ways (Ok port) = Port ∷ Forward ∷ []
+drawn_ways (Err why) = Forward ∷ []

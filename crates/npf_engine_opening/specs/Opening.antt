@@ -1,5 +1,5 @@
 -- How a packet opens a connection (npf.conf(5), "Stateful" and "Map"): what is asked of a table of connections, and what becomes of it.
-use Rattle.std.specs.Prelude.{◌≡◌, ℕ, List, [], ◌∷◌, ◌++◌}
+use Rattle.std.specs.Prelude.{◌≡◌, ℕ, Ok, Err, List, [], ◌∷◌, ◌++◌}
 use Rattle.npf_types.specs.declared.address.Addr.{Addr}
 use Rattle.npf_types.specs.declared.change.Change.{Change}
 use Rattle.npf_types.specs.declared.facts.Facts.{Facts}
@@ -15,7 +15,8 @@ use Rattle.npf_nat.specs.declared.map_plan.MapPlan.TheVariants.{Fixed, Draw}
 use Rattle.npf_portmap.specs.Candidate.{candidates}
 use Rattle.npf_engine_opening.specs.declared.attempt.Attempt.{Attempt}
 use Rattle.npf_engine_opening.specs.declared.attempt.Opened.{Opened}
-use Rattle.npf_engine_opening.specs.declared.drawing.DrawnPort.{DrawnPort}
+use Rattle.npf_engine_opening.specs.declared.attempt.Refusal.{Refusal}
+use Rattle.npf_engine_opening.specs.declared.attempt.Refusal.TheVariants as Refusals
 use Rattle.npf_engine_opening.specs.declared.starting.Changes.{Changes}
 use Rattle.npf_engine_opening.specs.Drawing.{Draws}
 use Rattle.npf_engine_opening.specs.Saying.{FlowSaid, claim_said, hold_said, step_said, abandon_said}
@@ -30,14 +31,11 @@ pub data Translates (attempt : Attempt) (id : ConnId) : List FlowSaid → Opened
   fixed : (there back : Change) (said : List FlowSaid) (opened : Opened) → attempt.plan ≡ Fixed there back →
       StartsConnection attempt id (record { there = there; back = back }) said opened → Translates attempt id said opened
   drawn : (addr : Addr) (min max first port : ℕ) (draws starts : List FlowSaid) (opened : Opened) → attempt.plan ≡ Draw addr min max first →
-      Draws id addr (candidates min max first) draws (DrawnPort.Port port) →
+      Draws id addr (candidates min max first) draws (Ok port) →
       StartsConnection attempt id (drawn_changes attempt.facts addr port) starts opened → Translates attempt id (draws ++ starts) opened
-  no_port : (addr : Addr) (min max first : ℕ) (draws : List FlowSaid) → attempt.plan ≡ Draw addr min max first →
-      Draws id addr (candidates min max first) draws DrawnPort.AllTaken →
-      Translates attempt id (draws ++ abandon_said id (Forward ∷ [])) Opened.NoPort
-  no_node : (addr : Addr) (min max first : ℕ) (draws : List FlowSaid) → attempt.plan ≡ Draw addr min max first →
-      Draws id addr (candidates min max first) draws DrawnPort.NoNode →
-      Translates attempt id (draws ++ abandon_said id (Forward ∷ [])) Opened.NoNode
+  undrawn : (addr : Addr) (min max first : ℕ) (why : Refusal) (draws : List FlowSaid) → attempt.plan ≡ Draw addr min max first →
+      Draws id addr (candidates min max first) draws (Err why) →
+      Translates attempt id (draws ++ abandon_said id (Forward ∷ [])) (Opened.Refused why)
 
 -- a connection is claimed: the forward key is held and the rest goes on. Where it has a holder, the connection is abandoned and the
 -- holder stepped by the packet
@@ -49,11 +47,11 @@ pub data Builds (attempt : Attempt) (id : ConnId) : List FlowSaid → Opened →
       (hold_said id (packet_key attempt) Forward (Held.Taken holder) ∷
       abandon_said id [] ++ step_said attempt.packet holder attempt.arg answer ∷ [])
       (Opened.Known holder answer)
-  no_node : Builds attempt id (abandon_said id []) Opened.NoNode
+  no_node : Builds attempt id (abandon_said id []) (Opened.Refused Refusals.NoNode)
 
 -- the packet opens a connection, is a step of the one that holds its key, or opens none for a cause that was shown; nothing is said
 -- where the table is full
 pub data OpensConnection (attempt : Attempt) : List FlowSaid → Opened → Type 0 where
-  full : OpensConnection attempt [] Opened.Full
+  full : OpensConnection attempt [] (Opened.Refused Refusals.Full)
   begun : (id : ConnId) (said : List FlowSaid) (opened : Opened) → Builds attempt id said opened →
       OpensConnection attempt (claim_said attempt.packet id ∷ said) opened

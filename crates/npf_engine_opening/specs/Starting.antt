@@ -11,6 +11,7 @@ use Rattle.npf_flow.specs.Flows.{opening_flow}
 use Rattle.npf_key.specs.Key.{key_of, backward_key}
 use Rattle.npf_engine_opening.specs.declared.attempt.Attempt.{Attempt}
 use Rattle.npf_engine_opening.specs.declared.attempt.Opened.{Opened}
+use Rattle.npf_engine_opening.specs.declared.attempt.Refusal.TheVariants as Refusals
 use Rattle.npf_engine_opening.specs.declared.starting.Changes.{Changes}
 use Rattle.npf_engine_opening.specs.Saying.{FlowSaid, said_by_hold, start_said, abandon_said}
 use Rattle.npf_engine_opening.specs.Ways.{ways_before}
@@ -37,6 +38,6 @@ pub data StartsConnection (attempt : Attempt) (id : ConnId) (changes : Changes) 
   started : (said : List FlowSaid) → HoldsBackward attempt id changes.there said Held.Done →
       StartsConnection attempt id changes (said ++ start_said id attempt.packet (flow_of attempt changes) ∷ []) (Opened.Open id changes.there)
   taken : (said : List FlowSaid) (holder : Found) → HoldsBackward attempt id changes.there said (Held.Taken holder) →
-      StartsConnection attempt id changes (said ++ abandon_said id (ways_before attempt.plan)) (Opened.Taken holder)
+      StartsConnection attempt id changes (said ++ abandon_said id (ways_before attempt.plan)) (Opened.Refused (Refusals.Taken holder))
   no_node : (said : List FlowSaid) → HoldsBackward attempt id changes.there said Held.NoNode →
-      StartsConnection attempt id changes (said ++ abandon_said id (ways_before attempt.plan)) Opened.NoNode
+      StartsConnection attempt id changes (said ++ abandon_said id (ways_before attempt.plan)) (Opened.Refused Refusals.NoNode)

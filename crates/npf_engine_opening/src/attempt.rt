@@ -17,6 +17,19 @@ pub struct Attempt {
     pub plan: MapPlan,
 }
 
+/// Why a packet has no connection of its own.
+#[derive(Clone, Copy, Debug, PartialEq, Eq)]
+pub enum Refusal {
+    /// Each slot of the table of connections was claimed.
+    Full,
+    /// The table had no node left to keep a key in.
+    NoNode,
+    /// A key of the packet had this holder.
+    Taken(Found),
+    /// Each port that might be drawn had a holder.
+    NoPort,
+}
+
 /// What became of a packet that would open a connection.
 #[derive(Debug, PartialEq, Eq, Drop)]
 pub enum Opened {
@@ -30,12 +43,6 @@ pub enum Opened {
         holder: Found,
         answer: Stepped<FlowReply>,
     },
-    /// Each slot of the table is claimed.
-    Full,
-    /// The table has no node left to keep a key in.
-    NoNode,
-    /// The key of its answers has this holder.
-    Taken(Found),
-    /// Each port that it could draw has a holder.
-    NoPort,
+    /// It has none.
+    Refused(Refusal),
 }

@@ -15,5 +15,5 @@ mod drawing;
 mod opening;
 mod starting;
 
-pub use attempt::{Attempt, Opened};
+pub use attempt::{Attempt, Opened, Refusal};
 pub use opening::open;

@@ -1,7 +1,7 @@
-ghost use Rattle.std.specs.Prelude.{◌≡◌, ◌≢◌, ◌≤◌, ◌+◌, true, [], ◌∷◌};
+ghost use Rattle.std.specs.Prelude.{◌≡◌, ◌≤◌, ◌+◌, [], ◌∷◌};
 ghost use Rattle.npf_core.specs.History.{state_of};
-ghost use Rattle.npf_connections.specs.Pass.{IsPass};
 ghost use Rattle.npf_connections.specs.Said.{Does};
+ghost use Rattle.npf_connections.specs.Stay.{IsIn};
 ghost use Rattle.npf_connections.specs.Ways.{HoldsThese};
 ghost use Rattle.npf_flow.specs.Flows.{flow_law};
 ghost use Rattle.npf_connections.specs.Beginning.{IsFullBetween};
@@ -9,8 +9,8 @@ ghost use Rattle.npf_engine_opening.specs.Opening.{Translates, Builds, OpensConn
 ghost use Rattle.npf_engine_opening.specs.Ways.{is_one_of};
 ghost use Rattle.npf_types.specs.declared.key.Way.{Way};
 
-use crate::attempt::{Attempt, Opened};
-use crate::drawing::{DrawnPort, draw};
+use crate::attempt::{Attempt, Opened, Refusal};
+use crate::drawing::draw;
 use crate::starting::{Changes, start};
 use npf_connections::Connections;
 use npf_core::{ConnId, Held};
@@ -21,29 +21,24 @@ use npf_portmap::candidates;
 use npf_types::{Addr, Facts, Way};
 use std::sync::Wait;
 
-/// Opens a connection for the packet. `Full` and `NoNode` come only where the table answered so in this call, `Known` and
-/// `Taken` only where it showed this holder, and `NoPort` only where it showed a holder of each port.
+/// Opens a connection for the packet. It is refused as `Full` and `NoNode` only where the table answered so in this call, as
+/// `Taken` and `Known` only where it showed this holder, and as `NoPort` only where it showed a holder of each port.
 pub fn open<C: Connections<FlowLaw>>(
     rt: &impl Wait,
     conns: &C,
     pass: &mut C::Pass,
     attempt: &Attempt,
 ) -> Opened
-    requires own { C.fits conns.now pass.old }
-    requires legal { IsPass flow_law (C.view pass.old) }
-    requires entered { (C.view pass.old).entered ≡ true }
+    requires inside { IsIn flow_law (C.fits conns.now) C.view pass.old }
     requires idle { (C.view pass.old).builds ≡ [] }
-    ensures own { C.fits conns.now pass.new }
-    ensures legal { IsPass flow_law (C.view pass.new) }
+    ensures inside { IsIn flow_law (C.fits conns.now) C.view pass.new }
     ensures idle { (C.view pass.new).builds ≡ [] }
     ensures opens { Does (C.view pass.old) (C.view pass.new) (λ said. OpensConnection attempt.now said result) }
-    ensures full { result ≡ Opened.Full → IsFullBetween flow_law (C.view pass.old) (C.view pass.new).history }
-    ensures sweep { result ≡ Opened.NoNode → (C.view pass.old).sweeps + 1 ≤ (C.view pass.new).sweeps }
-    ensures sweeps { (C.view pass.old).sweeps ≤ (C.view pass.new).sweeps }
-    ensures epoch { (C.view pass.old).epoch ≤ (C.view pass.new).epoch }
+    ensures full { result ≡ Opened.Refused Refusal.Full → IsFullBetween flow_law (C.view pass.old) (C.view pass.new).history }
+    ensures sweep { result ≡ Opened.Refused Refusal.NoNode → (C.view pass.old).sweeps + 1 ≤ (C.view pass.new).sweeps }
 {
     let Some(id) = conns.begin(rt, pass, attempt.packet) else {
-        return Opened::Full;
+        return Opened::Refused(Refusal::Full);
     };
     build(rt, conns, pass, attempt, id)
 }
@@ -57,26 +52,20 @@ fn build<C: Connections<FlowLaw>>(
     attempt: &Attempt,
     id: ConnId,
 ) -> Opened
-    requires own { C.fits conns.now pass.old }
-    requires legal { IsPass flow_law (C.view pass.old) }
-    requires entered { (C.view pass.old).entered ≡ true }
+    requires inside { IsIn flow_law (C.fits conns.now) C.view pass.old }
     requires builds { (C.view pass.old).builds ≡ id ∷ [] }
     requires ways { HoldsThese (state_of flow_law (C.view pass.old).history) id (is_one_of []) }
-    ensures own { C.fits conns.now pass.new }
-    ensures legal { IsPass flow_law (C.view pass.new) }
+    ensures inside { IsIn flow_law (C.fits conns.now) C.view pass.new }
     ensures idle { (C.view pass.new).builds ≡ [] }
     ensures does { Does (C.view pass.old) (C.view pass.new) (λ said. Builds attempt.now id said result) }
-    ensures begun { result ≢ Opened.Full }
-    ensures sweep { result ≡ Opened.NoNode → (C.view pass.old).sweeps + 1 ≤ (C.view pass.new).sweeps }
-    ensures sweeps { (C.view pass.old).sweeps ≤ (C.view pass.new).sweeps }
-    ensures epoch { (C.view pass.old).epoch ≤ (C.view pass.new).epoch }
+    ensures sweep { result ≡ Opened.Refused Refusal.NoNode → (C.view pass.old).sweeps + 1 ≤ (C.view pass.new).sweeps }
 {
     let forward = key_of(&attempt.facts, attempt.ifid);
     match conns.hold(rt, pass, id, forward, Way::Forward) {
         Held::Done => translate(rt, conns, pass, attempt, id),
         Held::NoNode => {
             conns.abandon(rt, pass, id);
-            Opened::NoNode
+            Opened::Refused(Refusal::NoNode)
         }
         Held::Taken(holder) => {
             conns.abandon(rt, pass, id);
@@ -95,19 +84,13 @@ fn translate<C: Connections<FlowLaw>>(
     attempt: &Attempt,
     id: ConnId,
 ) -> Opened
-    requires own { C.fits conns.now pass.old }
-    requires legal { IsPass flow_law (C.view pass.old) }
-    requires entered { (C.view pass.old).entered ≡ true }
+    requires inside { IsIn flow_law (C.fits conns.now) C.view pass.old }
     requires builds { (C.view pass.old).builds ≡ id ∷ [] }
     requires ways { HoldsThese (state_of flow_law (C.view pass.old).history) id (is_one_of (Way.Forward ∷ [])) }
-    ensures own { C.fits conns.now pass.new }
-    ensures legal { IsPass flow_law (C.view pass.new) }
+    ensures inside { IsIn flow_law (C.fits conns.now) C.view pass.new }
     ensures idle { (C.view pass.new).builds ≡ [] }
     ensures translates { Does (C.view pass.old) (C.view pass.new) (λ said. Translates attempt.now id said result) }
-    ensures begun { result ≢ Opened.Full }
-    ensures sweep { result ≡ Opened.NoNode → (C.view pass.old).sweeps + 1 ≤ (C.view pass.new).sweeps }
-    ensures sweeps { (C.view pass.old).sweeps ≤ (C.view pass.new).sweeps }
-    ensures epoch { (C.view pass.old).epoch ≤ (C.view pass.new).epoch }
+    ensures sweep { result ≡ Opened.Refused Refusal.NoNode → (C.view pass.old).sweeps + 1 ≤ (C.view pass.new).sweeps }
 {
     match attempt.plan {
         MapPlan::Fixed { there, back } => {
@@ -119,17 +102,13 @@ fn translate<C: Connections<FlowLaw>>(
             max,
             first,
         } => match draw(rt, conns, pass, id, addr, &mut candidates(min, max, first)) {
-            DrawnPort::Port(port) => {
+            Ok(port) => {
                 let changes = drawn_changes(&attempt.facts, addr, port);
                 start(rt, conns, pass, attempt, id, changes)
             }
-            DrawnPort::AllTaken => {
+            Err(why) => {
                 conns.abandon(rt, pass, id);
-                Opened::NoPort
-            }
-            DrawnPort::NoNode => {
-                conns.abandon(rt, pass, id);
-                Opened::NoNode
+                Opened::Refused(why)
             }
         },
     }

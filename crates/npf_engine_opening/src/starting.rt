@@ -1,13 +1,13 @@
-ghost use Rattle.std.specs.Prelude.{◌≡◌, ◌≢◌, ◌≤◌, ◌+◌, true, [], ◌∷◌};
+ghost use Rattle.std.specs.Prelude.{◌≡◌, ◌≢◌, ◌≤◌, ◌+◌, [], ◌∷◌};
 ghost use Rattle.npf_core.specs.History.{state_of};
-ghost use Rattle.npf_connections.specs.Pass.{IsPass};
 ghost use Rattle.npf_connections.specs.Said.{Does};
+ghost use Rattle.npf_connections.specs.Stay.{IsIn};
 ghost use Rattle.npf_connections.specs.Ways.{HoldsThese};
 ghost use Rattle.npf_flow.specs.Flows.{flow_law};
 ghost use Rattle.npf_engine_opening.specs.Starting.{StartsConnection, HoldsBackward, flow_of};
 ghost use Rattle.npf_engine_opening.specs.Ways.{is_one_of, ways_before};
 
-use crate::attempt::{Attempt, Opened};
+use crate::attempt::{Attempt, Opened, Refusal};
 use npf_connections::Connections;
 use npf_core::{ConnId, Held};
 use npf_flow::{Flow, FlowLaw, open_flow};
@@ -31,19 +31,13 @@ pub(crate) fn start<C: Connections<FlowLaw>>(
     id: ConnId,
     changes: Changes,
 ) -> Opened
-    requires own { C.fits conns.now pass.old }
-    requires legal { IsPass flow_law (C.view pass.old) }
-    requires entered { (C.view pass.old).entered ≡ true }
+    requires inside { IsIn flow_law (C.fits conns.now) C.view pass.old }
     requires builds { (C.view pass.old).builds ≡ id ∷ [] }
     requires ways { HoldsThese (state_of flow_law (C.view pass.old).history) id (is_one_of (ways_before attempt.now.plan)) }
-    ensures own { C.fits conns.now pass.new }
-    ensures legal { IsPass flow_law (C.view pass.new) }
+    ensures inside { IsIn flow_law (C.fits conns.now) C.view pass.new }
     ensures idle { (C.view pass.new).builds ≡ [] }
     ensures starts { Does (C.view pass.old) (C.view pass.new) (λ said. StartsConnection attempt.now id changes said result) }
-    ensures begun { result ≢ Opened.Full }
-    ensures sweep { result ≡ Opened.NoNode → (C.view pass.old).sweeps + 1 ≤ (C.view pass.new).sweeps }
-    ensures sweeps { (C.view pass.old).sweeps ≤ (C.view pass.new).sweeps }
-    ensures epoch { (C.view pass.old).epoch ≤ (C.view pass.new).epoch }
+    ensures sweep { result ≡ Opened.Refused Refusal.NoNode → (C.view pass.old).sweeps + 1 ≤ (C.view pass.new).sweeps }
 {
     match hold_backward(rt, conns, pass, attempt, id, &changes.there) {
         Held::Done => {
@@ -55,11 +49,11 @@ pub(crate) fn start<C: Connections<FlowLaw>>(
         }
         Held::NoNode => {
             conns.abandon(rt, pass, id);
-            Opened::NoNode
+            Opened::Refused(Refusal::NoNode)
         }
         Held::Taken(holder) => {
             conns.abandon(rt, pass, id);
-            Opened::Taken(holder)
+            Opened::Refused(Refusal::Taken(holder))
         }
     }
 }
@@ -73,19 +67,14 @@ fn hold_backward<C: Connections<FlowLaw>>(
     id: ConnId,
     there: &Change,
 ) -> Held
-    requires own { C.fits conns.now pass.old }
-    requires legal { IsPass flow_law (C.view pass.old) }
-    requires entered { (C.view pass.old).entered ≡ true }
+    requires inside { IsIn flow_law (C.fits conns.now) C.view pass.old }
     requires builds { (C.view pass.old).builds ≡ id ∷ [] }
     requires ways { HoldsThese (state_of flow_law (C.view pass.old).history) id (is_one_of (ways_before attempt.now.plan)) }
-    ensures own { C.fits conns.now pass.new }
-    ensures legal { IsPass flow_law (C.view pass.new) }
+    ensures inside { IsIn flow_law (C.fits conns.now) C.view pass.new }
     ensures builds { (C.view pass.new).builds ≡ id ∷ [] }
     ensures ways { result ≢ Held.Done → HoldsThese (state_of flow_law (C.view pass.new).history) id (is_one_of (ways_before attempt.now.plan)) }
     ensures holds { Does (C.view pass.old) (C.view pass.new) (λ said. HoldsBackward attempt.now id there.now said result) }
     ensures sweep { result ≡ Held.NoNode → (C.view pass.old).sweeps + 1 ≤ (C.view pass.new).sweeps }
-    ensures sweeps { (C.view pass.old).sweeps ≤ (C.view pass.new).sweeps }
-    ensures epoch { (C.view pass.old).epoch ≤ (C.view pass.new).epoch }
 {
     let (forward, backward) = keys_of(&attempt.facts, attempt.ifid, there);
     if backward == forward {

@@ -1,5 +1,6 @@
 -- Passes that are split off one after the other.
-use Rattle.std.proofs.Common.{◌≡◌, ◌-◌, ◌<◌, List, [], ◌∷◌, ◌++◌, length, refl, sym, ap, ◌∙◌, arith, append-nil}
+use Rattle.std.proofs.Common.{◌≡◌, ℕ, ◌-◌, ◌<◌, List, [], ◌∷◌, ◌++◌, length, refl, sym, ap, ◌∙◌, subst, arith, append-nil}
+use Rattle.std.specs.List.{Contains}
 use Rattle.std.proofs.lemmas.List.{length_push}
 use Rattle.std.proofs.lemmas.List.Elements.{All-nil, All-push}
 use Rattle.npf_core.specs.declared.entry.Entry.{Entry}
@@ -28,8 +29,12 @@ module _ {S A R : Type 0} where
       let adds = spread_adds old mid now given before s split in
       let history : given.history ≡ now.history = ap (λ (p : Pass (Entry S A R)). p.history) split.gives in
       let slots : mid.slots ≡ old.slots = ap (λ (p : Pass (Entry S A R)). p.slots) s.left in
+      let number : mid.number ≡ old.number = ap (λ (p : Pass (Entry S A R)). p.number) s.left in
+      let joined : mid.joined ≡ old.joined = ap (λ (p : Pass (Entry S A R)). p.joined) s.left in
       record {
         begins = record { rest = adds.rest; goes_on = history ∙ adds.goes_on };
+        another = λ same. split.another (same ∙ sym number);
+        unlisted = λ listed. split.unlisted (subst (λ (js : List ℕ). Contains js given.number) (sym joined) listed);
         unused = ap (by given.number) history ∙ split.unused;
         rests = split.gives ∙ (ap (λ slots. new_pass slots given.number now.history) slots ∙ ap (λ history. new_pass old.slots given.number history) (sym history));
       }

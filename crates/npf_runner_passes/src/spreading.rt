@@ -1,5 +1,5 @@
-ghost use Rattle.std.specs.Prelude.{◌≡◌, ◌≤◌, ◌<◌, false, All, map, length, vec_len, vec_capacity, IfOk, OnErr};
-ghost use Rattle.npf_connections.specs.Pass.{IsPass};
+ghost use Rattle.std.specs.Prelude.{◌≡◌, ◌≤◌, ◌<◌, All, map, length, vec_len, vec_capacity, IfOk, OnErr};
+ghost use Rattle.npf_connections.specs.Stay.{IsOut};
 ghost use Rattle.npf_runner_passes.specs.Spreading.{Spreads};
 
 use npf_connections::Connections;
@@ -17,15 +17,11 @@ pub fn split_off<R: Wait, L: Law, C: Connections<L>>(
     pass: &mut C::Pass,
     count: u32,
 ) -> Result<Vec<C::Pass>, NoMemory>
-    requires own { C.fits conns.now pass.old }
-    requires legal { IsPass L.meaning (C.view pass.old) }
-    requires out { (C.view pass.old).entered ≡ false }
+    requires out { IsOut L.meaning (C.fits conns.now) C.view pass.old }
     requires places { count < (C.view pass.old).places }
-    ensures own { C.fits conns.now pass.new }
-    ensures legal { IsPass L.meaning (C.view pass.new) }
+    ensures out { IsOut L.meaning (C.fits conns.now) C.view pass.new }
     ensures count { IfOk result (λ given. vec_len given ≡ count) }
-    ensures given { IfOk result (λ given. All (λ pass. C.fits conns.now pass) given.items) }
-    ensures given_legal { IfOk result (λ given. All (λ pass. IsPass L.meaning (C.view pass)) given.items) }
+    ensures given { IfOk result (λ given. All (IsOut L.meaning (C.fits conns.now) C.view) given.items) }
     ensures spreads { IfOk result (λ given. Spreads (C.view pass.old) (C.view pass.new) (map C.view given.items)) }
     ensures same { OnErr result (C.view pass.new ≡ C.view pass.old) }
 {

@@ -1,7 +1,7 @@
-use Rattle.std.proofs.Common.{◌≡◌, ◌≤◌, [], ◌∷◌, length}
+use Rattle.std.proofs.Common.{◌≡◌, [], ◌∷◌, length}
 use Rattle.npf_types.specs.declared.key.Way.{Way}
 use Rattle.npf_core.specs.History.{state_of}
-use Rattle.npf_connections.specs.Pass.{IsPass}
+use Rattle.npf_connections.specs.Stay.{IsIn}
 use Rattle.npf_connections.specs.Ways.{HoldsThese}
 use Rattle.npf_flow.specs.Flows.{flow_law}
 use Rattle.npf_engine_opening.specs.Ways.{is_one_of}
@@ -10,13 +10,10 @@ use Rattle.npf_engine_opening.proofs.drawing.draw.Given as goal
 
 abbrev pub invariant-loop-port : goal.invariant-loop-port
 invariant-loop-port g l =
-    g.C.Connections.fits l.conns l.pass
-    × IsPass flow_law (g.C.Connections.view l.pass)
+    IsIn flow_law (g.C.Connections.fits l.conns) g.C.Connections.view l.pass
     × ((g.C.Connections.view l.pass).builds ≡ l.id ∷ [])
     × HoldsThese (state_of flow_law (g.C.Connections.view l.pass).history) l.id (is_one_of (Way.Forward ∷ []))
     × IsDrawing (g.C.Connections.view l.initial.pass) (g.C.Connections.view l.pass) l.id l.addr l.initial.ports l.ports
-    × ((g.C.Connections.view l.initial.pass).sweeps ≤ (g.C.Connections.view l.pass).sweeps)
-    × ((g.C.Connections.view l.initial.pass).epoch ≤ (g.C.Connections.view l.pass).epoch)
 
 abbrev pub decreases-loop-port : goal.decreases-loop-port
 decreases-loop-port g l = length l.ports

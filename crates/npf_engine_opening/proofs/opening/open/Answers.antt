@@ -1,7 +1,8 @@
 use Rattle.std.proofs.Common.{[], ◌∷◌}
-use Rattle.npf_connections.proofs.SaidLemmas.{same_pass}
+use Rattle.npf_connections.proofs.SaidLemmas.{did_so}
 use Rattle.npf_engine_opening.specs.Opening.{OpensConnection}
 use Rattle.npf_engine_opening.specs.Saying.{claim_said}
+use Rattle.npf_engine_opening.proofs.RoomLemmas.{builds_with_room}
 use Rattle.npf_engine_opening.proofs.SayingLemmas.{did_first}
 use Rattle.npf_engine_opening.proofs.opening.open.Goals as goal
 
@@ -9,12 +10,15 @@ pub returns-in_default-clause-opens : goal.returns-in_default-clause-opens
 returns-in_default-clause-opens g c = record {
   said = [];
   described = OpensConnection.full;
-  did = record { same = same_pass _ _ c.begin.ensures.view; adds = c.in_default.ensures.adds.adds };
+  did = did_so _ _ _ c.begin.ensures.view c.in_default.ensures.adds.adds;
 }
 
 pub returns-clause-opens : goal.returns-clause-opens
 returns-clause-opens g c =
     did_first _ _ _ (claim_said c.args.attempt.now.packet c.in-Some.id ∷ [])
-    (record { same = same_pass _ _ c.begin.ensures.view; adds = c.in-Some.ensures.adds.adds })
+    (did_so _ _ _ c.begin.ensures.view c.in-Some.ensures.adds.adds)
     c.build.ensures.does
     (λ said builds. OpensConnection.begun c.in-Some.id said c.build.result builds)
+
+pub returns-clause-full : goal.returns-clause-full
+returns-clause-full g c = λ full. absurd (builds_with_room c.build.ensures.does.described full)

@@ -1,7 +1,7 @@
 use Rattle.std.proofs.Common.{sym, []}
 use Rattle.npf_types.specs.declared.key.Way.{Way}
 use Rattle.npf_core.specs.History.{state_of}
-use Rattle.npf_connections.proofs.SaidLemmas.{same_pass, did_nothing}
+use Rattle.npf_connections.proofs.SaidLemmas.{did_nothing}
 use Rattle.npf_flow.specs.Flows.{flow_law}
 use Rattle.npf_engine_opening.specs.Saying.{said_by_hold}
 use Rattle.npf_engine_opening.specs.Starting.{HoldsBackward, answer_key}
@@ -33,6 +33,6 @@ returns-clause-holds g c = record {
   said = said_by_hold c.args.id (answer_key c.args.attempt.now c.args.there.now) Way.Backward c.hold.result;
   described = HoldsBackward.two_keys c.hold.result
       (are_two c.args.attempt.now c.args.there.now _ _ c.keys_of.ensures.forward c.keys_of.ensures.backward (sym c.if-eq.ensures));
-  did = did_hold_of _ _ c.args.id (same_pass _ _ c.hold.ensures.view) c.keys_of.result.1 (answer_key c.args.attempt.now c.args.there.now) Way.Backward c.hold.result
+  did = did_hold_of _ _ c.args.id c.hold.ensures.view c.hold.ensures.sweeps c.keys_of.result.1 (answer_key c.args.attempt.now c.args.there.now) Way.Backward c.hold.result
       c.keys_of.ensures.backward c.hold.ensures.adds;
 }

@@ -1,8 +1,9 @@
-use Rattle.std.proofs.Common.{rules, ◌≡◌, ◌∷◌, [], map, sym, ap, subst, ◌∙◌, refl, false}
+use Rattle.std.proofs.Common.{rules, ◌≡◌, ◌∷◌, [], map, sym, subst, refl}
 use Rattle.std.specs.Vec.Iter.{into_iter_items}
 use Rattle.std.proofs.lemmas.List.{nil_from_length}
 use Rattle.std.proofs.lemmas.List.Elements.{All-rest, All-map}
-use Rattle.npf_connections.specs.Pass.{Pass, IsPass}
+use Rattle.npf_connections.specs.Pass.{Pass}
+use Rattle.npf_connections.specs.Stay.{IsOut}
 use Rattle.npf_runner_passes.proofs.GatheringLemmas.{TakesIn, gathers}
 use Rattle.npf_runner_passes.proofs.gathering.take_in.Goals as goal
 
@@ -16,13 +17,9 @@ loop-other-preserved g c =
     let items : before ≡ other ∷ after = c.in-Some.ensures.steps.0 in (
       tt,
       tt,
-      c.join.ensures.own,
-      c.join.ensures.legal,
-      ap (λ (p : Pass _). p.entered) c.join.ensures.joins.takes ∙ inv.4,
-      All-rest (λ other. g.C.Connections.fits c.args.conns.now other) other after before items inv.5,
-      All-rest (λ other. IsPass g.L.Law.meaning (V other)) other after before items inv.6,
-      All-rest (λ other. (V other).entered ≡ false) other after before items inv.7,
-      (λ now t. inv.8 now (subst (λ z. TakesIn (V c.loop-other.pass) (map V z) now) (sym items) (V c.join.new.pass, c.join.ensures.joins, t))),
+      c.join.ensures.out,
+      All-rest (IsOut g.L.Law.meaning (g.C.Connections.fits c.args.conns.now) V) other after before items inv.3,
+      (λ now t. inv.4 now (subst (λ z. TakesIn (V c.loop-other.pass) (map V z) now) (sym items) (V c.join.new.pass, c.join.ensures.joins, t))),
     )
 
 pub returns-clause-gathers : goal.returns-clause-gathers
@@ -32,4 +29,4 @@ returns-clause-gathers g c =
     let none : into_iter_items c.loop-other.other-iterator ≡ [] = nil_from_length (into_iter_items c.loop-other.other-iterator) (search rules) in
     gathers (V c.args.pass.now) (map V c.args.others.items) (V c.loop-other.pass)
     (All-map (λ (p : Pass _). p.joined ≡ []) V c.args.others.items c.requires.unjoined)
-    (inv.8 (V c.loop-other.pass) (subst (λ z. TakesIn (V c.loop-other.pass) (map V z) (V c.loop-other.pass)) (sym none) refl))
+    (inv.4 (V c.loop-other.pass) (subst (λ z. TakesIn (V c.loop-other.pass) (map V z) (V c.loop-other.pass)) (sym none) refl))

@@ -6,7 +6,7 @@ use Rattle.npf_connections.specs.Entries.{entry_of}
 use Rattle.npf_oneturn.specs.Endings.{Plan}
 use Rattle.npf_oneturn.specs.Views.{show}
 use Rattle.npf_oneturn.specs.declared.rule.Ending.TheVariants.{Nothing}
-use Rattle.std.proofs.Common.{arith, [], ◌∷◌}
+use Rattle.std.proofs.Common.{arith, [], ◌∷◌, rules}
 use Rattle.npf_oneturn_store.proofs.RepresentLemmas.{claim_is_act, stays_same}
 use Rattle.npf_connections.proofs.StayLemmas.{claimed_holds_none}
 use Rattle.npf_oneturn.proofs.CallLemmas.{has_slot, represents_here, entered_here, may_ask, may_rest, asked, rested}
@@ -21,47 +21,47 @@ pub end-requires-clause-may : goal.end-requires-clause-may
 end-requires-clause-may g c =
     let m = g.L.Law.meaning in
     let t = c.take.ensures.taken in
-    let r = c.requires.own.1 in
+    let r = c.requires.inside.own.1 in
     let here = represents_here m _ _ t _ c.slot_mut.ensures.value in
     let same = entered_here m _ _ t _ c.slot_mut.ensures.value in
     may_rest m _ _ t Nothing _ _ _ _ refl (stays_same _ _ _ _ _ here c.in_default.ensures.1) (omega (arith, same)) t.tidy.unanswered t.tidy.idle r.place t.stays.claimed t.stays.built
 
-pub returns-in_default-clause-legal : goal.returns-in_default-clause-legal
-returns-in_default-clause-legal g c =
+pub returns-in_default-clause-inside : goal.returns-in_default-clause-inside
+returns-in_default-clause-inside g c =
     let m = g.L.Law.meaning in
     let t = c.take.ensures.taken in
-    let r = c.requires.own.1 in
-    (rested m _ _ t r.lives r.theirs r.place _ _ _ c.end.ensures.ended (ap (λ (p : Plan _ _). p.acts) c.end.ensures.ended.by_plan)).1
+    let r = c.requires.inside.own.1 in
+    record { own = search rules; legal = (rested m _ _ t r.lives r.theirs r.place _ _ _ c.end.ensures.ended (ap (λ (p : Plan _ _). p.acts) c.end.ensures.ended.by_plan)).1; entered = search rules }
 
 pub returns-in_default-clause-adds : goal.returns-in_default-clause-adds
 returns-in_default-clause-adds g c =
     let m = g.L.Law.meaning in
     let t = c.take.ensures.taken in
-    let r = c.requires.own.1 in
+    let r = c.requires.inside.own.1 in
     (rested m _ _ t r.lives r.theirs r.place _ _ _ c.end.ensures.ended (ap (λ (p : Plan _ _). p.acts) c.end.ensures.ended.by_plan)).0
 
 pub end-requires-2-clause-may : goal.end-requires-2-clause-may
 end-requires-2-clause-may g c =
     let m = g.L.Law.meaning in
     let t = c.take.ensures.taken in
-    let r = c.requires.own.1 in
+    let r = c.requires.inside.own.1 in
     let here = represents_here m _ _ t _ c.slot_mut.ensures.value in
     let same = entered_here m _ _ t _ c.slot_mut.ensures.value in
     let acted = claim_is_act m _ _ _ _ c.in-Some.id here c.in-Some.ensures in
-    may_ask m _ _ t c.requires.entered (Claim c.args.n c.in-Some.id.slot) _ acted.may (λ id e. absurd cc) (λ id why e. absurd cc) same (acted.goes_on c.args.pass.now.seat.me.0.number c.args.n)
+    may_ask m _ _ t c.requires.inside.entered (Claim c.args.n c.in-Some.id.slot) _ acted.may (λ id e. absurd cc) (λ id why e. absurd cc) same (acted.goes_on c.args.pass.now.seat.me.0.number c.args.n)
 
-pub returns-clause-legal : goal.returns-clause-legal
-returns-clause-legal g c =
+pub returns-clause-inside : goal.returns-clause-inside
+returns-clause-inside g c =
     let m = g.L.Law.meaning in
     let t = c.take.ensures.taken in
-    let r = c.requires.own.1 in
-    (asked m _ _ t r.lives r.theirs r.place (Claim c.args.n c.in-Some.id.slot) _ _ c.end-2.ensures.ended).legal
+    let r = c.requires.inside.own.1 in
+    record { own = search rules; legal = (asked m _ _ t r.lives r.theirs r.place (Claim c.args.n c.in-Some.id.slot) _ _ c.end-2.ensures.ended).legal; entered = search rules }
 
 pub returns-clause-adds : goal.returns-clause-adds
 returns-clause-adds g c =
     let m = g.L.Law.meaning in
     let t = c.take.ensures.taken in
-    let r = c.requires.own.1 in
+    let r = c.requires.inside.own.1 in
     let here = represents_here m _ _ t _ c.slot_mut.ensures.value in
     let same = entered_here m _ _ t _ c.slot_mut.ensures.value in
     let acted = claim_is_act m _ _ _ _ c.in-Some.id here c.in-Some.ensures in
@@ -72,7 +72,7 @@ pub returns-clause-bare : goal.returns-clause-bare
 returns-clause-bare g c =
     let m = g.L.Law.meaning in
     let t = c.take.ensures.taken in
-    let r = c.requires.own.1 in
+    let r = c.requires.inside.own.1 in
     let here = represents_here m _ _ t _ c.slot_mut.ensures.value in
     let same = entered_here m _ _ t _ c.slot_mut.ensures.value in
     let acted = claim_is_act m _ _ _ _ c.in-Some.id here c.in-Some.ensures in

@@ -1,3 +1,4 @@
+use Rattle.std.proofs.Common.{rules}
 use Rattle.npf_oneturn.proofs.CollectLemmas.{may_collect, collected}
 use Rattle.npf_oneturn_store.proofs.RepresentLemmas.{shows_dead, shows_bare}
 use Rattle.npf_oneturn.proofs.CallLemmas.{has_slot, represents_here, entered_here}
@@ -12,7 +13,7 @@ pub collect_contents-requires : goal.collect_contents-requires
 collect_contents-requires g c =
     let m = g.L.Law.meaning in
     let t = c.take.ensures.taken in
-    let r = c.requires.own.1 in
+    let r = c.requires.out.own.1 in
     let here = represents_here m _ _ t _ c.slot_mut.ensures.value in
     let same = entered_here m _ _ t _ c.slot_mut.ensures.value in
     λ id dead way. (shows_bare _ _ _ _ id way here).0 (t.bare id ((shows_dead _ _ _ _ id here).1 dead) way)
@@ -21,29 +22,29 @@ pub end-requires-clause-may : goal.end-requires-clause-may
 end-requires-clause-may g c =
     let m = g.L.Law.meaning in
     let t = c.take.ensures.taken in
-    let r = c.requires.own.1 in
+    let r = c.requires.out.own.1 in
     let here = represents_here m _ _ t _ c.slot_mut.ensures.value in
     let same = entered_here m _ _ t _ c.slot_mut.ensures.value in
     let e = c.collect_contents.ensures in
-    may_collect m _ _ t c.requires.out _ _ here same e.entered (λ none. e.frees none _ _ c.args.pass.now.seat.me.0.number here) e.same
+    may_collect m _ _ t c.requires.out.out _ _ here same e.entered (λ none. e.frees none _ _ c.args.pass.now.seat.me.0.number here) e.same
 
-pub returns-clause-legal : goal.returns-clause-legal
-returns-clause-legal g c =
+pub returns-clause-out : goal.returns-clause-out
+returns-clause-out g c =
     let m = g.L.Law.meaning in
     let t = c.take.ensures.taken in
-    let r = c.requires.own.1 in
-    (collected m _ _ t r.lives r.theirs r.place c.requires.out _ _ c.end.ensures.ended).legal
+    let r = c.requires.out.own.1 in
+    record { own = search rules; legal = (collected m _ _ t r.lives r.theirs r.place c.requires.out.out _ _ c.end.ensures.ended).legal; out = search rules }
 
 pub returns-clause-adds : goal.returns-clause-adds
 returns-clause-adds g c =
     let m = g.L.Law.meaning in
     let t = c.take.ensures.taken in
-    let r = c.requires.own.1 in
-    (collected m _ _ t r.lives r.theirs r.place c.requires.out _ _ c.end.ensures.ended).adds
+    let r = c.requires.out.own.1 in
+    (collected m _ _ t r.lives r.theirs r.place c.requires.out.out _ _ c.end.ensures.ended).adds
 
 pub returns-clause-clean : goal.returns-clause-clean
 returns-clause-clean g c =
     let m = g.L.Law.meaning in
     let t = c.take.ensures.taken in
-    let r = c.requires.own.1 in
-    (collected m _ _ t r.lives r.theirs r.place c.requires.out _ _ c.end.ensures.ended).clean
+    let r = c.requires.out.own.1 in
+    (collected m _ _ t r.lives r.theirs r.place c.requires.out.out _ _ c.end.ensures.ended).clean

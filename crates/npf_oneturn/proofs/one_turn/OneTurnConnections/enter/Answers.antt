@@ -2,7 +2,7 @@ use Rattle.std.proofs.Common.{refl, ap}
 use Rattle.npf_oneturn.specs.Endings.{Plan}
 use Rattle.npf_oneturn.specs.Views.{one_if}
 use Rattle.npf_oneturn.specs.declared.rule.Ending.TheVariants.{Enters}
-use Rattle.std.proofs.Common.{true, true≢false, arith}
+use Rattle.std.proofs.Common.{true, true≢false, arith, rules}
 use Rattle.npf_oneturn.proofs.CallLemmas.{has_slot, represents_here, entered_here, may_rest, rested}
 use Rattle.npf_oneturn.proofs.one_turn.OneTurnConnections.enter.Goals as goal
 
@@ -15,22 +15,22 @@ pub end-requires-clause-may : goal.end-requires-clause-may
 end-requires-clause-may g c =
     let m = g.L.Law.meaning in
     let t = c.take.ensures.taken in
-    let r = c.requires.own.1 in
+    let r = c.requires.out.own.1 in
     let here = represents_here m _ _ t _ c.slot_mut.ensures.value in
     let same = entered_here m _ _ t _ c.slot_mut.ensures.value in
-    let none = ap one_if c.requires.out in
+    let none = ap one_if c.requires.out.out in
     may_rest m _ _ t Enters true _ _ _ refl here (omega (arith, same, none)) (λ e. absurd (true≢false e)) (λ e. absurd (true≢false e)) r.place t.stays.claimed t.stays.built
 
-pub returns-clause-legal : goal.returns-clause-legal
-returns-clause-legal g c =
+pub returns-clause-inside : goal.returns-clause-inside
+returns-clause-inside g c =
     let m = g.L.Law.meaning in
     let t = c.take.ensures.taken in
-    let r = c.requires.own.1 in
-    (rested m _ _ t r.lives r.theirs r.place _ _ _ c.end.ensures.ended (ap (λ (p : Plan _ _). p.acts) c.end.ensures.ended.by_plan)).1
+    let r = c.requires.out.own.1 in
+    record { own = search rules; legal = (rested m _ _ t r.lives r.theirs r.place _ _ _ c.end.ensures.ended (ap (λ (p : Plan _ _). p.acts) c.end.ensures.ended.by_plan)).1; entered = search rules }
 
 pub returns-clause-adds : goal.returns-clause-adds
 returns-clause-adds g c =
     let m = g.L.Law.meaning in
     let t = c.take.ensures.taken in
-    let r = c.requires.own.1 in
+    let r = c.requires.out.own.1 in
     (rested m _ _ t r.lives r.theirs r.place _ _ _ c.end.ensures.ended (ap (λ (p : Plan _ _). p.acts) c.end.ensures.ended.by_plan)).0.adds

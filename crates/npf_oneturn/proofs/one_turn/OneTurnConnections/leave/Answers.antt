@@ -2,7 +2,7 @@ use Rattle.std.proofs.Common.{refl, ap}
 use Rattle.npf_oneturn.specs.Endings.{Plan}
 use Rattle.npf_oneturn.specs.Views.{one_if}
 use Rattle.npf_oneturn.specs.declared.rule.Ending.TheVariants.{Leaves}
-use Rattle.std.proofs.Common.{false, arith}
+use Rattle.std.proofs.Common.{false, arith, rules}
 use Rattle.npf_oneturn.proofs.StayLemmas.{nothing_in}
 use Rattle.npf_oneturn.proofs.CallLemmas.{has_slot, represents_here, entered_here, may_rest, rested}
 use Rattle.npf_oneturn.proofs.one_turn.OneTurnConnections.leave.Goals as goal
@@ -16,32 +16,32 @@ pub end-requires-clause-may : goal.end-requires-clause-may
 end-requires-clause-may g c =
     let m = g.L.Law.meaning in
     let t = c.take.ensures.taken in
-    let r = c.requires.own.1 in
+    let r = c.requires.inside.own.1 in
     let here = represents_here m _ _ t _ c.slot_mut.ensures.value in
     let same = entered_here m _ _ t _ c.slot_mut.ensures.value in
-    let one = ap one_if c.requires.entered in
+    let one = ap one_if c.requires.inside.entered in
     may_rest m _ _ t Leaves false _ _ _ refl here (omega (arith, same, one, t.counted, t.counts)) (λ e. refl) (λ e. c.requires.idle) r.place (λ id n. absurd (nothing_in id n)) t.stays.built
 
-pub returns-clause-legal : goal.returns-clause-legal
-returns-clause-legal g c =
+pub returns-clause-out : goal.returns-clause-out
+returns-clause-out g c =
     let m = g.L.Law.meaning in
     let t = c.take.ensures.taken in
-    let r = c.requires.own.1 in
-    (rested m _ _ t r.lives r.theirs r.place _ _ _ c.end.ensures.ended (ap (λ (p : Plan _ _). p.acts) c.end.ensures.ended.by_plan)).1
+    let r = c.requires.inside.own.1 in
+    record { own = search rules; legal = (rested m _ _ t r.lives r.theirs r.place _ _ _ c.end.ensures.ended (ap (λ (p : Plan _ _). p.acts) c.end.ensures.ended.by_plan)).1; out = search rules }
 
 pub returns-clause-adds : goal.returns-clause-adds
 returns-clause-adds g c =
     let m = g.L.Law.meaning in
     let t = c.take.ensures.taken in
-    let r = c.requires.own.1 in
+    let r = c.requires.inside.own.1 in
     (rested m _ _ t r.lives r.theirs r.place _ _ _ c.end.ensures.ended (ap (λ (p : Plan _ _). p.acts) c.end.ensures.ended.by_plan)).0.adds
 
 pub overflow_sub-slot_mut : goal.overflow_sub-slot_mut
 overflow_sub-slot_mut g c =
     let m = g.L.Law.meaning in
     let t = c.take.ensures.taken in
-    let r = c.requires.own.1 in
+    let r = c.requires.inside.own.1 in
     let here = represents_here m _ _ t _ c.slot_mut.ensures.value in
     let same = entered_here m _ _ t _ c.slot_mut.ensures.value in
-    let one = ap one_if c.requires.entered in
+    let one = ap one_if c.requires.inside.entered in
     omega (arith, same, one, t.counted, t.counts)

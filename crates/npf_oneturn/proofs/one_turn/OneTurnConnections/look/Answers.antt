@@ -1,3 +1,4 @@
+use Rattle.std.proofs.Common.{rules}
 use Rattle.npf_core.specs.declared.act.Act.TheVariants.{Look}
 use Rattle.npf_oneturn_store.proofs.RepresentLemmas.{look_is_act}
 use Rattle.npf_oneturn.proofs.CallLemmas.{has_slot, represents_here, entered_here, may_ask, asked}
@@ -12,22 +13,22 @@ pub end-requires-clause-may : goal.end-requires-clause-may
 end-requires-clause-may g c =
     let m = g.L.Law.meaning in
     let t = c.take.ensures.taken in
-    let r = c.requires.own.1 in
+    let r = c.requires.inside.own.1 in
     let here = represents_here m _ _ t _ c.slot_mut.ensures.value in
     let same = entered_here m _ _ t _ c.slot_mut.ensures.value in
-    may_ask m _ _ t c.requires.entered (Look c.args.n c.args.key) _ tt (λ id e. absurd cc) (λ id why e. absurd cc) same
+    may_ask m _ _ t c.requires.inside.entered (Look c.args.n c.args.key) _ tt (λ id e. absurd cc) (λ id why e. absurd cc) same
     ((look_is_act m _ _ _ c.args.key here).goes_on c.args.pass.now.seat.me.0.number c.args.n)
 
-pub returns-clause-legal : goal.returns-clause-legal
-returns-clause-legal g c =
-    let r = c.requires.own.1 in
-    (asked g.L.Law.meaning _ _ c.take.ensures.taken r.lives r.theirs r.place (Look c.args.n c.args.key) _ _ c.end.ensures.ended).legal
+pub returns-clause-inside : goal.returns-clause-inside
+returns-clause-inside g c =
+    let r = c.requires.inside.own.1 in
+    record { own = search rules; legal = (asked g.L.Law.meaning _ _ c.take.ensures.taken r.lives r.theirs r.place (Look c.args.n c.args.key) _ _ c.end.ensures.ended).legal; entered = search rules }
 
 pub returns-clause-adds : goal.returns-clause-adds
 returns-clause-adds g c =
     let m = g.L.Law.meaning in
     let t = c.take.ensures.taken in
-    let r = c.requires.own.1 in
+    let r = c.requires.inside.own.1 in
     let here = represents_here m _ _ t _ c.slot_mut.ensures.value in
     let same = entered_here m _ _ t _ c.slot_mut.ensures.value in
     rw (c.holder-found.ensures, here.held c.args.key) (asked m _ _ t r.lives r.theirs r.place (Look c.args.n c.args.key) _ _ c.end.ensures.ended).adds

@@ -1,24 +1,25 @@
-use Rattle.std.proofs.Common.{ap, ◌∙◌, arith}
+use Rattle.std.proofs.Common.{ap, ◌∙◌, arith, rules}
 use Rattle.npf_oneturn.proofs.SplitLemmas.{splits, gets_number, giver_pass, split_so}
 use Rattle.npf_oneturn.proofs.one_turn.OneTurnConnections.split.Goals as goal
 
 pub split_seat-seat-requires : goal.split_seat-seat-requires
 split_seat-seat-requires g c =
-    let of = c.requires.own.0 in
-    let r = c.requires.own.1 in
+    let of = c.requires.out.own.0 in
+    let r = c.requires.out.own.1 in
     (of.same, omega (arith, of.words), splits g.L.Law.meaning _ _ _ r.lives r.turn c.requires.places)
 
 pub load-requires : goal.load-requires
 load-requires g c =
-    let of = c.requires.own.0 in
+    let of = c.requires.out.own.0 in
     let e = c.split_seat-seat.ensures in (
       e.3 ∙ of.same,
       omega (arith, of.words),
       gets_number g.L.Law.meaning _ _ _ _ _ (ap (λ y. y.0.lives) e.4) (ap (λ y. y.0.turn) e.4) (rw e.4 (omega arith)) (ap (λ y. y.0.entered) e.4),
     )
 
-pub returns-clause-legal : goal.returns-clause-legal
-returns-clause-legal g c = rw c.split_seat-seat.ensures.2 (giver_pass g.L.Law.meaning c.args.pass.now.seat.me.0 c.requires.places c.requires.own.1.most c.requires.legal)
+pub returns-clause-out : goal.returns-clause-out
+returns-clause-out g c =
+    record { own = search rules; legal = rw c.split_seat-seat.ensures.2 (giver_pass g.L.Law.meaning c.args.pass.now.seat.me.0 c.requires.places c.requires.out.own.1.most c.requires.out.legal); out = search rules }
 
 pub returns-clause-splits : goal.returns-clause-splits
 returns-clause-splits g c =

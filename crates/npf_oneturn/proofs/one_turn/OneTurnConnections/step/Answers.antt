@@ -1,3 +1,4 @@
+use Rattle.std.proofs.Common.{rules}
 use Rattle.npf_core.specs.declared.act.Act.TheVariants.{Step}
 use Rattle.npf_oneturn_store.proofs.RepresentLemmas.{step_is_act}
 use Rattle.npf_oneturn.proofs.CallLemmas.{has_slot, represents_here, entered_here, may_ask, asked, known_claimed}
@@ -12,23 +13,23 @@ pub end-requires-clause-may : goal.end-requires-clause-may
 end-requires-clause-may g c =
     let m = g.L.Law.meaning in
     let t = c.take.ensures.taken in
-    let r = c.requires.own.1 in
+    let r = c.requires.inside.own.1 in
     let here = represents_here m _ _ t _ c.slot_mut.ensures.value in
     let same = entered_here m _ _ t _ c.slot_mut.ensures.value in
     let acted = step_is_act m _ _ _ _ c.args.id c.args.way c.args.arg.now _ here (known_claimed _ _ c.args.id t.stays c.requires.known) c.step-stepped.ensures in
-    may_ask m _ _ t c.requires.entered (Step c.args.n c.args.id c.args.way c.args.arg.now) _ (known_claimed _ _ c.args.id t.stays c.requires.known) (λ id e. absurd cc) (λ id why e. absurd cc) same
+    may_ask m _ _ t c.requires.inside.entered (Step c.args.n c.args.id c.args.way c.args.arg.now) _ (known_claimed _ _ c.args.id t.stays c.requires.known) (λ id e. absurd cc) (λ id why e. absurd cc) same
     (acted.goes_on c.args.pass.now.seat.me.0.number c.args.n)
 
-pub returns-clause-legal : goal.returns-clause-legal
-returns-clause-legal g c =
-    let r = c.requires.own.1 in
-    (asked g.L.Law.meaning _ _ c.take.ensures.taken r.lives r.theirs r.place (Step c.args.n c.args.id c.args.way c.args.arg.now) _ _ c.end.ensures.ended).legal
+pub returns-clause-inside : goal.returns-clause-inside
+returns-clause-inside g c =
+    let r = c.requires.inside.own.1 in
+    record { own = search rules; legal = (asked g.L.Law.meaning _ _ c.take.ensures.taken r.lives r.theirs r.place (Step c.args.n c.args.id c.args.way c.args.arg.now) _ _ c.end.ensures.ended).legal; entered = search rules }
 
 pub returns-clause-adds : goal.returns-clause-adds
 returns-clause-adds g c =
     let m = g.L.Law.meaning in
     let t = c.take.ensures.taken in
-    let r = c.requires.own.1 in
+    let r = c.requires.inside.own.1 in
     let here = represents_here m _ _ t _ c.slot_mut.ensures.value in
     let same = entered_here m _ _ t _ c.slot_mut.ensures.value in
     let acted = step_is_act m _ _ _ _ c.args.id c.args.way c.args.arg.now _ here (known_claimed _ _ c.args.id t.stays c.requires.known) c.step-stepped.ensures in
