@@ -1,16 +1,16 @@
 ghost use Rattle.std.specs.Prelude.{◌≡◌, ◌≤◌, ◌<◌, ◌^◌, ◌+◌, ◌-◌, ◌++◌, ℕ, IfOk, length, slice_index, take, drop};
 ghost use Rattle.npf_connections.specs.Pass.{all_places};
-ghost use Rattle.npf_cells.specs.Layout.{pool_words, word_count};
-ghost use Rattle.npf_cells.specs.Opening.{opening_words, with_past};
-ghost use Rattle.npf_cells.specs.Sums.{numbers_below};
+ghost use Rattle.npf_cells_words.specs.Layout.{pool_words, word_count};
+ghost use Rattle.npf_cells_words.specs.Opening.{opening_words, with_past};
+ghost use Rattle.npf_seats.specs.Sums.{numbers_below};
 
 use crate::kinds::{
     AdvancesEpoch, LoadsEpoch, PinsReader, ProtectsReader, ScansReader, UnpinsReader,
 };
-use crate::layout::{EPOCH, FIRST_EPOCH, IDLE, Layout, Pool, READERS, reader_place};
+use npf_cells_words::{EPOCH, FIRST_EPOCH, IDLE, Layout, Pool, READERS, reader_place};
 use crate::passing::{GetsBorn, Gives, Reads, TakesIn};
 use crate::rule::CellsRule;
-use crate::views::CellView;
+use npf_cells_rule::CellView;
 use arrayvec::ArrayVec;
 use atomic_table::{Refused, Seat, Table};
 use npf_core::Law;
@@ -46,12 +46,15 @@ impl<L: Law, H: KeyHash> Cells<L, H> {
     ghost use Rattle.npf_connections.specs.Joining.{IsSplit, IsJoined};
     ghost use Rattle.npf_connections.specs.Pass.{IsPass, IsFirstPass, all_places};
     ghost use Rattle.npf_connections.specs.Worn.{last_epoch};
-    ghost use Rattle.npf_cells.specs.declared.views.Pin.TheVariants.{Idle, Pinned};
-    ghost use Rattle.npf_cells.specs.Cells.{idle_side, empty_handed, unread_side};
-    ghost use Rattle.npf_cells.specs.Epochs.{HasScannedAll};
-    ghost use Rattle.npf_cells.specs.Kinds.{HasLoaded, IsMet, with_epochs, loading, pinning, protecting, unpinned, scanning, advancing};
-    ghost use Rattle.npf_cells.specs.Moves.{joined_epochs, joined_pools, joined_trie};
-    ghost use Rattle.npf_cells.specs.Passes.{IsPassOf, cell_pass};
+    ghost use Rattle.npf_cells_pins.specs.declared.pin.Pin.TheVariants.{Idle, Pinned};
+    ghost use Rattle.npf_cells_pins.specs.Epochs.{idle_side, HasScannedAll};
+    ghost use Rattle.npf_cells_lives.specs.Pools.{empty_handed};
+    ghost use Rattle.npf_cells_leaves.specs.Trie.{unread_side};
+    ghost use Rattle.npf_cells_pins.specs.Pinning.{HasLoaded, IsMet, loading, pinning, protecting, scanning, advancing, joined_epochs};
+    ghost use Rattle.npf_cells_rule.specs.Views.{with_epochs};
+    ghost use Rattle.npf_cells_moves.specs.Kinds.{unpinned};
+    ghost use Rattle.npf_cells_moves.specs.Moves.{joined_pools, joined_trie};
+    ghost use Rattle.npf_cells_rule.specs.Passes.{IsPassOf, cell_pass};
 
     /// A table of so many slots and nodes, and its first pass. All the memory that it ever has is taken here.
     pub fn new(
@@ -250,7 +253,7 @@ fn vacant_homes<S: Copy>(alloc: Global, slots: u32) -> Result<Vec<Option<(S, u64
 }
 
 // Each reader place, in order.
-#[tactic(auto, using(crate::proofs::SumLemmas::below_next))]
+#[tactic(auto, using(npf_seats::proofs::SumLemmas::below_next))]
 fn all_readers() -> ArrayVec<u32, 66>
     ensures { result.items ≡ numbers_below all_places }
 {

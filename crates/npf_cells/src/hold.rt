@@ -2,7 +2,7 @@ ghost use Rattle.std.specs.Prelude.{◌≡◌};
 
 use crate::cells::{CellPass, Cells};
 use crate::rule::Running;
-use crate::views::CellView;
+use npf_cells_rule::CellView;
 use atomic_table::Play;
 use npf_core::{ConnId, Law};
 use npf_paths::{Cell, KeyHash, Place};
@@ -16,7 +16,7 @@ pub(crate) trait HoldAim {
     ghost use Rattle.npf_core.specs.declared.conn_id.ConnId.{ConnId};
     ghost use Rattle.npf_paths.specs.declared.place.Place.{Place};
     ghost use Rattle.npf_paths.specs.declared.cell.Cell.{Cell};
-    ghost use Rattle.npf_cells.specs.declared.layout.Layout.{Layout};
+    ghost use Rattle.npf_cells_words.specs.declared.layout.Layout.{Layout};
 
     ghost layout: { Layout };
 
@@ -58,17 +58,17 @@ pub(crate) struct LoadsToHold<L: Law, H: KeyHash, W> {
 
 impl<L: Law, H: KeyHash, W: HoldAim> Play<Running<L::State>, CellView<L::State, L::Arg, L::Reply>>
     for LoadsToHold<L, H, W> {
-    ghost use Rattle.npf_cells.specs.HoldKinds.{LoadsForHold};
+    ghost use Rattle.npf_cells_holds.specs.HoldKinds.{LoadsForHold};
 
     ghost then = { LoadsForHold L.meaning H.digest W.layout W.id W.key W.way W.place };
 }
 
 impl<L: Law, H: KeyHash> Cells<L, H> {
     ghost use Rattle.std.specs.Prelude.{◌≡◌};
-    ghost use Rattle.npf_cells.specs.HoldKinds.{MayHoldSo, HoldsAt};
-    ghost use Rattle.npf_cells.specs.LookKinds.{StandsOnPath};
-    ghost use Rattle.npf_cells.specs.Passes.{IsPassOf, IsProtected};
-    ghost use Rattle.npf_cells.specs.Trie.{IsInTrie};
+    ghost use Rattle.npf_cells_holds.specs.HoldKinds.{MayHoldSo, HoldsAt};
+    ghost use Rattle.npf_cells_holds.specs.LookKinds.{StandsOnPath};
+    ghost use Rattle.npf_cells_rule.specs.Passes.{IsPassOf, IsProtected};
+    ghost use Rattle.npf_cells_words.specs.Places.{IsInTrie};
 
     // Loads a place of the path of a key that is to be held.
     pub(crate) fn hold_place<W: HoldAim>(

@@ -1,11 +1,11 @@
-use crate::views::CellView;
+use npf_cells_rule::CellView;
 use atomic_table::Play;
 
 /// A load of the epoch.
 pub(crate) struct LoadsEpoch;
 
 impl<F, S, A, R> Play<F, CellView<S, A, R>> for LoadsEpoch {
-    ghost use Rattle.npf_cells.specs.Kinds.{Loads};
+    ghost use Rattle.npf_cells_moves.specs.Kinds.{Loads};
 
     ghost then = { Loads };
 }
@@ -14,7 +14,7 @@ impl<F, S, A, R> Play<F, CellView<S, A, R>> for LoadsEpoch {
 pub(crate) struct PinsReader;
 
 impl<F, S, A, R> Play<F, CellView<S, A, R>> for PinsReader {
-    ghost use Rattle.npf_cells.specs.Kinds.{Pins};
+    ghost use Rattle.npf_cells_moves.specs.Kinds.{Pins};
 
     ghost then = { Pins };
 }
@@ -23,7 +23,7 @@ impl<F, S, A, R> Play<F, CellView<S, A, R>> for PinsReader {
 pub(crate) struct ProtectsReader;
 
 impl<F, S, A, R> Play<F, CellView<S, A, R>> for ProtectsReader {
-    ghost use Rattle.npf_cells.specs.Kinds.{Protects};
+    ghost use Rattle.npf_cells_moves.specs.Kinds.{Protects};
 
     ghost then = { Protects };
 }
@@ -32,7 +32,7 @@ impl<F, S, A, R> Play<F, CellView<S, A, R>> for ProtectsReader {
 pub(crate) struct UnpinsReader;
 
 impl<F, S, A, R> Play<F, CellView<S, A, R>> for UnpinsReader {
-    ghost use Rattle.npf_cells.specs.Kinds.{Unpins};
+    ghost use Rattle.npf_cells_moves.specs.Kinds.{Unpins};
 
     ghost then = { Unpins };
 }
@@ -41,7 +41,7 @@ impl<F, S, A, R> Play<F, CellView<S, A, R>> for UnpinsReader {
 pub(crate) struct ScansReader;
 
 impl<F, S, A, R> Play<F, CellView<S, A, R>> for ScansReader {
-    ghost use Rattle.npf_cells.specs.Kinds.{Scans};
+    ghost use Rattle.npf_cells_moves.specs.Kinds.{Scans};
 
     ghost then = { Scans };
 }
@@ -50,7 +50,7 @@ impl<F, S, A, R> Play<F, CellView<S, A, R>> for ScansReader {
 pub(crate) struct AdvancesEpoch;
 
 impl<F, S, A, R> Play<F, CellView<S, A, R>> for AdvancesEpoch {
-    ghost use Rattle.npf_cells.specs.Kinds.{RaisesEpoch};
+    ghost use Rattle.npf_cells_moves.specs.Kinds.{RaisesEpoch};
 
     ghost then = { RaisesEpoch };
 }

@@ -5,18 +5,16 @@
 // move: making, splitting and joining passes. Epochs are those of Fraser, "Practical lock-freedom" (2004), section 5.2.3, with the
 // second load of crossbeam-epoch: what a pin protects is fixed by an epoch that is loaded after it.
 //
-// The one contract: the rule of specs/Cells.antt, the conjunction of seven parts (seats, epochs, pools, trie, connections, stored
+// The one contract: the rule of npf_cells_rule (IsCells), the conjunction of seven parts (seats, epochs, pools, trie, connections, stored
 // words, locks) over words and sides of the views, of which some serve two of them, and that a spent seat owns nothing. A kind of step
-// proves what it changes. What the rule says stands in laws.rt: a node has one owner at most and a slot one builder, a protected pass
+// proves what it changes, in the crates below this one (npf_cells_moves, npf_cells_takes, npf_cells_holds). What the rule says stands in
+// npf_cells_rule's laws: a node has one owner at most and a slot one builder, a protected pass
 // holds the epoch back, no pass raises it without counting it, and what stands where a key's path ends names the key's holder.
 #![tactic(auto)]
 
-mod aim;
 mod cells;
 mod hold;
 mod kinds;
-mod laws;
-mod layout;
 mod locks;
 mod look;
 mod passing;
@@ -25,14 +23,13 @@ mod private;
 mod publish;
 mod rule;
 mod slots;
-mod views;
 
-pub use aim::Aim;
 pub use cells::{CellPass, Cells};
-pub use laws::{claim_law, count_law, protection_law, trie_law};
-pub use layout::{LAST_EPOCH, Layout, Pool, READERS};
+pub use npf_cells_holds::Aim;
+pub use npf_cells_leaves::{LoadedLeaf, Meeting, PathPlace, SeenCell, TrieSide};
+pub use npf_cells_lives::{PoolSide, StoredWord};
+pub use npf_cells_pins::{EpochSide, Pin};
+pub use npf_cells_rule::{CellView, claim_law, count_law, protection_law, trie_law};
+pub use npf_cells_words::{LAST_EPOCH, Layout, Pool, READERS};
+pub use npf_seats::SeatSide;
 pub use rule::CellsRule;
-pub use views::{
-    CellView, EpochSide, LoadedLeaf, Meeting, PathPlace, Pin, PoolSide, SeatSide, SeenCell,
-    StoredWord, TrieSide,
-};

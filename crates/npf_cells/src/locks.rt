@@ -2,7 +2,7 @@ ghost use Rattle.std.specs.Prelude.{◌≡◌};
 
 use crate::cells::{CellPass, Cells};
 use crate::rule::Running;
-use crate::views::CellView;
+use npf_cells_rule::CellView;
 use atomic_table::Play;
 use npf_core::Law;
 use npf_paths::{KeyHash, Lock};
@@ -17,7 +17,7 @@ const LOCKED: u64 = 1;
 pub(crate) trait LockAim {
     ghost use Rattle.std.specs.Prelude.{ℕ};
     ghost use Rattle.npf_paths.specs.declared.place.Lock.{Lock};
-    ghost use Rattle.npf_cells.specs.declared.layout.Layout.{Layout};
+    ghost use Rattle.npf_cells_words.specs.declared.layout.Layout.{Layout};
 
     ghost layout: { Layout };
 
@@ -44,7 +44,7 @@ pub(crate) struct GetsLock<L: Law, H: KeyHash, W> {
 
 impl<L: Law, H: KeyHash, W: LockAim> Play<Running<L::State>, CellView<L::State, L::Arg, L::Reply>>
     for GetsLock<L, H, W> {
-    ghost use Rattle.npf_cells.specs.LockKinds.{TriesLock};
+    ghost use Rattle.npf_cells_holds.specs.LockKinds.{TriesLock};
 
     ghost then = { TriesLock L.meaning H.digest W.layout W.lock };
 }
@@ -54,17 +54,17 @@ pub(crate) struct StoresNode<W> {
 }
 
 impl<F, S, A, R, W: LockAim> Play<F, CellView<S, A, R>> for StoresNode<W> {
-    ghost use Rattle.npf_cells.specs.LockKinds.{StoresState};
+    ghost use Rattle.npf_cells_holds.specs.LockKinds.{StoresState};
 
     ghost then = { StoresState W.layout W.lock W.state };
 }
 
 impl<L: Law, H: KeyHash> Cells<L, H> {
     ghost use Rattle.std.specs.Prelude.{◌≡◌, ◌<◌, ◌↔◌, ℕ, true, false, Contains};
-    ghost use Rattle.npf_cells.specs.LockKinds.{GotLock, locking, unlocking};
-    ghost use Rattle.npf_cells.specs.Locks.{IsLockOf, lock_at};
-    ghost use Rattle.npf_cells.specs.LookKinds.{with_trie};
-    ghost use Rattle.npf_cells.specs.Passes.{IsPassOf, IsProtected};
+    ghost use Rattle.npf_cells_holds.specs.LockKinds.{GotLock, locking, unlocking};
+    ghost use Rattle.npf_cells_words.specs.Places.{IsLockOf, lock_at};
+    ghost use Rattle.npf_cells_rule.specs.Views.{with_trie};
+    ghost use Rattle.npf_cells_rule.specs.Passes.{IsPassOf, IsProtected};
 
     /// Tries to get a lock. Answers whether it did: false exactly where a pass had it.
     pub fn try_lock(&self, pass: &mut CellPass<L>, lock: Lock) -> bool

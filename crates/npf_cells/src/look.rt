@@ -1,10 +1,10 @@
 ghost use Rattle.std.specs.Prelude.{◌≡◌};
 
-use crate::aim::Aim;
+use npf_cells_holds::Aim;
 use crate::cells::{CellPass, Cells};
-use crate::layout::{Pool, key_field};
+use npf_cells_words::{Pool, key_field};
 use crate::rule::Running;
-use crate::views::CellView;
+use npf_cells_rule::CellView;
 use atomic_table::Play;
 use npf_core::Law;
 use npf_paths::{Cell, KeyHash, Place};
@@ -16,7 +16,7 @@ pub(crate) trait LookAim {
     ghost use Rattle.std.specs.Prelude.{ℕ};
     ghost use Rattle.npf_types.specs.declared.key.Key.{Key};
     ghost use Rattle.npf_paths.specs.declared.place.Place.{Place};
-    ghost use Rattle.npf_cells.specs.declared.layout.Layout.{Layout};
+    ghost use Rattle.npf_cells_words.specs.declared.layout.Layout.{Layout};
 
     ghost layout: { Layout };
 
@@ -44,7 +44,7 @@ impl LookAim for Brand {
 pub(crate) trait KeyAim {
     ghost use Rattle.std.specs.Prelude.{ℕ};
     ghost use Rattle.npf_types.specs.declared.key.Way.{Way};
-    ghost use Rattle.npf_cells.specs.declared.layout.Layout.{Layout};
+    ghost use Rattle.npf_cells_words.specs.declared.layout.Layout.{Layout};
 
     ghost layout: { Layout };
 
@@ -75,7 +75,7 @@ pub(crate) struct LooksAtPlace<L: Law, H: KeyHash, W> {
 
 impl<L: Law, H: KeyHash, W: LookAim> Play<Running<L::State>, CellView<L::State, L::Arg, L::Reply>>
     for LooksAtPlace<L, H, W> {
-    ghost use Rattle.npf_cells.specs.LookKinds.{LoadsPlace};
+    ghost use Rattle.npf_cells_holds.specs.LookKinds.{LoadsPlace};
 
     ghost then = { LoadsPlace L.meaning H.digest W.layout W.packet W.key W.place };
 }
@@ -85,18 +85,19 @@ pub(crate) struct LoadsKeyWord<W> {
 }
 
 impl<F, S, A, R, W: KeyAim> Play<F, CellView<S, A, R>> for LoadsKeyWord<W> {
-    ghost use Rattle.npf_cells.specs.LookKinds.{LoadsKey};
+    ghost use Rattle.npf_cells_holds.specs.LookKinds.{LoadsKey};
 
     ghost then = { LoadsKey W.layout W.slot W.way W.word };
 }
 
 impl<L: Law, H: KeyHash> Cells<L, H> {
     ghost use Rattle.std.specs.Prelude.{◌≡◌, ◌<◌, ◌⊎◌};
-    ghost use Rattle.npf_cells.specs.Conns.{IsBuiltIn};
-    ghost use Rattle.npf_cells.specs.Aims.{MayAim, TellsAim, aim_key};
-    ghost use Rattle.npf_cells.specs.LookKinds.{StandsOnPath, LooksAt, IsLeafOf, ShowsKey, ShowsStoredKey, with_trie, reading};
-    ghost use Rattle.npf_cells.specs.Passes.{IsPassOf, IsProtected};
-    ghost use Rattle.npf_cells.specs.Trie.{IsInTrie};
+    ghost use Rattle.npf_cells_lives.specs.Conns.{IsBuiltIn};
+    ghost use Rattle.npf_cells_holds.specs.Aims.{MayAim, TellsAim, aim_key};
+    ghost use Rattle.npf_cells_holds.specs.LookKinds.{StandsOnPath, LooksAt, IsLeafOf, ShowsKey, ShowsStoredKey, reading};
+    ghost use Rattle.npf_cells_rule.specs.Views.{with_trie};
+    ghost use Rattle.npf_cells_rule.specs.Passes.{IsPassOf, IsProtected};
+    ghost use Rattle.npf_cells_words.specs.Places.{IsInTrie};
 
     /// Loads a place of the trie that is on the key's path, where the pass stands there. A node leads on. To look, any other cell is the
     /// end, and its answer from this load on. To hold, the leaf of the same key is the end.

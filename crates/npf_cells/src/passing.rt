@@ -1,5 +1,5 @@
 use crate::rule::Running;
-use crate::views::CellView;
+use npf_cells_rule::CellView;
 use atomic_table::{Join, Play, Split};
 use npf_core::Law;
 use std::marker::PhantomData;
@@ -8,7 +8,7 @@ use std::marker::PhantomData;
 pub(crate) struct Gives;
 
 impl<S, A, R> Split<CellView<S, A, R>> for Gives {
-    ghost use Rattle.npf_cells.specs.Moves.{gives_reader, given_view};
+    ghost use Rattle.npf_cells_moves.specs.Moves.{gives_reader, given_view};
 
     ghost left = { gives_reader };
 
@@ -19,7 +19,8 @@ impl<S, A, R> Split<CellView<S, A, R>> for Gives {
 pub(crate) struct TakesIn;
 
 impl<S, A, R> Join<CellView<S, A, R>> for TakesIn {
-    ghost use Rattle.npf_cells.specs.Moves.{takes_in, nothing_left};
+    ghost use Rattle.npf_cells_moves.specs.Moves.{takes_in};
+    ghost use Rattle.npf_cells_rule.specs.Views.{nothing_left};
 
     ghost both = { takes_in };
 
@@ -32,7 +33,7 @@ pub(crate) struct GetsBorn<L: Law> {
 }
 
 impl<L: Law> Play<Option<(L::State, u64)>, CellView<L::State, L::Arg, L::Reply>> for GetsBorn<L> {
-    ghost use Rattle.npf_cells.specs.Moves.{IsBorn};
+    ghost use Rattle.npf_cells_moves.specs.Moves.{IsBorn};
 
     ghost then = { IsBorn L.meaning };
 }
@@ -43,7 +44,7 @@ pub(crate) struct Reads<L: Law> {
 }
 
 impl<L: Law> Play<Option<(L::State, u64)>, CellView<L::State, L::Arg, L::Reply>> for Reads<L> {
-    ghost use Rattle.npf_cells.specs.Moves.{HasRead};
+    ghost use Rattle.npf_cells_moves.specs.Moves.{HasRead};
 
     ghost then = { HasRead L.meaning };
 }

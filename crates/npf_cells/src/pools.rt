@@ -2,9 +2,9 @@ ghost use Rattle.std.specs.Prelude.{◌≡◌, ◌-◌, ◌*◌, ◌%◌, ◌^�
 ghost use Rattle.std.specs.Int.{bit_at};
 
 use crate::cells::{CellPass, Cells};
-use crate::layout::Pool;
+use npf_cells_words::Pool;
 use crate::rule::Running;
-use crate::views::CellView;
+use npf_cells_rule::CellView;
 use atomic_table::Play;
 use npf_core::Law;
 use npf_paths::KeyHash;
@@ -13,8 +13,8 @@ use std::marker::{Brand, PhantomData};
 // What a load of a pool's word is told.
 pub(crate) trait SweepAim {
     ghost use Rattle.std.specs.Prelude.{ℕ};
-    ghost use Rattle.npf_cells.specs.declared.layout.Layout.{Layout};
-    ghost use Rattle.npf_cells.specs.declared.layout.Pool.{Pool};
+    ghost use Rattle.npf_cells_words.specs.declared.layout.Layout.{Layout};
+    ghost use Rattle.npf_cells_words.specs.declared.layout.Pool.{Pool};
 
     ghost layout: { Layout };
 
@@ -24,7 +24,7 @@ pub(crate) trait SweepAim {
 }
 
 impl SweepAim for Brand {
-    ghost use Rattle.npf_cells.specs.declared.layout.Pool.TheVariants.{Slots};
+    ghost use Rattle.npf_cells_words.specs.declared.layout.Pool.TheVariants.{Slots};
 
     ghost layout = { record { slots = 0; nodes = 0 } };
 
@@ -36,7 +36,7 @@ impl SweepAim for Brand {
 // What a step on a node's bit is told.
 pub(crate) trait NodeAim {
     ghost use Rattle.std.specs.Prelude.{ℕ};
-    ghost use Rattle.npf_cells.specs.declared.layout.Layout.{Layout};
+    ghost use Rattle.npf_cells_words.specs.declared.layout.Layout.{Layout};
 
     ghost layout: { Layout };
 
@@ -57,7 +57,7 @@ pub(crate) struct SweepsPool<L: Law, H: KeyHash, W> {
 
 impl<L: Law, H: KeyHash, W: SweepAim> Play<Running<L::State>, CellView<L::State, L::Arg, L::Reply>>
     for SweepsPool<L, H, W> {
-    ghost use Rattle.npf_cells.specs.PoolKinds.{Sweeps};
+    ghost use Rattle.npf_cells_takes.specs.PoolKinds.{Sweeps};
 
     ghost then = { Sweeps L.meaning H.digest W.layout W.pool W.word };
 }
@@ -70,7 +70,7 @@ pub(crate) struct TakesNode<L: Law, H: KeyHash, W> {
 
 impl<L: Law, H: KeyHash, W: NodeAim> Play<Running<L::State>, CellView<L::State, L::Arg, L::Reply>>
     for TakesNode<L, H, W> {
-    ghost use Rattle.npf_cells.specs.PoolKinds.{ClaimsNode};
+    ghost use Rattle.npf_cells_takes.specs.PoolKinds.{ClaimsNode};
 
     ghost then = { ClaimsNode L.meaning H.digest W.layout W.node };
 }
@@ -83,7 +83,7 @@ pub(crate) struct ReturnsNode<L: Law, H: KeyHash, W> {
 
 impl<L: Law, H: KeyHash, W: NodeAim> Play<Running<L::State>, CellView<L::State, L::Arg, L::Reply>>
     for ReturnsNode<L, H, W> {
-    ghost use Rattle.npf_cells.specs.PoolKinds.{GivesNodeBack};
+    ghost use Rattle.npf_cells_takes.specs.PoolKinds.{GivesNodeBack};
 
     ghost then = { GivesNodeBack L.meaning H.digest W.layout W.node };
 }
@@ -91,11 +91,13 @@ impl<L: Law, H: KeyHash, W: NodeAim> Play<Running<L::State>, CellView<L::State, 
 impl<L: Law, H: KeyHash> Cells<L, H> {
     ghost use Rattle.std.specs.Prelude.{◌≡◌, ◌<◌, ◌↔◌, ◌==◌, ◌+◌, ◌%◌, true, false, ℕ, length, Contains};
     ghost use Rattle.std.specs.Int.{bit_at};
-    ghost use Rattle.npf_cells.specs.declared.layout.Pool.TheVariants.{Slots, Nodes};
-    ghost use Rattle.npf_cells.specs.Layout.{pool_at, pool_places, pool_words, place_word};
-    ghost use Rattle.npf_cells.specs.Passes.{IsPassOf, IsProtected};
-    ghost use Rattle.npf_cells.specs.PoolKinds.{StoodSo, NeedsNode, with_pools, sweeping, claiming_node, giving_back};
-    ghost use Rattle.npf_cells.specs.SlotKinds.{HasClaimed};
+    ghost use Rattle.npf_cells_words.specs.declared.layout.Pool.TheVariants.{Slots, Nodes};
+    ghost use Rattle.npf_cells_words.specs.Layout.{pool_at, pool_places, pool_words, place_word};
+    ghost use Rattle.npf_cells_rule.specs.Passes.{IsPassOf, IsProtected};
+    ghost use Rattle.npf_cells_rule.specs.Stood.{StoodSo};
+    ghost use Rattle.npf_cells_takes.specs.PoolKinds.{NeedsNode, sweeping, claiming_node, giving_back};
+    ghost use Rattle.npf_cells_rule.specs.Views.{with_pools};
+    ghost use Rattle.npf_cells_takes.specs.SlotKinds.{HasClaimed};
 
     /// Loads a word of a pool: a bit for each of 64 places, set where it is taken or past the last place.
     pub fn load_pool(&self, pass: &mut CellPass<L>, pool: Pool, word: u32) -> u64

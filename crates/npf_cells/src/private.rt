@@ -1,9 +1,9 @@
 ghost use Rattle.std.specs.Prelude.{◌≡◌};
 
 use crate::cells::{CellPass, Cells};
-use crate::layout::{INCARNATION, Pool};
+use npf_cells_words::{INCARNATION, Pool};
 use crate::rule::Running;
-use crate::views::CellView;
+use npf_cells_rule::CellView;
 use atomic_table::Play;
 use npf_core::Law;
 use npf_paths::KeyHash;
@@ -23,8 +23,8 @@ impl IncAim for Brand {
 // What a store in an own word is told.
 pub(crate) trait StoreAim {
     ghost use Rattle.std.specs.Prelude.{ℕ};
-    ghost use Rattle.npf_cells.specs.declared.layout.Layout.{Layout};
-    ghost use Rattle.npf_cells.specs.declared.layout.Pool.{Pool};
+    ghost use Rattle.npf_cells_words.specs.declared.layout.Layout.{Layout};
+    ghost use Rattle.npf_cells_words.specs.declared.layout.Pool.{Pool};
 
     ghost layout: { Layout };
 
@@ -36,7 +36,7 @@ pub(crate) trait StoreAim {
 }
 
 impl StoreAim for Brand {
-    ghost use Rattle.npf_cells.specs.declared.layout.Pool.TheVariants.{Slots};
+    ghost use Rattle.npf_cells_words.specs.declared.layout.Pool.TheVariants.{Slots};
 
     ghost layout = { record { slots = 0; nodes = 0 } };
 
@@ -52,7 +52,7 @@ pub(crate) struct LoadsIncarnation<W> {
 }
 
 impl<F, S, A, R, W: IncAim> Play<F, CellView<S, A, R>> for LoadsIncarnation<W> {
-    ghost use Rattle.npf_cells.specs.PrivateKinds.{LoadsInc};
+    ghost use Rattle.npf_cells_takes.specs.PrivateKinds.{LoadsInc};
 
     ghost then = { LoadsInc W.slot };
 }
@@ -65,18 +65,18 @@ pub(crate) struct StoresInOwn<L: Law, H: KeyHash, W> {
 
 impl<L: Law, H: KeyHash, W: StoreAim> Play<Running<L::State>, CellView<L::State, L::Arg, L::Reply>>
     for StoresInOwn<L, H, W> {
-    ghost use Rattle.npf_cells.specs.PrivateKinds.{StoresPrivate};
+    ghost use Rattle.npf_cells_takes.specs.PrivateKinds.{StoresPrivate};
 
     ghost then = { StoresPrivate L.meaning H.digest W.layout W.pool W.place W.field };
 }
 
 impl<L: Law, H: KeyHash> Cells<L, H> {
     ghost use Rattle.std.specs.Prelude.{◌≡◌, ◌<◌, ◌⊎◌};
-    ghost use Rattle.npf_cells.specs.Conns.{IsBuiltIn};
-    ghost use Rattle.npf_cells.specs.Layout.{field_count, pool_places};
-    ghost use Rattle.npf_cells.specs.Passes.{IsPassOf};
-    ghost use Rattle.npf_cells.specs.PoolKinds.{with_pools};
-    ghost use Rattle.npf_cells.specs.PrivateKinds.{ShowsInc, ShowsLeafInc, HasLeafIn, MayStore, storing};
+    ghost use Rattle.npf_cells_lives.specs.Conns.{IsBuiltIn};
+    ghost use Rattle.npf_cells_words.specs.Layout.{field_count, pool_places};
+    ghost use Rattle.npf_cells_rule.specs.Passes.{IsPassOf};
+    ghost use Rattle.npf_cells_rule.specs.Views.{with_pools};
+    ghost use Rattle.npf_cells_takes.specs.PrivateKinds.{ShowsInc, ShowsLeafInc, HasLeafIn, MayStore, storing};
 
     /// Loads the incarnation of a slot in which the pass is building a connection, or of the leaf that it loaded last: that
     /// connection's, or the one before it where the pass that is building it hasn't stored it yet.

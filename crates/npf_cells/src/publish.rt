@@ -1,10 +1,10 @@
 ghost use Rattle.std.specs.Prelude.{◌≡◌};
 
-use crate::aim::Aim;
+use npf_cells_holds::Aim;
 use crate::cells::{CellPass, Cells};
 use crate::hold::HoldAim;
 use crate::rule::Running;
-use crate::views::CellView;
+use npf_cells_rule::CellView;
 use atomic_table::Play;
 use npf_core::{ConnId, Law};
 use npf_paths::{Cell, KeyHash, Place};
@@ -19,7 +19,7 @@ pub(crate) struct PublishesKey<L: Law, H: KeyHash, W> {
 
 impl<L: Law, H: KeyHash, W: HoldAim> Play<Running<L::State>, CellView<L::State, L::Arg, L::Reply>>
     for PublishesKey<L, H, W> {
-    ghost use Rattle.npf_cells.specs.PublishKinds.{PublishesFor};
+    ghost use Rattle.npf_cells_holds.specs.PublishKinds.{PublishesFor};
 
     ghost then = { PublishesFor L.meaning H.digest W.layout W.id W.key W.way W.place W.cell };
 }
@@ -28,18 +28,18 @@ impl<L: Law, H: KeyHash, W: HoldAim> Play<Running<L::State>, CellView<L::State, 
 pub(crate) struct StoresSame;
 
 impl<F, S, A, R> Play<F, CellView<S, A, R>> for StoresSame {
-    ghost use Rattle.npf_cells.specs.PublishKinds.{StoresAgain};
+    ghost use Rattle.npf_cells_holds.specs.PublishKinds.{StoresAgain};
 
     ghost then = { StoresAgain };
 }
 
 impl<L: Law, H: KeyHash> Cells<L, H> {
     ghost use Rattle.std.specs.Prelude.{◌≡◌};
-    ghost use Rattle.npf_cells.specs.LookKinds.{with_trie};
+    ghost use Rattle.npf_cells_rule.specs.Views.{with_trie};
     ghost use Rattle.npf_paths.specs.Paths.{IsEnd};
-    ghost use Rattle.npf_cells.specs.Passes.{IsPassOf, IsProtected};
-    ghost use Rattle.npf_cells.specs.PublishKinds.{aim_now, MayPublish, MayPublishFor, Published, HasHeld, SeesLocked, publishing};
-    ghost use Rattle.npf_cells.specs.Trie.{IsInTrie};
+    ghost use Rattle.npf_cells_rule.specs.Passes.{IsPassOf, IsProtected};
+    ghost use Rattle.npf_cells_holds.specs.PublishKinds.{aim_now, MayPublish, MayPublishFor, Published, HasHeld, SeesLocked, publishing};
+    ghost use Rattle.npf_cells_words.specs.Places.{IsInTrie};
 
     /// Stores in a place of the trie whose lock the pass has, and which it loaded since it got it. To hold a key, the connection's leaf goes
     /// where nothing stands; where the leaf of another key does, new nodes go there that lead on to both, one a level, down to and with

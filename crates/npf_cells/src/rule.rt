@@ -1,5 +1,5 @@
-use crate::layout::Layout;
-use crate::views::CellView;
+use npf_cells_words::Layout;
+use npf_cells_rule::CellView;
 use atomic_table::TableRule;
 use npf_core::Law;
 use npf_paths::KeyHash;
@@ -21,7 +21,7 @@ impl<L: Law, H: KeyHash> TableRule<
     CellView<L::State, L::Arg, L::Reply>,
     Layout,
 > for CellsRule<L, H> {
-    ghost use Rattle.npf_cells.specs.Cells.{IsCells, first_cell_view};
+    ghost use Rattle.npf_cells_rule.specs.Cells.{IsCells, first_cell_view};
 
     ghost holds = { IsCells L.meaning H.digest };
 

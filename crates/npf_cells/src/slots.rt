@@ -1,10 +1,10 @@
 ghost use Rattle.std.specs.Prelude.{◌≡◌};
 
 use crate::cells::{CellPass, Cells};
-use crate::layout::Pool;
+use npf_cells_words::Pool;
 use crate::pools::{is_clear, place_bit};
 use crate::rule::Running;
-use crate::views::CellView;
+use npf_cells_rule::CellView;
 use atomic_table::Play;
 use npf_core::Law;
 use npf_paths::KeyHash;
@@ -13,7 +13,7 @@ use std::marker::{Brand, PhantomData};
 // What a step on a slot's bit is told.
 pub(crate) trait SlotAim {
     ghost use Rattle.std.specs.Prelude.{ℕ};
-    ghost use Rattle.npf_cells.specs.declared.layout.Layout.{Layout};
+    ghost use Rattle.npf_cells_words.specs.declared.layout.Layout.{Layout};
 
     ghost layout: { Layout };
 
@@ -38,7 +38,7 @@ pub(crate) struct TakesSlot<L: Law, H: KeyHash, W> {
 
 impl<L: Law, H: KeyHash, W: SlotAim> Play<Running<L::State>, CellView<L::State, L::Arg, L::Reply>>
     for TakesSlot<L, H, W> {
-    ghost use Rattle.npf_cells.specs.SlotKinds.{ClaimsSlot};
+    ghost use Rattle.npf_cells_takes.specs.SlotKinds.{ClaimsSlot};
 
     ghost then = { ClaimsSlot L.meaning H.digest W.layout W.packet W.slot };
 }
@@ -46,11 +46,12 @@ impl<L: Law, H: KeyHash, W: SlotAim> Play<Running<L::State>, CellView<L::State, 
 impl<L: Law, H: KeyHash> Cells<L, H> {
     ghost use Rattle.std.specs.Prelude.{◌≡◌, ◌<◌, ◌↔◌, ◌%◌, true, false};
     ghost use Rattle.std.specs.Int.{bit_at};
-    ghost use Rattle.npf_cells.specs.declared.layout.Pool.TheVariants.{Slots};
-    ghost use Rattle.npf_cells.specs.Layout.{place_word};
-    ghost use Rattle.npf_cells.specs.Passes.{IsPassOf, IsProtected};
-    ghost use Rattle.npf_cells.specs.PoolKinds.{StoodSo, with_pools};
-    ghost use Rattle.npf_cells.specs.SlotKinds.{HasClaimed};
+    ghost use Rattle.npf_cells_words.specs.declared.layout.Pool.TheVariants.{Slots};
+    ghost use Rattle.npf_cells_words.specs.Layout.{place_word};
+    ghost use Rattle.npf_cells_rule.specs.Passes.{IsPassOf, IsProtected};
+    ghost use Rattle.npf_cells_rule.specs.Stood.{StoodSo};
+    ghost use Rattle.npf_cells_rule.specs.Views.{with_pools};
+    ghost use Rattle.npf_cells_takes.specs.SlotKinds.{HasClaimed};
 
     // Claims a slot for the packet n, unless it is claimed. Answers whether it did.
     pub(crate) fn claim_slot(&self, pass: &mut CellPass<L>, slot: u32, n: u64) -> bool

@@ -1,7 +1,7 @@
 -- What a pass knows of the epoch once it has entered.
 use Rattle.std.specs.Prelude.{◌≡◌, ℕ, ◌≤◌}
-use Rattle.npf_cells.specs.declared.views.EpochSide.{EpochSide}
-use Rattle.npf_cells.specs.Kinds.{loading, pinning, protecting}
+use Rattle.npf_cells_pins.specs.declared.pin.EpochSide.{EpochSide}
+use Rattle.npf_cells_pins.specs.Pinning.{loading, pinning, protecting}
 use Rattle.npf_connections.specs.Worn.{last_epoch}
 
 -- the pass pinned an epoch that it had loaded, and is protected by one that it loaded after the pin

@@ -1,6 +1,6 @@
 -- When a try to raise the epoch succeeds.
 use Rattle.std.specs.Prelude.{◌≡◌, ◌<◌, []}
-use Rattle.npf_cells.specs.declared.views.EpochSide.{EpochSide}
+use Rattle.npf_cells_pins.specs.declared.pin.EpochSide.{EpochSide}
 use Rattle.npf_connections.specs.Worn.{last_epoch}
 
 -- the epoch that the pass loaded isn't the last one, no reader that it scanned since is pinned in another, and its last step on the

@@ -1,7 +1,8 @@
 ghost use Rattle.std.specs.Prelude.{◌≡◌, []};
-ghost use Rattle.npf_cells.specs.declared.views.Pin.TheVariants.{Idle};
-ghost use Rattle.npf_cells.specs.Kinds.{with_epochs, unpinned};
-ghost use Rattle.npf_cells.specs.Passes.{IsPassOf, IsProtected};
+ghost use Rattle.npf_cells_pins.specs.declared.pin.Pin.TheVariants.{Idle};
+ghost use Rattle.npf_cells_rule.specs.Views.{with_epochs};
+ghost use Rattle.npf_cells_moves.specs.Kinds.{unpinned};
+ghost use Rattle.npf_cells_rule.specs.Passes.{IsPassOf, IsProtected};
 ghost use Rattle.npf_epoch.specs.Stays.{HasEntered};
 
 use npf_cells::{CellPass, Cells};

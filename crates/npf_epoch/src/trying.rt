@@ -1,7 +1,7 @@
 ghost use Rattle.std.specs.Prelude.{◌≡◌, ◌↔◌, ◌+◌, ◌≤◌, ◌<◌, ◌==◌, ◌||◌, true, false, [], if◌then◌else◌};
-ghost use Rattle.npf_cells.specs.Epochs.{HasScannedAll};
-ghost use Rattle.npf_cells.specs.Kinds.{with_epochs};
-ghost use Rattle.npf_cells.specs.Passes.{IsPassOf};
+ghost use Rattle.npf_cells_pins.specs.Epochs.{HasScannedAll};
+ghost use Rattle.npf_cells_rule.specs.Views.{with_epochs};
+ghost use Rattle.npf_cells_rule.specs.Passes.{IsPassOf};
 ghost use Rattle.npf_connections.specs.Worn.{last_epoch};
 ghost use Rattle.npf_epoch.specs.Tries.{CanRaise, scanning_on};
 

@@ -5,12 +5,14 @@ use Rattle.std.proofs.lemmas.Bool.{cases_eq, cases_lt}
 use Rattle.atomic_table.specs.Table.{Me}
 use Rattle.npf_types.specs.declared.key.Key.{Key}
 use Rattle.npf_core.specs.Meaning.{Meaning}
-use Rattle.npf_cells.specs.declared.layout.Layout.{Layout}
-use Rattle.npf_cells.specs.declared.layout.Pool.{Pool}
-use Rattle.npf_cells.specs.declared.layout.Pool.TheVariants.{Slots, Nodes}
-use Rattle.npf_cells.specs.declared.views.CellView.{CellView}
-use Rattle.npf_cells.specs.Layout.{pool_at, pool_places, pool_words}
-use Rattle.npf_cells.specs.PoolKinds.{with_pools, row_after, sweeping, StoodSo}
+use Rattle.npf_cells_words.specs.declared.layout.Layout.{Layout}
+use Rattle.npf_cells_words.specs.declared.layout.Pool.{Pool}
+use Rattle.npf_cells_words.specs.declared.layout.Pool.TheVariants.{Slots, Nodes}
+use Rattle.npf_cells_rule.specs.declared.view.CellView.{CellView}
+use Rattle.npf_cells_words.specs.Layout.{pool_at, pool_places, pool_words}
+use Rattle.npf_cells_rule.specs.Views.{with_pools}
+use Rattle.npf_cells_takes.specs.PoolKinds.{row_after, sweeping}
+use Rattle.npf_cells_rule.specs.Stood.{StoodSo}
 use Rattle.npf_pool.specs.Take.{searching, having_swept, StoodFull}
 
 -- a full word goes on with the row, any other breaks it off

@@ -2,13 +2,13 @@
 use Rattle.std.specs.Prelude.{◌≡◌, ℕ, ◌+◌, ◌-◌, ◌^◌, ◌≤◌, ◌∷◌, min}
 use Rattle.npf_types.specs.declared.key.Key.{Key}
 use Rattle.npf_core.specs.Meaning.{Meaning}
-use Rattle.npf_cells.specs.declared.layout.Layout.{Layout}
-use Rattle.npf_cells.specs.declared.layout.Pool.{Pool}
-use Rattle.npf_cells.specs.declared.layout.Pool.TheVariants.{Slots, Nodes}
-use Rattle.npf_cells.specs.declared.views.CellView.{CellView}
-use Rattle.npf_cells.specs.declared.views.PoolSide.{PoolSide}
-use Rattle.npf_cells.specs.Layout.{pool_at}
-use Rattle.npf_cells.specs.PoolKinds.{StoodSo}
+use Rattle.npf_cells_words.specs.declared.layout.Layout.{Layout}
+use Rattle.npf_cells_words.specs.declared.layout.Pool.{Pool}
+use Rattle.npf_cells_words.specs.declared.layout.Pool.TheVariants.{Slots, Nodes}
+use Rattle.npf_cells_rule.specs.declared.view.CellView.{CellView}
+use Rattle.npf_cells_lives.specs.declared.pools.PoolSide.{PoolSide}
+use Rattle.npf_cells_words.specs.Layout.{pool_at}
+use Rattle.npf_cells_rule.specs.Stood.{StoodSo}
 
 -- loads of a pool's words that completed no row: those of the slots' words leave the row of the nodes as it is
 abbrev pub searching : Pool → PoolSide → PoolSide → PoolSide

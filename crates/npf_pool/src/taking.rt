@@ -1,10 +1,11 @@
 ghost use Rattle.std.specs.Prelude.{◌≡◌, ◌≢◌, ◌-◌, ◌^◌, ◌<◌, ℕ, IfSome, IfNone, Contains};
 ghost use Rattle.std.specs.Int.{bit_at};
-ghost use Rattle.npf_cells.specs.declared.layout.Pool.TheVariants.{Slots, Nodes};
-ghost use Rattle.npf_cells.specs.Layout.{pool_places, pool_words};
-ghost use Rattle.npf_cells.specs.Passes.{IsPassOf, IsProtected};
-ghost use Rattle.npf_cells.specs.PoolKinds.{NeedsNode, with_pools};
-ghost use Rattle.npf_cells.specs.SlotKinds.{HasClaimed};
+ghost use Rattle.npf_cells_words.specs.declared.layout.Pool.TheVariants.{Slots, Nodes};
+ghost use Rattle.npf_cells_words.specs.Layout.{pool_places, pool_words};
+ghost use Rattle.npf_cells_rule.specs.Passes.{IsPassOf, IsProtected};
+ghost use Rattle.npf_cells_takes.specs.PoolKinds.{NeedsNode};
+ghost use Rattle.npf_cells_rule.specs.Views.{with_pools};
+ghost use Rattle.npf_cells_takes.specs.SlotKinds.{HasClaimed};
 ghost use Rattle.npf_pool.specs.Take.{searching, taking, having_swept, CountsSweep, StoodFull};
 
 use npf_cells::{CellPass, Cells, Pool};

@@ -13,15 +13,16 @@ use Rattle.npf_core.specs.Machine.{HoldsNone}
 use Rattle.npf_core.specs.Meaning.{Meaning}
 use Rattle.npf_connections.specs.Entries.{entry_of}
 use Rattle.npf_connections.proofs.StayLemmas.{claimed_holds_none}
-use Rattle.npf_cells.specs.declared.layout.Layout.{Layout}
-use Rattle.npf_cells.specs.declared.layout.Pool.TheVariants.{Slots}
-use Rattle.npf_cells.specs.declared.views.CellView.{CellView}
-use Rattle.npf_cells.specs.Conns.{IsBuiltIn}
-use Rattle.npf_cells.specs.HoldKinds.{MayHoldSo}
-use Rattle.npf_cells.specs.Passes.{cell_pass}
-use Rattle.npf_cells.specs.PoolKinds.{others_than, with_pools}
-use Rattle.npf_cells.specs.PrivateKinds.{ShowsInc, MayStoreInSlot, storing}
-use Rattle.npf_cells.specs.SlotKinds.{HasClaimed}
+use Rattle.npf_cells_words.specs.declared.layout.Layout.{Layout}
+use Rattle.npf_cells_words.specs.declared.layout.Pool.TheVariants.{Slots}
+use Rattle.npf_cells_rule.specs.declared.view.CellView.{CellView}
+use Rattle.npf_cells_lives.specs.Conns.{IsBuiltIn}
+use Rattle.npf_cells_holds.specs.HoldKinds.{MayHoldSo}
+use Rattle.npf_cells_rule.specs.Passes.{cell_pass}
+use Rattle.npf_seats.specs.Sums.{others_than}
+use Rattle.npf_cells_rule.specs.Views.{with_pools}
+use Rattle.npf_cells_takes.specs.PrivateKinds.{ShowsInc, MayStoreInSlot, storing}
+use Rattle.npf_cells_takes.specs.SlotKinds.{HasClaimed}
 use Rattle.npf_pool_beginning.specs.Begins.{HasBegun}
 
 -- what was left out isn't among the others

@@ -3,9 +3,9 @@ use Rattle.std.specs.Prelude.{◌≡◌, ◌<◌, Contains}
 use Rattle.npf_types.specs.declared.key.Way.{Way}
 use Rattle.npf_core.specs.declared.conn_id.ConnId.{ConnId}
 use Rattle.npf_core.specs.Meaning.{Meaning}
-use Rattle.npf_cells.specs.declared.layout.Layout.{Layout}
-use Rattle.npf_cells.specs.declared.views.CellView.{CellView}
-use Rattle.npf_cells.specs.HoldKinds.{MayHoldSo}
+use Rattle.npf_cells_words.specs.declared.layout.Layout.{Layout}
+use Rattle.npf_cells_rule.specs.declared.view.CellView.{CellView}
+use Rattle.npf_cells_holds.specs.HoldKinds.{MayHoldSo}
 
 -- the pass is building the connection, has stored its incarnation, and may hold a key of each way for it
 pub record HasBegun {S A R : Type 0} (m : Meaning S A R) (layout : Layout) (v : CellView S A R) (id : ConnId) : Type 0 where

@@ -5,7 +5,7 @@
 #![tactic(auto)]
 
 ghost use Rattle.std.specs.Prelude.{◌≡◌, IfSome};
-ghost use Rattle.npf_cells.specs.Passes.{IsPassOf, IsProtected};
+ghost use Rattle.npf_cells_rule.specs.Passes.{IsPassOf, IsProtected};
 ghost use Rattle.npf_pool_beginning.specs.Begins.{HasBegun, KeepsStay};
 
 use npf_cells::{CellPass, Cells, Pool};

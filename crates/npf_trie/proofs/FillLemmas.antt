@@ -12,19 +12,19 @@ use Rattle.npf_paths.specs.declared.cell.Cell.TheVariants.{Empty, Leaf, Node, Ma
 use Rattle.npf_paths.specs.declared.place.Lock.{Lock}
 use Rattle.npf_paths.specs.declared.place.Place.{Place}
 use Rattle.npf_paths.specs.Places.{lock_of}
-use Rattle.npf_cells.specs.declared.aim.Aim.{Aim}
-use Rattle.npf_cells.specs.declared.layout.Layout.{Layout}
-use Rattle.npf_cells.specs.declared.views.CellView.{CellView}
-use Rattle.npf_cells.specs.declared.views.LoadedLeaf.{LoadedLeaf}
-use Rattle.npf_cells.specs.declared.views.StoredWord.{StoredWord}
-use Rattle.npf_cells.specs.declared.views.TrieSide.{TrieSide}
-use Rattle.npf_cells.specs.Aims.{MayAim, TellsAim, aim_key}
-use Rattle.npf_cells.specs.HoldKinds.{MayHoldSo}
-use Rattle.npf_cells.specs.LockKinds.{locking}
-use Rattle.npf_cells.specs.LookKinds.{StandsOnPath, with_trie}
-use Rattle.npf_cells.specs.PoolKinds.{with_pools}
-use Rattle.npf_cells.specs.PublishKinds.{HasStoredKey, MayPublish, Published}
-use Rattle.npf_cells.specs.PublishKinds.PutsFor.{fills}
+use Rattle.npf_cells_holds.specs.declared.aim.Aim.{Aim}
+use Rattle.npf_cells_words.specs.declared.layout.Layout.{Layout}
+use Rattle.npf_cells_rule.specs.declared.view.CellView.{CellView}
+use Rattle.npf_cells_leaves.specs.declared.trie.LoadedLeaf.{LoadedLeaf}
+use Rattle.npf_cells_lives.specs.declared.pools.StoredWord.{StoredWord}
+use Rattle.npf_cells_leaves.specs.declared.trie.TrieSide.{TrieSide}
+use Rattle.npf_cells_holds.specs.Aims.{MayAim, TellsAim, aim_key}
+use Rattle.npf_cells_holds.specs.HoldKinds.{MayHoldSo}
+use Rattle.npf_cells_holds.specs.LockKinds.{locking}
+use Rattle.npf_cells_holds.specs.LookKinds.{StandsOnPath}
+use Rattle.npf_cells_rule.specs.Views.{with_trie, with_pools}
+use Rattle.npf_cells_holds.specs.PublishKinds.{HasStoredKey, MayPublish, Published}
+use Rattle.npf_cells_holds.specs.PublishKinds.PutsFor.{fills}
 use Rattle.npf_trie.specs.declared.step.Met.{Met}
 use Rattle.npf_trie.specs.declared.step.Met.TheVariants.{Holder, Other}
 use Rattle.npf_trie.specs.declared.step.Point.{Point}

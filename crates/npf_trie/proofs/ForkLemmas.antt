@@ -13,13 +13,13 @@ use Rattle.npf_paths.specs.Growing.IsBranch.{parts, goes_on}
 use Rattle.npf_paths.specs.LevelLaw.{AreApart}
 use Rattle.npf_paths.specs.Paths.{AreDigits}
 use Rattle.npf_paths.proofs.BranchLemmas.{branch_same}
-use Rattle.npf_cells.specs.declared.layout.Layout.{Layout}
-use Rattle.npf_cells.specs.declared.layout.Pool.TheVariants.{Slots, Nodes}
-use Rattle.npf_cells.specs.declared.views.PoolSide.{PoolSide}
-use Rattle.npf_cells.specs.declared.views.StoredWord.{StoredWord}
-use Rattle.npf_cells.specs.Layout.{key_field, field_at}
-use Rattle.npf_cells.specs.PublishKinds.{cell_stored, stored_cell}
-use Rattle.npf_cells.specs.Trie.{digits_of}
+use Rattle.npf_cells_words.specs.declared.layout.Layout.{Layout}
+use Rattle.npf_cells_words.specs.declared.layout.Pool.TheVariants.{Slots, Nodes}
+use Rattle.npf_cells_lives.specs.declared.pools.PoolSide.{PoolSide}
+use Rattle.npf_cells_lives.specs.declared.pools.StoredWord.{StoredWord}
+use Rattle.npf_cells_words.specs.Layout.{key_field, field_at}
+use Rattle.npf_cells_holds.specs.PublishKinds.{cell_stored, stored_cell}
+use Rattle.npf_cells_leaves.specs.Trie.{digits_of}
 use Rattle.npf_trie.specs.Stores.{HasNewNodes, KeepsStoredKeys, LiesOutside, KeepsOutside, forked_cell}
 
 are_digits : (digest : Key → ℕ) (key : Key) → AreDigits (digits_of digest key)

@@ -18,18 +18,18 @@ use Rattle.npf_paths.specs.Growing.{IsBranch}
 use Rattle.npf_paths.specs.Paths.{AreDigits}
 use Rattle.npf_paths.specs.Places.{lock_of}
 use Rattle.npf_paths.proofs.BranchLemmas.{branch_same}
-use Rattle.npf_cells.specs.declared.layout.Layout.{Layout}
-use Rattle.npf_cells.specs.declared.views.CellView.{CellView}
-use Rattle.npf_cells.specs.declared.views.PoolSide.{PoolSide}
-use Rattle.npf_cells.specs.declared.views.StoredWord.{StoredWord}
-use Rattle.npf_cells.specs.declared.views.TrieSide.{TrieSide}
-use Rattle.npf_cells.specs.HoldKinds.{MayHoldSo}
-use Rattle.npf_cells.specs.LockKinds.{locking}
-use Rattle.npf_cells.specs.LookKinds.{with_trie}
-use Rattle.npf_cells.specs.Passes.{cell_pass}
-use Rattle.npf_cells.specs.PoolKinds.{with_pools}
-use Rattle.npf_cells.specs.PublishKinds.{HasStoredKey, cell_stored}
-use Rattle.npf_cells.specs.Trie.{IsInTrie, digits_of}
+use Rattle.npf_cells_words.specs.declared.layout.Layout.{Layout}
+use Rattle.npf_cells_rule.specs.declared.view.CellView.{CellView}
+use Rattle.npf_cells_lives.specs.declared.pools.PoolSide.{PoolSide}
+use Rattle.npf_cells_lives.specs.declared.pools.StoredWord.{StoredWord}
+use Rattle.npf_cells_leaves.specs.declared.trie.TrieSide.{TrieSide}
+use Rattle.npf_cells_holds.specs.HoldKinds.{MayHoldSo}
+use Rattle.npf_cells_holds.specs.LockKinds.{locking}
+use Rattle.npf_cells_rule.specs.Views.{with_trie, with_pools}
+use Rattle.npf_cells_rule.specs.Passes.{cell_pass}
+use Rattle.npf_cells_holds.specs.PublishKinds.{HasStoredKey, cell_stored}
+use Rattle.npf_cells_words.specs.Places.{IsInTrie}
+use Rattle.npf_cells_leaves.specs.Trie.{digits_of}
 use Rattle.npf_trie.specs.declared.step.OtherLeaf.{OtherLeaf}
 use Rattle.npf_trie.specs.declared.step.Point.{Point}
 use Rattle.npf_trie.specs.declared.step.Step.{Step}

@@ -25,19 +25,20 @@ use Rattle.npf_paths.specs.declared.place.Place.TheVariants as Places
 use Rattle.npf_paths.specs.Growing.{IsBranch}
 use Rattle.npf_paths.specs.Growing.IsBranch.{parts, goes_on}
 use Rattle.npf_paths.specs.Places.{lock_of}
-use Rattle.npf_cells.specs.declared.aim.Aim.{Aim}
-use Rattle.npf_cells.specs.declared.aim.Aim.TheVariants.{Hold}
-use Rattle.npf_cells.specs.declared.layout.Layout.{Layout}
-use Rattle.npf_cells.specs.declared.views.CellView.{CellView}
-use Rattle.npf_cells.specs.declared.views.LoadedLeaf.{LoadedLeaf}
-use Rattle.npf_cells.specs.declared.views.TrieSide.{TrieSide}
-use Rattle.npf_cells.specs.Aims.{TellsAim}
-use Rattle.npf_cells.specs.HoldKinds.{meeting, renewed, HasMetHolder, MeetsLeaf, HoldsAt}
-use Rattle.npf_cells.specs.LookKinds.{StandsOnPath, level_of, level_at, with_trie, IsLeafIn, IsLeafOf}
-use Rattle.npf_cells.specs.Passes.{IsProtected, cell_pass}
-use Rattle.npf_cells.specs.PublishKinds.{MayPublish, MayPublishFor, GrowsNodes, PutsFor, HasHeld, Published, nodes_but, publishing, published_for, cell_stored}
-use Rattle.npf_cells.specs.PublishKinds.PutsFor.{fills, grows}
-use Rattle.npf_cells.specs.Trie.{digits_of}
+use Rattle.npf_cells_holds.specs.declared.aim.Aim.{Aim}
+use Rattle.npf_cells_holds.specs.declared.aim.Aim.TheVariants.{Hold}
+use Rattle.npf_cells_words.specs.declared.layout.Layout.{Layout}
+use Rattle.npf_cells_rule.specs.declared.view.CellView.{CellView}
+use Rattle.npf_cells_leaves.specs.declared.trie.LoadedLeaf.{LoadedLeaf}
+use Rattle.npf_cells_leaves.specs.declared.trie.TrieSide.{TrieSide}
+use Rattle.npf_cells_holds.specs.Aims.{TellsAim}
+use Rattle.npf_cells_holds.specs.HoldKinds.{meeting, renewed, HasMetHolder, MeetsLeaf, HoldsAt}
+use Rattle.npf_cells_holds.specs.LookKinds.{StandsOnPath, level_of, level_at, IsLeafIn, IsLeafOf}
+use Rattle.npf_cells_rule.specs.Views.{with_trie}
+use Rattle.npf_cells_rule.specs.Passes.{IsProtected, cell_pass}
+use Rattle.npf_cells_holds.specs.PublishKinds.{MayPublish, MayPublishFor, GrowsNodes, PutsFor, HasHeld, Published, nodes_but, publishing, published_for, cell_stored}
+use Rattle.npf_cells_holds.specs.PublishKinds.PutsFor.{fills, grows}
+use Rattle.npf_cells_leaves.specs.Trie.{digits_of}
 use Rattle.npf_trie.specs.declared.step.Met.TheVariants.{Holder, Other}
 use Rattle.npf_trie.specs.declared.step.OtherLeaf.{OtherLeaf}
 use Rattle.npf_trie.specs.declared.step.Point.{Point}

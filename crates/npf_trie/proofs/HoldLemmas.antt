@@ -19,17 +19,17 @@ use Rattle.npf_connections.specs.Pass.{Pass, IsPass}
 use Rattle.npf_paths.specs.Digits.{digit_of}
 use Rattle.npf_paths.specs.declared.place.Place.{Place}
 use Rattle.npf_paths.specs.declared.place.Place.TheVariants as Places
-use Rattle.npf_cells.specs.declared.layout.Layout.{Layout}
-use Rattle.npf_cells.specs.declared.views.CellView.{CellView}
-use Rattle.npf_cells.specs.declared.views.EpochSide.{EpochSide}
-use Rattle.npf_cells.specs.declared.views.SeatSide.{SeatSide}
-use Rattle.npf_cells.specs.declared.views.TrieSide.{TrieSide}
-use Rattle.npf_cells.specs.declared.views.StoredWord.{StoredWord}
-use Rattle.npf_cells.specs.HoldKinds.{MayHoldSo}
-use Rattle.npf_cells.specs.LookKinds.{StandsOnPath, level_of, level_at, with_trie}
-use Rattle.npf_cells.specs.Passes.{cell_pass, IsProtected}
-use Rattle.npf_cells.specs.PoolKinds.{with_pools}
-use Rattle.npf_cells.specs.Trie.{digits_of}
+use Rattle.npf_cells_words.specs.declared.layout.Layout.{Layout}
+use Rattle.npf_cells_rule.specs.declared.view.CellView.{CellView}
+use Rattle.npf_cells_pins.specs.declared.pin.EpochSide.{EpochSide}
+use Rattle.npf_seats.specs.declared.side.SeatSide.{SeatSide}
+use Rattle.npf_cells_leaves.specs.declared.trie.TrieSide.{TrieSide}
+use Rattle.npf_cells_lives.specs.declared.pools.StoredWord.{StoredWord}
+use Rattle.npf_cells_holds.specs.HoldKinds.{MayHoldSo}
+use Rattle.npf_cells_holds.specs.LookKinds.{StandsOnPath, level_of, level_at}
+use Rattle.npf_cells_rule.specs.Views.{with_trie, with_pools}
+use Rattle.npf_cells_rule.specs.Passes.{cell_pass, IsProtected}
+use Rattle.npf_cells_leaves.specs.Trie.{digits_of}
 use Rattle.npf_trie.specs.declared.step.Point.{Point}
 use Rattle.npf_trie.specs.declared.step.Step.{Step}
 use Rattle.npf_trie.specs.declared.step.Step.TheVariants.{Ends, Leads, Again}

@@ -13,10 +13,11 @@ use Rattle.npf_connections.specs.Adding.{AddsOwn}
 use Rattle.npf_connections.specs.Entries.{entry_of}
 use Rattle.npf_connections.specs.Pass.{IsPass}
 use Rattle.npf_paths.specs.declared.cell.Cell.TheVariants.{Leaf}
-use Rattle.npf_cells.specs.declared.views.CellView.{CellView}
-use Rattle.npf_cells.specs.declared.views.LoadedLeaf.{LoadedLeaf}
-use Rattle.npf_cells.specs.LookKinds.{holder_by, with_trie}
-use Rattle.npf_cells.specs.Passes.{cell_pass}
+use Rattle.npf_cells_rule.specs.declared.view.CellView.{CellView}
+use Rattle.npf_cells_leaves.specs.declared.trie.LoadedLeaf.{LoadedLeaf}
+use Rattle.npf_cells_holds.specs.LookKinds.{holder_by}
+use Rattle.npf_cells_rule.specs.Views.{with_trie}
+use Rattle.npf_cells_rule.specs.Passes.{cell_pass}
 use Rattle.npf_trie.specs.LookUp.{having_looked, LooksUpKey, ComesToEnd, ComparesWords, NamesHolder}
 
 -- the connection of a leaf

@@ -7,11 +7,12 @@ use Rattle.npf_types.specs.declared.key.Way.{Way}
 use Rattle.npf_core.specs.declared.found.Found.{Found}
 use Rattle.npf_core.specs.Machine.{is_key}
 use Rattle.npf_core.proofs.EqualityLemmas.{is_key-Decides}
-use Rattle.npf_cells.specs.declared.views.CellView.{CellView}
-use Rattle.npf_cells.specs.declared.views.LoadedLeaf.{LoadedLeaf}
-use Rattle.npf_cells.specs.HoldKinds.{leaf_holder}
-use Rattle.npf_cells.specs.LookKinds.{ShowsKey, with_trie, reading, IsLeafOf}
-use Rattle.npf_cells.specs.PrivateKinds.{ShowsLeafInc}
+use Rattle.npf_cells_rule.specs.declared.view.CellView.{CellView}
+use Rattle.npf_cells_leaves.specs.declared.trie.LoadedLeaf.{LoadedLeaf}
+use Rattle.npf_cells_holds.specs.HoldKinds.{leaf_holder}
+use Rattle.npf_cells_holds.specs.LookKinds.{ShowsKey, reading, IsLeafOf}
+use Rattle.npf_cells_rule.specs.Views.{with_trie}
+use Rattle.npf_cells_takes.specs.PrivateKinds.{ShowsLeafInc}
 
 -- the key of five words
 abbrev pub key_of : ℕ → ℕ → ℕ → ℕ → ℕ → Key

@@ -9,9 +9,11 @@ use Rattle.std.proofs.lemmas.List.Folds.{list_any_at, list_any_more, list_any_no
 use Rattle.std.proofs.lemmas.List.Sorted.{Contains-permutation, IsPermutation-reverse}
 use Rattle.atomic_table.specs.Table.{Me}
 use Rattle.npf_paths.specs.LevelLaw.{AreApart}
-use Rattle.npf_cells.specs.declared.views.CellView.{CellView}
-use Rattle.npf_cells.specs.PoolKinds.{with_pools, others_than, giving_back}
-use Rattle.npf_cells.specs.PublishKinds.{nodes_but}
+use Rattle.npf_cells_rule.specs.declared.view.CellView.{CellView}
+use Rattle.npf_cells_rule.specs.Views.{with_pools}
+use Rattle.npf_seats.specs.Sums.{others_than}
+use Rattle.npf_cells_takes.specs.PoolKinds.{giving_back}
+use Rattle.npf_cells_holds.specs.PublishKinds.{nodes_but}
 use Rattle.npf_pool.specs.Take.{taking}
 use Rattle.npf_trie.specs.Nodes.{left_with}
 

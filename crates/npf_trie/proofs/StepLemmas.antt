@@ -15,16 +15,17 @@ use Rattle.npf_paths.specs.declared.place.Lock.{Lock}
 use Rattle.npf_paths.specs.declared.place.Place.{Place}
 use Rattle.npf_paths.specs.declared.place.Place.TheVariants as Places
 use Rattle.npf_paths.specs.Places.{lock_of}
-use Rattle.npf_cells.specs.declared.layout.Layout.{Layout}
-use Rattle.npf_cells.specs.declared.views.CellView.{CellView}
-use Rattle.npf_cells.specs.declared.views.LoadedLeaf.{LoadedLeaf}
-use Rattle.npf_cells.specs.declared.views.PathPlace.{PathPlace}
-use Rattle.npf_cells.specs.HoldKinds.{HoldsAt, meeting, renewed}
-use Rattle.npf_cells.specs.LookKinds.{IsLeafOf, level_of, level_at, with_trie, sighting}
-use Rattle.npf_cells.specs.Locks.{IsLockOf}
-use Rattle.npf_cells.specs.Passes.{IsProtected}
-use Rattle.npf_cells.specs.PublishKinds.{SeesLocked, HasHeld, nodes_but}
-use Rattle.npf_cells.specs.Trie.{IsInTrie, digits_of}
+use Rattle.npf_cells_words.specs.declared.layout.Layout.{Layout}
+use Rattle.npf_cells_rule.specs.declared.view.CellView.{CellView}
+use Rattle.npf_cells_leaves.specs.declared.trie.LoadedLeaf.{LoadedLeaf}
+use Rattle.npf_cells_leaves.specs.declared.trie.PathPlace.{PathPlace}
+use Rattle.npf_cells_holds.specs.HoldKinds.{HoldsAt, meeting, renewed}
+use Rattle.npf_cells_holds.specs.LookKinds.{IsLeafOf, level_of, level_at, sighting}
+use Rattle.npf_cells_rule.specs.Views.{with_trie}
+use Rattle.npf_cells_words.specs.Places.{IsLockOf, IsInTrie}
+use Rattle.npf_cells_rule.specs.Passes.{IsProtected}
+use Rattle.npf_cells_holds.specs.PublishKinds.{SeesLocked, HasHeld, nodes_but}
+use Rattle.npf_cells_leaves.specs.Trie.{digits_of}
 use Rattle.npf_trie.specs.declared.step.Met.{Met}
 use Rattle.npf_trie.specs.declared.step.Met.TheVariants.{Holder, Other}
 use Rattle.npf_trie.specs.declared.step.Point.{Point}

@@ -13,16 +13,17 @@ use Rattle.npf_paths.specs.declared.place.Place.{Place}
 use Rattle.npf_paths.specs.declared.place.Place.TheVariants.{Root, Node}
 use Rattle.npf_paths.specs.CellLaw.{WordsSayCells}
 use Rattle.npf_paths.specs.CellWords.{cell_of, cell_word}
-use Rattle.npf_cells.specs.declared.layout.Layout.{Layout}
-use Rattle.npf_cells.specs.declared.layout.Pool.TheVariants.{Slots, Nodes}
-use Rattle.npf_cells.specs.declared.views.CellView.{CellView}
-use Rattle.npf_cells.specs.declared.views.StoredWord.{StoredWord}
-use Rattle.npf_cells.specs.Layout.{key_field, field_at}
-use Rattle.npf_cells.specs.PoolKinds.{with_pools, others_than}
-use Rattle.npf_cells.specs.PrivateKinds.{MayStoreInSlot, storing}
-use Rattle.npf_cells.specs.PublishKinds.{cell_stored, stored_cell}
-use Rattle.npf_cells.specs.Stored.{stored_value}
-use Rattle.npf_cells.specs.Trie.{IsInTrie, place_at}
+use Rattle.npf_cells_words.specs.declared.layout.Layout.{Layout}
+use Rattle.npf_cells_words.specs.declared.layout.Pool.TheVariants.{Slots, Nodes}
+use Rattle.npf_cells_rule.specs.declared.view.CellView.{CellView}
+use Rattle.npf_cells_lives.specs.declared.pools.StoredWord.{StoredWord}
+use Rattle.npf_cells_words.specs.Layout.{key_field, field_at}
+use Rattle.npf_cells_rule.specs.Views.{with_pools}
+use Rattle.npf_seats.specs.Sums.{others_than}
+use Rattle.npf_cells_takes.specs.PrivateKinds.{MayStoreInSlot, storing}
+use Rattle.npf_cells_holds.specs.PublishKinds.{cell_stored, stored_cell}
+use Rattle.npf_cells_lives.specs.Stored.{stored_value}
+use Rattle.npf_cells_words.specs.Places.{IsInTrie, place_at}
 use Rattle.npf_trie.specs.Stores.{MayStoreKey, LiesOutside, KeepsOutside}
 
 -- the last store is what is known of its word, and leaves the others

@@ -15,16 +15,18 @@ use Rattle.npf_paths.specs.declared.place.Place.TheVariants as Places
 use Rattle.npf_paths.specs.Growing.{IsBranch}
 use Rattle.npf_paths.specs.LevelLaw.{AreApart}
 use Rattle.npf_paths.specs.Places.{lock_of}
-use Rattle.npf_cells.specs.declared.layout.Layout.{Layout}
-use Rattle.npf_cells.specs.declared.views.CellView.{CellView}
-use Rattle.npf_cells.specs.declared.views.LoadedLeaf.{LoadedLeaf}
-use Rattle.npf_cells.specs.declared.views.Meeting.{Meeting}
-use Rattle.npf_cells.specs.declared.views.TrieSide.{TrieSide}
-use Rattle.npf_cells.specs.HoldKinds.{MayHoldSo, leaf_holder}
-use Rattle.npf_cells.specs.LookKinds.{StandsOnPath, level_at, with_trie}
-use Rattle.npf_cells.specs.Passes.{cell_pass}
-use Rattle.npf_cells.specs.PublishKinds.{HasStoredKey, cell_stored, nodes_but}
-use Rattle.npf_cells.specs.Trie.{IsInTrie, digits_of}
+use Rattle.npf_cells_words.specs.declared.layout.Layout.{Layout}
+use Rattle.npf_cells_rule.specs.declared.view.CellView.{CellView}
+use Rattle.npf_cells_leaves.specs.declared.trie.LoadedLeaf.{LoadedLeaf}
+use Rattle.npf_cells_leaves.specs.declared.trie.Meeting.{Meeting}
+use Rattle.npf_cells_leaves.specs.declared.trie.TrieSide.{TrieSide}
+use Rattle.npf_cells_holds.specs.HoldKinds.{MayHoldSo, leaf_holder}
+use Rattle.npf_cells_holds.specs.LookKinds.{StandsOnPath, level_at}
+use Rattle.npf_cells_rule.specs.Views.{with_trie}
+use Rattle.npf_cells_rule.specs.Passes.{cell_pass}
+use Rattle.npf_cells_holds.specs.PublishKinds.{HasStoredKey, cell_stored, nodes_but}
+use Rattle.npf_cells_words.specs.Places.{IsInTrie}
+use Rattle.npf_cells_leaves.specs.Trie.{digits_of}
 use Rattle.npf_trie.specs.declared.step.Met.{Met}
 use Rattle.npf_trie.specs.declared.step.Met.TheVariants.{Holder, Other}
 use Rattle.npf_trie.specs.declared.step.OtherLeaf.{OtherLeaf}

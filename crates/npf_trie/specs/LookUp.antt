@@ -11,10 +11,11 @@ use Rattle.npf_connections.specs.Answered.{found_ids}
 use Rattle.npf_connections.specs.Entries.{entry_of}
 use Rattle.npf_connections.specs.Pass.{IsPass}
 use Rattle.npf_paths.specs.declared.cell.Cell.{Cell}
-use Rattle.npf_cells.specs.declared.views.CellView.{CellView}
-use Rattle.npf_cells.specs.declared.views.LoadedLeaf.{LoadedLeaf}
-use Rattle.npf_cells.specs.LookKinds.{TellsHolder, holder_by, with_trie}
-use Rattle.npf_cells.specs.Passes.{cell_pass}
+use Rattle.npf_cells_rule.specs.declared.view.CellView.{CellView}
+use Rattle.npf_cells_leaves.specs.declared.trie.LoadedLeaf.{LoadedLeaf}
+use Rattle.npf_cells_holds.specs.LookKinds.{TellsHolder, holder_by}
+use Rattle.npf_cells_rule.specs.Views.{with_trie}
+use Rattle.npf_cells_rule.specs.Passes.{cell_pass}
 
 -- a count rose by no more than this
 pub record RoseBy (most old now : ℕ) : Type 0 where

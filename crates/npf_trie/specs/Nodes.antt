@@ -4,12 +4,12 @@ use Rattle.atomic_table.specs.Table.{Me}
 use Rattle.npf_types.specs.declared.key.Key.{Key}
 use Rattle.npf_paths.specs.Digits.{PartsAt}
 use Rattle.npf_paths.specs.LevelLaw.{AreApart}
-use Rattle.npf_cells.specs.declared.layout.Layout.{Layout}
-use Rattle.npf_cells.specs.declared.views.CellView.{CellView}
-use Rattle.npf_cells.specs.declared.views.Meeting.{Meeting}
-use Rattle.npf_cells.specs.declared.views.PoolSide.{PoolSide}
-use Rattle.npf_cells.specs.PoolKinds.{with_pools}
-use Rattle.npf_cells.specs.PublishKinds.{nodes_but}
+use Rattle.npf_cells_words.specs.declared.layout.Layout.{Layout}
+use Rattle.npf_cells_rule.specs.declared.view.CellView.{CellView}
+use Rattle.npf_cells_leaves.specs.declared.trie.Meeting.{Meeting}
+use Rattle.npf_cells_lives.specs.declared.pools.PoolSide.{PoolSide}
+use Rattle.npf_cells_rule.specs.Views.{with_pools}
+use Rattle.npf_cells_holds.specs.PublishKinds.{nodes_but}
 
 -- a pass whose key met another needs as many nodes as there are levels below the meeting, down to and with the one at which the two part
 pub record NeedsNodes {S A R : Type 0} (digest : Key → ℕ) (v : CellView S A R) (count : ℕ) : Type 0 where

@@ -7,15 +7,15 @@ use Rattle.npf_core.specs.Meaning.{Meaning}
 use Rattle.npf_paths.specs.declared.cell.Cell.{Cell}
 use Rattle.npf_paths.specs.declared.cell.Cell.TheVariants.{Empty}
 use Rattle.npf_paths.specs.LevelLaw.{AreApart}
-use Rattle.npf_cells.specs.declared.layout.Layout.{Layout}
-use Rattle.npf_cells.specs.declared.layout.Pool.TheVariants.{Nodes}
-use Rattle.npf_cells.specs.declared.views.CellView.{CellView}
-use Rattle.npf_cells.specs.declared.views.PoolSide.{PoolSide}
-use Rattle.npf_cells.specs.declared.views.StoredWord.{StoredWord}
-use Rattle.npf_cells.specs.HoldKinds.{MayHoldSo}
-use Rattle.npf_cells.specs.Layout.{field_at}
-use Rattle.npf_cells.specs.PublishKinds.{HasStoredKey}
-use Rattle.npf_cells.specs.Stored.{stored_value}
+use Rattle.npf_cells_words.specs.declared.layout.Layout.{Layout}
+use Rattle.npf_cells_words.specs.declared.layout.Pool.TheVariants.{Nodes}
+use Rattle.npf_cells_rule.specs.declared.view.CellView.{CellView}
+use Rattle.npf_cells_lives.specs.declared.pools.PoolSide.{PoolSide}
+use Rattle.npf_cells_lives.specs.declared.pools.StoredWord.{StoredWord}
+use Rattle.npf_cells_holds.specs.HoldKinds.{MayHoldSo}
+use Rattle.npf_cells_words.specs.Layout.{field_at}
+use Rattle.npf_cells_holds.specs.PublishKinds.{HasStoredKey}
+use Rattle.npf_cells_lives.specs.Stored.{stored_value}
 
 -- the pass may store a key of that way in the slot: it is building the slot's connection, and has seen it take none
 pub record MayStoreKey {S A R : Type 0} (m : Meaning S A R) (v : CellView S A R) (slot : ℕ) (way : Way) : Type 0 where

@@ -2,10 +2,10 @@ ghost use Rattle.std.specs.Prelude.{◌≡◌, ◌+◌, ◌≤◌, ◌<◌, ℕ,
 ghost use Rattle.npf_paths.specs.Digits.{PartsAt};
 ghost use Rattle.npf_paths.specs.declared.place.Place.TheVariants.{Node};
 ghost use Rattle.npf_paths.specs.Growing.{IsBranch};
-ghost use Rattle.npf_cells.specs.Passes.{IsPassOf};
-ghost use Rattle.npf_cells.specs.PoolKinds.{with_pools};
-ghost use Rattle.npf_cells.specs.PublishKinds.{cell_stored};
-ghost use Rattle.npf_cells.specs.Trie.{digits_of};
+ghost use Rattle.npf_cells_rule.specs.Passes.{IsPassOf};
+ghost use Rattle.npf_cells_rule.specs.Views.{with_pools};
+ghost use Rattle.npf_cells_holds.specs.PublishKinds.{cell_stored};
+ghost use Rattle.npf_cells_leaves.specs.Trie.{digits_of};
 ghost use Rattle.npf_trie.specs.Stores.{HasNewNodes, KeepsStoredKeys, KeepsOutside, forked_cell};
 
 use npf_cells::{CellPass, Cells, Pool};

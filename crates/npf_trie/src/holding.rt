@@ -1,7 +1,7 @@
 ghost use Rattle.std.specs.Prelude.{◌≡◌, ◌<◌};
 ghost use Rattle.npf_paths.specs.Digits.{digit_of};
 ghost use Rattle.npf_paths.specs.declared.place.Place.TheVariants as Places;
-ghost use Rattle.npf_cells.specs.Passes.{IsPassOf, IsProtected};
+ghost use Rattle.npf_cells_rule.specs.Passes.{IsPassOf, IsProtected};
 ghost use Rattle.npf_trie.specs.HoldKey.{CanHold, SettlesHold, IsAtPlace, StepsSo};
 
 use crate::fill::fill;

@@ -1,10 +1,10 @@
 ghost use Rattle.std.specs.Prelude.{◌≡◌, ◌<◌};
 ghost use Rattle.npf_paths.specs.declared.place.Place.{Place};
-ghost use Rattle.npf_cells.specs.Layout.{key_field};
-ghost use Rattle.npf_cells.specs.Passes.{IsPassOf};
-ghost use Rattle.npf_cells.specs.PoolKinds.{with_pools};
-ghost use Rattle.npf_cells.specs.PublishKinds.{HasStoredKey, cell_stored};
-ghost use Rattle.npf_cells.specs.Trie.{IsInTrie};
+ghost use Rattle.npf_cells_words.specs.Layout.{key_field};
+ghost use Rattle.npf_cells_rule.specs.Passes.{IsPassOf};
+ghost use Rattle.npf_cells_rule.specs.Views.{with_pools};
+ghost use Rattle.npf_cells_holds.specs.PublishKinds.{HasStoredKey, cell_stored};
+ghost use Rattle.npf_cells_words.specs.Places.{IsInTrie};
 ghost use Rattle.npf_trie.specs.Stores.{MayStoreKey};
 
 use npf_cells::{CellPass, Cells, Pool};

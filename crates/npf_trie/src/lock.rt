@@ -1,8 +1,8 @@
 ghost use Rattle.std.specs.Prelude.{◌≡◌, [], ◌∷◌};
-ghost use Rattle.npf_cells.specs.LockKinds.{locking};
-ghost use Rattle.npf_cells.specs.Locks.{IsLockOf};
-ghost use Rattle.npf_cells.specs.LookKinds.{with_trie};
-ghost use Rattle.npf_cells.specs.Passes.{IsPassOf, IsProtected};
+ghost use Rattle.npf_cells_holds.specs.LockKinds.{locking};
+ghost use Rattle.npf_cells_words.specs.Places.{IsLockOf};
+ghost use Rattle.npf_cells_rule.specs.Views.{with_trie};
+ghost use Rattle.npf_cells_rule.specs.Passes.{IsPassOf, IsProtected};
 
 use npf_cells::{CellPass, Cells};
 use npf_core::Law;

@@ -1,6 +1,6 @@
 ghost use Rattle.std.specs.Prelude.{◌≡◌, ◌<◌};
-ghost use Rattle.npf_cells.specs.LookKinds.{IsLeafOf};
-ghost use Rattle.npf_cells.specs.Passes.{IsPassOf, IsProtected};
+ghost use Rattle.npf_cells_holds.specs.LookKinds.{IsLeafOf};
+ghost use Rattle.npf_cells_rule.specs.Passes.{IsPassOf, IsProtected};
 ghost use Rattle.npf_trie.specs.LookUp.{RoseBy, LooksUpKey, ComparesWords, NamesHolder};
 
 use crate::walk::end_of;

@@ -1,7 +1,7 @@
 ghost use Rattle.std.specs.Prelude.{◌≡◌, ◌<◌, length, Some};
-ghost use Rattle.npf_cells.specs.declared.views.LoadedLeaf.{LoadedLeaf};
-ghost use Rattle.npf_cells.specs.LookKinds.{IsLeafOf};
-ghost use Rattle.npf_cells.specs.Passes.{IsPassOf};
+ghost use Rattle.npf_cells_leaves.specs.declared.trie.LoadedLeaf.{LoadedLeaf};
+ghost use Rattle.npf_cells_holds.specs.LookKinds.{IsLeafOf};
+ghost use Rattle.npf_cells_rule.specs.Passes.{IsPassOf};
 ghost use Rattle.npf_trie.specs.HoldKey.{TellsMet};
 ghost use Rattle.npf_trie.specs.LookUp.{ComparesWords};
 

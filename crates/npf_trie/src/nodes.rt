@@ -1,8 +1,8 @@
 ghost use Rattle.std.specs.Prelude.{◌≡◌, ◌≤◌, ◌<◌, ℕ, [], length, IfSome, IfNone, Contains};
 ghost use Rattle.npf_paths.specs.LevelLaw.{AreApart};
-ghost use Rattle.npf_cells.specs.Passes.{IsPassOf, IsProtected};
-ghost use Rattle.npf_cells.specs.PoolKinds.{with_pools};
-ghost use Rattle.npf_cells.specs.PublishKinds.{nodes_but};
+ghost use Rattle.npf_cells_rule.specs.Passes.{IsPassOf, IsProtected};
+ghost use Rattle.npf_cells_rule.specs.Views.{with_pools};
+ghost use Rattle.npf_cells_holds.specs.PublishKinds.{nodes_but};
 ghost use Rattle.npf_trie.specs.Nodes.{NeedsNodes, TakesNodes, FindsTooFew, left_with};
 
 use arrayvec::ArrayVec;

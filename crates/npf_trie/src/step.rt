@@ -48,7 +48,7 @@ pub(crate) enum Step {
 
 impl Wanted {
     ghost use Rattle.std.specs.Prelude.{◌≡◌};
-    ghost use Rattle.npf_cells.specs.declared.aim.Aim.TheVariants.{Hold};
+    ghost use Rattle.npf_cells_holds.specs.declared.aim.Aim.TheVariants.{Hold};
     ghost use Rattle.npf_paths.specs.declared.cell.Cell.TheVariants.{Leaf};
 
     /// What the pass loads and stores for.

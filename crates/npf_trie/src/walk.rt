@@ -1,6 +1,6 @@
 ghost use Rattle.std.specs.Prelude.{◌≡◌};
-ghost use Rattle.npf_cells.specs.LookKinds.{FitsLayout};
-ghost use Rattle.npf_cells.specs.Passes.{IsPassOf, IsProtected};
+ghost use Rattle.npf_cells_holds.specs.LookKinds.{FitsLayout};
+ghost use Rattle.npf_cells_rule.specs.Passes.{IsPassOf, IsProtected};
 ghost use Rattle.npf_paths.specs.Paths.{IsEnd};
 ghost use Rattle.npf_trie.specs.LookUp.{ComesToEnd};
 

@@ -1,7 +1,7 @@
 // The keys, each held for a connection of its own.
 ghost use Rattle.std.specs.Prelude.{◌≡◌, []};
-ghost use Rattle.npf_cells.specs.declared.views.Pin.TheVariants.{Idle};
-ghost use Rattle.npf_cells.specs.Passes.{IsPassOf, IsProtected};
+ghost use Rattle.npf_cells_pins.specs.declared.pin.Pin.TheVariants.{Idle};
+ghost use Rattle.npf_cells_rule.specs.Passes.{IsPassOf, IsProtected};
 
 use crate::drawn::{KEYS, key};
 use npf_cells::{CellPass, Cells};

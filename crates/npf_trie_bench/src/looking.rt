@@ -1,7 +1,7 @@
 // How long a look takes in the trie of the table without locks, on one thread and on four.
 ghost use Rattle.std.specs.Prelude.{◌≡◌, ◌≤◌, ◌<◌, [], length};
 ghost use Rattle.std.specs.Thread.{IsSync};
-ghost use Rattle.npf_cells.specs.Passes.{IsPassOf, IsProtected};
+ghost use Rattle.npf_cells_rule.specs.Passes.{IsPassOf, IsProtected};
 ghost use Rattle.npf_trie_bench.specs.Rests.{HasNothing};
 
 use crate::drawn::{Draws, KEYS, Order};

@@ -1,8 +1,8 @@
 -- Passes before a call that holds a key.
 use Rattle.std.specs.Prelude.{◌≡◌, []}
-use Rattle.npf_cells.specs.declared.views.CellView.{CellView}
-use Rattle.npf_cells.specs.declared.views.Pin.TheVariants.{Idle}
-use Rattle.npf_cells.specs.Passes.{IsProtected}
+use Rattle.npf_cells_rule.specs.declared.view.CellView.{CellView}
+use Rattle.npf_cells_pins.specs.declared.pin.Pin.TheVariants.{Idle}
+use Rattle.npf_cells_rule.specs.Passes.{IsProtected}
 
 -- a pass that rests: it is in no stay, and has neither a node nor a lock
 pub record RestsEmptyHanded {S A R : Type 0} (v : CellView S A R) : Type 0 where

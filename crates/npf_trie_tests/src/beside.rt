@@ -1,7 +1,7 @@
 // Passes that work beside one another, each in a thread of its own.
 ghost use Rattle.std.specs.Prelude.{◌≡◌, ◌<◌, ◌≤◌, length};
 ghost use Rattle.std.specs.Thread.{IsSync};
-ghost use Rattle.npf_cells.specs.Passes.{IsPassOf};
+ghost use Rattle.npf_cells_rule.specs.Passes.{IsPassOf};
 ghost use Rattle.npf_trie_tests.specs.Hands.{RestsEmptyHanded};
 
 use crate::answers::{put, same};

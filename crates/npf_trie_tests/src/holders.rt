@@ -1,5 +1,5 @@
 // Connections that are being built and hold a key.
-ghost use Rattle.npf_cells.specs.Passes.{IsPassOf};
+ghost use Rattle.npf_cells_rule.specs.Passes.{IsPassOf};
 ghost use Rattle.npf_trie_tests.specs.Hands.{IsEmptyHanded};
 
 use crate::by_protocol::ByProtocol;

@@ -1,5 +1,5 @@
 // Keys of UDP, which meet in the trie since their hash is one.
-ghost use Rattle.npf_cells.specs.Passes.{IsPassOf};
+ghost use Rattle.npf_cells_rule.specs.Passes.{IsPassOf};
 ghost use Rattle.npf_trie_tests.specs.Hands.{IsEmptyHanded};
 
 use crate::answers::{put, same};

@@ -1,6 +1,6 @@
 // The slots of small tables, whose bits lie in a word or two, and the incarnations of what a pass claimed.
 ghost use Rattle.std.specs.Prelude.{◌≡◌};
-ghost use Rattle.npf_cells.specs.Passes.{IsPassOf, IsProtected};
+ghost use Rattle.npf_cells_rule.specs.Passes.{IsPassOf, IsProtected};
 
 use crate::answers::{put, same};
 use crate::by_protocol::ByProtocol;

@@ -1,7 +1,7 @@
 // A reader that pins an epoch after another pass has scanned it, and the epoch that it holds back.
 ghost use Rattle.std.specs.Prelude.{◌≡◌};
-ghost use Rattle.npf_cells.specs.declared.views.Pin.TheVariants.{Idle};
-ghost use Rattle.npf_cells.specs.Passes.{IsPassOf};
+ghost use Rattle.npf_cells_pins.specs.declared.pin.Pin.TheVariants.{Idle};
+ghost use Rattle.npf_cells_rule.specs.Passes.{IsPassOf};
 
 use crate::answers::{put, same};
 use crate::by_protocol::ByProtocol;

@@ -1,5 +1,5 @@
 // What a pass does many times, and what is told of it to the passes beside it.
-ghost use Rattle.npf_cells.specs.Passes.{IsPassOf};
+ghost use Rattle.npf_cells_rule.specs.Passes.{IsPassOf};
 ghost use Rattle.npf_trie_tests.specs.Hands.{IsEmptyHanded};
 
 use crate::by_protocol::ByProtocol;

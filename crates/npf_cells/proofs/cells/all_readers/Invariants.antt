@@ -1,5 +1,5 @@
 use Rattle.std.proofs.Common.{◌≡◌, length}
-use Rattle.npf_cells.specs.Sums.{numbers_below}
+use Rattle.npf_seats.specs.Sums.{numbers_below}
 use Rattle.npf_cells.proofs.cells.all_readers.Given as goal
 
 abbrev pub invariant-loop-reader : goal.invariant-loop-reader

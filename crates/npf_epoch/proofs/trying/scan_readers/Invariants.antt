@@ -1,4 +1,4 @@
-use Rattle.npf_cells.specs.Passes.{IsPassOf}
+use Rattle.npf_cells_rule.specs.Passes.{IsPassOf}
 use Rattle.npf_epoch.proofs.ScanLemmas.{ScansBelow}
 use Rattle.npf_epoch.proofs.trying.scan_readers.Given as goal
 

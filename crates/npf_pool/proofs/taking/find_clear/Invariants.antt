@@ -1,6 +1,6 @@
 use Rattle.std.proofs.Common.{◌≡◌}
-use Rattle.npf_cells.specs.Layout.{pool_places, pool_words}
-use Rattle.npf_cells.specs.Passes.{IsPassOf}
+use Rattle.npf_cells_words.specs.Layout.{pool_places, pool_words}
+use Rattle.npf_cells_rule.specs.Passes.{IsPassOf}
 use Rattle.npf_pool.proofs.TakeLemmas.{FullBelow}
 use Rattle.npf_pool.proofs.taking.find_clear.Given as goal
 

@@ -1,6 +1,6 @@
 use Rattle.std.proofs.Common.{◌≡◌}
-use Rattle.npf_cells.specs.Passes.{IsPassOf}
-use Rattle.npf_cells.specs.PoolKinds.{with_pools}
+use Rattle.npf_cells_rule.specs.Passes.{IsPassOf}
+use Rattle.npf_cells_rule.specs.Views.{with_pools}
 use Rattle.npf_pool.specs.Take.{searching}
 use Rattle.npf_pool.proofs.taking.take.Given as goal
 

@@ -1,4 +1,4 @@
-use Rattle.npf_cells.specs.Passes.{IsPassOf}
+use Rattle.npf_cells_rule.specs.Passes.{IsPassOf}
 use Rattle.npf_trie.specs.Stores.{forked_cell}
 use Rattle.npf_trie.proofs.StoreLemmas.{NodeFilledBelow}
 use Rattle.npf_trie.proofs.branch.fill_node.Given as goal

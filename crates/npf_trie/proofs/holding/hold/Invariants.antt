@@ -1,4 +1,4 @@
-use Rattle.npf_cells.specs.Passes.{IsPassOf}
+use Rattle.npf_cells_rule.specs.Passes.{IsPassOf}
 use Rattle.npf_trie.specs.HoldKey.{HoldsOn, IsAtPlace}
 use Rattle.npf_trie.proofs.holding.hold.Given as goal
 

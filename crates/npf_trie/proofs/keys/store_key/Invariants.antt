@@ -1,6 +1,6 @@
 use Rattle.std.proofs.Common.{◌≡◌, slice_index}
-use Rattle.npf_cells.specs.Layout.{key_field}
-use Rattle.npf_cells.specs.Passes.{IsPassOf}
+use Rattle.npf_cells_words.specs.Layout.{key_field}
+use Rattle.npf_cells_rule.specs.Passes.{IsPassOf}
 use Rattle.npf_trie.proofs.StoreLemmas.{KeyStoredBelow}
 use Rattle.npf_trie.proofs.keys.store_key.Given as goal
 

@@ -1,7 +1,8 @@
 use Rattle.std.proofs.Common.{◌≡◌, ◌+◌, ◌<◌, ℕ, Some, slice_index}
-use Rattle.npf_cells.specs.declared.views.LoadedLeaf.{LoadedLeaf}
-use Rattle.npf_cells.specs.LookKinds.{IsLeafOf, with_trie}
-use Rattle.npf_cells.specs.Passes.{IsPassOf}
+use Rattle.npf_cells_leaves.specs.declared.trie.LoadedLeaf.{LoadedLeaf}
+use Rattle.npf_cells_holds.specs.LookKinds.{IsLeafOf}
+use Rattle.npf_cells_rule.specs.Views.{with_trie}
+use Rattle.npf_cells_rule.specs.Passes.{IsPassOf}
 use Rattle.npf_trie.proofs.looking.holder_of.Given as goal
 
 -- the pass loaded the words before this one, and they agree

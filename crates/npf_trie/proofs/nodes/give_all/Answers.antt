@@ -1,6 +1,7 @@
 use Rattle.std.proofs.Common.{◌≡◌, length, refl, sym, ap, subst, get_or, arith, Contains}
 use Rattle.std.proofs.lemmas.List.Elements.{Contains-get_or}
-use Rattle.npf_cells.specs.PoolKinds.{with_pools, giving_back}
+use Rattle.npf_cells_rule.specs.Views.{with_pools}
+use Rattle.npf_cells_takes.specs.PoolKinds.{giving_back}
 use Rattle.npf_trie.proofs.NodeLemmas.{none_given, next_owned, given_more}
 use Rattle.npf_trie.proofs.nodes.give_all.Goals as goal
 

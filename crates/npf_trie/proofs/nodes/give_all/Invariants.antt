@@ -1,7 +1,7 @@
 use Rattle.std.proofs.Common.{◌≡◌, ◌≤◌, [], take}
-use Rattle.npf_cells.specs.Passes.{IsPassOf}
-use Rattle.npf_cells.specs.PoolKinds.{with_pools}
-use Rattle.npf_cells.specs.PublishKinds.{nodes_but}
+use Rattle.npf_cells_rule.specs.Passes.{IsPassOf}
+use Rattle.npf_cells_rule.specs.Views.{with_pools}
+use Rattle.npf_cells_holds.specs.PublishKinds.{nodes_but}
 use Rattle.npf_trie.specs.Nodes.{left_with}
 use Rattle.npf_trie.proofs.nodes.give_all.Given as goal
 

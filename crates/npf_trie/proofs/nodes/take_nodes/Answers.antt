@@ -1,7 +1,7 @@
 use Rattle.std.proofs.Common.{◌≡◌, ◌∙◌, ◌<◌, ◌∷◌, [], ℕ, Contains, length, reverse, refl, ap, subst, sym, arith}
 use Rattle.std.proofs.lemmas.List.{length-append}
 use Rattle.npf_paths.specs.LevelLaw.{AreApart}
-use Rattle.npf_cells.specs.PoolKinds.{with_pools}
+use Rattle.npf_cells_rule.specs.Views.{with_pools}
 use Rattle.npf_trie.proofs.NodeLemmas.{within_more, apart_more, taken_more, taken_owned, taken_all}
 use Rattle.npf_trie.proofs.nodes.take_nodes.Goals as goal
 

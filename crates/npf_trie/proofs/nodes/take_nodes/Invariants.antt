@@ -1,7 +1,7 @@
 use Rattle.std.proofs.Common.{◌≡◌, ◌<◌, ℕ, length, reverse, Contains}
 use Rattle.npf_paths.specs.LevelLaw.{AreApart}
-use Rattle.npf_cells.specs.Passes.{IsPassOf}
-use Rattle.npf_cells.specs.PoolKinds.{with_pools}
+use Rattle.npf_cells_rule.specs.Passes.{IsPassOf}
+use Rattle.npf_cells_rule.specs.Views.{with_pools}
 use Rattle.npf_trie.proofs.nodes.take_nodes.Given as goal
 
 -- the pass owns the nodes that were taken, the last first

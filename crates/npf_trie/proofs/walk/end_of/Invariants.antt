@@ -1,7 +1,8 @@
 use Rattle.std.proofs.Common.{◌≡◌, ◌+◌, ◌<◌}
-use Rattle.npf_cells.specs.LookKinds.{StandsOnPath, level_at, with_trie}
-use Rattle.npf_cells.specs.Passes.{IsPassOf, IsProtected}
-use Rattle.npf_cells.specs.Trie.{IsInTrie}
+use Rattle.npf_cells_holds.specs.LookKinds.{StandsOnPath, level_at}
+use Rattle.npf_cells_rule.specs.Views.{with_trie}
+use Rattle.npf_cells_rule.specs.Passes.{IsPassOf, IsProtected}
+use Rattle.npf_cells_words.specs.Places.{IsInTrie}
 use Rattle.npf_trie.proofs.walk.end_of.Given as goal
 
 -- the pass loaded a node at each level before this one, and stands at this level of the key's path

@@ -1,5 +1,5 @@
 use Rattle.std.proofs.Common.{◌≡◌, []}
-use Rattle.npf_cells.specs.Passes.{IsPassOf, IsProtected}
+use Rattle.npf_cells_rule.specs.Passes.{IsPassOf, IsProtected}
 use Rattle.npf_trie_bench.proofs.filling.fill.Given as goal
 
 abbrev pub invariant-loop-number : goal.invariant-loop-number

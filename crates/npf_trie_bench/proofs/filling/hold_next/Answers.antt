@@ -1,6 +1,6 @@
 use Rattle.std.proofs.Common.{ap, ◌∙◌}
 use Rattle.npf_types.specs.declared.key.Way.TheVariants.{Forward}
-use Rattle.npf_cells.specs.declared.views.TrieSide.{TrieSide}
+use Rattle.npf_cells_leaves.specs.declared.trie.TrieSide.{TrieSide}
 use Rattle.npf_trie_bench.proofs.filling.hold_next.Goals as goal
 
 pub hold-requires-clause-can : goal.hold-requires-clause-can

@@ -1,4 +1,4 @@
-use Rattle.npf_cells.specs.Passes.{IsPassOf}
+use Rattle.npf_cells_rule.specs.Passes.{IsPassOf}
 use Rattle.npf_trie_bench.specs.Rests.{HasNothing}
 use Rattle.npf_trie_bench.proofs.looking.look_often.Given as goal
 

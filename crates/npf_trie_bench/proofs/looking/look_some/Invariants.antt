@@ -1,5 +1,5 @@
 use Rattle.std.proofs.Common.{◌≡◌}
-use Rattle.npf_cells.specs.Passes.{IsPassOf}
+use Rattle.npf_cells_rule.specs.Passes.{IsPassOf}
 use Rattle.npf_trie_bench.proofs.looking.look_some.Given as goal
 
 abbrev pub invariant-loop-n : goal.invariant-loop-n

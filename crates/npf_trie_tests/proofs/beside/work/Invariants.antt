@@ -1,4 +1,4 @@
-use Rattle.npf_cells.specs.Passes.{IsPassOf}
+use Rattle.npf_cells_rule.specs.Passes.{IsPassOf}
 use Rattle.npf_trie_tests.specs.Hands.{IsEmptyHanded}
 use Rattle.npf_trie_tests.proofs.beside.work.Given as goal
 

@@ -1,6 +1,6 @@
 use Rattle.std.proofs.Common.{ap, ◌∙◌}
 use Rattle.npf_types.specs.declared.key.Way.TheVariants.{Forward}
-use Rattle.npf_cells.specs.declared.views.TrieSide.{TrieSide}
+use Rattle.npf_cells_leaves.specs.declared.trie.TrieSide.{TrieSide}
 use Rattle.npf_trie_tests.proofs.holders.open.Goals as goal
 
 pub hold-held-requires-clause-can : goal.hold-held-requires-clause-can

@@ -1,5 +1,5 @@
 use Rattle.std.proofs.Common.{◌≡◌}
-use Rattle.npf_cells.specs.Passes.{IsPassOf, IsProtected}
+use Rattle.npf_cells_rule.specs.Passes.{IsPassOf, IsProtected}
 use Rattle.npf_trie_tests.proofs.slots.takes_all.Given as goal
 
 abbrev pub invariant-loop-count : goal.invariant-loop-count

@@ -1,7 +1,8 @@
 use Rattle.std.proofs.Common.{ap, sym, subst, ◌∙◌, arith}
 use Rattle.std.proofs.lemmas.Bool.Decides.{Decides-eqb}
-use Rattle.npf_cells.specs.Kinds.{with_epochs, advancing, IsMet}
-use Rattle.npf_cells.proofs.KeepLemmas.{may_advance, pass_on}
+use Rattle.npf_cells_rule.specs.Views.{with_epochs}
+use Rattle.npf_cells_pins.specs.Pinning.{advancing, IsMet}
+use Rattle.npf_cells_moves.proofs.KeepLemmas.{may_advance, pass_on}
 use Rattle.npf_cells.proofs.cells.Cells.advance.Goals as goal
 
 pub compare_exchange-found-requires : goal.compare_exchange-found-requires

@@ -1,11 +1,14 @@
 use Rattle.std.proofs.Common.{◌≡◌, ℕ, ◌∙◌, ◌+◌, ◌/◌, ◌%◌, sym, ap, subst, refl, arith}
 use Rattle.std.specs.Int.{bit_at}
 use Rattle.std.proofs.lemmas.Bool.Decides.{Decides-eqb}
-use Rattle.npf_cells.specs.declared.layout.Layout.{Layout}
-use Rattle.npf_cells.specs.declared.layout.Pool.TheVariants.{Nodes}
-use Rattle.npf_cells.specs.Layout.{pool_at, place_word}
-use Rattle.npf_cells.specs.PoolKinds.{with_pools, claiming_node, StoodSo}
-use Rattle.npf_cells.proofs.PoolKeepLemmas.{may_claim_node, not_owned, pools_on}
+use Rattle.npf_cells_words.specs.declared.layout.Layout.{Layout}
+use Rattle.npf_cells_words.specs.declared.layout.Pool.TheVariants.{Nodes}
+use Rattle.npf_cells_words.specs.Layout.{pool_at, place_word}
+use Rattle.npf_cells_rule.specs.Views.{with_pools}
+use Rattle.npf_cells_takes.specs.PoolKinds.{claiming_node}
+use Rattle.npf_cells_rule.specs.Stood.{StoodSo}
+use Rattle.npf_cells_takes.proofs.PoolKeepLemmas.{may_claim_node, not_owned}
+use Rattle.npf_cells_rule.proofs.PassLemmas.{pools_on}
 use Rattle.npf_cells.proofs.cells.Cells.claim_node_as.Goals as goal
 
 pub fetch_or-found-requires : goal.fetch_or-found-requires

@@ -1,7 +1,7 @@
 use Rattle.std.proofs.Common.{◌≡◌, ◌∙◌, ◌+◌, ◌/◌, sym, ap, refl, arith}
-use Rattle.npf_cells.specs.declared.layout.Pool.TheVariants.{Slots}
-use Rattle.npf_cells.specs.Layout.{pool_at, place_word}
-use Rattle.npf_cells.proofs.SlotKeepLemmas.{may_claim_slot}
+use Rattle.npf_cells_words.specs.declared.layout.Pool.TheVariants.{Slots}
+use Rattle.npf_cells_words.specs.Layout.{pool_at, place_word}
+use Rattle.npf_cells_takes.proofs.SlotKeepLemmas.{may_claim_slot}
 use Rattle.npf_cells.proofs.cells.Cells.claim_slot_as.Goals as goal
 
 pub fetch_or-found-requires : goal.fetch_or-found-requires

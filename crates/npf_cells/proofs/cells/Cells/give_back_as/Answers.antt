@@ -1,9 +1,12 @@
 use Rattle.std.proofs.Common.{◌≡◌, ℕ, ◌∙◌, ◌+◌, ◌/◌, sym, ap, subst, refl, arith}
-use Rattle.npf_cells.specs.declared.layout.Layout.{Layout}
-use Rattle.npf_cells.specs.declared.layout.Pool.TheVariants.{Nodes}
-use Rattle.npf_cells.specs.Layout.{pool_at, place_word}
-use Rattle.npf_cells.specs.PoolKinds.{with_pools, giving_back, StoodSo}
-use Rattle.npf_cells.proofs.PoolKeepLemmas.{may_return_node, pools_on}
+use Rattle.npf_cells_words.specs.declared.layout.Layout.{Layout}
+use Rattle.npf_cells_words.specs.declared.layout.Pool.TheVariants.{Nodes}
+use Rattle.npf_cells_words.specs.Layout.{pool_at, place_word}
+use Rattle.npf_cells_rule.specs.Views.{with_pools}
+use Rattle.npf_cells_takes.specs.PoolKinds.{giving_back}
+use Rattle.npf_cells_rule.specs.Stood.{StoodSo}
+use Rattle.npf_cells_takes.proofs.PoolKeepLemmas.{may_return_node}
+use Rattle.npf_cells_rule.proofs.PassLemmas.{pools_on}
 use Rattle.npf_cells.proofs.cells.Cells.give_back_as.Goals as goal
 
 pub fetch_and-requires : goal.fetch_and-requires

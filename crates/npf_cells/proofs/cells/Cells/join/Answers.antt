@@ -1,6 +1,6 @@
 use Rattle.std.proofs.Common.{◌++◌, ◌≤◌, ap, sym, ◌∙◌, length, length-append, arith}
 use Rattle.npf_connections.specs.Pass.{all_places}
-use Rattle.npf_cells.proofs.MoveLemmas.{joins, reads, joined_so, joined_pass, joined_on}
+use Rattle.npf_cells_moves.proofs.MoveLemmas.{joins, reads, joined_so, joined_pass, joined_on}
 use Rattle.npf_cells.proofs.cells.Cells.join.Goals as goal
 
 pub join_seat-requires : goal.join_seat-requires

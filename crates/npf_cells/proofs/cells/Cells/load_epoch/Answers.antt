@@ -1,5 +1,5 @@
 use Rattle.std.proofs.Common.{arith}
-use Rattle.npf_cells.proofs.KeepLemmas.{may_load, pass_on}
+use Rattle.npf_cells_moves.proofs.KeepLemmas.{may_load, pass_on}
 use Rattle.npf_cells.proofs.cells.Cells.load_epoch.Goals as goal
 
 pub load-requires : goal.load-requires

@@ -1,7 +1,8 @@
 use Rattle.std.proofs.Common.{◌≡◌, ◌∙◌, sym, ap, arith}
-use Rattle.npf_cells.specs.declared.layout.Pool.TheVariants.{Slots}
-use Rattle.npf_cells.specs.Layout.{inc_field, field_at}
-use Rattle.npf_cells.proofs.PrivateKeepLemmas.{field_reach, may_load_inc}
+use Rattle.npf_cells_words.specs.declared.layout.Pool.TheVariants.{Slots}
+use Rattle.npf_cells_words.specs.Layout.{inc_field, field_at}
+use Rattle.npf_cells_words.proofs.WordLemmas.{field_reach}
+use Rattle.npf_cells_takes.proofs.PrivateKeepLemmas.{may_load_inc}
 use Rattle.npf_cells.proofs.cells.Cells.load_inc_as.Goals as goal
 
 pub load-requires : goal.load-requires

@@ -1,9 +1,8 @@
 use Rattle.std.proofs.Common.{◌≡◌, ◌∙◌, ◌+◌, sym, arith}
-use Rattle.npf_cells.specs.declared.layout.Pool.TheVariants.{Slots}
-use Rattle.npf_cells.specs.Layout.{key_field, field_at}
-use Rattle.npf_cells.proofs.PrivateKeepLemmas.{field_reach}
-use Rattle.npf_cells.proofs.PrivateTrieLemmas.{key_short}
-use Rattle.npf_cells.proofs.LookKeepLemmas.{may_load_key}
+use Rattle.npf_cells_words.specs.declared.layout.Pool.TheVariants.{Slots}
+use Rattle.npf_cells_words.specs.Layout.{key_field, field_at}
+use Rattle.npf_cells_words.proofs.WordLemmas.{field_reach, key_short}
+use Rattle.npf_cells_holds.proofs.LookKeepLemmas.{may_load_key}
 use Rattle.npf_cells.proofs.cells.Cells.load_key_as.Goals as goal
 
 pub load-requires : goal.load-requires

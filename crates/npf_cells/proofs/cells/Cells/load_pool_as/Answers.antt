@@ -1,10 +1,13 @@
 use Rattle.std.proofs.Common.{◌≡◌, ℕ, ◌∙◌, ◌+◌, sym, ap, subst, arith}
-use Rattle.npf_cells.specs.declared.layout.Layout.{Layout}
-use Rattle.npf_cells.specs.declared.layout.Pool.{Pool}
-use Rattle.npf_cells.specs.Layout.{pool_at, pool_words}
-use Rattle.npf_cells.specs.PoolKinds.{with_pools, sweeping, StoodSo}
-use Rattle.npf_cells.proofs.PoolKeepLemmas.{may_sweep, pools_on}
-use Rattle.npf_cells.proofs.PoolLemmas.{pool_reach}
+use Rattle.npf_cells_words.specs.declared.layout.Layout.{Layout}
+use Rattle.npf_cells_words.specs.declared.layout.Pool.{Pool}
+use Rattle.npf_cells_words.specs.Layout.{pool_at, pool_words}
+use Rattle.npf_cells_rule.specs.Views.{with_pools}
+use Rattle.npf_cells_takes.specs.PoolKinds.{sweeping}
+use Rattle.npf_cells_rule.specs.Stood.{StoodSo}
+use Rattle.npf_cells_takes.proofs.PoolKeepLemmas.{may_sweep}
+use Rattle.npf_cells_rule.proofs.PassLemmas.{pools_on}
+use Rattle.npf_cells_words.proofs.WordLemmas.{pool_reach}
 use Rattle.npf_cells.proofs.cells.Cells.load_pool_as.Goals as goal
 
 pub load-requires : goal.load-requires

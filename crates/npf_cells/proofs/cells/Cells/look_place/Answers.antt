@@ -1,8 +1,8 @@
 use Rattle.std.proofs.Common.{◌≡◌, ◌∙◌, ◌<◌, ◌^◌, sym, ap, subst, arith}
-use Rattle.npf_cells.specs.declared.layout.Layout.{Layout}
-use Rattle.npf_cells.specs.Trie.{place_at}
-use Rattle.npf_cells.proofs.LookKeepLemmas.{may_look, fits_word}
-use Rattle.npf_cells.proofs.TrieLemmas.{place_reach}
+use Rattle.npf_cells_words.specs.declared.layout.Layout.{Layout}
+use Rattle.npf_cells_words.specs.Places.{place_at}
+use Rattle.npf_cells_holds.proofs.LookKeepLemmas.{may_look, fits_word}
+use Rattle.npf_cells_words.proofs.WordLemmas.{place_reach}
 use Rattle.npf_cells.proofs.cells.Cells.look_place.Goals as goal
 
 pub load-found-requires : goal.load-found-requires

@@ -1,4 +1,4 @@
-use Rattle.npf_cells.proofs.OpenLemmas.{opens}
+use Rattle.npf_cells_rule.proofs.OpenLemmas.{opens}
 use Rattle.npf_cells.proofs.cells.Cells.new.Goals as goal
 
 pub new-requires : goal.new-requires

@@ -1,6 +1,7 @@
 use Rattle.std.proofs.Common.{ap, ◌∙◌, refl, arith}
-use Rattle.npf_cells.specs.Kinds.{with_epochs, pinning}
-use Rattle.npf_cells.proofs.KeepLemmas.{may_pin, pass_on}
+use Rattle.npf_cells_rule.specs.Views.{with_epochs}
+use Rattle.npf_cells_pins.specs.Pinning.{pinning}
+use Rattle.npf_cells_moves.proofs.KeepLemmas.{may_pin, pass_on}
 use Rattle.npf_cells.proofs.cells.Cells.pin.Goals as goal
 
 pub store-requires : goal.store-requires

@@ -1,7 +1,7 @@
 use Rattle.std.proofs.Common.{◌≡◌, ◌∙◌, sym, ap, arith}
-use Rattle.npf_cells.specs.Trie.{place_at}
-use Rattle.npf_cells.proofs.PublishKeepLemmas.{may_publish_for}
-use Rattle.npf_cells.proofs.TrieLemmas.{place_reach}
+use Rattle.npf_cells_words.specs.Places.{place_at}
+use Rattle.npf_cells_holds.proofs.PublishKeepLemmas.{may_publish_for}
+use Rattle.npf_cells_words.proofs.WordLemmas.{place_reach}
 use Rattle.npf_cells.proofs.cells.Cells.publish_key.Goals as goal
 
 pub store-requires : goal.store-requires

@@ -1,6 +1,7 @@
 use Rattle.std.proofs.Common.{◌≡◌, ap, ◌∙◌, ◌+◌, refl, arith}
-use Rattle.npf_cells.specs.Kinds.{with_epochs, scanning}
-use Rattle.npf_cells.proofs.KeepLemmas.{may_scan, pass_on}
+use Rattle.npf_cells_rule.specs.Views.{with_epochs}
+use Rattle.npf_cells_pins.specs.Pinning.{scanning}
+use Rattle.npf_cells_moves.proofs.KeepLemmas.{may_scan, pass_on}
 use Rattle.npf_cells.proofs.cells.Cells.scan_reader.Goals as goal
 
 pub load-requires : goal.load-requires

@@ -1,6 +1,6 @@
 use Rattle.std.proofs.Common.{ap, ◌∙◌, ◌-◌, length, arith}
 use Rattle.std.proofs.lemmas.List.{length-drop}
-use Rattle.npf_cells.proofs.MoveLemmas.{splits, gets_born, split_so, giver_on, given_on, given_pass}
+use Rattle.npf_cells_moves.proofs.MoveLemmas.{splits, gets_born, split_so, giver_on, given_on, given_pass}
 use Rattle.npf_cells.proofs.cells.Cells.split.Goals as goal
 
 pub split_seat-seat-requires : goal.split_seat-seat-requires

@@ -1,6 +1,7 @@
 use Rattle.std.proofs.Common.{◌≡◌, ◌∙◌, sym, ap, arith}
-use Rattle.npf_cells.specs.Layout.{field_at}
-use Rattle.npf_cells.proofs.PrivateKeepLemmas.{field_reach, may_store}
+use Rattle.npf_cells_words.specs.Layout.{field_at}
+use Rattle.npf_cells_words.proofs.WordLemmas.{field_reach}
+use Rattle.npf_cells_takes.proofs.PrivateKeepLemmas.{may_store}
 use Rattle.npf_cells.proofs.cells.Cells.store_private_as.Goals as goal
 
 pub store-requires : goal.store-requires

@@ -1,6 +1,7 @@
 use Rattle.std.proofs.Common.{◌≡◌, ◌∙◌, sym, ap, arith}
-use Rattle.npf_cells.specs.Locks.{lock_at}
-use Rattle.npf_cells.proofs.LockKeepLemmas.{lock_reach, may_lock}
+use Rattle.npf_cells_words.specs.Places.{lock_at}
+use Rattle.npf_cells_words.proofs.WordLemmas.{lock_reach}
+use Rattle.npf_cells_holds.proofs.LockKeepLemmas.{may_lock}
 use Rattle.npf_cells.proofs.cells.Cells.try_lock_as.Goals as goal
 
 pub compare_exchange-found-requires : goal.compare_exchange-found-requires

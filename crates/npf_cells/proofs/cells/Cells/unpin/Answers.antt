@@ -1,5 +1,5 @@
 use Rattle.std.proofs.Common.{refl, arith}
-use Rattle.npf_cells.proofs.KeepLemmas.{may_unpin, left_on}
+use Rattle.npf_cells_moves.proofs.KeepLemmas.{may_unpin, left_on}
 use Rattle.npf_cells.proofs.cells.Cells.unpin.Goals as goal
 
 pub store-requires : goal.store-requires

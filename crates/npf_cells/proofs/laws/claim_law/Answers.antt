@@ -1,9 +1,0 @@
-use Rattle.npf_cells.proofs.ConnLemmas.{builds_alone}
-use Rattle.npf_cells.proofs.PoolKeepLemmas.{owns_alone}
-use Rattle.npf_cells.proofs.laws.claim_law.Goals as goal
-
-pub returns-clause-alone : goal.returns-clause-alone
-returns-clause-alone g c = owns_alone g.L.Law.meaning
-
-pub returns-clause-builder : goal.returns-clause-builder
-returns-clause-builder g c = builds_alone g.L.Law.meaning

@@ -1,4 +1,0 @@
-use Rattle.npf_cells.proofs.laws.count_law.Goals as goal
-
-pub returns : goal.returns
-returns g c = record { counted = λ layout digest s kept. kept.epochs.counted }

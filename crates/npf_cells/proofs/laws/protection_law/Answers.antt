@@ -1,5 +1,0 @@
-use Rattle.npf_cells.proofs.KeepLemmas.{holds_back}
-use Rattle.npf_cells.proofs.laws.protection_law.Goals as goal
-
-pub returns : goal.returns
-returns g c = record { within = holds_back g.L.Law.meaning }

@@ -1,0 +1,97 @@
+-- Kind 15 where what stands in a place is stored again keeps the rule.
+use Rattle.std.specs.List.{Contains}
+use Rattle.std.proofs.Common.{◌≡◌, ◌≢◌, ℕ, List, set, refl, sym, ap, ◌∙◌, subst, ⊎_elim, length-set}
+use mathlib.Core.Option.{some}
+use lib.ListN.{get_elem?}
+use Rattle.atomic_table.specs.Table.{State, Me, Step, Allows, stepped, keeps}
+use Rattle.npf_types.specs.declared.key.Key.{Key}
+use Rattle.npf_core.specs.History.{state_of}
+use Rattle.npf_core.specs.Machine.{Machine}
+use Rattle.npf_core.specs.Meaning.{Meaning}
+use Rattle.npf_paths.specs.declared.cell.Cell.{Cell}
+use Rattle.npf_paths.specs.declared.place.Place.{Place}
+use Rattle.npf_paths.specs.CellWords.{cell_word}
+use Rattle.npf_paths.specs.Paths.{IsOnPath}
+use Rattle.npf_paths.specs.Places.{lock_of}
+use Rattle.npf_paths.proofs.FillingLemmas.{same_or_apart}
+use Rattle.npf_cells_words.specs.declared.layout.Layout.{Layout}
+use Rattle.npf_cells_words.specs.Places.{IsInTrie, place_at}
+use Rattle.npf_cells_words.proofs.WordLemmas.{place_behind}
+use Rattle.npf_cells_leaves.specs.declared.trie.TrieSide.{TrieSide}
+use Rattle.npf_cells_leaves.specs.Trie.{cell_in, digits_of, TrieWords, trie_words}
+use Rattle.npf_cells_leaves.proofs.TrieLemmas.{said, KnowsNoMore, are_digits, trie_same}
+use Rattle.npf_cells_lives.proofs.ConnLemmas.{builds-kept, unstored-set, conns-same}
+use Rattle.npf_cells_lives.proofs.LockLemmas.{locks-same, holders-set}
+use Rattle.npf_cells_lives.proofs.StoredLemmas.{stored_kept, stored-set}
+use Rattle.npf_cells_rule.specs.declared.view.CellView.{CellView}
+use Rattle.npf_cells_rule.specs.Cells.{IsCells}
+use Rattle.npf_cells_rule.specs.Views.{lock_side, pool_side, trie_side}
+use Rattle.npf_cells_rule.proofs.Frames.{private_step}
+use Rattle.npf_cells_holds.specs.PublishKinds.{SeesLocked, publishing, StoresAgain}
+use Rattle.npf_cells_holds.proofs.PlaceLemmas.{cell_here, cell_else, key_else, inc_else, lock_else, own_else}
+
+-- what the pass saw stands there still, on a key's path
+pub record StandsThere (digest : Key → ℕ) (t : TrieWords) (p : Place) (cell : Cell) : Type 0 where
+  pub key : Key
+  pub level : ℕ
+  pub on_path : IsOnPath (digits_of digest key) t.cell level p
+  pub is : t.cell p ≡ cell
+
+-- a store makes the pass know no more of the trie
+publishes_less : (side : TrieSide) → KnowsNoMore side (publishing side)
+publishes_less side = record { stands = λ point e. e; leaf = λ leaf e. e; seen = λ x e. absurd cc; locks = refl; answered = λ i c. c }
+
+module _ {S A R F : Type 0} (m : Meaning S A R) (digest : Key → ℕ) (layout : Layout) where
+  module _ (s : State F (CellView S A R)) (id : ℕ) (me : Me F (CellView S A R)) (kept : IsCells m digest layout s) (at : get_elem? s.views id ≡ some me.0) (p : Place) (inside : IsInTrie layout p) where
+    abbrev k : Machine S
+    k = state_of m kept.log
+
+    abbrev t : TrieWords
+    t = trie_words layout s.words
+
+    pub stands_there : (cell : Cell) → SeesLocked me.0.trie p cell → StandsThere digest t p cell
+    stands_there cell sees =
+        let stays = (kept.trie.each id me.0 at).seen sees.saw sees.seen in
+        record {
+          key = sees.saw.key;
+          level = sees.saw.level;
+          on_path = subst (λ q. IsOnPath (digits_of digest sees.saw.key) t.cell sees.saw.level q) sees.there stays.on_path;
+          is = ap t.cell (sym sees.there) ∙ (stays.locked (subst (λ q. Contains me.0.trie.locks (lock_of q)) (sym sees.there) sees.locked) ∙ sees.was);
+        }
+
+    -- the same is stored again
+    pub stored_again : (cell : Cell) → SeesLocked me.0.trie p cell → IsCells m digest layout (stepped s (place_at layout p) (cell_word cell) id me.1 (record me.0 { trie = publishing me.0.trie }) keeps)
+    stored_again cell sees =
+        let there = stands_there cell sees in
+        let w : CellView S A R = record me.0 { trie = publishing me.0.trie } in
+        let are = are_digits digest there.key in
+        private_step m digest layout s (place_at layout p) (cell_word cell) id me.1 me.0 w kept at (place_behind layout p) refl refl refl refl
+        (trie_same trie_side digest layout kept.published k k s.words words s.views id me.0 w kept.trie at (publishes_less me.0.trie) (record {
+          holder = λ key. refl;
+          claimed = λ identity c. c;
+          cells = λ digits _ level q on. ⊎_elim
+              (λ (e : q ≡ p). ap (cell_in layout words) e ∙ (cell_here m digest layout s kept p inside (cell_word cell) ∙ (said cell ∙ (sym there.is ∙ ap t.cell (sym e)))))
+              (λ (ne : q ≢ p). cell_else m digest layout s kept p inside (cell_word cell) q ne)
+              (same_or_apart q p);
+          keys = λ slot way right. key_else m digest layout s kept p inside (cell_word cell) slot way;
+          incs = λ slot way right. inc_else m digest layout s kept p inside (cell_word cell) slot;
+        }))
+        (conns-same pool_side m layout kept.log s.words words s.views (set s.views id w) kept.connections (length-set s.words (place_at layout p) (cell_word cell))
+        (λ slot h. inc_else m digest layout s kept p inside (cell_word cell) slot) (builds-kept pool_side k s.views id me.0 w at refl refl kept.connections.each) (unstored-set pool_side s.views id me.0 w at refl))
+        (stored-set pool_side layout words s.views id w
+        (stored_kept layout s.words words me.0.pools w.pools (kept.stored id me.0 at) refl (λ pool place field own. own) (own_else m digest layout s kept p inside (cell_word cell) (digits_of digest there.key) there.level are there.on_path id me.0 at))
+        (λ j u ne e. stored_kept layout s.words words u.pools u.pools (kept.stored j u e) refl (λ pool place field own. own) (own_else m digest layout s kept p inside (cell_word cell) (digits_of digest there.key) there.level are there.on_path j u e)))
+        (locks-same lock_side layout s.words words s.views (set s.views id w) kept.locks (lock_else m digest layout s kept p inside (cell_word cell)) (holders-set lock_side layout s.views id me.0 w at refl))
+      where
+        words : List ℕ
+        words = set s.words (place_at layout p) (cell_word cell)
+
+  pub may_store_again : (st : Step F) (id n : ℕ) (p : Place) (cell : Cell) (me : Me F (CellView S A R)) → IsInTrie layout p → SeesLocked me.0.trie p cell →
+      Allows (IsCells m digest layout) n id me (place_at layout p) (λ _. cell_word cell) (λ _. StoresAgain st me (cell_word cell))
+  may_store_again st id n p cell me inside sees s kept homes at bound = (
+    record me.0 { trie = publishing me.0.trie },
+    keeps,
+    tt,
+    stored_again s id me kept at p inside cell sees,
+    record { is = refl },
+  )

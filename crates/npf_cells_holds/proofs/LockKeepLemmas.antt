@@ -1,0 +1,264 @@
+-- Kinds 13 and 14 keep the rule: a lock is tried, and the state of what a pass has locked is stored.
+use Rattle.std.specs.List.{Contains}
+use Rattle.std.proofs.Common.{◌≡◌, ◌≢◌, ℕ, zero, suc, ◌+◌, ◌<◌, ◌≤◌, Bool, true, false, cond, eqb, eq-eqb, ne_eqb, List, [], ◌∷◌, map, set, length, slice_index, sum_by, refl, sym, ap, ◌∙◌, subst, ⊎_elim, arith, length-set}
+use Rattle.std.proofs.lemmas.Bool.{cases_eq}
+use Rattle.std.proofs.lemmas.List.{get_or-set_same, get_or-set_other}
+use Rattle.std.proofs.lemmas.List.Elements.{All-contains, All-filter, All-contains_itself}
+use mathlib.Core.Option.{some}
+use lib.ListN.{get_elem?}
+use prog.Atomic.{either}
+use Rattle.atomic_table.specs.Seated.{TableId}
+use Rattle.atomic_table.specs.Table.{State, Me, Act, Step, stepped, Allows, carried_after, Valid, keeps}
+use Rattle.atomic_table.proofs.Lists.{exchanged}
+use Rattle.npf_types.specs.declared.key.Key.{Key}
+use Rattle.npf_types.specs.declared.key.Way.{Way}
+use Rattle.npf_core.specs.History.{state_of}
+use Rattle.npf_core.specs.Machine.{Machine}
+use Rattle.npf_core.specs.Meaning.{Meaning}
+use Rattle.npf_paths.specs.declared.place.Lock.{Lock}
+use Rattle.npf_paths.specs.declared.place.Lock.TheVariants as Locking
+use Rattle.npf_cells_words.specs.declared.layout.Layout.{Layout}
+use Rattle.npf_cells_words.specs.declared.layout.Pool.TheVariants.{Slots}
+use Rattle.npf_cells_words.specs.Layout.{inc_field, key_field, field_at}
+use Rattle.npf_cells_words.specs.Places.{lock_at, IsLockOf, place_at}
+use Rattle.npf_cells_words.proofs.WordLemmas.{lock_behind, lock_reach, not_place}
+use Rattle.npf_seats.specs.Sums.{others_than, occurs}
+use Rattle.npf_seats.proofs.ListLemmas.{one_where, occurs-cons, left_same, left_others}
+use Rattle.npf_seats.proofs.PrefixLemmas.{none_listed, cons_cases}
+use Rattle.npf_seats.proofs.SumLemmas.{sum-set, one_of_sum}
+use Rattle.npf_cells_pins.specs.declared.pin.Pin.TheVariants.{Idle}
+use Rattle.npf_cells_leaves.specs.declared.trie.TrieSide.{TrieSide}
+use Rattle.npf_cells_leaves.specs.Trie.{key_word, TrieWords, trie_words, FitsTrie}
+use Rattle.npf_cells_leaves.proofs.TrieLemmas.{KeepsTrie, knows_same, cell_kept, trie_kept, fits_kept, fits-set, fits_all}
+use Rattle.npf_cells_lives.specs.declared.pools.PoolSide.{PoolSide}
+use Rattle.npf_cells_lives.specs.Locks.{has_lock, lock_holders, Locks}
+use Rattle.npf_cells_lives.specs.Stored.{FitsStored}
+use Rattle.npf_cells_lives.proofs.ConnLemmas.{builds-kept, unstored-set, conns-same}
+use Rattle.npf_cells_lives.proofs.StoredLemmas.{no_lock, stored_kept, stored-set}
+use Rattle.npf_cells_rule.specs.declared.view.CellView.{CellView}
+use Rattle.npf_cells_rule.specs.Cells.{IsCells}
+use Rattle.npf_cells_rule.specs.Passes.{IsPassOf}
+use Rattle.npf_cells_rule.specs.Views.{with_trie, lock_side, pool_side, trie_side}
+use Rattle.npf_cells_rule.proofs.Frames.{private_step}
+use Rattle.npf_cells_rule.proofs.StoodLemmas.{stood_so}
+use Rattle.npf_cells_holds.specs.LockKinds.{locking, locks_but, unlocking, TriesLock, StoresState}
+use Rattle.npf_cells_holds.proofs.LookKeepLemmas.{load_step}
+
+-- a pass of the table stays one through a step that changes what it knows and has of the trie, where one that isn't pinned has nothing
+pub trie_on : {S A R F : Type 0} (layout : Layout) (table seat seat' : TableId) (readers : List ℕ) (me next : Me F (CellView S A R)) (side : TrieSide) →
+    IsPassOf layout table seat readers me → seat' ≡ seat → next ≡ with_trie me side → (me.0.epochs.pin ≡ Idle → side.answered ≡ []) → (me.0.epochs.pin ≡ Idle → side.locks ≡ []) → IsPassOf layout table seat' readers next
+trie_on layout table seat seat' readers me next side own same is quiet free = rw is (record {
+  same = same ∙ own.same;
+  words = own.words;
+  free = own.free;
+  sized = own.sized;
+  lives = own.lives;
+  theirs = own.theirs;
+  owns = own.owns;
+  place = own.place;
+  most = own.most;
+  reader = own.reader;
+  epoch = own.epoch;
+  unanswered = quiet;
+  unlocked = free;
+})
+
+-- and no word of a connection
+not_slot : (layout : Layout) (slot field : ℕ) (lock : Lock) → IsLockOf layout lock → field_at layout Slots slot field ≢ lock_at layout lock
+not_slot layout slot field (Locking.Root digit) h e = absurd (omega (arith, h, e))
+not_slot layout slot field (Locking.Node node) h e = absurd (omega (arith, h, e))
+
+-- so the trie stays what it is
+lock_keeps : {S : Type 0} (layout : Layout) (k : Machine S) (words : List ℕ) (lock : Lock) (n : ℕ) → IsLockOf layout lock → KeepsTrie layout.slots k k (trie_words layout words) (trie_words layout (set words (lock_at layout lock) n))
+lock_keeps layout k words lock n exists = record {
+  holder = λ key. refl;
+  claimed = λ identity c. c;
+  cells = λ digits are level p on. cell_kept layout words _ p (λ h. other (place_at layout p) (not_place layout p lock h exists));
+  keys = λ slot way right. λ i. record { 0 = key_same slot way 0 i ∷ key_same slot way 1 i ∷ key_same slot way 2 i ∷ key_same slot way 3 i ∷ key_same slot way 4 i ∷ [] };
+  incs = λ slot way right. other (field_at layout Slots slot inc_field) (not_slot layout slot inc_field lock exists);
+}
+  where
+    other : (j : ℕ) → j ≢ lock_at layout lock → slice_index (set words (lock_at layout lock) n) j ≡ slice_index words j
+    other j ne = get_or-set_other words (lock_at layout lock) j n 0 ne
+
+    key_same : (slot : ℕ) (way : Way) (place : ℕ) → key_word layout (set words (lock_at layout lock) n) slot way place ≡ key_word layout words slot way place
+    key_same slot way place = other (field_at layout Slots slot (key_field way + place)) (not_slot layout slot (key_field way + place) lock exists)
+
+-- who has a lock counts it
+pub has_once : (layout : Layout) (lock : Lock) (locks : List Lock) → Contains locks lock → 1 ≤ has_lock layout lock locks
+has_once layout lock [] c = absurd (none_listed lock c)
+has_once layout lock (x ∷ xs) c =
+    let more = occurs-cons (lock_at layout lock) (lock_at layout x) (map (lock_at layout) xs) in
+    ⊎_elim
+    (λ (same : x ≡ lock).
+    let one : one_where (eqb (lock_at layout x) (lock_at layout lock)) ≡ 1 = ap one_where (eq-eqb (lock_at layout x) (lock_at layout lock) (ap (lock_at layout) same)) in
+    omega (arith, more, one))
+    (λ c'. let later = has_once layout lock xs c' in omega (arith, more, later))
+    (cons_cases x lock xs c)
+
+-- the locks but one lie in the words but one
+but_words : (layout : Layout) (lock : Lock) (locks : List Lock) → map (lock_at layout) (locks_but layout lock locks) ≡ others_than (lock_at layout lock) (map (lock_at layout) locks)
+but_words layout lock [] = refl
+but_words layout lock (x ∷ xs) = by_test (but_words layout lock xs) (eqb (lock_at layout x) (lock_at layout lock))
+  where
+    by_test : map (lock_at layout) (locks_but layout lock xs) ≡ others_than (lock_at layout lock) (map (lock_at layout) xs) → (b : Bool) →
+        map (lock_at layout) (cond (cond b false true) (x ∷ locks_but layout lock xs) (locks_but layout lock xs)) ≡ cond (cond b false true) (lock_at layout x ∷ others_than (lock_at layout lock) (map (lock_at layout) xs)) (others_than (lock_at layout lock) (map (lock_at layout) xs))
+    by_test rest true = rest
+    by_test rest false = ap (λ ws. lock_at layout x ∷ ws) rest
+
+-- who has a lock of these had it
+but_listed : (layout : Layout) (lock other : Lock) (locks : List Lock) → Contains (locks_but layout lock locks) other → Contains locks other
+but_listed layout lock other locks c = All-contains (Contains locks) (locks_but layout lock locks) other (All-filter _ (Contains locks) locks (All-contains_itself locks)) c
+
+-- a seat fits that has one more lock and forgets what it saw, and one that has a lock less
+fits_locking : {S : Type 0} (digest : Key → ℕ) (slots : ℕ) (k : Machine S) (t : TrieWords) (lock : Lock) (side : TrieSide) → FitsTrie digest slots k t side → FitsTrie digest slots k t (locking lock side)
+fits_locking digest slots k t lock side fits = record { stands = fits.stands; leaf = fits.leaf; seen = λ s e. absurd cc; claimed = fits.claimed }
+
+fits_unlocking : {S : Type 0} (digest : Key → ℕ) (slots : ℕ) (k : Machine S) (t : TrieWords) (layout : Layout) (lock : Lock) (side : TrieSide) → FitsTrie digest slots k t side →
+    FitsTrie digest slots k t (record side { locks = locks_but layout lock side.locks })
+fits_unlocking digest slots k t layout lock side fits = record {
+  stands = fits.stands;
+  leaf = fits.leaf;
+  seen = λ s e. let was = fits.seen s e in record { on_path = was.on_path; locked = λ c. was.locked (but_listed layout lock _ side.locks c) };
+  claimed = fits.claimed;
+}
+
+-- the part on locks after a step on the word of one, that changes who has this one alone
+locks-set : {S A R : Type 0} (layout : Layout) (words : List ℕ) (views : List (CellView S A R)) (id : ℕ) (v w : CellView S A R) (lock : Lock) (n : ℕ) → Locks lock_side layout words views → get_elem? views id ≡ some v → lock_at layout lock < length words →
+    n ≡ lock_holders lock_side layout (set views id w) lock → n ≤ 1 → ((other : Lock) → lock_at layout other ≢ lock_at layout lock → has_lock layout other w.trie.locks ≡ has_lock layout other v.trie.locks) →
+    Locks lock_side layout (set words (lock_at layout lock) n) (set views id w)
+locks-set {S} {A} {R} layout words views id v w lock n kept at long here most others = record {
+  says = λ other h. ⊎_elim
+      (λ (e : lock_at layout other ≡ lock_at layout lock). ap (slice_index (set words (lock_at layout lock) n)) e ∙ (get_or-set_same words (lock_at layout lock) n 0 long ∙ (here ∙ sym (by_word other e))))
+      (λ (ne : lock_at layout other ≢ lock_at layout lock). get_or-set_other words (lock_at layout lock) (lock_at layout other) n 0 ne ∙ (kept.says other h ∙ sym (same other ne)))
+      (cases_eq (lock_at layout other) (lock_at layout lock));
+  alone = λ other h. ⊎_elim
+      (λ (e : lock_at layout other ≡ lock_at layout lock). subst (λ x. x ≤ 1) (here ∙ sym (by_word other e)) most)
+      (λ (ne : lock_at layout other ≢ lock_at layout lock). subst (λ x. x ≤ 1) (sym (same other ne)) (kept.alone other h))
+      (cases_eq (lock_at layout other) (lock_at layout lock));
+}
+  where
+    by_word : (other : Lock) → lock_at layout other ≡ lock_at layout lock → lock_holders lock_side layout (set views id w) other ≡ lock_holders lock_side layout (set views id w) lock
+    by_word other e = ap (λ word. sum_by (λ (u : CellView S A R). occurs word (map (lock_at layout) u.trie.locks)) (set views id w)) e
+
+    same : (other : Lock) → lock_at layout other ≢ lock_at layout lock → lock_holders lock_side layout (set views id w) other ≡ lock_holders lock_side layout views other
+    same other ne =
+        let more = sum-set (λ (u : CellView S A R). has_lock layout other u.trie.locks) views id v w at in
+        let one = others other ne in
+        omega (arith, more, one)
+
+module _ {S A R F : Type 0} (m : Meaning S A R) (digest : Key → ℕ) (layout : Layout) where
+  module _ (s : State F (CellView S A R)) (id : ℕ) (me : Me F (CellView S A R)) (kept : IsCells m digest layout s) (at : get_elem? s.views id ≡ some me.0) (lock : Lock) (exists : IsLockOf layout lock) where
+    abbrev word : ℕ
+    word = lock_at layout lock
+
+    abbrev words' : ℕ → List ℕ
+    words' n = set s.words word n
+
+    abbrev having : TrieSide → CellView S A R
+    having side = record me.0 { trie = side }
+
+    abbrev k : Machine S
+    k = state_of m kept.log
+
+    abbrev t' : ℕ → TrieWords
+    t' n = trie_words layout (words' n)
+
+    keeps_trie : (n : ℕ) → KeepsTrie layout.slots k k (trie_words layout s.words) (t' n)
+    keeps_trie n = lock_keeps layout k s.words lock n exists
+
+    -- a step on the word of the lock, after which the seat fits and is one of those that have it
+    lock_step : (n : ℕ) (side : TrieSide) → FitsTrie digest layout.slots k (t' n) side → n ≡ lock_holders lock_side layout (set s.views id (having side)) lock → n ≤ 1 →
+        ((other : Lock) → lock_at layout other ≢ word → has_lock layout other side.locks ≡ has_lock layout other me.0.trie.locks) → IsCells m digest layout (stepped s word n id me.1 (having side) keeps)
+    lock_step n side fits here most others =
+        let w = having side in
+        private_step m digest layout s word n id me.1 me.0 w kept at (lock_behind layout lock) refl refl refl refl
+        (trie_kept trie_side digest layout kept.published k k s.words (words' n) s.views (set s.views id w) kept.trie (keeps_trie n)
+        (fits-set trie_side digest layout.slots k (t' n) s.views id w fits (fits_all trie_side digest layout.slots k k (trie_words layout s.words) (t' n) s.views (keeps_trie n) kept.trie.each)))
+        (conns-same pool_side m layout kept.log s.words (words' n) s.views (set s.views id w) kept.connections (length-set s.words word n)
+        (λ slot h. get_or-set_other s.words word (field_at layout Slots slot inc_field) n 0 (not_slot layout slot inc_field lock exists)) (builds-kept pool_side k s.views id me.0 w at refl refl kept.connections.each) (unstored-set pool_side s.views id me.0 w at refl))
+        (stored-set pool_side layout (words' n) s.views id w (on me.0.pools (kept.stored id me.0 at)) (λ j u ne there. on u.pools (kept.stored j u there)))
+        (locks-set layout s.words s.views id me.0 w lock n kept.locks at (let reach = lock_reach layout lock exists in let long = kept.connections.reach in omega (arith, reach, long)) here most others)
+      where
+        on : (pools : PoolSide) → FitsStored layout s.words pools → FitsStored layout (words' n) pools
+        on pools h = stored_kept layout s.words (words' n) pools pools h refl (λ pool place field own. own)
+            (λ pool place field own. get_or-set_other s.words word (field_at layout pool place field) n 0 (λ e. no_lock layout pools pool place field lock own exists (sym e)))
+
+    -- what the seat knew still fits
+    fits_still : (n : ℕ) → FitsTrie digest layout.slots k (t' n) me.0.trie
+    fits_still n = fits_kept digest layout.slots k k (trie_words layout s.words) (t' n) (keeps_trie n) me.0.trie me.0.trie (knows_same me.0.trie) (kept.trie.each id me.0 at)
+
+    holders_after : (side : TrieSide) → lock_holders lock_side layout (set s.views id (having side)) lock + has_lock layout lock me.0.trie.locks ≡ lock_holders lock_side layout s.views lock + has_lock layout lock side.locks
+    holders_after side = sum-set (λ (u : CellView S A R). has_lock layout lock u.trie.locks) s.views id me.0 (having side) at
+
+    -- the lock was free, and the pass has it
+    pub got : slice_index s.words word ≡ 0 → IsCells m digest layout (stepped s word 1 id me.1 (having (locking lock me.0.trie)) keeps)
+    got free = lock_step 1 (locking lock me.0.trie) (fits_locking digest layout.slots k (t' 1) lock me.0.trie (fits_still 1))
+        (let says = kept.locks.says lock exists in
+        let after = holders_after (locking lock me.0.trie) in
+        let more = occurs-cons word word (map (lock_at layout) me.0.trie.locks) in
+        let one : one_where (eqb word word) ≡ 1 = ap one_where (eq-eqb word word refl) in
+        omega (arith, free, says, after, more, one)) (omega arith)
+        (λ other ne.
+        let more = occurs-cons (lock_at layout other) word (map (lock_at layout) me.0.trie.locks) in
+        let none : one_where (eqb word (lock_at layout other)) ≡ 0 = ap one_where (ne_eqb word (lock_at layout other) (λ e. ne (sym e))) in
+        omega (arith, more, none))
+
+    -- the pass that stores the state has the lock alone
+    held : Contains me.0.trie.locks lock → (lock_holders lock_side layout s.views lock ≡ 1) × (has_lock layout lock me.0.trie.locks ≡ 1)
+    held c =
+        let most = kept.locks.alone lock exists in
+        let mine = one_of_sum (λ (u : CellView S A R). has_lock layout lock u.trie.locks) s.views id me.0 at in
+        let once = has_once layout lock me.0.trie.locks c in
+        (omega (arith, most, mine, once), omega (arith, most, mine, once))
+
+    freed : Contains me.0.trie.locks lock → IsCells m digest layout (stepped s word 0 id me.1 (having (record me.0.trie { locks = locks_but layout lock me.0.trie.locks })) keeps)
+    freed c = lock_step 0 (record me.0.trie { locks = locks_but layout lock me.0.trie.locks }) (fits_unlocking digest layout.slots k (t' 0) layout lock me.0.trie (fits_still 0))
+        (let had = held c in
+        let all = had.0 in
+        let mine = had.1 in
+        let after = holders_after (record me.0.trie { locks = locks_but layout lock me.0.trie.locks }) in
+        let left : has_lock layout lock (locks_but layout lock me.0.trie.locks) ≡ 0 = ap (occurs word) (but_words layout lock me.0.trie.locks) ∙ left_same word (map (lock_at layout) me.0.trie.locks) in
+        omega (arith, all, mine, after, left)) (omega arith)
+        (λ other ne. ap (occurs (lock_at layout other)) (but_words layout lock me.0.trie.locks) ∙ left_others word (lock_at layout other) (map (lock_at layout) me.0.trie.locks) ne)
+
+    stays_locked : Contains me.0.trie.locks lock → IsCells m digest layout (stepped s word 1 id me.1 me.0 keeps)
+    stays_locked c = lock_step 1 me.0.trie (fits_still 1) (let had = held c in let all = had.0 in let after = holders_after me.0.trie in omega (arith, all, after)) (omega arith) (λ other ne. refl)
+
+    pub stores_state : (state : ℕ) → Contains me.0.trie.locks lock → state < 2 → IsCells m digest layout (stepped s word state id me.1 (having (unlocking layout lock state me.0.trie)) keeps)
+    stores_state zero c h = freed c
+    stores_state (suc zero) c h = stays_locked c
+    stores_state (suc (suc state)) c h = absurd (omega (arith, h))
+
+  -- a try that makes the word of the lock this
+  abbrev LockTry : (st : Step F) (id : ℕ) (lock : Lock) (me : Me F (CellView S A R)) (s : State F (CellView S A R)) → ℕ → Type 0
+  LockTry st id lock me s n = (w : CellView S A R) × (a : Act F) × Valid s.homes me.1 a × IsCells m digest layout (stepped s (lock_at layout lock) n id me.1 w a)
+      × TriesLock m digest layout lock st me (slice_index s.words (lock_at layout lock)) (w, carried_after me.1 a)
+
+  pub may_lock : (st : Step F) (id n : ℕ) (lock : Lock) (me : Me F (CellView S A R)) → me.0.seats.lives ≡ true → IsLockOf layout lock →
+      Allows (IsCells m digest layout) n id me (lock_at layout lock) (λ x. either (eqb x 0) 1 x) (TriesLock m digest layout lock st me)
+  may_lock st id n lock me lives exists s kept homes at bound = exchanged (slice_index s.words (lock_at layout lock)) 0 1 (LockTry st id lock me s)
+      (λ free. (
+        record me.0 { trie = locking lock me.0.trie },
+        keeps,
+        tt,
+        got s id me kept at lock exists free,
+        record { stood = stood_so m digest layout s id me.0 (lock_at layout lock) (lock_at layout lock) kept at lives refl; won = λ _. refl; lost = λ taken. absurd (taken free) },
+      ))
+      (λ taken. (
+        me.0,
+        keeps,
+        tt,
+        load_step m digest layout s (lock_at layout lock) id me.1 me.0 me.0.trie kept at (lock_behind layout lock) (kept.trie.each id me.0 at) refl,
+        record { stood = stood_so m digest layout s id me.0 (lock_at layout lock) (lock_at layout lock) kept at lives refl; won = λ free. absurd (taken pool_side free); lost = λ _. refl },
+      ))
+
+  pub may_store_state : (st : Step F) (id n : ℕ) (lock : Lock) (state : ℕ) (me : Me F (CellView S A R)) → IsLockOf layout lock → Contains me.0.trie.locks lock → state < 2 →
+      Allows (IsCells m digest layout) n id me (lock_at layout lock) (λ _. state) (λ _. StoresState layout lock state st me state)
+  may_store_state st id n lock state me exists has below s kept homes at bound = (
+    record me.0 { trie = unlocking layout lock state me.0.trie },
+    keeps,
+    tt,
+    stores_state s id me kept at lock exists state has below,
+    record { is = refl },
+  )

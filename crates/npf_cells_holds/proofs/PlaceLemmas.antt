@@ -1,0 +1,66 @@
+-- A store in a place of the trie that the pass has locked: of what stands in places it changes that alone, and no other word.
+use Rattle.std.specs.List.{Contains}
+use Rattle.std.proofs.Common.{◌≡◌, ◌≢◌, ℕ, ◌+◌, List, [], ◌∷◌, set, slice_index, ap, ◌∙◌, subst, ⊎_elim, arith}
+use Rattle.std.proofs.lemmas.List.{get_or-set_same, get_or-set_other}
+use mathlib.Core.Option.{some}
+use lib.ListN.{get_elem?}
+use Rattle.atomic_table.specs.Table.{State}
+use Rattle.npf_types.specs.declared.key.Key.{Key}
+use Rattle.npf_types.specs.declared.key.Way.{Way}
+use Rattle.npf_core.specs.Meaning.{Meaning}
+use Rattle.npf_paths.specs.declared.place.Lock.{Lock}
+use Rattle.npf_paths.specs.declared.place.Place.{Place}
+use Rattle.npf_paths.specs.CellWords.{cell_of}
+use Rattle.npf_paths.specs.Paths.{AreDigits, IsOnPath}
+use Rattle.npf_cells_words.specs.declared.layout.Layout.{Layout}
+use Rattle.npf_cells_words.specs.declared.layout.Pool.{Pool}
+use Rattle.npf_cells_words.specs.declared.layout.Pool.TheVariants.{Slots, Nodes}
+use Rattle.npf_cells_words.specs.Layout.{inc_field, key_field, field_at}
+use Rattle.npf_cells_words.specs.Places.{lock_at, IsLockOf, IsInTrie, place_at}
+use Rattle.npf_cells_words.proofs.WordLemmas.{place_reach, one_word, slot_apart, lock_apart}
+use Rattle.npf_cells_leaves.specs.Trie.{cell_in, key_word, trie_words}
+use Rattle.npf_cells_leaves.proofs.TrieLemmas.{cell_there, cell_kept}
+use Rattle.npf_cells_lives.specs.Stored.{IsOwnField}
+use Rattle.npf_cells_rule.specs.declared.view.CellView.{CellView}
+use Rattle.npf_cells_rule.specs.Cells.{IsCells}
+use Rattle.npf_cells_rule.proofs.MetLemmas.{met_at, unowned}
+
+module _ {S A R F : Type 0} (m : Meaning S A R) (digest : Key → ℕ) (layout : Layout) (s : State F (CellView S A R)) (kept : IsCells m digest layout s) (p : Place) (inside : IsInTrie layout p) (value : ℕ) where
+  abbrev words' : List ℕ
+  words' = set s.words (place_at layout p) value
+
+  pub other_word : (j : ℕ) → j ≢ place_at layout p → slice_index words' j ≡ slice_index s.words j
+  other_word j ne = get_or-set_other s.words (place_at layout p) j value 0 ne
+
+  -- what stands there, and elsewhere
+  pub cell_here : cell_in layout words' p ≡ cell_of value
+  cell_here =
+      let reach = place_reach layout p inside in
+      let long = kept.connections.reach in
+      cell_there layout words' p inside ∙ ap cell_of (get_or-set_same s.words (place_at layout p) value 0 (omega (arith, reach, long)))
+
+  pub cell_else : (q : Place) → q ≢ p → cell_in layout words' q ≡ cell_in layout s.words q
+  cell_else q ne = cell_kept layout s.words words' q (λ there. other_word (place_at layout q) (λ e. ne (one_word layout q p there inside e)))
+
+  -- the words of slots and the locks
+  pub key_else : (slot : ℕ) (way : Way) → (trie_words layout words').key slot way ≡ (trie_words layout s.words).key slot way
+  key_else slot way i = record { 0 = word 0 i ∷ word 1 i ∷ word 2 i ∷ word 3 i ∷ word 4 i ∷ [] }
+    where
+      word : (place : ℕ) → key_word layout words' slot way place ≡ key_word layout s.words slot way place
+      word place = other_word (field_at layout Slots slot (key_field way + place)) (slot_apart layout p slot (key_field way + place) inside)
+
+  pub inc_else : (slot : ℕ) → (trie_words layout words').inc slot ≡ (trie_words layout s.words).inc slot
+  inc_else slot = other_word (field_at layout Slots slot inc_field) (slot_apart layout p slot inc_field inside)
+
+  pub lock_else : (lock : Lock) → IsLockOf layout lock → slice_index words' (lock_at layout lock) ≡ slice_index s.words (lock_at layout lock)
+  lock_else lock h = other_word (lock_at layout lock) (lock_apart layout p lock inside h)
+
+  -- a place that a path meets is in none of a pass's own nodes
+  pub own_else : (digits : ℕ → ℕ) (level : ℕ) → AreDigits digits → IsOnPath digits (trie_words layout s.words).cell level p → (j : ℕ) (v : CellView S A R) → get_elem? s.views j ≡ some v →
+      (pool : Pool) (place field : ℕ) → IsOwnField layout v.pools pool place field → slice_index words' (field_at layout pool place field) ≡ slice_index s.words (field_at layout pool place field)
+  own_else digits level are on j v at Slots place field own = other_word (field_at layout Slots place field) (slot_apart layout p place field inside)
+  own_else digits level are on j v at Nodes place field own = other_word (field_at layout Nodes place field) (λ e. ⊎_elim
+      (λ low. absurd (omega (arith, low, e)))
+      (λ x. let same : x.0 ≡ place = (let there = x.2 in let d = x.3 in let short = own.2 in omega (arith, there, d, short, e)) in
+      unowned m digest layout s kept j v place at own.1 own.0 (subst (Contains kept.published) same x.5))
+      (met_at m digest layout s kept digits level p are on))

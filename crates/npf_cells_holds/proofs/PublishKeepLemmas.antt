@@ -1,0 +1,338 @@
+-- Kind 15 for a key keeps the rule, and holds the key.
+use Rattle.std.specs.List.{Contains}
+use Rattle.std.proofs.Common.{◌≡◌, ◌≢◌, ℕ, ◌+◌, ◌<◌, ◌≤◌, true, false, true≢false, cond, Option, Some, None, List, [], ◌∷◌, ◌++◌, map, set, length, slice_index, refl, sym, ap, ◌∙◌, subst, ⊎_elim, arith, length-set}
+use Rattle.std.proofs.lemmas.Grind.{same_number_lists}
+use Rattle.std.proofs.lemmas.List.{map-set, get_or-set_other}
+use mathlib.Core.Option.{some}
+use lib.ListN.{get_elem?}
+use Rattle.atomic_table.specs.Table.{State, Me, Step, Allows, stepped, keeps}
+use Rattle.atomic_table.proofs.Lists.{at_map}
+use Rattle.npf_types.specs.declared.key.Key.{Key}
+use Rattle.npf_types.specs.declared.key.Way.{Way}
+use Rattle.npf_core.specs.declared.act.Act.TheVariants.{Hold}
+use Rattle.npf_core.specs.declared.conn_id.ConnId.{ConnId}
+use Rattle.npf_core.specs.declared.entry.Entry.{Entry}
+use Rattle.npf_core.specs.declared.held.Held.{Held}
+use Rattle.npf_core.specs.declared.reply.Reply.TheVariants.{ToHold}
+use Rattle.npf_core.specs.declared.stage.Stage.TheVariants.{Building}
+use Rattle.npf_core.specs.History.{MayFollow, Legal, after, state_of}
+use Rattle.npf_core.specs.Machine.{Machine, stage_of, is_key}
+use Rattle.npf_core.specs.Meaning.{Meaning}
+use Rattle.npf_core.specs.Replies.{held_by}
+use Rattle.npf_core.proofs.HistoryLemmas.{state_of-append, Legal-append}
+use Rattle.npf_connections.specs.Adding.{AddsOwn}
+use Rattle.npf_connections.specs.Pass.{all_places}
+use Rattle.npf_paths.specs.declared.cell.Cell.{Cell}
+use Rattle.npf_paths.specs.declared.cell.Cell.TheVariants.{Empty, Leaf, Node, Mark}
+use Rattle.npf_paths.specs.declared.place.Place.{Place}
+use Rattle.npf_paths.specs.declared.place.Place.TheVariants as Places
+use Rattle.npf_paths.specs.CellWords.{cell_word, cell_of}
+use Rattle.npf_paths.specs.Growing.{IsPlaceOf, GrowsBranch}
+use Rattle.npf_paths.specs.GrowingLaw.{PathsAfterGrowth}
+use Rattle.npf_paths.specs.Paths.{AreDigits, IsOnPath, IsEnd}
+use Rattle.npf_paths.specs.Paths.IsOnPath.{at_root, further}
+use Rattle.npf_paths.specs.Places.{lock_of}
+use Rattle.npf_paths.proofs.FillingLemmas.{filled_places}
+use Rattle.npf_paths.proofs.GrowingLemmas.{growth_told}
+use Rattle.npf_cells_words.specs.declared.layout.Layout.{Layout}
+use Rattle.npf_cells_words.specs.declared.layout.Pool.{Pool}
+use Rattle.npf_cells_words.specs.declared.layout.Pool.TheVariants.{Slots}
+use Rattle.npf_cells_words.specs.Layout.{root_at, key_field, field_at}
+use Rattle.npf_cells_words.specs.Places.{IsInTrie, place_at}
+use Rattle.npf_cells_words.proofs.WordLemmas.{place_lock, place_behind}
+use Rattle.npf_seats.specs.Seats.{FitsSeats, Seats}
+use Rattle.npf_seats.specs.Sums.{occurs}
+use Rattle.npf_seats.proofs.ListLemmas.{occurs_or}
+use Rattle.npf_seats.proofs.PrefixLemmas.{none_listed}
+use Rattle.npf_seats.proofs.SeatLemmas.{seats-adds}
+use Rattle.npf_cells_pins.specs.Epochs.{ReaderView}
+use Rattle.npf_cells_pins.proofs.EpochLemmas.{within_last}
+use Rattle.npf_cells_leaves.specs.declared.trie.LoadedLeaf.{LoadedLeaf}
+use Rattle.npf_cells_leaves.specs.Trie.{key_in, digits_of, TrieWords, trie_words, leaf_found, holder_at, StaysLeaf, FitsTrie, Trie}
+use Rattle.npf_cells_leaves.proofs.FillLemmas.{FillsFor, fills_place, trie_filled}
+use Rattle.npf_cells_leaves.proofs.GivenLemmas.{GivesKey, fits_still, others-fit}
+use Rattle.npf_cells_leaves.proofs.GrowLemmas.{branch_seen, trie_grown}
+use Rattle.npf_cells_leaves.proofs.TrieLemmas.{said, knows_same, are_digits, cell_there}
+use Rattle.npf_cells_lives.specs.Conns.{Conns, entry_seat}
+use Rattle.npf_cells_lives.specs.Locks.{Locks}
+use Rattle.npf_cells_lives.specs.Pools.{taken, Pools}
+use Rattle.npf_cells_lives.specs.Stored.{stored_value, StoredWords}
+use Rattle.npf_cells_lives.proofs.BuiltLemmas.{bare_in_log}
+use Rattle.npf_cells_lives.proofs.ConnLemmas.{BuildsIn, builds-kept, unstored-set, inc_shown}
+use Rattle.npf_cells_lives.proofs.LockLemmas.{locks-same, holders-set, locks_alone}
+use Rattle.npf_cells_lives.proofs.PoolLemmas.{pools-kept}
+use Rattle.npf_cells_lives.proofs.StoredLemmas.{fits_unstored, stored_kept, stored-set}
+use Rattle.npf_cells_rule.specs.declared.view.CellView.{CellView}
+use Rattle.npf_cells_rule.specs.Cells.{IsCells}
+use Rattle.npf_cells_rule.specs.Passes.{IsProtected, cell_pass}
+use Rattle.npf_cells_rule.specs.Views.{seat_side, reader_view, lock_side, pool_side, trie_side}
+use Rattle.npf_cells_rule.proofs.EntryLemmas.{adds_entry, sole_entries}
+use Rattle.npf_cells_rule.proofs.Frames.{spent-set, framed, epochs_apart}
+use Rattle.npf_cells_rule.proofs.MetLemmas.{unowned}
+use Rattle.npf_cells_rule.proofs.PassLemmas.{pinned_in}
+use Rattle.npf_cells_holds.specs.LookKinds.{level_at}
+use Rattle.npf_cells_holds.specs.PublishKinds.{SeesLocked, stored_cell, cell_stored, GrowsNodes, PutsFor, MayPublishFor, published_for, HasHeld, PublishesFor}
+use Rattle.npf_cells_holds.proofs.AgainKeepLemmas.{stands_there}
+use Rattle.npf_cells_holds.proofs.LookKeepLemmas.{word_of, on_path}
+use Rattle.npf_cells_holds.proofs.OwnedLemmas.{owns_there, taken_moved}
+use Rattle.npf_cells_holds.proofs.PlaceLemmas.{cell_here, cell_else, key_else, inc_else, lock_else, own_else}
+use Rattle.npf_cells_holds.specs.PublishKinds.PutsFor.{fills, grows}
+
+module _ {S A R F : Type 0} (m : Meaning S A R) (digest : Key → ℕ) (layout : Layout) where
+  -- a store in a place of the trie, by which the pass adds an entry of its own and may publish nodes
+  publish_step : (s : State F (CellView S A R)) (i n id : ℕ) (v w : CellView S A R) (kept : IsCells m digest layout s) (published : List ℕ) → get_elem? s.views id ≡ some v → root_at layout ≤ i → v.seats.lives ≡ true → 1 ≤ length v.seats.readers →
+      (entry : Entry S A R) → entry.seat ≡ id → MayFollow m layout.slots (state_of m kept.log) entry → w.seats ≡ record v.seats { history = kept.log ++ entry ∷ [] } → reader_view w ≡ reader_view v →
+      ((pool : Pool) (place : ℕ) → taken pool_side published (after m (state_of m kept.log) entry) (set s.views id w) pool place ≡ taken pool_side kept.published (state_of m kept.log) s.views pool place) →
+      Trie trie_side digest layout published (after m (state_of m kept.log) entry) (set s.words i n) (set s.views id w) → Conns pool_side m layout (kept.log ++ entry ∷ []) (set s.words i n) (set s.views id w) → StoredWords pool_side layout (set s.words i n) (set s.views id w) → Locks lock_side layout (set s.words i n) (set s.views id w) →
+      (c : List (ℕ × F)) → IsCells m digest layout (stepped s i n id c w keeps)
+  publish_step s i n id v w kept published at behind lives place entry mine follows seats reads takes trie connections stored locks c =
+      let log = kept.log ++ entry ∷ [] in
+      let state = state_of-append m kept.log entry in
+      framed m digest layout s (stepped s i n id c w keeps) kept published log (length-set s.words i n)
+      (subst (λ sides. Seats entry_seat layout.slots all_places log sides) (sym (map-set seat_side s.views id w ∙ ap (λ side. set (map seat_side s.views) id side) seats))
+      (seats-adds entry_seat layout.slots all_places kept.log (map seat_side s.views) id v.seats kept.seats (at_map seat_side s.views id v at) lives place entry mine))
+      (epochs_apart m digest layout s i n id v w kept at reads (λ j h. below j (omega (arith, h))))
+      (subst (λ k. Pools layout (taken pool_side published k (set s.views id w)) (set s.words i n)) (sym state)
+      (pools-kept layout (taken pool_side kept.published (state_of m kept.log) s.views) (taken pool_side published (after m (state_of m kept.log) entry) (set s.views id w)) s.words (set s.words i n) kept.pools (length-set s.words i n) below takes))
+      (subst (λ k. Trie trie_side digest layout published k (set s.words i n) (set s.views id w)) (sym state) trie)
+      connections
+      stored
+      locks
+      (spent-set s.views id w (λ none. absurd (let same = ap (λ (r : ReaderView). length r.places) reads in omega (arith, same, none, place))) kept.spent)
+    where
+      below : (j : ℕ) → j < root_at layout → slice_index (set s.words i n) j ≡ slice_index s.words j
+      below j h = get_or-set_other s.words i j n 0 (λ e. absurd (omega (arith, e, h, behind)))
+
+  module _ (s : State F (CellView S A R)) (id : ℕ) (me : Me F (CellView S A R)) (kept : IsCells m digest layout s) (at : get_elem? s.views id ≡ some me.0) (lives : me.0.seats.lives ≡ true) (settled : me.0.seats.theirs ≡ []) (place : 1 ≤ length me.0.seats.readers)
+      (stays : IsProtected me.0.epochs.pin) (conn : ConnId) (key : Key) (way : Way) (p : Place) (inside : IsInTrie layout p) (cell : Cell) (may : MayPublishFor m digest layout me.0 conn key way p cell) where
+    abbrev k : Machine S
+    k = state_of m kept.log
+
+    abbrev word : ℕ
+    word = place_at layout p
+
+    abbrev words' : List ℕ
+    words' = set s.words word (cell_word cell)
+
+    abbrev t : TrieWords
+    t = trie_words layout s.words
+
+    abbrev t' : TrieWords
+    t' = trie_words layout words'
+
+    abbrev level : ℕ
+    level = level_at me.0.trie p
+
+    abbrev entry : Entry S A R
+    entry = record { seat = id; act = Hold conn key way; reply = ToHold Held.Done }
+
+    abbrev k' : Machine S
+    k' = after m k entry
+
+    abbrev holding : List ℕ → CellView S A R
+    holding nodes = published_for me.0 (kept.log ++ entry ∷ []) nodes
+
+    on : IsOnPath (digits_of digest key) t.cell level p
+    on = on_path digest layout.slots k t me.0.trie key p (kept.trie.each id me.0 at) may.stands
+
+    there : get_elem? (map seat_side s.views) id ≡ some me.0.seats
+    there = at_map seat_side s.views id me.0 at
+
+    fits : FitsSeats entry_seat layout.slots (map seat_side s.views) kept.log id me.0.seats
+    fits = kept.seats.each id me.0.seats there
+
+    number : me.0.seats.number ≡ id
+    number = (fits.lives lives).number
+
+    built : stage_of k conn ≡ Building id
+    built = (kept.connections.each id me.0 at).building conn may.hold.built
+
+    -- a key without a holder may be held
+    follows : k.holder key ≡ None → MayFollow m layout.slots k entry
+    follows free = record {
+      allowed = record { built = built; none = bare_in_log m layout.slots me.0.seats.history kept.log id conn way kept.connections.legal fits.seen (fits.lives lives).own built may.hold.bare };
+      replied = ap (λ h. ToHold (held_by h)) (sym free);
+    }
+
+    -- the words that the pass stored in the slot are the key's and the incarnation
+    key_stands : t.key conn.slot way ≡ key
+    key_stands = ap (λ (numbers : List ℕ). record { 0 = numbers }) (same_number_lists (key_in layout s.words conn.slot way).0 key.0 (sym may.key_stored.five) (λ i h.
+        sym (word_of layout s.words conn.slot way i h) ∙ (kept.stored id me.0 at).stands (field_at layout Slots conn.slot (key_field way + i)) (slice_index key.0 i) (may.key_stored.words i h)))
+
+    inc_stands : t.inc conn.slot ≡ conn.inc
+    inc_stands = ⊎_elim
+        (λ (none : occurs conn.slot me.0.pools.unstored ≡ 0). let shown = inc_shown pool_side m layout kept.log s.words s.views id me.0 kept.connections at conn may.hold.built may.exists in omega (arith, shown, none))
+        (λ owes. absurd (may.inc_stored owes))
+        (occurs_or conn.slot me.0.pools.unstored)
+
+    gives : k.holder key ≡ None → GivesKey layout.slots k k' t t' conn key way
+    gives free = record {
+      exists = may.exists;
+      free = free;
+      holder = λ other. refl;
+      claimed = λ identity c. c;
+      keys = key_else m digest layout s kept p inside (cell_word cell);
+      incs = inc_else m digest layout s kept p inside (cell_word cell);
+      key_is = key_stands;
+      inc_is = inc_stands;
+    }
+
+    connected : (nodes : List ℕ) → k.holder key ≡ None → Conns pool_side m layout (kept.log ++ entry ∷ []) words' (set s.views id (holding nodes))
+    connected nodes free =
+        let state = state_of-append m kept.log entry in
+        record {
+          reach = length-set s.words word (cell_word cell) ∙ kept.connections.reach;
+          legal = Legal-append m layout.slots kept.log entry kept.connections.legal (follows free);
+          each = subst (λ x. BuildsIn pool_side x (set s.views id (holding nodes))) (sym state) (λ j u e.
+              let builds = builds-kept pool_side k s.views id me.0 (holding nodes) at refl refl kept.connections.each j u e in
+              record { building = builds.building; owing = builds.owing; once = builds.once });
+          incs = λ slot h. (λ i. inc_else m digest layout s kept p inside (cell_word cell) slot i + unstored-set pool_side s.views id me.0 (holding nodes) at refl slot i) ∙ (kept.connections.incs slot h ∙ ap (λ x. (x.slot slot).inc) (sym state));
+        }
+
+    stored_stays : (nodes : List ℕ) → StoredWords pool_side layout words' (set s.views id (holding nodes))
+    stored_stays nodes = stored-set pool_side layout words' s.views id (holding nodes) (fits_unstored layout words' (holding nodes).pools refl)
+        (λ j u ne e. stored_kept layout s.words words' u.pools u.pools (kept.stored j u e) refl (λ pool place' field own. own) (own_else m digest layout s kept p inside (cell_word cell) (digits_of digest key) level (are_digits digest key) on j u e))
+
+    locks_stay : (nodes : List ℕ) → Locks lock_side layout words' (set s.views id (holding nodes))
+    locks_stay nodes = locks-same lock_side layout s.words words' s.views (set s.views id (holding nodes)) kept.locks (lock_else m digest layout s kept p inside (cell_word cell)) (holders-set lock_side layout s.views id me.0 (holding nodes) at refl)
+
+    -- each seat fits still: none but this pass had the place's lock
+    all_fit : (free : k.holder key ≡ None) (nodes : List ℕ) → Contains me.0.trie.locks (lock_of p) → ((digits : ℕ → ℕ) (l : ℕ) (q : Place) → AreDigits digits → IsOnPath digits t.cell l q → IsOnPath digits t'.cell l q) →
+        ((digits : ℕ → ℕ) (l : ℕ) (q : Place) → AreDigits digits → IsOnPath digits t.cell l q → q ≢ p → t'.cell q ≡ t.cell q) →
+        (j : ℕ) (u : CellView S A R) → get_elem? (set s.views id (holding nodes)) j ≡ some u → FitsTrie digest layout.slots k' t' u.trie
+    all_fit free nodes locked old elsewhere = others-fit trie_side layout digest k' t' s.views id (holding nodes)
+        (fits_still digest layout.slots k k' t t' conn key way (gives free) p old elsewhere me.0.trie (holding nodes).trie
+        (record { stands = λ point e. e; leaf = λ leaf e. e; seen = λ x e. absurd cc; locks = refl; answered = λ i c. absurd (none_listed i c) }) (λ x e. absurd cc) (kept.trie.each id me.0 at))
+        (λ j u ne e. fits_still digest layout.slots k k' t t' conn key way (gives free) p old elsewhere u.trie u.trie (knows_same u.trie)
+        (λ x seen has same. locks_alone lock_side layout s.words s.views j id u me.0 (lock_of p) kept.locks (place_lock layout p inside) e at (subst (λ q. Contains u.trie.locks (lock_of q)) same has) locked ne) (kept.trie.each j u e))
+
+    -- the rule, as long as the trie's part holds and the nodes pass from the pass to the trie
+    held_so : (nodes : List ℕ) → k.holder key ≡ None →
+        ((pool : Pool) (x : ℕ) → taken pool_side (nodes ++ kept.published) k' (set s.views id (holding nodes)) pool x ≡ taken pool_side kept.published k s.views pool x) →
+        Trie trie_side digest layout (nodes ++ kept.published) k' words' (set s.views id (holding nodes)) → IsCells m digest layout (stepped s word (cell_word cell) id me.1 (holding nodes) keeps)
+    held_so nodes free takes trie = publish_step s word (cell_word cell) id me.0 (holding nodes) kept (nodes ++ kept.published) at (place_behind layout p) lives place entry refl (follows free) refl refl takes trie (connected nodes free) (stored_stays nodes) (locks_stay nodes) me.1
+
+    -- the hold ends what the pass has then seen
+    pub has_held : (nodes : List ℕ) → PutsFor digest layout me.0 conn key way p cell nodes → k.holder key ≡ None → HasHeld m digest layout conn key way p cell me (holding nodes, me.1)
+    has_held nodes puts free = record {
+      nodes = nodes;
+      puts = puts;
+      adds = subst (AddsOwn (cell_pass me.0) (kept.log ++ entry ∷ [])) (ap (λ n. record entry { seat = n } ∷ []) (sym number)) (adds_entry layout.slots kept.log (map seat_side s.views) id me.0 kept.seats there lives place entry refl);
+      legal = record {
+        legal = subst (λ slots. Legal m slots (kept.log ++ entry ∷ [])) (sym (fits.sized place)) (Legal-append m layout.slots kept.log entry kept.connections.legal (follows free));
+        stays = λ i c. absurd (none_listed i c);
+        building = λ i c. ap (λ n. stage_of n i) (state_of-append m kept.log entry) ∙ ((kept.connections.each id me.0 at).building i c ∙ ap (λ n. Building n) (sym number));
+        unanswered = λ out. refl;
+        idle = λ out. absurd (true≢false (sym (pinned_in me.0.epochs.pin stays) ∙ out));
+        alone = sole_entries layout.slots kept.log (map seat_side s.views) id me.0 kept.seats there lives place entry refl settled;
+        most = within_last _ _ _ kept.epochs id (reader_view me.0) (at_map reader_view s.views id me.0 at);
+      };
+      is = refl;
+    }
+
+    -- the leaf fills an empty place
+    filled_for : cell ≡ Leaf conn.slot way → t.cell p ≡ Empty → FillsFor digest t t' conn.slot key way p level
+    filled_for put empty = record {
+      on_path = on;
+      empty = empty;
+      filled = cell_here m digest layout s kept p inside (cell_word cell) ∙ (said cell ∙ put);
+      others = cell_else m digest layout s kept p inside (cell_word cell);
+    }
+
+    free_empty : t.cell p ≡ Empty → k.holder key ≡ None
+    free_empty empty = kept.trie.ends key level p (record { on_path = on; is_end = subst IsEnd (sym empty) tt }) ∙ ap (λ c. holder_at t c key) empty
+
+    held_by_filling : cell ≡ Leaf conn.slot way → SeesLocked me.0.trie p Empty → IsCells m digest layout (stepped s word (cell_word cell) id me.1 (holding []) keeps)
+    held_by_filling put sees =
+        let empty = (stands_there m digest layout s id me kept at p inside Empty sees).is in
+        let free = free_empty empty in
+        let changed = fills_place digest t t' conn.slot key way p level (filled_for put empty) in
+        held_so [] free (taken_moved m digest layout s kept id me.0 at k k' (holding []) [] (λ i j h. absurd (omega (arith, h))) (λ node c. absurd (none_listed node c)) refl (λ slot. refl))
+        (trie_filled trie_side digest layout kept.published k k' s.words words' s.views (set s.views id (holding [])) conn key way p level kept.trie (gives free) (filled_for put empty)
+        (all_fit free [] sees.locked (λ digits l q are on'. filled_places changed on') (λ digits l q are on' ne. changed.others q ne)))
+
+    -- new nodes lead on from the place to the leaf and to that of another key, which stood there
+    module _ (leaf : LoadedLeaf) (first : ℕ) (nodes : List ℕ) (put : cell ≡ Node first) (known : me.0.trie.leaf ≡ Some leaf) (other_key : is_key leaf.key key ≡ false) (sees : SeesLocked me.0.trie p (Leaf leaf.slot leaf.way))
+        (news : GrowsNodes digest layout me.0 conn.slot way key leaf level first nodes) where
+      abbrev mine : ℕ → ℕ
+      mine = digits_of digest key
+
+      abbrev theirs : ℕ → ℕ
+      theirs = digits_of digest leaf.key
+
+      stood : t.cell p ≡ Leaf leaf.slot leaf.way
+      stood = (stands_there m digest layout s id me kept at p inside (Leaf leaf.slot leaf.way) sees).is
+
+      leaf_stays : StaysLeaf layout.slots k.holder t leaf
+      leaf_stays = (kept.trie.each id me.0 at).leaf leaf known
+
+      free_other : k.holder key ≡ None
+      free_other =
+          kept.trie.ends key level p (record { on_path = on; is_end = subst IsEnd (sym stood) tt })
+          ∙ (ap (λ c. holder_at t c key) stood ∙ ((λ i. cond (is_key (leaf_stays.key i) key) (Some (leaf_found t leaf.slot leaf.way)) None) ∙ ap (λ b. cond b (Some (leaf_found t leaf.slot leaf.way)) None) other_key))
+
+      -- no path meets a place of the pass's own nodes
+      fresh : (digits : ℕ → ℕ) (l : ℕ) (q : Place) → AreDigits digits → IsOnPath digits t.cell l q → ¬ (IsPlaceOf nodes q)
+      fresh digits l _ are at_root of = of
+      fresh digits l _ are (further l' q' node on' is) of =
+          unowned m digest layout s kept id me.0 node at (owns_there m digest layout s kept id me.0 at node (news.owned node of)) (news.owned node of) (kept.trie.nodes digits l' q' node are on' is).published_once
+
+      -- what the pass stored in their places stands there
+      stored_stands : (node digit : ℕ) (c : Cell) → Contains nodes node → digit < 16 → c ≢ Mark → cell_stored layout me.0.pools.stored (Places.Node node digit) ≡ c → t'.cell (Places.Node node digit) ≡ c
+      stored_stands node digit c has low full is =
+          cell_else m digest layout s kept p inside (cell_word cell) (Places.Node node digit) (λ e. fresh mine level p (are_digits digest key) on (subst (IsPlaceOf nodes) e has))
+          ∙ (cell_there layout s.words (Places.Node node digit) (owns_there m digest layout s kept id me.0 at node (news.owned node has), low) ∙ by_value (stored_value layout me.0.pools.stored (place_at layout (Places.Node node digit))) refl is)
+        where
+          by_value : (x : Option ℕ) → stored_value layout me.0.pools.stored (place_at layout (Places.Node node digit)) ≡ x → stored_cell x ≡ c → cell_of (slice_index s.words (place_at layout (Places.Node node digit))) ≡ c
+          by_value None e stored = absurd (full (sym stored))
+          by_value (Some n) e stored = ap cell_of ((kept.stored id me.0 at).stands (place_at layout (Places.Node node digit)) n e) ∙ stored
+
+      grows_branch : GrowsBranch mine theirs t.cell t'.cell (Leaf conn.slot way) (Leaf leaf.slot leaf.way) level p first nodes
+      grows_branch = record {
+        mine_there = on;
+        theirs_there = subst (λ x. IsOnPath (digits_of digest x) t.cell level p) leaf_stays.key (kept.trie.homes mine level p leaf.slot leaf.way (are_digits digest key) on stood);
+        was_end = subst IsEnd (sym stood) tt;
+        leaf_ends = tt;
+        other_ends = tt;
+        hangs = cell_here m digest layout s kept p inside (cell_word cell) ∙ (said cell ∙ put);
+        branch = branch_seen news.branch (are_digits digest key) (are_digits digest leaf.key) (omega arith) (λ e. cc) (λ e. cc) stored_stands;
+        others = λ q ne other. cell_else m digest layout s kept p inside (cell_word cell) q ne;
+        fresh = fresh;
+        at_level = λ digits l are on'. kept.trie.levels digits mine l level p are (are_digits digest key) on' on;
+      }
+
+      grown_paths : PathsAfterGrowth mine theirs t.cell t'.cell (Leaf conn.slot way) (Leaf leaf.slot leaf.way) level p nodes
+      grown_paths = growth_told mine theirs t.cell t'.cell (Leaf conn.slot way) (Leaf leaf.slot leaf.way) level p first nodes grows_branch
+
+      held_by_growing : IsCells m digest layout (stepped s word (cell_word cell) id me.1 (holding nodes) keeps)
+      held_by_growing =
+          held_so nodes free_other (taken_moved m digest layout s kept id me.0 at k k' (holding nodes) nodes news.apart news.owned refl (λ slot. refl))
+          (trie_grown trie_side digest layout kept.published k k' s.words words' s.views (set s.views id (holding nodes)) conn key way leaf p level first nodes kept.trie (gives free_other) leaf_stays other_key stood grows_branch news.apart
+          (λ node has. owns_there m digest layout s kept id me.0 at node (news.owned node has)) may.key_stored.five
+          (all_fit free_other nodes sees.locked grown_paths.old_places (λ digits l q are on' ne. cell_else m digest layout s kept p inside (cell_word cell) q ne)))
+
+    -- either way the key is held
+    abbrev pub Holds : List ℕ → Type 0
+    Holds nodes = IsCells m digest layout (stepped s word (cell_word cell) id me.1 (holding nodes) keeps) × HasHeld m digest layout conn key way p cell me (holding nodes, me.1)
+
+    pub holds : (nodes : List ℕ) → PutsFor digest layout me.0 conn key way p cell nodes → Holds nodes
+    holds nodes puts = by_puts cell nodes puts refl refl
+      where
+        by_puts : (cell' : Cell) (nodes' : List ℕ) → PutsFor digest layout me.0 conn key way p cell' nodes' → cell ≡ cell' → nodes ≡ nodes' → Holds nodes
+        by_puts _ _ (fills sees) is none =
+            (subst (λ ns. IsCells m digest layout (stepped s word (cell_word cell) id me.1 (holding ns) keeps)) (sym none) (held_by_filling is sees), has_held nodes puts (free_empty (stands_there m digest layout s id me kept at p inside Empty sees).is))
+        by_puts _ _ (grows leaf first news known other_key sees grown) is same = (
+          subst (λ ns. IsCells m digest layout (stepped s word (cell_word cell) id me.1 (holding ns) keeps)) (sym same) (held_by_growing leaf first news is known other_key sees grown),
+          has_held nodes puts (free_other leaf first news is known other_key sees grown),
+        )
+
+  pub may_publish_for : (st : Step F) (id n : ℕ) (conn : ConnId) (key : Key) (way : Way) (p : Place) (cell : Cell) (me : Me F (CellView S A R)) → IsInTrie layout p → me.0.seats.lives ≡ true → me.0.seats.theirs ≡ [] → 1 ≤ length me.0.seats.readers → IsProtected me.0.epochs.pin →
+      MayPublishFor m digest layout me.0 conn key way p cell → Allows (IsCells m digest layout) n id me (place_at layout p) (λ _. cell_word cell) (λ _. PublishesFor m digest layout conn key way p cell st me (cell_word cell))
+  may_publish_for st id n conn key way p cell me inside lives settled place stays may s kept homes at bound =
+      let both = holds s id me kept at lives settled place stays conn key way p inside cell may may.nodes may.puts in (
+        holding s id me kept at lives settled place stays conn key way p inside cell may may.nodes,
+        keeps,
+        tt,
+        both.0,
+        record { held = both.1 },
+      )

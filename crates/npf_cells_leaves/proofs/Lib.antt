@@ -1,0 +1,5 @@
+pub mod FillLemmas
+pub mod GivenLemmas
+pub mod GrowLemmas
+pub mod StandLemmas
+pub mod TrieLemmas

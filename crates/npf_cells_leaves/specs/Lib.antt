@@ -1,0 +1,2 @@
+pub mod LeavesLaw
+pub mod Trie

@@ -1,0 +1,120 @@
+-- The part of the rule on the trie: who holds a key stands where the key's path ends.
+use Rattle.std.specs.Prelude.{◌≡◌, ℕ, ◌+◌, ◌<◌, Option, Some, None, List, [], ◌∷◌, Contains, slice_index, if◌then◌else◌}
+use mathlib.Core.Option.{some}
+use lib.ListN.{get_elem?}
+use Rattle.npf_types.specs.declared.key.Key.{Key}
+use Rattle.npf_types.specs.declared.key.Way.{Way}
+use Rattle.npf_core.specs.declared.conn_id.ConnId.{ConnId}
+use Rattle.npf_core.specs.declared.found.Found.{Found}
+use Rattle.npf_core.specs.Machine.{Machine, stage_of, IsClaimed, is_key}
+use Rattle.npf_paths.specs.declared.cell.Cell.{Cell}
+use Rattle.npf_paths.specs.declared.cell.Cell.TheVariants.{Empty, Leaf, Node, Mark}
+use Rattle.npf_paths.specs.declared.place.Lock.{Lock}
+use Rattle.npf_paths.specs.declared.place.Place.{Place}
+use Rattle.npf_paths.specs.CellWords.{cell_of}
+use Rattle.npf_paths.specs.Digits.{digit_of}
+use Rattle.npf_paths.specs.LevelLaw.{MeetsAtOneLevel}
+use Rattle.npf_paths.specs.Paths.{AreDigits, IsOnPath, EndsAt}
+use Rattle.npf_paths.specs.Places.{lock_of}
+use Rattle.npf_cells_words.specs.declared.layout.Layout.{Layout}
+use Rattle.npf_cells_words.specs.declared.layout.Pool.TheVariants.{Slots}
+use Rattle.npf_cells_words.specs.Layout.{inc_field, key_field, field_at}
+use Rattle.npf_cells_words.specs.Places.{place_at, is_in_trie}
+use Rattle.npf_cells_leaves.specs.declared.trie.LoadedLeaf.{LoadedLeaf}
+use Rattle.npf_cells_leaves.specs.declared.trie.PathPlace.{PathPlace}
+use Rattle.npf_cells_leaves.specs.declared.trie.SeenCell.{SeenCell}
+use Rattle.npf_cells_leaves.specs.declared.trie.TrieSide.{TrieSide}
+
+-- what stands in a place; nothing stands in one that the table doesn't have
+abbrev pub cell_in : Layout → List ℕ → Place → Cell
+cell_in layout words p = if is_in_trie layout p then cell_of (slice_index words (place_at layout p)) else Empty
+
+-- one word of the key of a way, and all five as a key
+abbrev pub key_word : Layout → List ℕ → ℕ → Way → ℕ → ℕ
+key_word layout words slot way place = slice_index words (field_at layout Slots slot (key_field way + place))
+
+abbrev pub key_in : Layout → List ℕ → ℕ → Way → Key
+key_in layout words slot way = record {
+  0 = key_word layout words slot way 0 ∷ key_word layout words slot way 1 ∷ key_word layout words slot way 2 ∷ key_word layout words slot way 3 ∷ key_word layout words slot way 4 ∷ [];
+}
+
+-- what the trie is made of: what stands in each place, and the keys and the incarnation of each slot
+pub record TrieWords : Type 0 where
+  pub cell : Place → Cell
+  pub key : ℕ → Way → Key
+  pub inc : ℕ → ℕ
+
+-- as the words of a table have it
+abbrev pub trie_words : Layout → List ℕ → TrieWords
+trie_words layout words = record {
+  cell = cell_in layout words;
+  key = key_in layout words;
+  inc = λ slot. slice_index words (field_at layout Slots slot inc_field);
+}
+
+-- the digits that lead a key, which is hashed so
+abbrev pub digits_of : (Key → ℕ) → Key → ℕ → ℕ
+digits_of digest key level = digit_of (digest key) key level
+
+-- the connection of a leaf, by its slot's words
+abbrev pub leaf_found : TrieWords → ℕ → Way → Found
+leaf_found t slot way = record { id = record { slot = slot; inc = t.inc slot }; way = way }
+
+-- who holds the key, where its path ends with this cell
+abbrev pub holder_at : TrieWords → Cell → Key → Option Found
+holder_at t Empty key = None
+holder_at t (Leaf slot way) key = if is_key (t.key slot way) key then Some (leaf_found t slot way) else None
+holder_at t (Node node) key = None
+holder_at t Mark key = None
+
+-- a leaf is of one of so many slots, whose connection holds the key of its words
+pub record IsRightLeaf (slots : ℕ) (holder : Key → Option Found) (t : TrieWords) (slot : ℕ) (way : Way) : Type 0 where
+  pub exists : slot < slots
+  pub held : holder (t.key slot way) ≡ Some (leaf_found t slot way)
+
+-- a node that a path meets at this level is one of so many, was published, and isn't as deep as the last level
+pub record IsRightNode (nodes : ℕ) (published : List ℕ) (level node : ℕ) : Type 0 where
+  pub exists : node < nodes
+  pub published_once : Contains published node
+  pub within : level < 94
+
+-- a leaf that a pass loaded is still right, and its slot has still the words that it had
+pub record StaysLeaf (slots : ℕ) (holder : Key → Option Found) (t : TrieWords) (leaf : LoadedLeaf) : Type 0 where
+  pub right : IsRightLeaf slots holder t leaf.slot leaf.way
+  pub key : t.key leaf.slot leaf.way ≡ leaf.key
+  pub inc : t.inc leaf.slot ≡ leaf.inc
+
+-- a place that a pass saw is still on the key's path, and where it has the lock the same stands there
+pub record StaysSighted (digest : Key → ℕ) (t : TrieWords) (locks : List Lock) (s : SeenCell) : Type 0 where
+  pub on_path : IsOnPath (digits_of digest s.key) t.cell s.level s.place
+  pub locked : Contains locks (lock_of s.place) → t.cell s.place ≡ s.cell
+
+-- what the part says of one seat: it stands on a key's path, the leaf that it loaded stays, what it saw under a lock still stands there,
+-- and what it was answered is claimed
+pub record FitsTrie {S : Type 0} (digest : Key → ℕ) (slots : ℕ) (k : Machine S) (t : TrieWords) (side : TrieSide) : Type 0 where
+  pub stands : (point : PathPlace) → side.stands ≡ Some point → IsOnPath (digits_of digest point.key) t.cell point.level point.place
+  pub leaf : (leaf : LoadedLeaf) → side.leaf ≡ Some leaf → StaysLeaf slots k.holder t leaf
+  pub seen : (s : SeenCell) → side.seen ≡ Some s → StaysSighted digest t side.locks s
+  pub claimed : (id : ConnId) → Contains side.answered id → IsClaimed (stage_of k id)
+
+-- over views of which each has a side: the end of each key's path says who holds it; what paths meet is right, a leaf on its own key's
+-- path, and each place at one level; and each seat fits
+pub record Trie {S V : Type 0} (side_of : V → TrieSide) (digest : Key → ℕ) (layout : Layout) (published : List ℕ) (k : Machine S) (words : List ℕ) (views : List V) : Type 0 where
+  pub ends : (key : Key) (level : ℕ) (p : Place) → EndsAt (digits_of digest key) (trie_words layout words).cell level p →
+      k.holder key ≡ holder_at (trie_words layout words) ((trie_words layout words).cell p) key
+  pub leaves : (digits : ℕ → ℕ) (level : ℕ) (p : Place) (slot : ℕ) (way : Way) → AreDigits digits → IsOnPath digits (trie_words layout words).cell level p →
+      (trie_words layout words).cell p ≡ Leaf slot way → IsRightLeaf layout.slots k.holder (trie_words layout words) slot way
+  pub nodes : (digits : ℕ → ℕ) (level : ℕ) (p : Place) (node : ℕ) → AreDigits digits → IsOnPath digits (trie_words layout words).cell level p →
+      (trie_words layout words).cell p ≡ Node node → IsRightNode layout.nodes published level node
+  pub homes : (digits : ℕ → ℕ) (level : ℕ) (p : Place) (slot : ℕ) (way : Way) → AreDigits digits → IsOnPath digits (trie_words layout words).cell level p →
+      (trie_words layout words).cell p ≡ Leaf slot way → IsOnPath (digits_of digest ((trie_words layout words).key slot way)) (trie_words layout words).cell level p
+  pub levels : MeetsAtOneLevel (trie_words layout words).cell
+  pub each : (j : ℕ) (v : V) → get_elem? views j ≡ some v → FitsTrie digest layout.slots k (trie_words layout words) (side_of v)
+
+-- a pass that knows nothing of the trie
+abbrev pub unread_side : TrieSide
+unread_side = record { stands = None; leaf = None; seen = None; meets = None; locks = []; answered = []; places = 0; words = 0; published = 0 }
+
+-- what a pass read of the trie in its stay is nothing to the next one
+abbrev pub forgetting : TrieSide → TrieSide
+forgetting side = record side { stands = None; leaf = None; seen = None; meets = None; answered = [] }

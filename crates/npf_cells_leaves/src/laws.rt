@@ -1,0 +1,10 @@
+// What the part on the trie says of passes. The function does nothing: it is a theorem.
+ghost use Rattle.std.specs.Prelude.{ℕ};
+ghost use Rattle.npf_types.specs.declared.key.Key.{Key};
+ghost use Rattle.npf_cells_words.specs.declared.layout.Layout.{Layout};
+ghost use Rattle.npf_cells_leaves.specs.LeavesLaw.{StandsInPublished};
+
+/// The leaves law: the node in which a pass stands was published.
+pub fn leaves_law<S>()
+    ensures stands { (digest : Key → ℕ) (layout : Layout) → StandsInPublished S digest layout }
+{}

@@ -1,0 +1,6 @@
+pub mod BuiltLemmas
+pub mod ConnLemmas
+pub mod LockLemmas
+pub mod PoolLemmas
+pub mod SlotLemmas
+pub mod StoredLemmas

@@ -1,0 +1,9 @@
+use Rattle.npf_cells_lives.proofs.ConnLemmas.{builds_in_one_slot}
+use Rattle.npf_cells_lives.proofs.LockLemmas.{lock_alone}
+use Rattle.npf_cells_lives.proofs.laws.lives_law.Goals as goal
+
+pub returns-clause-builders : goal.returns-clause-builders
+returns-clause-builders g c = builds_in_one_slot g.L.Law.meaning
+
+pub returns-clause-locks : goal.returns-clause-locks
+returns-clause-locks g c = lock_alone

@@ -1,0 +1,5 @@
+pub mod Conns
+pub mod LivesLaw
+pub mod Locks
+pub mod Pools
+pub mod Stored

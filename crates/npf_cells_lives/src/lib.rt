@@ -1,0 +1,9 @@
+// What a pass has of the pools, and the parts of the rule on it: connections and what passes are building, the pools' bits, what passes stored in
+// their own places, and locks. Each stays through steps that leave its words. The function does nothing: it is a theorem.
+#![tactic(auto)]
+
+mod laws;
+mod pools;
+
+pub use laws::lives_law;
+pub use pools::{PoolSide, StoredWord};

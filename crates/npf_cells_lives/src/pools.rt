@@ -1,0 +1,29 @@
+use npf_cells_words::Pool;
+use npf_core::ConnId;
+use std::collections::LinkedList;
+
+/// A word that a pass stored in one of its own places.
+pub struct StoredWord {
+    pub pool: Pool,
+    pub place: u32,
+    pub field: u32,
+    pub value: u64,
+}
+
+/// What a pass knows of the pools, and what it has of them.
+pub struct PoolSide {
+    /// How often it loaded each word of the nodes in a row, all bits set.
+    pub sweeps: u64,
+    /// How many words of the nodes, from the first on, it loaded so since it began the last row.
+    pub row: u32,
+    /// The pool word that its last step on one found.
+    pub found: u64,
+    /// The nodes that it owns.
+    pub nodes: LinkedList<u32>,
+    /// The connections that it is building.
+    pub builds: LinkedList<ConnId>,
+    /// Those of their slots whose incarnation it hasn't stored yet.
+    pub unstored: LinkedList<u32>,
+    /// What it stored in its places since it last gave a node back or published anything for a key, the last first.
+    pub stored: LinkedList<StoredWord>,
+}

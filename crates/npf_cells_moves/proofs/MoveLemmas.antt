@@ -1,0 +1,309 @@
+-- The base's moves keep the rule, and what they leave in the passes.
+use Rattle.std.specs.List.{Contains}
+use Rattle.std.proofs.Common.{◌≡◌, ℕ, ◌-◌, ◌≤◌, true, false, List, [], ◌∷◌, ◌++◌, map, set, length, take, drop, refl, sym, ap, ◌∙◌, subst, ⊎_elim, inl, inr, arith, append-nil, length-append}
+use Rattle.std.proofs.lemmas.List.{length-drop, length-take-le, take-append-drop, append_cancel_left, get_or-take, get_or_append_left}
+use Rattle.std.proofs.lemmas.List.Elements.{Contains-append_left, Contains-append_right, Contains-push}
+use mathlib.Core.Option.{some}
+use lib.ListN.{get_elem?}
+use Rattle.atomic_table.specs.Seated.{TableId}
+use Rattle.atomic_table.specs.Table.{State, Me, Step, Allows, Splits, Joins, keeps}
+use Rattle.atomic_table.proofs.Lists.{at_map, set_else}
+use Rattle.npf_types.specs.declared.key.Key.{Key}
+use Rattle.npf_core.specs.History.{state_of}
+use Rattle.npf_core.specs.Machine.{Machine}
+use Rattle.npf_core.specs.Meaning.{Meaning}
+use Rattle.npf_core.proofs.HistoryLemmas.{Legal-prefix}
+use Rattle.npf_connections.specs.Joining.{IsSplit, IsJoined}
+use Rattle.npf_connections.specs.Pass.{IsPass, all_places}
+use Rattle.npf_cells_words.specs.declared.layout.Layout.{Layout}
+use Rattle.npf_cells_words.specs.Layout.{epoch_word, reader_word}
+use Rattle.npf_seats.specs.Moves.{given_seat, taking_seat}
+use Rattle.npf_seats.specs.Seats.{Seats}
+use Rattle.npf_seats.proofs.PrefixLemmas.{none_listed, none_in_prefix, seen_entry}
+use Rattle.npf_seats.proofs.SeatLemmas.{unspent, seats-split, none_seen, seats-born, seats-join, long, mine_seen, told_seen, seats-read, only_seat, most_places, owned_within}
+use Rattle.npf_seats.proofs.SumLemmas.{first_occurs}
+use Rattle.npf_cells_pins.specs.declared.pin.Pin.TheVariants.{Idle}
+use Rattle.npf_cells_pins.specs.Epochs.{Epochs, pin_place}
+use Rattle.npf_cells_pins.proofs.EpochLemmas.{epochs-split, epochs-join, within_last}
+use Rattle.npf_cells_leaves.specs.Trie.{TrieWords, trie_words, FitsTrie}
+use Rattle.npf_cells_leaves.proofs.TrieLemmas.{KeepsTrie, knows_same, trie_kept, fits-set, fits-push, fits_unread, keeps_words}
+use Rattle.npf_cells_lives.specs.Conns.{entry_seat}
+use Rattle.npf_cells_lives.specs.Pools.{taken, OwnsNothing}
+use Rattle.npf_cells_lives.specs.Stored.{FitsStored}
+use Rattle.npf_cells_lives.proofs.ConnLemmas.{fits_nothing, owes_nothing, builds-set, builds-kept, builds-push, unstored-set, unstored-push, conns-same}
+use Rattle.npf_cells_lives.proofs.LockLemmas.{locks-same, holders-set, holders-push}
+use Rattle.npf_cells_lives.proofs.PoolLemmas.{pools-same, taken-set, taken-push}
+use Rattle.npf_cells_lives.proofs.StoredLemmas.{fits_unstored, own_same, stored_kept, stored-set, stored-push}
+use Rattle.npf_cells_rule.specs.declared.view.CellView.{CellView}
+use Rattle.npf_cells_rule.specs.Cells.{IsCells}
+use Rattle.npf_cells_rule.specs.Passes.{cell_pass, IsPassOf}
+use Rattle.npf_cells_rule.specs.Views.{seat_side, reader_view, nothing_left, lock_side, pool_side, trie_side}
+use Rattle.npf_cells_rule.proofs.Frames.{pushed_side, merged_side, framed, seats_step, spent-set, spent-push}
+use Rattle.npf_cells_moves.specs.Moves.{gives_reader, given_view, joined_pools, joined_trie, takes_in, IsBorn, HasRead}
+
+module _ {S A R F : Type 0} (m : Meaning S A R) (digest : Key → ℕ) (layout : Layout) where
+  keeps_all : (s : State F (CellView S A R)) (kept : IsCells m digest layout s) → KeepsTrie layout.slots (state_of m kept.log) (state_of m kept.log) (trie_words layout s.words) (trie_words layout s.words)
+  keeps_all s kept = keeps_words layout (state_of m kept.log) (state_of m kept.log) s.words s.words (λ key. refl) (λ identity c. c) (λ j h. refl)
+
+  -- a seat is split so
+  pub splits : (id : ℕ) (v : CellView S A R) → v.seats.lives ≡ true → v.epochs.pin ≡ Idle → 2 ≤ length v.seats.readers →
+      Splits (IsCells {F = F} m digest layout) id v (gives_reader v) (given_view v)
+  splits id v lives idle places s kept at =
+      framed m digest layout s (record { words = s.words; homes = s.homes; views = set s.views id (gives_reader v) ++ given_view v ∷ [] }) kept kept.published kept.log refl
+      (subst (λ sides. Seats entry_seat layout.slots all_places kept.log sides) (sym (pushed_side seat_side s.views id (gives_reader v) (given_view v)))
+      (seats-split entry_seat layout.slots all_places kept.log (map seat_side s.views) id v.seats kept.seats (at_map seat_side s.views id v at) lives places))
+      (subst (λ rs. Epochs (epoch_word s.words) (reader_word s.words) rs) (sym (pushed_side reader_view s.views id (gives_reader v) (given_view v)))
+      (epochs-split (epoch_word s.words) (reader_word s.words) (map reader_view s.views) kept.epochs id (length v.seats.readers - 1) (reader_view v) (at_map reader_view s.views id v at) idle))
+      (pools-same layout (taken pool_side kept.published (state_of m kept.log) s.views) (taken pool_side kept.published (state_of m kept.log) (set s.views id (gives_reader v) ++ given_view v ∷ [])) s.words s.words kept.pools refl (λ j h. refl)
+      (λ pool p. taken-push pool_side kept.published (state_of m kept.log) (set s.views id (gives_reader v)) (given_view v) refl pool p ∙ taken-set pool_side kept.published (state_of m kept.log) s.views id v (gives_reader v) at refl pool p))
+      (trie_kept trie_side digest layout kept.published (state_of m kept.log) (state_of m kept.log) s.words s.words s.views (set s.views id (gives_reader v) ++ given_view v ∷ []) kept.trie (keeps_all s kept)
+      (fits-push trie_side digest layout.slots (state_of m kept.log) (trie_words layout s.words) (set s.views id (gives_reader v)) (given_view v) (fits_unread digest layout.slots (state_of m kept.log) (trie_words layout s.words))
+      (fits-set trie_side digest layout.slots (state_of m kept.log) (trie_words layout s.words) s.views id (gives_reader v) (kept.trie.each id v at) kept.trie.each)))
+      (conns-same pool_side m layout kept.log s.words s.words s.views (set s.views id (gives_reader v) ++ given_view v ∷ []) kept.connections refl (λ slot h. refl)
+      (builds-push pool_side (state_of m kept.log) (set s.views id (gives_reader v)) (given_view v) refl refl (builds-kept pool_side (state_of m kept.log) s.views id v (gives_reader v) at refl refl kept.connections.each))
+      (λ slot. unstored-push pool_side (set s.views id (gives_reader v)) (given_view v) refl slot ∙ unstored-set pool_side s.views id v (gives_reader v) at refl slot))
+      (stored-push pool_side layout s.words (set s.views id (gives_reader v)) (given_view v) (fits_unstored layout s.words (given_view v).pools refl) (stored-set pool_side layout s.words s.views id (gives_reader v) (kept.stored id v at) (λ j u ne there. kept.stored j u there)))
+      (locks-same lock_side layout s.words s.words s.views (set s.views id (gives_reader v) ++ given_view v ∷ []) kept.locks (λ lock h. refl)
+      (λ lock. holders-push lock_side layout (set s.views id (gives_reader v)) (given_view v) refl lock ∙ holders-set lock_side layout s.views id v (gives_reader v) at refl lock))
+      (spent-push (set s.views id (gives_reader v)) (given_view v) (record { nodes = refl; builds = refl }) (spent-set s.views id (gives_reader v) some_left kept.spent))
+    where
+      some_left : length (gives_reader v).seats.readers ≡ 0 → OwnsNothing v.pools
+      some_left none = let left = length-take-le (length v.seats.readers - 1) v.seats.readers (omega arith) in absurd (omega (arith, left, none, places))
+
+  -- two seats are joined so
+  pub joins : (id : ℕ) (v : CellView S A R) (other : ℕ) (w : CellView S A R) → v.seats.lives ≡ true → v.seats.theirs ≡ [] → v.epochs.pin ≡ Idle → 1 ≤ length v.seats.readers →
+      w.seats.lives ≡ true → w.seats.theirs ≡ [] → w.epochs.pin ≡ Idle → w.pools.nodes ≡ [] → w.pools.builds ≡ [] → w.trie.locks ≡ [] → Joins (IsCells {F = F} m digest layout) id v other w (takes_in v w) nothing_left
+  joins id v other w lives theirs idle place w-lives w-theirs w-idle w-nodes w-builds w-locks s kept at apart there =
+      let was : get_elem? s.views other ≡ some w = sym (set_else s.views id other (takes_in v w) apart) ∙ there in
+      framed m digest layout s (record { words = s.words; homes = s.homes; views = set (set s.views id (takes_in v w)) other nothing_left }) kept kept.published kept.log refl
+      (subst (λ sides. Seats entry_seat layout.slots all_places kept.log sides) (sym (merged_side seat_side s.views id other (takes_in v w) nothing_left))
+      (seats-join entry_seat layout.slots all_places kept.log (map seat_side s.views) id v.seats other w.seats 0 kept.seats (at_map seat_side s.views id v at) apart (at_map seat_side s.views other w was)
+      lives theirs place w-lives w-theirs))
+      (subst (λ rs. Epochs (epoch_word s.words) (reader_word s.words) rs) (sym (merged_side reader_view s.views id other (takes_in v w) nothing_left))
+      (epochs-join (epoch_word s.words) (reader_word s.words) (map reader_view s.views) kept.epochs id other (reader_view v) (reader_view w) apart
+      (at_map reader_view s.views id v at) (at_map reader_view s.views other w was) idle w-idle))
+      (pools-same layout (taken pool_side kept.published (state_of m kept.log) s.views) (taken pool_side kept.published (state_of m kept.log) (set (set s.views id (takes_in v w)) other nothing_left)) s.words s.words kept.pools refl (λ j h. refl)
+      (λ pool p. taken-set pool_side kept.published (state_of m kept.log) (set s.views id (takes_in v w)) other w nothing_left there (sym w-nodes) pool p ∙ taken-set pool_side kept.published (state_of m kept.log) s.views id v (takes_in v w) at refl pool p))
+      (trie_kept trie_side digest layout kept.published (state_of m kept.log) (state_of m kept.log) s.words s.words s.views (set (set s.views id (takes_in v w)) other nothing_left) kept.trie (keeps_all s kept)
+      (fits-set trie_side digest layout.slots (state_of m kept.log) (trie_words layout s.words) (set s.views id (takes_in v w)) other nothing_left (fits_unread digest layout.slots (state_of m kept.log) (trie_words layout s.words))
+      (fits-set trie_side digest layout.slots (state_of m kept.log) (trie_words layout s.words) s.views id (takes_in v w) (taker_fits (kept.trie.each id v at)) kept.trie.each)))
+      (conns-same pool_side m layout kept.log s.words s.words s.views (set (set s.views id (takes_in v w)) other nothing_left) kept.connections refl (λ slot h. refl)
+      (builds-set pool_side (state_of m kept.log) (set s.views id (takes_in v w)) other nothing_left (fits_nothing (state_of m kept.log) other) (builds-kept pool_side (state_of m kept.log) s.views id v (takes_in v w) at refl refl kept.connections.each))
+      (λ slot. unstored-set pool_side (set s.views id (takes_in v w)) other w nothing_left there (sym (owes_nothing (state_of m kept.log) other w.pools.builds w.pools.unstored (kept.connections.each other w was) w-builds)) slot
+      ∙ unstored-set pool_side s.views id v (takes_in v w) at refl slot))
+      (stored-set pool_side layout s.words (set s.views id (takes_in v w)) other nothing_left (fits_unstored layout s.words (nothing_left {S = S} {A = A} {R = R}).pools refl)
+      (λ j u ne there'. stored-set pool_side layout s.words s.views id (takes_in v w) (taker_stored (kept.stored id v at)) (λ i x ne' e. kept.stored i x e) j u there'))
+      (locks-same lock_side layout s.words s.words s.views (set (set s.views id (takes_in v w)) other nothing_left) kept.locks (λ lock h. refl)
+      (λ lock. holders-set lock_side layout (set s.views id (takes_in v w)) other w nothing_left there (sym w-locks) lock ∙ holders-set lock_side layout s.views id v (takes_in v w) at refl lock))
+      (spent-set (set s.views id (takes_in v w)) other nothing_left (λ _. record { nodes = refl; builds = refl }) (spent-set s.views id (takes_in v w) some_left kept.spent))
+    where
+      taker_stored : {words : List ℕ} → FitsStored layout words v.pools → FitsStored layout words (joined_pools v.pools w.pools)
+      taker_stored {words} fits = stored_kept layout words words v.pools (joined_pools v.pools w.pools) fits refl (own_same layout v.pools (joined_pools v.pools w.pools) refl refl) (λ pool place field own. refl)
+
+      taker_fits : {k : Machine S} {t : TrieWords} → FitsTrie digest layout.slots k t v.trie → FitsTrie digest layout.slots k t (joined_trie v.trie w.trie)
+      taker_fits fits = record { stands = fits.stands; leaf = fits.leaf; seen = fits.seen; claimed = fits.claimed }
+
+      some_left : length (v.seats.readers ++ w.seats.readers) ≡ 0 → OwnsNothing (takes_in v w).pools
+      some_left none = let has = length-append v.seats.readers w.seats.readers in absurd (omega (arith, has, none, place))
+
+  -- a new seat gets its number by a load
+  pub gets_born : (st : Step F) (id n i : ℕ) (me : Me F (CellView S A R)) → me.0.seats.lives ≡ false → 1 ≤ length me.0.seats.readers →
+      Allows (IsCells m digest layout) n id me i (λ k. k) (IsBorn m st me)
+  gets_born st id n i me lives place s kept homes at bound =
+      let v = me.0 in
+      let there = at_map seat_side s.views id v at in
+      let fits = kept.seats.each id v.seats there in (
+        record v { seats = record v.seats { number = id; lives = true; others = [] } },
+        keeps,
+        tt,
+        seats_step m digest layout s i id me.1 v (record v { seats = record v.seats { number = id; lives = true; others = [] } }) kept at refl refl (knows_same v.trie)
+            (seats-born entry_seat layout.slots all_places kept.log (map seat_side s.views) id v.seats kept.seats there lives place),
+        record {
+          number = id;
+          is = refl;
+          apart = fits.others;
+          reader = owned_within entry_seat layout.slots all_places kept.log (map seat_side s.views) id (pin_place v.seats.readers) v.seats kept.seats there (first_occurs v.seats.readers place);
+          unused = none_seen entry_seat layout.slots all_places kept.log (map seat_side s.views) id v.seats kept.seats there lives place;
+          legal = Legal-prefix m v.seats.about v.seats.history kept.log fits.seen (rw (fits.sized place) kept.connections.legal);
+        },
+      )
+
+  -- a seat reads what it was told by a load
+  pub reads : (st : Step F) (id n i : ℕ) (me : Me F (CellView S A R)) → me.0.seats.lives ≡ true → 1 ≤ length me.0.seats.readers →
+      Allows (IsCells m digest layout) n id me i (λ k. k) (HasRead m st me)
+  reads st id n i me lives place s kept homes at bound =
+      let v = me.0 in
+      let sides = map seat_side s.views in
+      let there = at_map seat_side s.views id v at in
+      let fits = kept.seats.each id v.seats there in
+      let seated = fits.lives lives in
+      let long = long entry_seat layout.slots all_places kept.log sides id v.seats kept.seats there lives in
+      let next : CellView S A R = record v { seats = record v.seats { history = long.history; joined = v.seats.theirs ++ v.seats.joined; told = []; theirs = [] } } in (
+        next,
+        keeps,
+        tt,
+        seats_step m digest layout s i id me.1 v next kept at refl refl (knows_same v.trie) (seats-read entry_seat layout.slots all_places kept.log sides id v.seats kept.seats there lives),
+        record {
+          history = long.history;
+          is = refl;
+          longer = long.longer;
+          mine = long.mine;
+          theirs = long.theirs;
+          own = mine_seen entry_seat layout.slots all_places kept.log sides id v.seats kept.seats there lives v.seats.number (rw seated.number seated.own);
+          kept = λ j c. mine_seen entry_seat layout.slots all_places kept.log sides id v.seats kept.seats there lives j (fits.joined j c).same;
+          listed = λ j c. told_seen entry_seat layout.slots all_places kept.log sides id v.seats kept.seats there lives j (fits.theirs j c).same;
+          apart = λ j c e. unspent entry_seat layout.slots all_places kept.log sides id j v.seats there place (fits.theirs j c).spent (e ∙ seated.number);
+          legal = Legal-prefix m v.seats.about long.history kept.log long.within (rw (fits.sized place) kept.connections.legal);
+          most = most_places entry_seat layout.slots all_places kept.log sides id v.seats kept.seats there lives;
+          epoch = within_last _ _ _ kept.epochs id (reader_view v) (at_map reader_view s.views id v at);
+          sole = λ all j. ⊎_elim
+              (λ none. inl (none_in_prefix entry_seat j long.history kept.log long.within none))
+              (λ seat. inr (⊎_elim (λ e. inl (e ∙ sym seated.number)) (λ c. inr c) (only_seat entry_seat layout.slots all_places kept.log sides id v.seats kept.seats there lives all j seat)))
+              (kept.seats.known j);
+        },
+      )
+
+-- what a split leaves
+pub split_so : {S A R F : Type 0} (m : Meaning S A R) (st : Step F) (v : CellView S A R) (found : ℕ) (given : Me F (CellView S A R)) → v.epochs.pin ≡ Idle → 2 ≤ length v.seats.readers →
+    IsBorn m st (given_view v, []) found given → IsSplit (cell_pass v) (cell_pass (gives_reader v)) (cell_pass given.0)
+split_so m st v found given idle places born =
+    let is : given.0 ≡ record (given_view v) { seats = record (given_seat v.seats) { number = born.number; lives = true; others = [] } } = ap (λ y. y.0) born.is in
+    let number : given.0.seats.number ≡ born.number = ap (λ (y : CellView _ _ _). y.seats.number) is in
+    let kept : length (take (length v.seats.readers - 1) v.seats.readers) ≡ length v.seats.readers - 1 = length-take-le (length v.seats.readers - 1) v.seats.readers (omega arith) in
+    let dropped : length (drop (length v.seats.readers - 1) v.seats.readers) ≡ 1 = (let d = length-drop (length v.seats.readers - 1) v.seats.readers in omega (arith, d, places)) in
+    record {
+      adds = record { rest = []; goes_on = sym (append-nil v.seats.history); own = refl; listed = λ n c. refl };
+      left = rw kept refl;
+      another = λ e. born.apart v.seats.number (Contains-append_left (v.seats.number ∷ []) v.seats.joined v.seats.number (Contains-push [] v.seats.number)) (sym e ∙ number);
+      unlisted = λ c. born.apart given.0.seats.number (Contains-append_right (v.seats.number ∷ []) v.seats.joined given.0.seats.number c) number;
+      unused = rw number born.unused;
+      gives = rw (is, dropped) refl;
+    }
+
+-- what a join leaves
+module _ {S A R F : Type 0} (m : Meaning S A R) (st : Step F) (v w : CellView S A R) (slots : List (ℕ × F)) (found : ℕ) (next : Me F (CellView S A R))
+    (l : HasRead m st (takes_in v w, slots) found next) where
+  abbrev read_seat : CellView S A R
+  read_seat = record (takes_in v w) { seats = record (taking_seat v.seats w.seats) { history = l.history; joined = (w.seats.number ∷ w.seats.joined) ++ v.seats.joined; told = []; theirs = [] } }
+
+  view : next.0 ≡ read_seat
+  view = ap (λ (y : Me F (CellView S A R)). y.0) l.is
+
+  w_first : Contains (w.seats.number ∷ w.seats.joined) w.seats.number
+  w_first = Contains-append_left (w.seats.number ∷ []) w.seats.joined w.seats.number (Contains-push [] w.seats.number)
+
+  pub joined_so : w.seats.about ≡ v.seats.about → IsJoined (cell_pass v) (cell_pass w) (cell_pass next.0)
+  joined_so tables = rw view (record {
+    tables = tables;
+    another = l.apart w.seats.number w_first;
+    longer = l.longer;
+    mine = l.mine;
+    theirs = l.theirs;
+    own = l.own;
+    others = l.listed w.seats.number w_first;
+    kept = l.kept;
+    listed = λ n c. l.listed n (Contains-append_right (w.seats.number ∷ []) w.seats.joined n c);
+    takes = rw (length-append v.seats.readers w.seats.readers) refl;
+  })
+
+  pub joined_pass : v.pools.builds ≡ [] → v.trie.answered ≡ [] → IsPass m (cell_pass next.0)
+  joined_pass done quiet = record {
+    legal = rw view l.legal;
+    stays = λ id c. absurd (none_listed id (subst (λ ids. Contains ids id) answered c));
+    building = λ id c. absurd (none_listed id (subst (λ ids. Contains ids id) builds c));
+    unanswered = λ _. answered;
+    idle = λ _. builds;
+    alone = λ all e c. ⊎_elim (λ none. absurd (seen_entry entry_seat l.history e none (rw view at c))) (λ own. own) (l.sole (sym (ap (λ (y : CellView S A R). length y.seats.readers) view) ∙ all) e.seat);
+    most = rw view l.epoch;
+  }
+    where
+      answered : next.0.trie.answered ≡ []
+      answered = ap (λ (y : CellView S A R). y.trie.answered) view ∙ quiet
+
+      builds : next.0.pools.builds ≡ []
+      builds = ap (λ (y : CellView S A R). y.pools.builds) view ∙ done
+
+-- a new pass has as its own what it was given
+pub given_pass : {S A R F : Type 0} (m : Meaning S A R) (st : Step F) (v : CellView S A R) (found : ℕ) (given : Me F (CellView S A R)) → 2 ≤ length v.seats.readers →
+    IsBorn m st (given_view v, []) found given → IsPass m (cell_pass given.0)
+given_pass m st v found given places born =
+    let is : given.0 ≡ record (given_view v) { seats = record (given_seat v.seats) { number = born.number; lives = true; others = [] } } = ap (λ y. y.0) born.is in
+    let dropped : length (drop (length v.seats.readers - 1) v.seats.readers) ≡ 1 = (let d = length-drop (length v.seats.readers - 1) v.seats.readers in omega (arith, d, places)) in
+    rw is (record {
+      legal = born.legal;
+      stays = λ id c. absurd (none_listed id c);
+      building = λ id c. absurd (none_listed id c);
+      unanswered = λ _. refl;
+      idle = λ _. refl;
+      alone = λ all. absurd (omega (arith, dropped, all));
+      most = omega arith;
+    })
+
+-- the pass that gave a place up, the new one, and the one that took another in are passes of the table
+module _ {S A R F : Type 0} (m : Meaning S A R) (layout : Layout) (table seat : TableId) (readers : List ℕ) (me : Me F (CellView S A R)) (own : IsPassOf layout table seat readers me) where
+  pub giver_on : (seat' : TableId) (readers' : List ℕ) (next : Me F (CellView S A R)) → 2 ≤ length me.0.seats.readers → seat' ≡ seat → next ≡ (gives_reader me.0, me.1) →
+      readers' ≡ take (length readers - 1) readers → IsPassOf layout table seat' readers' next
+  giver_on seat' readers' next places same is left =
+      let kept : length (take (length me.0.seats.readers - 1) me.0.seats.readers) ≡ length me.0.seats.readers - 1 = length-take-le (length me.0.seats.readers - 1) me.0.seats.readers (omega arith) in
+      let first = get_or-take (length me.0.seats.readers - 1) me.0.seats.readers 0 0 (omega (arith, places)) in
+      rw is (record {
+        same = same ∙ own.same;
+        words = own.words;
+        free = own.free;
+        sized = own.sized;
+        lives = own.lives;
+        theirs = own.theirs;
+        owns = left ∙ ap (λ (xs : List ℕ). take (length xs - 1) xs) own.owns;
+        place = omega (arith, kept, places);
+        most = (let a = own.most in omega (arith, kept, a));
+        reader = (let a = own.reader in omega (arith, first, a));
+        epoch = own.epoch;
+        unanswered = own.unanswered;
+        unlocked = own.unlocked;
+      })
+
+  pub given_on : (st : Step F) (seat' : TableId) (readers' : List ℕ) (found : ℕ) (next : Me F (CellView S A R)) → 2 ≤ length me.0.seats.readers → seat' ≡ seat →
+      IsBorn m st (given_view me.0, []) found next → readers' ≡ drop (length readers - 1) readers → IsPassOf layout table seat' readers' next
+  given_on st seat' readers' found next places same born left =
+      let dropped : length (drop (length me.0.seats.readers - 1) me.0.seats.readers) ≡ 1 = (let d = length-drop (length me.0.seats.readers - 1) me.0.seats.readers in omega (arith, d, places)) in
+      rw born.is (record {
+        same = same ∙ own.same;
+        words = own.words;
+        free = refl;
+        sized = own.sized;
+        lives = refl;
+        theirs = refl;
+        owns = left ∙ ap (λ (xs : List ℕ). drop (length xs - 1) xs) own.owns;
+        place = omega (arith, dropped);
+        most = omega (arith, dropped);
+        reader = born.reader;
+        epoch = omega arith;
+        unanswered = λ _. refl;
+        unlocked = λ _. refl;
+      })
+
+  pub joined_on : (w : CellView S A R) (st : Step F) (seat' : TableId) (readers' : List ℕ) (found : ℕ) (next : Me F (CellView S A R)) → seat' ≡ seat →
+      HasRead m st (takes_in me.0 w, me.1) found next → readers' ≡ readers ++ w.seats.readers → IsPassOf layout table seat' readers' next
+  joined_on w st seat' readers' found next same read joined =
+      let has = length-append me.0.seats.readers w.seats.readers in
+      let some' = own.place in
+      let first = get_or_append_left me.0.seats.readers w.seats.readers 0 0 (omega (arith, some')) in
+      rw read.is (record {
+        same = same ∙ own.same;
+        words = own.words;
+        free = own.free;
+        sized = own.sized;
+        lives = own.lives;
+        theirs = refl;
+        owns = joined ∙ ap (λ (xs : List ℕ). xs ++ w.seats.readers) own.owns;
+        place = omega (arith, has, some');
+        most = read.most;
+        reader = (let a = own.reader in omega (arith, first, a));
+        epoch = own.epoch;
+        unanswered = own.unanswered;
+        unlocked = own.unlocked;
+      })
+
+-- the last of the reader places is what is dropped
+pub last_dropped : (xs ys : List ℕ) → xs ≡ take (length xs - 1) xs ++ ys → ys ≡ drop (length xs - 1) xs
+last_dropped xs ys e = append_cancel_left (take (length xs - 1) xs) ys (drop (length xs - 1) xs) (sym e ∙ sym (take-append-drop (length xs - 1) xs))

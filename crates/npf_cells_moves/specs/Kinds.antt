@@ -1,0 +1,35 @@
+-- What the steps on the epoch and on the readers change in the pass's own view, and what each tells.
+use Rattle.std.specs.Prelude.{◌≡◌, ℕ, ◌+◌}
+use Rattle.atomic_table.specs.Table.{Me, Step}
+use Rattle.npf_cells_pins.specs.Pinning.{loading, pinning, protecting, unpinning, scanning, advancing, IsMet}
+use Rattle.npf_cells_leaves.specs.Trie.{forgetting}
+use Rattle.npf_cells_rule.specs.declared.view.CellView.{CellView}
+use Rattle.npf_cells_rule.specs.Views.{with_epochs}
+
+abbrev pub unpinned : {S A R F : Type 0} → Me F (CellView S A R) → Me F (CellView S A R)
+unpinned me = (record me.0 { epochs = unpinning me.0.epochs; trie = forgetting me.0.trie }, me.1)
+
+-- the kinds, as what they tell
+pub record Loads {S A R F : Type 0} (step : Step F) (me : Me F (CellView S A R)) (found : ℕ) (next : Me F (CellView S A R)) : Type 0 where
+  pub met : IsMet me.0.epochs found
+  pub is : next ≡ with_epochs me (loading me.0.epochs found)
+
+pub record Pins {S A R F : Type 0} (step : Step F) (me : Me F (CellView S A R)) (found : ℕ) (next : Me F (CellView S A R)) : Type 0 where
+  pub is : next ≡ with_epochs me (pinning me.0.epochs me.0.epochs.loaded)
+
+pub record Protects {S A R F : Type 0} (step : Step F) (me : Me F (CellView S A R)) (found : ℕ) (next : Me F (CellView S A R)) : Type 0 where
+  pub met : IsMet me.0.epochs found
+  pub is : next ≡ with_epochs me (protecting me.0.epochs found)
+
+pub record Unpins {S A R F : Type 0} (step : Step F) (me : Me F (CellView S A R)) (found : ℕ) (next : Me F (CellView S A R)) : Type 0 where
+  pub is : next ≡ unpinned me
+
+-- the reader's word is the one after the epoch's and those of the readers before it
+pub record Scans {S A R F : Type 0} (step : Step F) (me : Me F (CellView S A R)) (found : ℕ) (next : Me F (CellView S A R)) : Type 0 where
+  pub reader : ℕ
+  pub there : step.word ≡ 1 + reader
+  pub is : next ≡ with_epochs me (scanning me.0.epochs reader found)
+
+pub record RaisesEpoch {S A R F : Type 0} (step : Step F) (me : Me F (CellView S A R)) (found : ℕ) (next : Me F (CellView S A R)) : Type 0 where
+  pub met : IsMet me.0.epochs found
+  pub is : next ≡ with_epochs me (advancing me.0.epochs found)

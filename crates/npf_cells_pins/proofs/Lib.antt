@@ -1,0 +1,2 @@
+pub mod EpochLemmas
+pub mod KindLemmas

@@ -1,0 +1,59 @@
+-- What a pass has seen, and whose that is, once it has added an entry.
+use Rattle.std.specs.List.{Contains}
+use Rattle.std.proofs.Common.{◌≡◌, ℕ, ◌≤◌, true, List, [], ◌∷◌, ◌++◌, set, length, sym, ap, ◌∙◌, subst, ⊎_elim, inl, inr, append_assoc}
+use mathlib.Core.Option.{some}
+use lib.ListN.{get_elem?}
+use Rattle.npf_core.specs.declared.entry.Entry.{Entry}
+use Rattle.npf_core.specs.History.{by}
+use Rattle.npf_core.proofs.HistoryLemmas.{by-append}
+use Rattle.npf_connections.specs.Adding.{AddsOwn}
+use Rattle.npf_connections.specs.Pass.{IsOwn, all_places}
+use Rattle.npf_seats.specs.declared.side.SeatSide.{SeatSide}
+use Rattle.npf_seats.specs.Seats.{FitsSeats, AnswersFor, Seats}
+use Rattle.npf_seats.proofs.PrefixLemmas.{not_of, one_of, rest_none, ends_alone, seen_entry}
+use Rattle.npf_seats.proofs.SeatLemmas.{unspent, seats-adds, only_seat}
+use Rattle.npf_seats.proofs.SumLemmas.{set_there}
+use Rattle.npf_cells_lives.specs.Conns.{entry_seat}
+use Rattle.npf_cells_rule.specs.declared.view.CellView.{CellView}
+use Rattle.npf_cells_rule.specs.Passes.{cell_pass}
+
+module _ {S A R : Type 0} (slots : ℕ) (log : List (Entry S A R)) (sides : List (SeatSide ℕ (Entry S A R))) (id : ℕ) (v : CellView S A R) (kept : Seats entry_seat slots all_places log sides) (at : get_elem? sides id ≡ some v.seats)
+    (lives : v.seats.lives ≡ true) (place : 1 ≤ length v.seats.readers) (entry : Entry S A R) (mine : entry.seat ≡ id) where
+  abbrev longer : List (Entry S A R)
+  longer = log ++ entry ∷ []
+
+  fits : FitsSeats entry_seat slots sides log id v.seats
+  fits = kept.each id v.seats at
+
+  number : v.seats.number ≡ id
+  number = (fits.lives lives).number
+
+  -- the history goes on by others' entries, and then by that one
+  pub adds_entry : AddsOwn (cell_pass v) longer (entry ∷ [])
+  adds_entry = record {
+    adds = record {
+      rest = fits.seen.rest ++ entry ∷ [];
+      goes_on = ap (λ xs. xs ++ entry ∷ []) fits.seen.goes_on ∙ append_assoc v.seats.history fits.seen.rest (entry ∷ []);
+      own = ap (λ n. by n (fits.seen.rest ++ entry ∷ [])) number
+          ∙ (by-append id fits.seen.rest (entry ∷ []) ∙ (λ i. rest_none entry_seat id v.seats.history log fits.seen (fits.lives lives).own i ++ one_of entry_seat id entry mine i));
+      listed = λ n c. by-append n fits.seen.rest (entry ∷ [])
+          ∙ (λ i. rest_none entry_seat n v.seats.history log fits.seen (fits.joined n c).same i ++ not_of entry_seat n entry (λ e. unspent entry_seat slots all_places log sides id n v.seats at place (fits.joined n c).spent (sym e ∙ mine)) i);
+    };
+    ends = λ init last e. (log, ap (λ x. log ++ x ∷ []) (ends_alone entry last init e));
+  }
+
+  -- where the pass owns all reader places, each entry is its own or that of a pass which was joined into it
+  pub sole_entries : v.seats.theirs ≡ [] → length v.seats.readers ≡ all_places → (e : Entry S A R) → Contains longer e → IsOwn (cell_pass v) e.seat
+  sole_entries settled all e c = ⊎_elim
+      (λ none. absurd (seen_entry entry_seat longer e none c))
+      (λ has. own (only_seat entry_seat slots all_places longer (set sides id adding) id adding seats (set_there sides id v.seats adding at) lives all e.seat has))
+      (seats.known e.seat)
+    where
+      adding : SeatSide ℕ (Entry S A R)
+      adding = record v.seats { history = longer }
+
+      seats : Seats entry_seat slots all_places longer (set sides id adding)
+      seats = seats-adds entry_seat slots all_places log sides id v.seats kept at lives place entry mine
+
+      own : AnswersFor id adding e.seat → IsOwn (cell_pass v) e.seat
+      own answers = ⊎_elim (λ same. inl (same ∙ sym number)) (λ (c : Contains (v.seats.theirs ++ v.seats.joined) e.seat). inr (subst (λ xs. Contains (xs ++ v.seats.joined) e.seat) settled c)) answers

@@ -1,0 +1,174 @@
+-- A new table keeps the rule.
+use Rattle.std.specs.List.{Contains}
+use Rattle.std.proofs.Common.{◌≡◌, ◌≢◌, ◌⊎◌, ℕ, zero, suc, ◌+◌, ◌-◌, ◌<◌, ◌≤◌, Bool, true, false, true≢false, cond, List, [], ◌∷◌, length, slice_index, replicate, sum_by, refl, sym, ap, ◌∙◌, subst, ⊎_elim, inl, arith}
+use Rattle.std.proofs.lemmas.List.{get_or-set_same, length-replicate}
+use Rattle.std.proofs.lemmas.List.Sums.{sum_by-cons}
+use mathlib.Core.Option.{some, some-injective, some-ne-none}
+use lib.ListN.{get_elem?}
+use Rattle.atomic_table.specs.Table.{opening as table_opening}
+use Rattle.npf_types.specs.declared.key.Key.{Key}
+use Rattle.npf_core.specs.declared.entry.Entry.{Entry}
+use Rattle.npf_core.specs.Machine.{opening}
+use Rattle.npf_core.specs.Meaning.{Meaning}
+use Rattle.npf_connections.specs.Pass.{all_places}
+use Rattle.npf_paths.specs.declared.cell.Cell.TheVariants.{Empty, Leaf, Node}
+use Rattle.npf_paths.specs.declared.place.Lock.{Lock}
+use Rattle.npf_paths.specs.declared.place.Place.{Place}
+use Rattle.npf_paths.specs.CellWords.{cell_of}
+use Rattle.npf_paths.proofs.LevelLemmas.{bare_has_levels}
+use Rattle.npf_cells_words.specs.declared.layout.Layout.{Layout}
+use Rattle.npf_cells_words.specs.declared.layout.Pool.{Pool}
+use Rattle.npf_cells_words.specs.declared.layout.Pool.TheVariants.{Slots, Nodes}
+use Rattle.npf_cells_words.specs.Layout.{inc_field, field_at, word_count, epoch_word, reader_word}
+use Rattle.npf_cells_words.specs.Opening.{opening_words}
+use Rattle.npf_cells_words.specs.Places.{lock_at, is_in_trie, place_at}
+use Rattle.npf_cells_words.proofs.WordLemmas.{lock_behind, place_behind}
+use Rattle.npf_cells_words.proofs.OpeningLemmas.{start_zero, count, before, behind, clear, past}
+use Rattle.npf_seats.specs.declared.side.SeatSide.{SeatSide}
+use Rattle.npf_seats.specs.Seats.{FitsSeats, Seats}
+use Rattle.npf_seats.specs.Sums.{occurs, numbers_below}
+use Rattle.npf_seats.proofs.PrefixLemmas.{none_listed, prefix_of_none}
+use Rattle.npf_seats.proofs.SeatLemmas.{cases_lt}
+use Rattle.npf_seats.proofs.SumLemmas.{occurs_below, occurs_beyond, length-numbers_below}
+use Rattle.npf_cells_pins.specs.Epochs.{ReaderView, pin_place, FitsEpochs, all_raises}
+use Rattle.npf_cells_pins.proofs.EpochLemmas.{idle_holds}
+use Rattle.npf_cells_leaves.specs.Trie.{trie_words, holder_at, FitsTrie}
+use Rattle.npf_cells_leaves.proofs.TrieLemmas.{fits_unread}
+use Rattle.npf_cells_lives.specs.Conns.{FitsBuilds, inc_word, unstored_by, entry_seat}
+use Rattle.npf_cells_lives.specs.Locks.{has_lock, lock_holders}
+use Rattle.npf_cells_lives.specs.Pools.{taken, OwnsNothing}
+use Rattle.npf_cells_lives.specs.Stored.{FitsStored}
+use Rattle.npf_cells_lives.proofs.ConnLemmas.{fits_nothing}
+use Rattle.npf_cells_lives.proofs.StoredLemmas.{fits_unstored}
+use Rattle.npf_cells_rule.specs.declared.view.CellView.{CellView}
+use Rattle.npf_cells_rule.specs.Cells.{IsCells, first_cell_view}
+use Rattle.npf_cells_rule.specs.Views.{reader_view, lock_side, pool_side}
+
+-- no cell is said by 0
+nothing_in : (b : Bool) (word : ℕ) → word ≡ 0 → cond b (cell_of word) Empty ≡ Empty
+nothing_in true word e = ap cell_of e
+nothing_in false word e = refl
+
+module _ {S A R : Type 0} (layout : Layout) where
+  abbrev view : CellView S A R
+  view = first_cell_view layout
+
+  first_fits : FitsSeats entry_seat layout.slots (view.seats ∷ []) [] 0 view.seats
+  first_fits = record {
+    sized = λ _. refl;
+    others = λ n c. absurd (none_listed n c);
+    seen = prefix_of_none [];
+    told = prefix_of_none [];
+    unborn = λ e. absurd (true≢false e);
+    lives = λ _. record { number = refl; own = refl };
+    joined = λ n c. absurd (none_listed n c);
+    theirs = λ n c. absurd (none_listed n c);
+  }
+
+  first_seats : Seats entry_seat layout.slots all_places [] (view.seats ∷ [])
+  first_seats = record {
+    each = each;
+    owned = λ reader h. let a = alone (λ (u : SeatSide ℕ (Entry S A R)). occurs reader u.readers) in let b = occurs_below all_places reader h in omega (arith, a, b);
+    beyond = λ reader h. let a = alone (λ (u : SeatSide ℕ (Entry S A R)). occurs reader u.readers) in let b = occurs_beyond all_places reader h in omega (arith, a, b);
+    total = let a = alone (λ (u : SeatSide ℕ (Entry S A R)). length u.readers) in let b = length-numbers_below all_places in omega (arith, a, b);
+    known = λ n. inl refl;
+  }
+    where
+      alone : (f : SeatSide ℕ (Entry S A R) → ℕ) → sum_by f (view.seats ∷ []) ≡ f view.seats
+      alone f = let a = sum_by-cons f view.seats [] in omega (arith, a)
+
+      each : (j : ℕ) (v : SeatSide ℕ (Entry S A R)) → get_elem? (view.seats ∷ []) j ≡ some v → FitsSeats entry_seat layout.slots (view.seats ∷ []) [] j v
+      each zero v e = subst (λ (u : SeatSide ℕ (Entry S A R)). FitsSeats entry_seat layout.slots (view.seats ∷ []) [] 0 u) (some-injective _ _ e) first_fits
+      each (suc j) v e = absurd (some-ne-none v (sym e))
+
+  -- no place is taken
+  untaken : (v : CellView S A R) → v.pools.nodes ≡ [] → (pool : Pool) (p : ℕ) → taken {S = S} pool_side [] opening (v ∷ []) pool p ≡ 0
+  untaken v none Slots p = refl
+  untaken v none Nodes p = let a = sum_by-cons (λ (u : CellView S A R). occurs p u.pools.nodes) v [] in let b : occurs p v.pools.nodes ≡ 0 = ap (occurs p) none in omega (arith, a, b)
+
+  -- the rule of a new table
+  pub opens : {F : Type 0} (m : Meaning S A R) (digest : Key → ℕ) (words : List ℕ) (homes : List F) → words ≡ opening_words layout → IsCells m digest layout (table_opening words homes (first_cell_view {S = S} {A = A} {R = R} layout))
+  opens m digest words homes is = rw is (record {
+    log = [];
+    published = [];
+    seats = first_seats;
+    epochs = record {
+      from = omega (arith, epoch);
+      most = omega (arith, epoch);
+      counted = (let none : all_raises (reader_view view ∷ []) ≡ 0 = sum_by-cons (λ (u : ReaderView). u.side.raises) (reader_view view) [] in omega (arith, epoch, none));
+      each = each;
+      scans = λ i j r q e d c. absurd (nobody i r e (pin_place q.places) c);
+    };
+    pools = record {
+      reach = (let a = count layout in omega (arith, a));
+      bits = λ pool p h. clear layout pool p h ∙ sym (untaken view refl pool p);
+      past = past layout;
+      beyond = λ p h. untaken view refl Nodes p;
+    };
+    trie = record {
+      ends = λ key level p end. sym (ap (λ cell. holder_at (trie_words layout (opening_words layout)) cell key) (blank p));
+      leaves = λ digits level p slot way are on e. absurd (let no : Empty ≡ Leaf slot way = sym (blank p) ∙ e in cc);
+      nodes = λ digits level p node are on e. absurd (let no : Empty ≡ Node node = sym (blank p) ∙ e in cc);
+      homes = λ digits level p slot way are on e. absurd (let no : Empty ≡ Leaf slot way = sym (blank p) ∙ e in cc);
+      levels = bare_has_levels (trie_words layout (opening_words layout)).cell (λ p. rw (blank p) tt);
+      each = unread;
+    };
+    connections = record { reach = count layout; legal = tt; each = builds_none; incs = no_incs };
+    stored = unstored;
+    locks = record { says = λ lock h. behind layout (lock_at layout lock) (lock_behind layout lock) ∙ sym (unheld lock); alone = λ lock h. (let none = unheld lock in omega (arith, none)) };
+    spent = λ j v e none. nothing j v e;
+  })
+    where
+      epoch : epoch_word (opening_words layout) ≡ 2
+      epoch = before layout 0 (omega arith) ∙ get_or-set_same (replicate (word_count layout) 0) 0 2 0 (let a = length-replicate {A = ℕ} (word_count layout) 0 in omega (arith, a))
+
+      first_reads : FitsEpochs (epoch_word (opening_words layout)) (reader_word (opening_words layout)) (reader_view view)
+      first_reads = record {
+        loaded = omega arith;
+        greatest = omega arith;
+        known = omega arith;
+        guards = tt;
+        kept = λ place owns. before layout (1 + place) (let low = within place owns in omega (arith, low)) ∙ (start_zero layout (1 + place) (omega arith) ∙ sym (idle_holds (reader_view view) refl place));
+        pinned = λ _. refl;
+      }
+        where
+          within : (place : ℕ) → 1 ≤ occurs place (numbers_below all_places) → place < all_places
+          within place owns = ⊎_elim (λ h. h) (λ (h : all_places ≤ place). let none = occurs_beyond all_places place h in absurd (omega (arith, none, owns))) (cases_lt place all_places)
+
+      each : (j : ℕ) (r : ReaderView) → get_elem? (reader_view view ∷ []) j ≡ some r → FitsEpochs (epoch_word (opening_words layout)) (reader_word (opening_words layout)) r
+      each zero r e = subst (λ (u : ReaderView). FitsEpochs (epoch_word (opening_words layout)) (reader_word (opening_words layout)) u) (some-injective _ _ e) first_reads
+      each (suc j) r e = absurd (some-ne-none r (sym e))
+
+      nobody : (j : ℕ) (r : ReaderView) → get_elem? (reader_view view ∷ []) j ≡ some r → (place : ℕ) → Contains r.side.scanned place → ⊥
+      nobody zero r e place c = none_listed place (subst (λ (u : ReaderView). Contains u.side.scanned place) (sym (some-injective _ _ e)) c)
+      nobody (suc j) r e place c = absurd (some-ne-none r (sym e))
+
+      -- nothing stands in the trie
+      blank : (p : Place) → (trie_words layout (opening_words layout)).cell p ≡ Empty
+      blank p = nothing_in (is_in_trie layout p) (slice_index (opening_words layout) (place_at layout p)) (behind layout (place_at layout p) (place_behind layout p))
+
+      unread : (j : ℕ) (v : CellView S A R) → get_elem? (view ∷ []) j ≡ some v → FitsTrie {S = S} digest layout.slots opening (trie_words layout (opening_words layout)) v.trie
+      unread zero v e = subst (λ (u : CellView S A R). FitsTrie {S = S} digest layout.slots opening (trie_words layout (opening_words layout)) u.trie) (some-injective _ _ e)
+          (fits_unread digest layout.slots opening (trie_words layout (opening_words layout)))
+      unread (suc j) v e = absurd (some-ne-none v (sym e))
+
+      unstored : (j : ℕ) (v : CellView S A R) → get_elem? (view ∷ []) j ≡ some v → FitsStored layout (opening_words layout) v.pools
+      unstored zero v e = subst (λ (u : CellView S A R). FitsStored layout (opening_words layout) u.pools) (some-injective _ _ e) (fits_unstored layout (opening_words layout) view.pools refl)
+      unstored (suc j) v e = absurd (some-ne-none v (sym e))
+
+      unheld : (lock : Lock) → lock_holders lock_side layout (view ∷ []) lock ≡ 0
+      unheld lock = sum_by-cons (λ (u : CellView S A R). has_lock layout lock u.trie.locks) view []
+
+      nothing : (j : ℕ) (v : CellView S A R) → get_elem? (view ∷ []) j ≡ some v → OwnsNothing v.pools
+      nothing zero v e = subst (λ (u : CellView S A R). OwnsNothing u.pools) (some-injective _ _ e) (record { nodes = refl; builds = refl })
+      nothing (suc j) v e = absurd (some-ne-none v (sym e))
+
+      builds_none : (j : ℕ) (v : CellView S A R) → get_elem? (view ∷ []) j ≡ some v → FitsBuilds {S = S} opening j v.pools.builds v.pools.unstored
+      builds_none zero v e = subst (λ (u : CellView S A R). FitsBuilds {S = S} opening 0 u.pools.builds u.pools.unstored) (some-injective _ _ e) (fits_nothing opening 0)
+      builds_none (suc j) v e = absurd (some-ne-none v (sym e))
+
+      no_incs : (slot : ℕ) → slot < layout.slots → inc_word layout (opening_words layout) slot + unstored_by pool_side (view ∷ []) slot ≡ 0
+      no_incs slot h =
+          let word = behind layout (field_at layout Slots slot inc_field) (omega arith) in
+          let sum = sum_by-cons (λ (u : CellView S A R). occurs slot u.pools.unstored) view [] in
+          omega (arith, word, sum)

@@ -1,0 +1,36 @@
+-- A pass of the table stays one.
+use Rattle.std.proofs.Common.{◌≡◌, ℕ, List, ◌∙◌, true, refl}
+use Rattle.atomic_table.specs.Seated.{TableId}
+use Rattle.atomic_table.specs.Table.{Me}
+use Rattle.npf_cells_words.specs.declared.layout.Layout.{Layout}
+use Rattle.npf_cells_pins.specs.declared.pin.Pin.{Pin}
+use Rattle.npf_cells_pins.specs.declared.pin.Pin.TheVariants.{Idle, Pinned, Protected}
+use Rattle.npf_cells_lives.specs.declared.pools.PoolSide.{PoolSide}
+use Rattle.npf_cells_rule.specs.declared.view.CellView.{CellView}
+use Rattle.npf_cells_rule.specs.Passes.{IsPassOf, is_pinned, IsProtected}
+use Rattle.npf_cells_rule.specs.Views.{with_pools}
+
+-- a pass of the table stays one through a step that changes what it knows and has of the pools
+pub pools_on : {S A R F : Type 0} (layout : Layout) (table seat seat' : TableId) (readers : List ℕ) (me next : Me F (CellView S A R)) (side : PoolSide) →
+    IsPassOf layout table seat readers me → seat' ≡ seat → next ≡ with_pools me side → IsPassOf layout table seat' readers next
+pools_on layout table seat seat' readers me next side own same is = rw is (record {
+  same = same ∙ own.same;
+  words = own.words;
+  free = own.free;
+  sized = own.sized;
+  lives = own.lives;
+  theirs = own.theirs;
+  owns = own.owns;
+  place = own.place;
+  most = own.most;
+  reader = own.reader;
+  epoch = own.epoch;
+  unanswered = own.unanswered;
+  unlocked = own.unlocked;
+})
+
+-- a pass that is protected is in a stay
+pub pinned_in : (pin : Pin) → IsProtected pin → is_pinned pin ≡ true
+pinned_in Idle h = absurd h
+pinned_in (Pinned epoch) h = refl
+pinned_in (Protected pinned epoch) h = refl

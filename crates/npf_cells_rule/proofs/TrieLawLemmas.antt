@@ -1,0 +1,34 @@
+-- What the part on the trie says of what passes loaded.
+use Rattle.std.proofs.Common.{◌≡◌, ℕ, ap, ◌∙◌, subst}
+use Rattle.npf_core.specs.History.{state_of}
+use Rattle.npf_core.specs.Machine.{stage_of, IsClaimed}
+use Rattle.npf_core.specs.Meaning.{Meaning}
+use Rattle.npf_core.proofs.HolderLemmas.{holders_claimed}
+use Rattle.npf_paths.specs.declared.cell.Cell.{Cell}
+use Rattle.npf_paths.specs.declared.cell.Cell.TheVariants as Cells
+use Rattle.npf_paths.specs.declared.place.Place.{Place}
+use Rattle.npf_paths.specs.declared.place.Place.TheVariants as Places
+use Rattle.npf_paths.specs.Paths.{IsOnPath}
+use Rattle.npf_paths.specs.Paths.IsOnPath.{at_root, further}
+use Rattle.npf_cells_words.specs.declared.layout.Layout.{Layout}
+use Rattle.npf_cells_leaves.specs.Trie.{digits_of, trie_words, leaf_found}
+use Rattle.npf_cells_leaves.proofs.StandLemmas.{stands_published}
+use Rattle.npf_cells_leaves.proofs.TrieLemmas.{are_digits}
+use Rattle.npf_cells_rule.specs.TrieLaw.{EndsNameHolders, LeavesAreKept, NodesAreKept}
+use Rattle.npf_cells_rule.specs.Views.{trie_side}
+use Rattle.npf_cells_rule.proofs.MetLemmas.{unowned}
+
+pub ends_name_holders : {S A R : Type 0} (m : Meaning S A R) (layout : Layout) → EndsNameHolders m layout
+ends_name_holders m layout digest s kept key level p end = kept.trie.ends key level p end
+
+pub leaves_are_kept : {S A R : Type 0} (m : Meaning S A R) (layout : Layout) → LeavesAreKept m layout
+leaves_are_kept m layout digest s kept j v leaf at is =
+    let stays = (kept.trie.each j v at).leaf leaf is in
+    let t = trie_words layout s.words in
+    let claimed = holders_claimed m layout.slots kept.log kept.connections.legal (t.key leaf.slot leaf.way) (leaf_found t leaf.slot leaf.way) stays.right.held in
+    record { key = stays.key; inc = stays.inc; claimed = subst (λ (n : ℕ). IsClaimed (stage_of (state_of m kept.log) (record { slot = leaf.slot; inc = n }))) stays.inc claimed }
+
+pub nodes_are_kept : {S A R : Type 0} (m : Meaning S A R) (layout : Layout) → NodesAreKept m layout
+nodes_are_kept m layout digest s i j node digit u v point kept mine at is there owns =
+    let stood = stands_published trie_side digest layout kept.published (state_of m kept.log) s.words s.views j node digit v point kept.trie at is there in
+    unowned m digest layout s kept i u node mine stood.right.exists owns stood.right.published_once

@@ -1,0 +1,58 @@
+-- The rule of the table without locks: seven parts, over its words and the sides of the views, and that a spent seat owns nothing.
+use Rattle.std.specs.Prelude.{◌≡◌, ℕ, true, List, [], map, length}
+use mathlib.Core.Option.{some}
+use lib.ListN.{get_elem?}
+use Rattle.atomic_table.specs.Table.{State}
+use Rattle.npf_types.specs.declared.key.Key.{Key}
+use Rattle.npf_core.specs.declared.entry.Entry.{Entry}
+use Rattle.npf_core.specs.History.{state_of}
+use Rattle.npf_core.specs.Meaning.{Meaning}
+use Rattle.npf_connections.specs.Pass.{all_places}
+use Rattle.npf_cells_words.specs.declared.layout.Layout.{Layout}
+use Rattle.npf_cells_words.specs.Layout.{epoch_word, reader_word}
+use Rattle.npf_seats.specs.Seats.{Seats}
+use Rattle.npf_seats.specs.Sums.{numbers_below}
+use Rattle.npf_cells_pins.specs.Epochs.{Epochs, idle_side}
+use Rattle.npf_cells_leaves.specs.Trie.{Trie, unread_side}
+use Rattle.npf_cells_lives.specs.Conns.{Conns, entry_seat}
+use Rattle.npf_cells_lives.specs.Locks.{Locks}
+use Rattle.npf_cells_lives.specs.Pools.{taken, OwnsNothing, Pools, empty_handed}
+use Rattle.npf_cells_lives.specs.Stored.{StoredWords}
+use Rattle.npf_cells_rule.specs.declared.view.CellView.{CellView}
+use Rattle.npf_cells_rule.specs.Views.{seat_side, reader_view, lock_side, pool_side, trie_side}
+
+-- a spent seat, which owns no reader place, owns no node and builds nothing
+abbrev pub SpentOwnNothing : {S A R : Type 0} → List (CellView S A R) → Type 0
+SpentOwnNothing {S} {A} {R} views = (j : ℕ) (v : CellView S A R) → get_elem? views j ≡ some v → length v.seats.readers ≡ 0 → OwnsNothing v.pools
+
+-- the rule
+pub record IsCells {S A R F : Type 0} (m : Meaning S A R) (digest : Key → ℕ) (layout : Layout) (s : State F (CellView S A R)) : Type 0 where
+  pub log : List (Entry S A R)
+  pub published : List ℕ
+  pub seats : Seats entry_seat layout.slots all_places log (map seat_side s.views)
+  pub epochs : Epochs (epoch_word s.words) (reader_word s.words) (map reader_view s.views)
+  pub pools : Pools layout (taken pool_side published (state_of m log) s.views) s.words
+  pub trie : Trie trie_side digest layout published (state_of m log) s.words s.views
+  pub connections : Conns pool_side m layout log s.words s.views
+  pub stored : StoredWords pool_side layout s.words s.views
+  pub locks : Locks lock_side layout s.words s.views
+  pub spent : SpentOwnNothing s.views
+
+-- the first pass, which owns all reader places
+abbrev pub first_cell_view : {S A R : Type 0} → Layout → CellView S A R
+first_cell_view layout = record {
+  seats = record {
+    about = layout.slots;
+    number = 0;
+    lives = true;
+    history = [];
+    readers = numbers_below all_places;
+    joined = [];
+    told = [];
+    theirs = [];
+    others = [];
+  };
+  epochs = idle_side;
+  pools = empty_handed;
+  trie = unread_side;
+}

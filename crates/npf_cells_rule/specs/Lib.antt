@@ -1,0 +1,6 @@
+pub mod Cells
+pub mod Passes
+pub mod Stood
+pub mod TableLaw
+pub mod TrieLaw
+pub mod Views

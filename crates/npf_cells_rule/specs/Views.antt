@@ -1,0 +1,46 @@
+-- The sides of a view, and views of which one side changes.
+use Rattle.std.specs.Prelude.{ℕ, List}
+use Rattle.atomic_table.specs.Table.{Me}
+use Rattle.npf_core.specs.declared.entry.Entry.{Entry}
+use Rattle.npf_paths.specs.declared.place.Lock.{Lock}
+use Rattle.npf_seats.specs.declared.side.SeatSide.{SeatSide}
+use Rattle.npf_seats.specs.Moves.{spent_seat}
+use Rattle.npf_cells_pins.specs.declared.pin.EpochSide.{EpochSide}
+use Rattle.npf_cells_pins.specs.Epochs.{ReaderView, idle_side}
+use Rattle.npf_cells_leaves.specs.declared.trie.TrieSide.{TrieSide}
+use Rattle.npf_cells_leaves.specs.Trie.{unread_side}
+use Rattle.npf_cells_lives.specs.declared.pools.PoolSide.{PoolSide}
+use Rattle.npf_cells_lives.specs.Pools.{empty_handed}
+use Rattle.npf_cells_rule.specs.declared.view.CellView.{CellView}
+
+abbrev pub seat_side : {S A R : Type 0} → CellView S A R → SeatSide ℕ (Entry S A R)
+seat_side v = v.seats
+
+abbrev pub reader_view : {S A R : Type 0} → CellView S A R → ReaderView
+reader_view v = record { places = v.seats.readers; side = v.epochs }
+
+abbrev pub pool_side : {S A R : Type 0} → CellView S A R → PoolSide
+pool_side v = v.pools
+
+abbrev pub trie_side : {S A R : Type 0} → CellView S A R → TrieSide
+trie_side v = v.trie
+
+-- the locks that a pass has
+abbrev pub lock_side : {S A R : Type 0} → CellView S A R → List Lock
+lock_side v = v.trie.locks
+
+-- the pass after a step that changes only what it knows of the epoch
+abbrev pub with_epochs : {S A R F : Type 0} → Me F (CellView S A R) → EpochSide → Me F (CellView S A R)
+with_epochs me side = (record me.0 { epochs = side }, me.1)
+
+-- the pass after a step that changes only what it knows of the trie
+abbrev pub with_trie : {S A R F : Type 0} → Me F (CellView S A R) → TrieSide → Me F (CellView S A R)
+with_trie me side = (record me.0 { trie = side }, me.1)
+
+-- what is left of a pass that was joined into another
+abbrev pub nothing_left : {S A R : Type 0} → CellView S A R
+nothing_left = record { seats = spent_seat 0; epochs = idle_side; pools = empty_handed; trie = unread_side }
+
+-- the pass after a step that changes only what it knows and has of the pools
+abbrev pub with_pools : {S A R F : Type 0} → Me F (CellView S A R) → PoolSide → Me F (CellView S A R)
+with_pools me side = (record me.0 { pools = side }, me.1)

@@ -1,0 +1,30 @@
+// What holds of every table between any two steps. The functions do nothing: each is a theorem.
+ghost use Rattle.npf_cells_words.specs.declared.layout.Layout.{Layout};
+ghost use Rattle.npf_cells_rule.specs.TableLaw.{OwnsAlone, BuildsAlone, HoldsBack, CountsRaises};
+ghost use Rattle.npf_cells_rule.specs.TrieLaw.{EndsNameHolders, LeavesAreKept, NodesAreKept};
+
+use npf_core::Law;
+
+/// The claim law: a node has one owner at most, and one pass at most is building in a slot.
+pub fn claim_law<L: Law>()
+    ensures alone { (layout : Layout) → OwnsAlone L.meaning layout }
+    ensures builder { (layout : Layout) → BuildsAlone L.meaning layout }
+{}
+
+/// The protection law: while a pass is protected with the epoch that it loaded after its pin, the table's epoch is at most one more.
+pub fn protection_law<L: Law>()
+    ensures within { (layout : Layout) → HoldsBack L.meaning layout }
+{}
+
+/// The count law: no pass raises the epoch without counting it.
+pub fn count_law<L: Law>()
+    ensures counted { (layout : Layout) → CountsRaises L.meaning layout }
+{}
+
+/// The trie law: what stands where a key's path ends names the key's holder; the words of the leaf that a pass loaded last in its stay are as
+/// they were, and its connection is claimed; and the node to which the last load of the stay led is no pass's own.
+pub fn trie_law<L: Law>()
+    ensures ends { (layout : Layout) → EndsNameHolders L.meaning layout }
+    ensures leaves { (layout : Layout) → LeavesAreKept L.meaning layout }
+    ensures nodes { (layout : Layout) → NodesAreKept L.meaning layout }
+{}

@@ -1,0 +1,4 @@
+pub mod PoolKeepLemmas
+pub mod PrivateKeepLemmas
+pub mod PrivateTrieLemmas
+pub mod SlotKeepLemmas

@@ -1,0 +1,197 @@
+-- Kind 10, and the load of an incarnation, keep the rule.
+use Rattle.std.specs.List.{Contains}
+use Rattle.std.proofs.Common.{◌≡◌, ◌≢◌, ℕ, ◌+◌, ◌<◌, Bool, true, false, cond, eqb, Some, List, [], ◌∷◌, set, length, slice_index, refl, sym, ap, ◌∙◌, subst, ⊎_elim, arith, length-set}
+use Rattle.std.proofs.lemmas.Bool.Decides.{Decides-eqb, not_from_Decides}
+use Rattle.std.proofs.lemmas.List.{get_or-set_same, get_or-set_other, set-get_or}
+use mathlib.Core.Option.{some}
+use lib.ListN.{get_elem?}
+use Rattle.atomic_table.specs.Table.{State, Me, Step, Allows, stepped, keeps}
+use Rattle.npf_types.specs.declared.key.Key.{Key}
+use Rattle.npf_core.specs.declared.conn_id.ConnId.{ConnId}
+use Rattle.npf_core.specs.History.{state_of}
+use Rattle.npf_core.specs.Meaning.{Meaning}
+use Rattle.npf_core.proofs.IdentityLemmas.{counts_incarnations}
+use Rattle.npf_cells_words.specs.declared.layout.Layout.{Layout}
+use Rattle.npf_cells_words.specs.declared.layout.Pool.{Pool}
+use Rattle.npf_cells_words.specs.declared.layout.Pool.TheVariants.{Slots, Nodes}
+use Rattle.npf_cells_words.specs.Layout.{inc_field, field_at, field_count, pool_places}
+use Rattle.npf_cells_words.specs.Places.{lock_at}
+use Rattle.npf_cells_words.proofs.WordLemmas.{inc_apart, field_behind, field_reach, node_apart}
+use Rattle.npf_seats.specs.Sums.{others_than, occurs}
+use Rattle.npf_seats.proofs.ListLemmas.{occurs_or, stands_once}
+use Rattle.npf_seats.proofs.PrefixLemmas.{cons_cases}
+use Rattle.npf_cells_leaves.specs.Trie.{trie_words}
+use Rattle.npf_cells_leaves.proofs.TrieLemmas.{KeepsTrie, knows_same, trie_same}
+use Rattle.npf_cells_lives.specs.declared.pools.StoredWord.{StoredWord}
+use Rattle.npf_cells_lives.specs.Conns.{inc_word, Conns}
+use Rattle.npf_cells_lives.specs.Locks.{Locks}
+use Rattle.npf_cells_lives.specs.Stored.{stored_value, IsOwnField, FitsStored, StoredWords}
+use Rattle.npf_cells_lives.proofs.ConnLemmas.{building_at, builds-kept, unstored-set, conns-same, inc_shown, conns-stored}
+use Rattle.npf_cells_lives.proofs.LockLemmas.{locks-same, holders-set}
+use Rattle.npf_cells_lives.proofs.StoredLemmas.{own_same, stored_kept, stored-set, no_lock}
+use Rattle.npf_cells_rule.specs.declared.view.CellView.{CellView}
+use Rattle.npf_cells_rule.specs.Cells.{IsCells}
+use Rattle.npf_cells_rule.specs.Views.{lock_side, pool_side, trie_side}
+use Rattle.npf_cells_rule.proofs.Frames.{private_step, trie_apart, stored_apart, locks_apart}
+use Rattle.npf_cells_rule.proofs.LawLemmas.{builds_alone, owns_alone}
+use Rattle.npf_cells_rule.proofs.StoodLemmas.{unhomed}
+use Rattle.npf_cells_takes.specs.PrivateKinds.{ShowsInc, MayStore, MayStoreInSlot, storing, LoadsInc, StoresPrivate}
+use Rattle.npf_cells_takes.proofs.PrivateTrieLemmas.{node_keeps, slot_keeps}
+
+module _ {S A R F : Type 0} (m : Meaning S A R) (digest : Key → ℕ) (layout : Layout) where
+  -- who owns one word is one seat
+  own_alone : (s : State F (CellView S A R)) (kept : IsCells m digest layout s) (i j : ℕ) (v w : CellView S A R) → get_elem? s.views i ≡ some v → get_elem? s.views j ≡ some w → (pool : Pool) (place field : ℕ) (other : Pool) (place' field' : ℕ) →
+      IsOwnField layout v.pools pool place field → IsOwnField layout w.pools other place' field' → field_at layout pool place field ≡ field_at layout other place' field' → i ≡ j
+  own_alone s kept i j v w at there Slots place field Slots place' field' own own' e =
+      let same : place ≡ place' = (let a = own.3 in let b = own'.3 in omega (arith, a, b, e)) in
+      builds_alone m layout digest (record { words = s.words; homes = []; views = s.views }) i j v w own.0.id own'.0.id (unhomed m digest layout s kept) at there own.0.built own'.0.built (own.0.there ∙ (same ∙ sym own'.0.there))
+  own_alone s kept i j v w at there Slots place field Nodes place' field' own own' e = absurd (let a = own'.1 in let b = own'.2 in omega (arith, a, b, e))
+  own_alone s kept i j v w at there Nodes place field Slots place' field' own own' e = absurd (let a = own.1 in let b = own.2 in omega (arith, a, b, e))
+  own_alone s kept i j v w at there Nodes place field Nodes place' field' own own' e =
+      let same : place ≡ place' = (let a = own.2 in let b = own'.2 in omega (arith, a, b, e)) in
+      owns_alone m layout digest (record { words = s.words; homes = []; views = s.views }) i j place v w (unhomed m digest layout s kept) at there own.0 (subst (Contains w.pools.nodes) (sym same) own'.0)
+
+  -- a step on another word than those of incarnations, which leaves the views
+  conns_else : (s : State F (CellView S A R)) (i n id : ℕ) (v : CellView S A R) (kept : IsCells m digest layout s) → get_elem? s.views id ≡ some v →
+      ((slot : ℕ) → slot < layout.slots → slice_index (set s.words i n) (field_at layout Slots slot inc_field) ≡ slice_index s.words (field_at layout Slots slot inc_field)) →
+      Conns pool_side m layout kept.log (set s.words i n) (set s.views id v)
+  conns_else s i n id v kept at same = conns-same pool_side m layout kept.log s.words (set s.words i n) s.views (set s.views id v) kept.connections (length-set s.words i n) same
+      (builds-kept pool_side (state_of m kept.log) s.views id v v at refl refl kept.connections.each) (unstored-set pool_side s.views id v v at refl)
+
+  shows_inc : (s : State F (CellView S A R)) (id slot : ℕ) (v : CellView S A R) → IsCells m digest layout s → get_elem? s.views id ≡ some v → slot < layout.slots →
+      ShowsInc v.pools slot (inc_word layout s.words slot)
+  shows_inc s id slot v kept at within = record {
+    stored = λ i c e no. ⊎_elim
+        (λ (none : occurs slot v.pools.unstored ≡ 0). let sum = shown i c e in omega (arith, sum, none))
+        (λ owes. absurd (no owes))
+        (occurs_or slot v.pools.unstored);
+    before = λ i c e owes.
+        let sum = shown i c e in
+        let once = (kept.connections.each id v at).once slot in
+        let some' = stands_once slot v.pools.unstored owes in
+        omega (arith, sum, once, some');
+    most = λ i c e.
+        let last = (counts_incarnations m layout.slots kept.log i.slot kept.connections.legal).last in
+        let here = (building_at ((state_of m kept.log).slot i.slot) i.inc id ((kept.connections.each id v at).building i c)).0 in
+        omega (arith, last, here);
+  }
+    where
+      shown : (i : ConnId) → Contains v.pools.builds i → i.slot ≡ slot → inc_word layout s.words slot + occurs slot v.pools.unstored ≡ i.inc
+      shown i c e = subst (λ p. inc_word layout s.words p + occurs p v.pools.unstored ≡ i.inc) e
+          (inc_shown pool_side m layout kept.log s.words s.views id v kept.connections at i c (subst (λ p. p < layout.slots) (sym e) within))
+
+  pub may_load_inc : (st : Step F) (id n slot : ℕ) (me : Me F (CellView S A R)) → slot < layout.slots →
+      Allows (IsCells m digest layout) n id me (field_at layout Slots slot inc_field) (λ k. k) (LoadsInc slot st me)
+  may_load_inc st id n slot me within s kept homes at bound =
+      let i = field_at layout Slots slot inc_field in (
+        me.0,
+        keeps,
+        tt,
+        private_step m digest layout s i (slice_index s.words i) id me.1 me.0 me.0 kept at (field_behind layout Slots slot inc_field) refl refl refl refl
+            (trie_apart m digest layout s i (slice_index s.words i) id me.0 me.0 kept at (knows_same me.0.trie) (λ j h. ap (λ ws. slice_index ws j) (set-get_or s.words i 0)))
+            (conns_else s i (slice_index s.words i) id me.0 kept at (λ p h. ap (λ ws. slice_index ws (field_at layout Slots p inc_field)) (set-get_or s.words i 0)))
+            (stored_apart m digest layout s i (slice_index s.words i) id me.0 kept (kept.stored id me.0 at) (λ j h. ap (λ ws. slice_index ws j) (set-get_or s.words i 0)))
+            (locks_apart m digest layout s i (slice_index s.words i) id me.0 me.0 kept at refl (λ j h. ap (λ ws. slice_index ws j) (set-get_or s.words i 0))),
+        record { is = refl; shows = shows_inc s id slot me.0 kept at within; leaf = λ leaf e there. ap (λ p. inc_word layout s.words p) (sym there) ∙ ((kept.trie.each id me.0 at).leaf leaf e).inc },
+      )
+
+  module _ (s : State F (CellView S A R)) (id : ℕ) (me : Me F (CellView S A R)) (kept : IsCells m digest layout s) (at : get_elem? s.views id ≡ some me.0) (place field value : ℕ) where
+    abbrev storer : Pool → CellView S A R
+    storer pool = record me.0 { pools = storing pool place field value me.0.pools }
+
+    abbrev with_stored : Pool → List ℕ → CellView S A R
+    with_stored pool unstored = record me.0 { pools = record me.0.pools { unstored = unstored; stored = (record { pool = pool; place = place; field = field; value = value }) ∷ me.0.pools.stored } }
+
+    abbrev Stored : Pool → CellView S A R → Type 0
+    Stored pool w = IsCells m digest layout (stepped s (field_at layout pool place field) value id me.1 w keeps)
+
+    abbrev words' : Pool → List ℕ
+    words' pool = set s.words (field_at layout pool place field) value
+
+    reaches : (pool : Pool) → place < pool_places layout pool → field < field_count pool → field_at layout pool place field < length s.words
+    reaches pool within exists = let reach = field_reach layout pool place field within exists in let long = kept.connections.reach in omega (arith, reach, long)
+
+    owns : (pool : Pool) → place < pool_places layout pool → field < field_count pool → MayStore m me.0 pool place field value → IsOwnField layout me.0.pools pool place field
+    owns Slots within exists may = (record { id = may.id; built = may.built; there = may.there }, within, may.turnless, exists)
+    owns Nodes within exists may = (may.owned, within, exists, may.stateless)
+
+    -- the trie, what passes stored, and the locks
+    trie_stays : me.0.seats.lives ≡ true → (pool : Pool) → place < pool_places layout pool → field < field_count pool → MayStore m me.0 pool place field value →
+        KeepsTrie layout.slots (state_of m kept.log) (state_of m kept.log) (trie_words layout s.words) (trie_words layout (words' pool))
+    trie_stays lives Slots within exists may = slot_keeps m digest layout s kept id me.0 place field value at lives within exists (reaches Slots within exists) may
+    trie_stays lives Nodes within exists may = node_keeps m digest layout s kept id me.0 place field value at within exists may.owned
+
+    newly : (pool : Pool) (unstored : List ℕ) → IsOwnField layout me.0.pools pool place field → field_at layout pool place field < length s.words → FitsStored layout (words' pool) (with_stored pool unstored).pools
+    newly pool unstored own there = record {
+      own = λ x c. ⊎_elim
+          (λ (e : new ≡ x). subst (λ (y : StoredWord). IsOwnField layout (with_stored pool unstored).pools y.pool y.place y.field) e (own_same layout me.0.pools (with_stored pool unstored).pools refl refl pool place field own))
+          (λ c'. own_same layout me.0.pools (with_stored pool unstored).pools refl refl x.pool x.place x.field (fits.own x c'))
+          (cons_cases new x me.0.pools.stored c);
+      stands = λ word n e. by_word word n (eqb (field_at layout pool place field) word) refl e;
+    }
+      where
+        new : StoredWord
+        new = record { pool = pool; place = place; field = field; value = value }
+
+        fits : FitsStored layout s.words me.0.pools
+        fits = kept.stored id me.0 at
+
+        by_word : (word n : ℕ) (b : Bool) → eqb (field_at layout pool place field) word ≡ b → cond b (Some value) (stored_value layout me.0.pools.stored word) ≡ Some n → slice_index (words' pool) word ≡ n
+        by_word word n true here e =
+            let is : field_at layout pool place field ≡ word = (Decides-eqb _ word).0 here in
+            let same : value ≡ n = cc in
+            ap (slice_index (words' pool)) (sym is) ∙ (get_or-set_same s.words (field_at layout pool place field) value 0 there ∙ same)
+        by_word word n false here e =
+            let other : field_at layout pool place field ≢ word = not_from_Decides _ (Decides-eqb _ word) here in
+            get_or-set_other s.words (field_at layout pool place field) word value 0 (λ is. other (sym is)) ∙ fits.stands word n e
+
+    stored_stay : (pool : Pool) (unstored : List ℕ) → IsOwnField layout me.0.pools pool place field → field_at layout pool place field < length s.words → StoredWords pool_side layout (words' pool) (set s.views id (with_stored pool unstored))
+    stored_stay pool unstored own there = stored-set pool_side layout (words' pool) s.views id (with_stored pool unstored) (newly pool unstored own there)
+        (λ j u ne e. stored_kept layout s.words (words' pool) u.pools u.pools (kept.stored j u e) refl (λ other p f h. h)
+        (λ other p f h. get_or-set_other s.words (field_at layout pool place field) (field_at layout other p f) value 0 (λ is. ne (own_alone s kept j id u me.0 e at other p f pool place field h own is))))
+
+    locks_stay : (pool : Pool) (unstored : List ℕ) → IsOwnField layout me.0.pools pool place field → Locks lock_side layout (words' pool) (set s.views id (with_stored pool unstored))
+    locks_stay pool unstored own = locks-same lock_side layout s.words (words' pool) s.views (set s.views id (with_stored pool unstored)) kept.locks
+        (λ lock h. get_or-set_other s.words (field_at layout pool place field) (lock_at layout lock) value 0 (no_lock layout me.0.pools pool place field lock own h)) (holders-set lock_side layout s.views id me.0 (with_stored pool unstored) at refl)
+
+    -- as long as the part on connections holds
+    stored_step : me.0.seats.lives ≡ true → (pool : Pool) (unstored : List ℕ) → place < pool_places layout pool → field < field_count pool → MayStore m me.0 pool place field value →
+        Conns pool_side m layout kept.log (words' pool) (set s.views id (with_stored pool unstored)) → Stored pool (with_stored pool unstored)
+    stored_step lives pool unstored within exists may connections =
+        let own = owns pool within exists may in
+        private_step m digest layout s (field_at layout pool place field) value id me.1 me.0 (with_stored pool unstored) kept at (field_behind layout pool place field) refl refl refl refl
+        (trie_same trie_side digest layout kept.published (state_of m kept.log) (state_of m kept.log) s.words (words' pool) s.views id me.0 (with_stored pool unstored) kept.trie at (knows_same me.0.trie) (trie_stays lives pool within exists may))
+        connections (stored_stay pool unstored own (reaches pool within exists)) (locks_stay pool unstored own)
+
+    conns_stay : (pool : Pool) → ((slot : ℕ) → slot < layout.slots → field_at layout Slots slot inc_field ≢ field_at layout pool place field) → Conns pool_side m layout kept.log (words' pool) (set s.views id (with_stored pool me.0.pools.unstored))
+    conns_stay pool apart = conns-same pool_side m layout kept.log s.words (words' pool) s.views (set s.views id (with_stored pool me.0.pools.unstored)) kept.connections (length-set s.words (field_at layout pool place field) value)
+        (λ slot h. get_or-set_other s.words (field_at layout pool place field) (field_at layout Slots slot inc_field) value 0 (apart slot h))
+        (builds-kept pool_side (state_of m kept.log) s.views id me.0 (with_stored pool me.0.pools.unstored) at refl refl kept.connections.each) (unstored-set pool_side s.views id me.0 (with_stored pool me.0.pools.unstored) at refl)
+
+    -- the incarnation is stored
+    incs_stay : (may : MayStoreInSlot m me.0 place field value) → place < layout.slots → field ≡ inc_field → Conns pool_side m layout kept.log (words' Slots) (set s.views id (with_stored Slots (others_than place me.0.pools.unstored)))
+    incs_stay may within e =
+        let w = with_stored Slots (others_than place me.0.pools.unstored) in
+        let below : may.id.slot < layout.slots = subst (λ p. p < layout.slots) (sym may.there) within in
+        let long = kept.connections.reach in
+        subst (λ (y : ℕ × ℕ × ℕ). Conns pool_side m layout kept.log (set s.words (field_at layout Slots y.0 y.1) y.2) (set s.views id w)) (λ t. (may.there t, sym e t, sym (may.inc e) t))
+        (conns-stored pool_side m layout kept.log s.words s.views id me.0 kept.connections at may.id may.built below w refl (ap (λ p. others_than p me.0.pools.unstored) (sym may.there))
+        (let reach = field_reach layout Slots may.id.slot inc_field below (omega arith) in omega (arith, reach, long)))
+
+    pub stores : me.0.seats.lives ≡ true → (pool : Pool) → place < pool_places layout pool → field < field_count pool → MayStore m me.0 pool place field value → Stored pool (storer pool)
+    stores lives Nodes within exists may = stored_step lives Nodes me.0.pools.unstored within exists may (conns_stay Nodes (λ slot h. node_apart layout place field slot within exists))
+    stores lives Slots within exists may = by_field (eqb field inc_field) refl
+      where
+        by_field : (b : Bool) → eqb field inc_field ≡ b → Stored Slots (with_stored Slots (cond b (others_than place me.0.pools.unstored) me.0.pools.unstored))
+        by_field true e = stored_step lives Slots (others_than place me.0.pools.unstored) within exists may (incs_stay may within ((Decides-eqb field inc_field).0 e))
+        by_field false e = stored_step lives Slots me.0.pools.unstored within exists may (conns_stay Slots (λ slot h same. inc_apart layout place field slot exists (λ _. not_from_Decides _ (Decides-eqb field inc_field) e) (sym same)))
+
+  pub may_store : (st : Step F) (id n : ℕ) (pool : Pool) (place field value : ℕ) (me : Me F (CellView S A R)) → me.0.seats.lives ≡ true → place < pool_places layout pool → field < field_count pool →
+      MayStore m me.0 pool place field value → Allows (IsCells m digest layout) n id me (field_at layout pool place field) (λ _. value) (λ _. StoresPrivate m digest layout pool place field st me value)
+  may_store st id n pool place field value me lives within exists may s kept homes at bound = (
+    storer s id me kept at place field value pool,
+    keeps,
+    tt,
+    stores s id me kept at place field value lives pool within exists may,
+    record { is = refl },
+  )

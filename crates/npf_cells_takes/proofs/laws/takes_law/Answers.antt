@@ -1,0 +1,16 @@
+use Rattle.npf_cells_takes.proofs.PoolKeepLemmas.{may_sweep, may_claim_node, may_return_node}
+use Rattle.npf_cells_takes.proofs.PrivateKeepLemmas.{may_load_inc, may_store}
+use Rattle.npf_cells_takes.proofs.SlotKeepLemmas.{may_claim_slot}
+use Rattle.npf_cells_takes.proofs.laws.takes_law.Goals as goal
+
+pub returns : goal.returns
+returns g c = record {
+  keeps = λ layout. record {
+    sweeps = may_sweep g.L.Law.meaning g.H.KeyHash.digest layout;
+    claims_node = may_claim_node g.L.Law.meaning g.H.KeyHash.digest layout;
+    returns_node = may_return_node g.L.Law.meaning g.H.KeyHash.digest layout;
+    claims_slot = may_claim_slot g.L.Law.meaning g.H.KeyHash.digest layout;
+    loads_inc = may_load_inc g.L.Law.meaning g.H.KeyHash.digest layout;
+    stores = may_store g.L.Law.meaning g.H.KeyHash.digest layout;
+  };
+}

@@ -1,0 +1,4 @@
+pub mod PoolKinds
+pub mod PrivateKinds
+pub mod SlotKinds
+pub mod TakesLaw

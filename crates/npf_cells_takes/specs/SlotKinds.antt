@@ -1,0 +1,41 @@
+-- What a claim of a slot changes in the pass's own view, and what it tells.
+use Rattle.std.specs.Int.{bit_at}
+use Rattle.std.specs.Prelude.{◌≡◌, ◌≢◌, ℕ, ◌%◌, List, ◌∷◌, Some}
+use Rattle.atomic_table.specs.Table.{Me, Step}
+use Rattle.npf_types.specs.declared.key.Key.{Key}
+use Rattle.npf_core.specs.declared.conn_id.ConnId.{ConnId}
+use Rattle.npf_core.specs.declared.entry.Entry.{Entry}
+use Rattle.npf_core.specs.Meaning.{Meaning}
+use Rattle.npf_connections.specs.Adding.{AddsOwn}
+use Rattle.npf_connections.specs.Entries.{claim_entries}
+use Rattle.npf_connections.specs.Pass.{IsPass}
+use Rattle.npf_cells_words.specs.declared.layout.Layout.{Layout}
+use Rattle.npf_cells_words.specs.declared.layout.Pool.TheVariants.{Slots}
+use Rattle.npf_cells_words.specs.Layout.{place_word}
+use Rattle.npf_cells_rule.specs.declared.view.CellView.{CellView}
+use Rattle.npf_cells_rule.specs.Passes.{cell_pass}
+use Rattle.npf_cells_rule.specs.Stood.{StoodSo}
+use Rattle.npf_cells_rule.specs.Views.{with_pools}
+
+-- the pass after a claim that won: it has seen this history, is building this connection, and still has to store its incarnation
+abbrev pub claiming_slot : {S A R : Type 0} → CellView S A R → ℕ → List (Entry S A R) → ConnId → CellView S A R
+claiming_slot v found history id = record v {
+  seats = record v.seats { history = history };
+  pools = record v.pools { found = found; builds = id ∷ v.pools.builds; unstored = id.slot ∷ v.pools.unstored };
+}
+
+-- the pass claimed the slot for this packet: its claim ends its history, so the connection is the slot's next one, and it is among
+-- those that the pass is building
+pub record HasClaimed {S A R F : Type 0} (m : Meaning S A R) (n slot : ℕ) (old now : Me F (CellView S A R)) : Type 0 where
+  pub id : ConnId
+  pub slot_is : id.slot ≡ slot
+  pub adds : AddsOwn (cell_pass old.0) now.0.seats.history (claim_entries (cell_pass old.0) n (Some id))
+  pub legal : IsPass m (cell_pass now.0)
+  pub is : now ≡ (claiming_slot old.0 now.0.pools.found now.0.seats.history id, old.1)
+
+-- the kind, as what it tells
+pub record ClaimsSlot {S A R F : Type 0} (m : Meaning S A R) (digest : Key → ℕ) (layout : Layout) (n slot : ℕ) (step : Step F) (me : Me F (CellView S A R)) (found : ℕ) (next : Me F (CellView S A R)) : Type 0 where
+  pub finds : next.0.pools.found ≡ found
+  pub stood : StoodSo m digest layout me.0 (place_word layout Slots slot) found
+  pub won : bit_at found (slot % 64) ≡ 0 → HasClaimed m n slot me next
+  pub lost : bit_at found (slot % 64) ≢ 0 → next ≡ with_pools me (record me.0.pools { found = found })

@@ -1,0 +1,4 @@
+pub mod Layout
+pub mod Opening
+pub mod Places
+pub mod WordsLaw

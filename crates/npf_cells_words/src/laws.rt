@@ -1,0 +1,10 @@
+// What holds of the words of every table. The function does nothing: it is a theorem.
+ghost use Rattle.npf_cells_words.specs.declared.layout.Layout.{Layout};
+ghost use Rattle.npf_cells_words.specs.WordsLaw.{FieldsAreApart, PlacesAreApart, LocksAreApart};
+
+/// The words law: two fields have two words, so do two places of the trie, and no lock lies in a place.
+pub fn words_law()
+    ensures fields { (layout : Layout) → FieldsAreApart layout }
+    ensures places { (layout : Layout) → PlacesAreApart layout }
+    ensures locks { (layout : Layout) → LocksAreApart layout }
+{}

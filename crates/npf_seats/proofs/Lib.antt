@@ -1,0 +1,4 @@
+pub mod ListLemmas
+pub mod PrefixLemmas
+pub mod SeatLemmas
+pub mod SumLemmas

@@ -1,0 +1,4 @@
+pub mod Moves
+pub mod Seats
+pub mod SeatsLaw
+pub mod Sums
