@@ -1,9 +1,8 @@
 pub mod AnswerLemmas
-pub mod FindingLemmas
-pub mod HandlingLemmas
+pub mod ConnectionLemmas
+pub mod HandlerLemmas
 pub mod LongerLemmas
-pub mod OpeningLemmas
 pub mod OwnLemmas
-pub mod PlaceLemmas
+pub mod RulesLemmas
 pub mod SightLemmas
 pub mod TellingLemmas

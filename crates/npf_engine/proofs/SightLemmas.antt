@@ -1,13 +1,14 @@
 -- What a pass saw of a work is what it saw of the work's parts.
-use Rattle.std.proofs.Common.{◌≡◌, ◌<◌, ℕ, Bool, List, [], ◌∷◌, ◌++◌, ap, sym, ◌∙◌, subst, append_assoc, append-nil}
+use Rattle.std.proofs.Common.{◌≡◌, ◌<◌, ◌≤◌, ℕ, Bool, List, [], ◌∷◌, ◌++◌, ap, sym, ◌∙◌, subst, arith, append_assoc, append-nil}
 use Rattle.std.proofs.lemmas.List.{append_cancel_left}
 use Rattle.npf_core.specs.declared.conn_id.ConnId.{ConnId}
 use Rattle.npf_core.specs.History.{IsPrefix, by}
-use Rattle.npf_core.proofs.HistoryLemmas.{by-append}
+use Rattle.npf_core.proofs.HistoryLemmas.{by-append, IsPrefix-trans}
 use Rattle.npf_connections.specs.Adding.{Adds}
 use Rattle.npf_connections.specs.Beginning.{IsFullBetween}
 use Rattle.npf_connections.specs.Pass.{Pass}
 use Rattle.npf_connections.specs.Said.{Did, under}
+use Rattle.npf_connections.specs.Stay.{GoesOn}
 use Rattle.npf_connections.proofs.AddLemmas.{adds_more}
 use Rattle.npf_flow.specs.Flows.{flow_law}
 use Rattle.npf_engine.specs.Answer.{Spans}
@@ -15,12 +16,6 @@ use Rattle.npf_engine.specs.Explains.{Sight, WasFull}
 use Rattle.npf_engine.specs.Handles.{sight_of}
 use Rattle.npf_engine_opening.specs.Saying.{FlowSaid}
 use Rattle.npf_engine.specs.Histories.{FlowEntry, History}
-
-nested : (first second third : History) → IsPrefix first second → IsPrefix second third → IsPrefix first third
-nested first second third p q = record {
-  rest = p.rest ++ q.rest;
-  goes_on = q.goes_on ∙ ap (λ h. h ++ q.rest) p.goes_on ∙ append_assoc first p.rest q.rest;
-}
 
 last_none : {E : Type 0} (xs ys : List E) → xs ++ ys ≡ [] → ys ≡ []
 last_none [] ys none = none
@@ -30,9 +25,9 @@ module _ (sight : Sight) where
   -- a sight of a work is one of the work's later part
   pub later_part : (old mid new : Pass FlowEntry) (said : List FlowSaid) → Did old mid said → Spans sight old new → Spans sight mid new
   later_part old mid new said did spans = record {
-    slots = spans.slots ∙ sym did.same.slots;
-    seat = spans.seat ∙ sym did.same.number;
-    begins = nested sight.before old.history mid.history spans.begins (record { rest = did.adds.rest; goes_on = did.adds.goes_on });
+    slots = spans.slots ∙ sym did.later.slots;
+    seat = spans.seat ∙ sym did.later.number;
+    begins = IsPrefix-trans sight.before old.history mid.history spans.begins did.later.begins;
     behind = spans.behind;
     goes_on = spans.goes_on;
     quiet = spans.quiet;
@@ -51,7 +46,7 @@ module _ (sight : Sight) where
       record {
         point = at.point;
         behind = at.goes_on.rest ++ spans.behind;
-        begins = nested sight.before old.history at.point spans.begins at.begins;
+        begins = IsPrefix-trans sight.before old.history at.point spans.begins at.begins;
         goes_on = spans.goes_on ∙ ap (λ h. h ++ spans.behind) at.goes_on.goes_on ∙ append_assoc at.point at.goes_on.rest spans.behind;
         quiet = by-append sight.seat at.goes_on.rest spans.behind
             ∙ (λ i. subst (λ n. by n at.goes_on.rest ≡ []) (sym spans.seat) none i ++ spans.quiet i);
@@ -64,15 +59,19 @@ pub record Turns (old new : Pass FlowEntry) : Type 0 where
   pub number : new.number ≡ old.number
   pub places : new.places ≡ old.places
   pub joined : new.joined ≡ old.joined
+  pub sweeps : new.sweeps ≡ old.sweeps
+  pub epoch : old.epoch ≤ new.epoch
   pub adds : Adds old new.history []
 
-pub turns : (old new : Pass FlowEntry) {history : History} {entered : Bool} {answered : List ConnId} {epoch : ℕ} →
-    new ≡ record old { history = history; entered = entered; answered = answered; epoch = epoch } → Adds old new.history [] → Turns old new
-turns old new is adds = record {
-  slots = ap (λ (p : Pass FlowEntry). p.slots) is;
-  number = ap (λ (p : Pass FlowEntry). p.number) is;
-  places = ap (λ (p : Pass FlowEntry). p.places) is;
-  joined = ap (λ (p : Pass FlowEntry). p.joined) is;
+pub turns : (old new : Pass FlowEntry) {entered : Bool} {answered : List ConnId} →
+    GoesOn (record old { entered = entered; answered = answered }) new → Adds old new.history [] → Turns old new
+turns old new on adds = record {
+  slots = ap (λ (p : Pass FlowEntry). p.slots) on.view;
+  number = ap (λ (p : Pass FlowEntry). p.number) on.view;
+  places = ap (λ (p : Pass FlowEntry). p.places) on.view;
+  joined = ap (λ (p : Pass FlowEntry). p.joined) on.view;
+  sweeps = ap (λ (p : Pass FlowEntry). p.sweeps) on.view;
+  epoch = on.epoch;
   adds = adds;
 }
 
@@ -81,19 +80,25 @@ module _ (first old new last : Pass FlowEntry) (said : List FlowSaid) (begins : 
   pub whole_did : last.entered ≡ first.entered → Did first last said
   whole_did entered =
       let later : Adds old last.history (under old.number said ++ []) =
-      adds_more old new last.history (under old.number said) [] does.same.number does.same.joined does.adds ends.adds in
+      adds_more old new last.history (under old.number said) [] does.later.number does.joined does.adds ends.adds in
       let all : Adds first last.history (under old.number said ++ []) =
       adds_more first old last.history [] (under old.number said ++ []) begins.number begins.joined begins.adds later in
-      let same : under old.number said ++ [] ≡ under first.number said = append-nil (under old.number said) ∙ ap (λ n. under n said) begins.number in
+      let same : under old.number said ++ [] ≡ under first.number said =
+      append-nil (under old.number said) ∙ ap (λ n. under n said) begins.number in
+      let adds : Adds first last.history (under first.number said) =
+      subst (λ (mine : History). Adds first last.history mine) same all in
       record {
-        same = record {
-          slots = ends.slots ∙ does.same.slots ∙ begins.slots;
-          number = ends.number ∙ does.same.number ∙ begins.number;
+        later = record {
+          slots = ends.slots ∙ does.later.slots ∙ begins.slots;
+          number = ends.number ∙ does.later.number ∙ begins.number;
           entered = entered;
-          places = ends.places ∙ does.same.places ∙ begins.places;
-          joined = ends.joined ∙ does.same.joined ∙ begins.joined;
+          places = ends.places ∙ does.later.places ∙ begins.places;
+          begins = record { rest = adds.rest; goes_on = adds.goes_on };
+          sweeps = omega (arith, begins.sweeps, does.later.sweeps, ends.sweeps);
+          epoch = omega (arith, begins.epoch, does.later.epoch, ends.epoch);
         };
-        adds = subst (λ (mine : History). Adds first last.history mine) same all;
+        joined = ends.joined ∙ does.joined ∙ begins.joined;
+        adds = adds;
       }
 
   -- and its sight from before the stay until after it is one of the stay
@@ -104,5 +109,5 @@ module _ (first old new last : Pass FlowEntry) (said : List FlowSaid) (begins : 
     begins = record { rest = begins.adds.rest; goes_on = begins.adds.goes_on };
     behind = ends.adds.rest;
     goes_on = ends.adds.goes_on;
-    quiet = subst (λ n. by n ends.adds.rest ≡ []) (does.same.number ∙ begins.number) ends.adds.own;
+    quiet = subst (λ n. by n ends.adds.rest ≡ []) (does.later.number ∙ begins.number) ends.adds.own;
   }

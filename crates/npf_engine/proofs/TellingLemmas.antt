@@ -25,7 +25,7 @@ use Rattle.npf_engine_opening.specs.Opening.{Builds, OpensConnection, Translates
 use Rattle.npf_engine_opening.specs.Saying.{FlowSaid, abandon_said, hold_said, said_by_hold}
 use Rattle.npf_engine_opening.specs.Starting.{HoldsBackward, StartsConnection}
 use Rattle.npf_engine_opening.specs.Ways.{is_one_of, ways_before}
-use Rattle.npf_engine.specs.Finding.{FindsByKey, FindsEither}
+use Rattle.npf_engine.specs.Connection.{FindsByKey, FindsEither}
 use Rattle.npf_engine.specs.Histories.{FlowAct, History, builds, carries, entries_after, is_one_of_ids, is_unhold, told, with_claimed}
 
 -- what is said from a place on, at which the packet has claimed the one identities, and behind which it has claimed the others
@@ -168,8 +168,8 @@ module _ (attempt : Attempt) (id : ConnId) where
   translates_told (Translates.fixed there back said opened plan starts) = starts_told starts
   translates_told (Translates.drawn addr min max first port draws said opened plan drawn starts) =
       let started = starts_told starts in (told_more (draws_told drawn) started.0, ends_behind draws started.1)
-  translates_told (Translates.no_port addr min max first draws plan drawn) = (told_more (draws_told drawn) (abandon_told (Forward ∷ [])), ends_behind draws (has_kill refl))
-  translates_told (Translates.no_node addr min max first draws plan drawn) = (told_more (draws_told drawn) (abandon_told (Forward ∷ [])), ends_behind draws (has_kill refl))
+  translates_told (Translates.undrawn addr min max first why draws plan drawn) =
+      (told_more (draws_told drawn) (abandon_told (Forward ∷ [])), ends_behind draws (has_kill refl))
 
   builds_told : {said : List FlowSaid} {opened : Opened} → Builds attempt id said opened → TellsOf said × HasEnd id said
   builds_told (Builds.held said opened translates) = let translated = translates_told translates in (built refl among translated.0, has_later translated.1)

@@ -10,20 +10,16 @@ use Rattle.npf_engine_opening.specs.declared.attempt.Opened.{Opened}
 use Rattle.npf_engine.specs.declared.answer.Answer.{Answer}
 use Rattle.npf_engine.specs.declared.answer.Rewriting.{Rewriting}
 use Rattle.npf_engine.specs.declared.crossing.Crossing.{Crossing}
-use Rattle.npf_engine.specs.declared.finding.Met.{Met}
-use Rattle.npf_engine.specs.declared.outcome.DropWhy.{DropWhy}
-use Rattle.npf_engine.specs.declared.outcome.DropWhy.TheVariants as Drops
-use Rattle.npf_engine.specs.declared.outcome.Kept.{Kept}
-use Rattle.npf_engine.specs.declared.outcome.Kept.TheVariants as Keeps
-use Rattle.npf_engine.specs.declared.ruling.Mapping.{Mapping}
-use Rattle.npf_engine.specs.declared.ruling.Ruling.{Ruling}
-use Rattle.npf_engine.specs.declared.trying.Passed.{Passed}
+use Rattle.npf_engine.specs.declared.connection.Met.{Met}
+use Rattle.npf_engine.specs.declared.rules.Mapping.{Mapping}
+use Rattle.npf_engine.specs.declared.rules.Ruling.{Ruling}
+use Rattle.npf_engine.specs.declared.open.Passed.{Passed}
 use Rattle.npf_engine.specs.Arrival.{Arrival, arrival}
 use Rattle.npf_engine.specs.Explains.{Sight, IsSent, IsByConn, IsTried, IsDecided, Explains}
 use Rattle.npf_engine.specs.Handles.{Asks}
 use Rattle.npf_engine_opening.specs.Saying.{FlowSaid}
 use Rattle.npf_engine.specs.Histories.{FlowEntry, History}
-use Rattle.npf_engine.specs.Ruling.{mapping_of, ruling_of}
+use Rattle.npf_engine.specs.Rules.{mapping_of, ruling_of}
 
 -- the packet that crosses
 abbrev pub arrival_of : Crossing → Arrival
@@ -54,13 +50,6 @@ abbrev pub AnswersByConn : Met → Answer → Type 0
 AnswersByConn taken answer =
     (bytes : List ℕ) (facts : Facts) (sent : Option (List ℕ)) → IsSentSo bytes facts answer.rewriting sent →
     IsByConn bytes facts taken answer.outcome sent
-
--- what became of the connection of a packet that isn't dropped for a reason; that no port is left is no such reason
-abbrev pub unkept_by : DropWhy → Kept
-unkept_by Drops.Full = Keeps.Full
-unkept_by Drops.NoNode = Keeps.NoNode
-unkept_by (Drops.Taken holder) = Keeps.Taken holder
-unkept_by Drops.NoPort = Keeps.Nothing
 
 -- the packet was to open a connection, of which this became
 abbrev pub AnswersTried : Passed → Opened → Answer → Sight → Type 0

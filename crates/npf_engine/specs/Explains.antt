@@ -18,27 +18,25 @@ use Rattle.npf_key.specs.Key.{key_of}
 use Rattle.npf_model.specs.Configuration.{Configuration}
 use Rattle.npf_engine_opening.specs.declared.attempt.Opened.{Opened}
 use Rattle.npf_engine_opening.specs.declared.attempt.Opened.TheVariants as Openings
+use Rattle.npf_engine_opening.specs.declared.attempt.Refusal.{Refusal}
+use Rattle.npf_engine_opening.specs.declared.attempt.Refusal.TheVariants as Refusals
 use Rattle.npf_engine_opening.specs.Opening.{OpensConnection}
 use Rattle.npf_packet.specs.declared.decoded.BadPacket.{BadPacket}
 use Rattle.npf_packet.specs.declared.decoded.Decoded.TheVariants as Says
 use Rattle.npf_packet.specs.Decoding.{Decodes}
 use Rattle.npf_rewrite.specs.Sent.{Sent}
 use Rattle.npf_traffic.specs.declared.packet.FragWhy.{FragWhy}
-use Rattle.npf_engine.specs.declared.finding.Met.{Met}
-use Rattle.npf_engine.specs.declared.outcome.DropWhy.{DropWhy}
-use Rattle.npf_engine.specs.declared.outcome.DropWhy.TheVariants as Drops
-use Rattle.npf_engine.specs.declared.outcome.Kept.{Kept}
-use Rattle.npf_engine.specs.declared.outcome.Kept.TheVariants as Keeps
+use Rattle.npf_engine.specs.declared.connection.Met.{Met}
 use Rattle.npf_engine.specs.declared.outcome.Outcome.{Outcome}
-use Rattle.npf_engine.specs.declared.outcome.Outcome.TheVariants.{Skip, Fragment, Malformed, ByConn, ByRule, Dropped}
-use Rattle.npf_engine.specs.declared.ruling.Mapping.{Mapping}
-use Rattle.npf_engine.specs.declared.ruling.Mapping.TheVariants.{Unmapped}
-use Rattle.npf_engine.specs.declared.ruling.Ruling.{Ruling}
+use Rattle.npf_engine.specs.declared.outcome.Outcome.TheVariants.{Skip, Fragment, Malformed, ByConn, ByRule, Unkept, Dropped}
+use Rattle.npf_engine.specs.declared.rules.Mapping.{Mapping}
+use Rattle.npf_engine.specs.declared.rules.Mapping.TheVariants.{Unmapped}
+use Rattle.npf_engine.specs.declared.rules.Ruling.{Ruling}
 use Rattle.npf_engine.specs.Arrival.{Arrival, any_interface, arg_of}
-use Rattle.npf_engine.specs.Finding.{FindsEither, met}
+use Rattle.npf_engine.specs.Connection.{FindsEither, met}
 use Rattle.npf_engine_opening.specs.Saying.{FlowSaid}
 use Rattle.npf_engine.specs.Histories.{History}
-use Rattle.npf_engine.specs.Ruling.{ruling_of, mapping_of, unchanged, static_change, OpensOne, attempt_of}
+use Rattle.npf_engine.specs.Rules.{ruling_of, mapping_of, unchanged, static_change, OpensOne, attempt_of}
 
 -- What a pass saw while a packet was worked on: its table's number of slots, the pass's number, and the history before and after.
 pub record Sight : Type 0 where
@@ -60,28 +58,23 @@ pub record SlotWasClaimed (sight : Sight) (slot : ℕ) : Type 0 where
 abbrev pub WasFull : Sight → Type 0
 WasFull sight = (slot : ℕ) → slot < sight.slots → SlotWasClaimed sight slot
 
--- why a packet has no connection of its own
-pub data IsUnkept (sight : Sight) : Opened → Kept → Type 0 where
-  full : WasFull sight → IsUnkept sight Openings.Full Keeps.Full
-  no_node : IsUnkept sight Openings.NoNode Keeps.NoNode
-  ended : {holder : Found} → IsUnkept sight (Openings.Known holder Steps.NotLive) (Keeps.Taken holder)
-  crossed : {holder : Found} → IsUnkept sight (Openings.Taken holder) (Keeps.Taken holder)
-
--- why a packet that a map was to translate is dropped
-pub data IsDropped (sight : Sight) : Opened → DropWhy → Type 0 where
-  full : WasFull sight → IsDropped sight Openings.Full Drops.Full
-  no_node : IsDropped sight Openings.NoNode Drops.NoNode
-  ended : {holder : Found} → IsDropped sight (Openings.Known holder Steps.NotLive) (Drops.Taken holder)
-  crossed : {holder : Found} → IsDropped sight (Openings.Taken holder) (Drops.Taken holder)
-  no_port : IsDropped sight Openings.NoPort Drops.NoPort
+-- why a packet has no connection of its own: it was refused one for this cause, and the table was full where that is the cause;
+-- or the holder of its key was no more live when it was stepped
+pub data IsRefused (sight : Sight) : Opened → Refusal → Type 0 where
+  refused : {why : Refusal} → (why ≡ Refusals.Full → WasFull sight) → IsRefused sight (Openings.Refused why) why
+  ended : {holder : Found} → IsRefused sight (Openings.Known holder Steps.NotLive) (Refusals.Taken holder)
 
 -- the outcome of a packet that a connection took
 abbrev pub by_conn : Met → Outcome
 by_conn taken = ByConn taken.id taken.reply.opener taken.place taken.reply.pass taken.reply.action.log
 
 -- the outcome of a packet on which a rule decided
-abbrev pub by_ruling : ℕ → Ruling → Kept → Outcome
-by_ruling config ruled kept = ByRule ruled.decision ruled.action.log (Some ruled.place) config kept
+abbrev pub by_ruling : ℕ → Ruling → Option ConnId → Outcome
+by_ruling config ruled opened = ByRule ruled.decision ruled.action.log (Some ruled.place) config opened
+
+-- the outcome of a packet that goes on without the connection that it was to open
+abbrev pub unkept : ℕ → Ruling → Refusal → Outcome
+unkept config ruled why = Unkept ruled.action.log ruled.place config why
 
 module _ (bytes : List ℕ) (facts : Facts) where
   -- it is sent: normalised by the action and then translated by the change
@@ -104,23 +97,23 @@ module _ (bytes : List ℕ) (facts : Facts) where
   -- another's by then, which took it; or it has none, and is sent without translation where no map applies, and is dropped where one does.
   pub data IsTried (sight : Sight) (config : ℕ) (ruled : Ruling) (mapped : Mapping) : Opened → Outcome → Option (List ℕ) → Type 0 where
     opened : {id : ConnId} {there : Change} {sent : Option (List ℕ)} → IsSent ruled.action there sent →
-        IsTried sight config ruled mapped (Openings.Open id there) (by_ruling config ruled (Keeps.Opened id)) sent
+        IsTried sight config ruled mapped (Openings.Open id there) (by_ruling config ruled (Some id)) sent
     known : {holder : Found} {reply : FlowReply} {place : ℕ} {outcome : Outcome} {sent : Option (List ℕ)} →
         IsByConn (met holder reply place) outcome sent →
         IsTried sight config ruled mapped (Openings.Known holder (Steps.Done reply place)) outcome sent
-    unkept : {result : Opened} {kept : Kept} {sent : Option (List ℕ)} → mapped ≡ Unmapped → IsUnkept sight result kept →
-        IsSent ruled.action unchanged sent → IsTried sight config ruled mapped result (by_ruling config ruled kept) sent
-    dropped : {result : Opened} {why : DropWhy} → mapped ≢ Unmapped → IsDropped sight result why →
-        IsTried sight config ruled mapped result (Dropped config ruled.place why) None
+    alone : {result : Opened} {why : Refusal} {sent : Option (List ℕ)} → mapped ≡ Unmapped → IsRefused sight result why →
+        IsSent ruled.action unchanged sent → IsTried sight config ruled mapped result (unkept config ruled why) sent
+    dropped : {result : Opened} {why : Refusal} → mapped ≢ Unmapped → IsRefused sight result why →
+        IsTried sight config ruled mapped result (Dropped ruled.place config why) None
 
   -- What the configuration of this number made of a packet that no connection took, by what it then asked. No rule decides, and it is
   -- blocked; a rule blocks it; a rule passes it and it opens no connection; or it was to open one.
   pub data IsDecided (sight : Sight) (arrival : Arrival) (config : ℕ) (mapped : Mapping) : Option Ruling → List FlowSaid → Outcome → Option (List ℕ) → Type 0 where
-    unruled : IsDecided sight arrival config mapped None [] (ByRule (Block Nothing) None None config Keeps.Nothing) None
+    unruled : IsDecided sight arrival config mapped None [] (ByRule (Block Nothing) None None config None) None
     blocked : {ruled : Ruling} {answer : Return} → ruled.decision ≡ Block answer →
-        IsDecided sight arrival config mapped (Some ruled) [] (by_ruling config ruled Keeps.Nothing) None
+        IsDecided sight arrival config mapped (Some ruled) [] (by_ruling config ruled None) None
     passed : {ruled : Ruling} {sent : Option (List ℕ)} → ruled.decision ≡ Pass → ¬ OpensOne ruled mapped →
-        IsSent ruled.action (static_change mapped) sent → IsDecided sight arrival config mapped (Some ruled) [] (by_ruling config ruled Keeps.Nothing) sent
+        IsSent ruled.action (static_change mapped) sent → IsDecided sight arrival config mapped (Some ruled) [] (by_ruling config ruled None) sent
     tried : {ruled : Ruling} {said : List FlowSaid} {result : Opened} {outcome : Outcome} {sent : Option (List ℕ)} →
         ruled.decision ≡ Pass → OpensOne ruled mapped → OpensConnection (attempt_of arrival facts ruled mapped) said result →
         IsTried sight config ruled mapped result outcome sent → IsDecided sight arrival config mapped (Some ruled) said outcome sent

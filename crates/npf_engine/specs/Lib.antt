@@ -1,8 +1,8 @@
 pub mod Answer
 pub mod Arrival
+pub mod Connection
 pub mod Explains
-pub mod Finding
 pub mod Handles
 pub mod Histories
 pub mod Outcome
-pub mod Ruling
+pub mod Rules

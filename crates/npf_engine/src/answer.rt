@@ -3,12 +3,15 @@ ghost use Rattle.std.specs.Prelude.{◌≡◌, None, Some, false, is_some};
 ghost use Rattle.npf_types.specs.declared.decision.Decision.TheVariants.{Block};
 ghost use Rattle.npf_types.specs.declared.decision.Return.TheVariants.{Nothing};
 ghost use Rattle.npf_engine.specs.Answer.{AnswersByConn};
-ghost use Rattle.npf_engine.specs.Explains.{by_ruling};
+ghost use Rattle.npf_engine.specs.Explains.{by_ruling, unkept};
 ghost use Rattle.npf_engine.specs.Outcome.{passes, lacks_node};
+ghost use Rattle.npf_engine.specs.Rules.{unchanged};
 
-use crate::finding::Met;
-use crate::outcome::{DropWhy, Kept, Outcome};
-use crate::ruling::Ruling;
+use crate::connection::Met;
+use crate::outcome::Outcome;
+use crate::rules::{Ruling, UNCHANGED};
+use npf_core::ConnId;
+use npf_engine_opening::Refusal;
 use npf_flow::FlowReply;
 use npf_types::{Action, Change, Decision, Return};
 
@@ -56,7 +59,7 @@ impl Answer {
 
     /// No rule decides, and the packet is blocked.
     pub(crate) fn unruled(config: u64) -> Answer
-        ensures outcome { result.outcome ≡ Outcome.ByRule (Block Nothing) None None config Kept.Nothing }
+        ensures outcome { result.outcome ≡ Outcome.ByRule (Block Nothing) None None config None }
         ensures rewriting { result.rewriting ≡ None }
     {
         Answer {
@@ -64,7 +67,7 @@ impl Answer {
                 config,
                 rule: None,
                 decision: Decision::Block(Return::Nothing),
-                kept: Kept::Nothing,
+                opened: None,
                 log: None,
             },
             rewriting: None,
@@ -73,22 +76,27 @@ impl Answer {
 
     /// A rule blocks the packet.
     pub(crate) fn blocked(config: u64, ruling: &Ruling) -> Answer
-        ensures outcome { result.outcome ≡ by_ruling config ruling.now Kept.Nothing }
+        ensures outcome { result.outcome ≡ by_ruling config ruling.now None }
         ensures rewriting { result.rewriting ≡ None }
     {
         Answer {
-            outcome: by_ruling(config, ruling, Kept::Nothing),
+            outcome: by_ruling(config, ruling, None),
             rewriting: None,
         }
     }
 
-    /// A rule passes the packet, and this became of its connection.
-    pub(crate) fn passed(config: u64, ruling: &Ruling, kept: Kept, change: Change) -> Answer
-        ensures outcome { result.outcome ≡ by_ruling config ruling.now kept }
+    /// A rule passes the packet, which opened this connection or was to open none.
+    pub(crate) fn passed(
+        config: u64,
+        ruling: &Ruling,
+        opened: Option<ConnId>,
+        change: Change,
+    ) -> Answer
+        ensures outcome { result.outcome ≡ by_ruling config ruling.now opened }
         ensures rewriting { result.rewriting ≡ Some (record { action = ruling.now.action; change = change }) }
     {
         Answer {
-            outcome: by_ruling(config, ruling, kept),
+            outcome: by_ruling(config, ruling, opened),
             rewriting: Some(Rewriting {
                 action: ruling.action,
                 change,
@@ -96,27 +104,46 @@ impl Answer {
         }
     }
 
+    /// A rule passes the packet, which goes on without the connection that it was to open.
+    pub(crate) fn unkept(config: u64, ruling: &Ruling, why: Refusal) -> Answer
+        ensures outcome { result.outcome ≡ unkept config ruling.now why }
+        ensures rewriting { result.rewriting ≡ Some (record { action = ruling.now.action; change = unchanged }) }
+    {
+        Answer {
+            outcome: Outcome::Unkept {
+                log: ruling.action.log,
+                rule: ruling.place,
+                config,
+                why,
+            },
+            rewriting: Some(Rewriting {
+                action: ruling.action,
+                change: UNCHANGED,
+            }),
+        }
+    }
+
     /// The packet can't be translated.
-    pub(crate) fn dropped(config: u64, rule: u32, why: DropWhy) -> Answer
-        ensures outcome { result.outcome ≡ Outcome.Dropped config rule why }
+    pub(crate) fn dropped(config: u64, rule: u32, why: Refusal) -> Answer
+        ensures outcome { result.outcome ≡ Outcome.Dropped rule config why }
         ensures rewriting { result.rewriting ≡ None }
     {
         Answer {
-            outcome: Outcome::Dropped { config, rule, why },
+            outcome: Outcome::Dropped { rule, config, why },
             rewriting: None,
         }
     }
 }
 
 /// The outcome of a packet on which a rule decided.
-fn by_ruling(config: u64, ruling: &Ruling, kept: Kept) -> Outcome
-    ensures { result ≡ by_ruling config ruling.now kept }
+fn by_ruling(config: u64, ruling: &Ruling, opened: Option<ConnId>) -> Outcome
+    ensures { result ≡ by_ruling config ruling.now opened }
 {
     Outcome::ByRule {
         config,
         rule: Some(ruling.place),
         decision: ruling.decision,
-        kept,
+        opened,
         log: ruling.action.log,
     }
 }

@@ -11,15 +11,15 @@
 #![tactic(auto)]
 
 mod answer;
-mod asking;
+mod connection;
 mod crossing;
-mod finding;
-mod handling;
+mod handler;
 pub mod laws;
+mod open;
 mod outcome;
-mod ruling;
-mod sending;
-mod trying;
+mod rules;
+mod send;
 
-pub use handling::packet;
-pub use outcome::{DropWhy, Kept, Outcome};
+pub use handler::packet;
+pub use npf_engine_opening::Refusal;
+pub use outcome::Outcome;

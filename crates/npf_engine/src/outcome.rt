@@ -1,40 +1,13 @@
 ghost use Rattle.std.specs.Prelude.{◌≡◌};
 ghost use Rattle.npf_engine.specs.Outcome.{passes};
 
-use npf_core::{ConnId, Found};
+use npf_core::ConnId;
+use npf_engine_opening::Refusal;
 use npf_packet::BadPacket;
 use npf_traffic::FragWhy;
 use npf_types::{Decision, Name};
 
-/// What became of the connection that a passed packet was to open.
-#[derive(Clone, Copy, Debug, PartialEq, Eq)]
-pub enum Kept {
-    /// None was to be opened.
-    Nothing,
-    /// The packet opened this one.
-    Opened(ConnId),
-    /// Each slot of the table of connections was claimed.
-    Full,
-    /// The table had no node left to keep a key in.
-    NoNode,
-    /// A key of the packet had this holder.
-    Taken(Found),
-}
-
-/// Why a packet that a map was to translate is dropped.
-#[derive(Clone, Copy, Debug, PartialEq, Eq)]
-pub enum DropWhy {
-    /// Each slot of the table of connections was claimed.
-    Full,
-    /// The table had no node left to keep a key in.
-    NoNode,
-    /// A key of the packet had this holder.
-    Taken(Found),
-    /// Each port that might be drawn had a holder.
-    NoPort,
-}
-
-/// What happened to a packet.
+/// What happened to a packet. The small fields of a variant stand first: so an outcome takes 64 bytes.
 #[derive(Clone, Copy, Debug, PartialEq, Eq)]
 pub enum Outcome {
     /// It isn't looked into, and doesn't pass.
@@ -57,20 +30,27 @@ pub enum Outcome {
         pass: bool,
         log: Option<Name>,
     },
-    /// The configuration of this number, from 0, was asked, and the rule at this place, from 0, decided, None where none did. The small
-    /// fields stand first: so an outcome takes 72 bytes.
+    /// The configuration of this number, from 0, was asked, and the rule at this place, from 0, decided, None where none did. The
+    /// packet opened this connection, or none was to be opened.
     ByRule {
         decision: Decision,
         log: Option<Name>,
         rule: Option<u32>,
         config: u64,
-        kept: Kept,
+        opened: Option<ConnId>,
+    },
+    /// The rule at this place of that configuration passed it, and it goes on without the connection that it was to open.
+    Unkept {
+        log: Option<Name>,
+        rule: u32,
+        config: u64,
+        why: Refusal,
     },
     /// The rule at this place of that configuration passed it, and it couldn't be translated.
     Dropped {
-        config: u64,
         rule: u32,
-        why: DropWhy,
+        config: u64,
+        why: Refusal,
     },
 }
 
@@ -82,6 +62,7 @@ impl Outcome {
         match *self {
             Outcome::ByConn { pass, .. } => pass,
             Outcome::ByRule { decision, .. } => decision == Decision::Pass,
+            Outcome::Unkept { .. } => true,
             Outcome::Skip
             | Outcome::Fragment { .. }
             | Outcome::Malformed { .. }

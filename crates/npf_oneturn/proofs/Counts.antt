@@ -1,11 +1,11 @@
 -- How many passes are entered, which reader places they own, and who owns a number.
-use Rattle.std.proofs.Common.{◌≡◌, ◌≢◌, ⊎_elim, ℕ, zero, suc, ◌+◌, ◌≤◌, Bool, true, false, List, [], ◌∷◌, ◌++◌, set, refl, sym, ap, ◌∙◌, arith}
+use Rattle.std.proofs.Common.{◌≡◌, ◌≢◌, ⊎_elim, ℕ, zero, suc, ◌+◌, ◌≤◌, Bool, true, false, true≢false, List, [], ◌∷◌, ◌++◌, set, refl, sym, ap, ◌∙◌, arith}
 use Rattle.std.proofs.lemmas.Bool.{cases_eq}
 use Rattle.atomic_table.proofs.Lists.{set_else, at_longer}
 use mathlib.Core.Option.{some, some-injective, some-ne-none}
 use lib.ListN.{get_elem?}
 use Rattle.npf_oneturn.specs.declared.view.View.{View}
-use Rattle.npf_oneturn.specs.Views.{one_if, crowd_of, places_of, IsTidy, IsSpent, HasOwner, Owns}
+use Rattle.npf_oneturn.specs.Views.{one_if, crowd_of, places_of, IsTidy, IsSpent, HasHolder, HasOwner, Owns}
 
 module _ {S A R : Type 0} where
   pub crowd-set : (vs : List (View S A R)) (j : ℕ) (v w : View S A R) → get_elem? vs j ≡ some v → crowd_of (set vs j w) + one_if v.entered ≡ crowd_of vs + one_if w.entered
@@ -147,3 +147,21 @@ module _ {S A R : Type 0} where
     place = owner.place;
     owns = owner.owns;
   }
+
+  -- the holder of the turn keeps it, whatever becomes of a pass without it
+  pub holder-set : (vs : List (View S A R)) (j : ℕ) (v w : View S A R) → get_elem? vs j ≡ some v → v.turn ≡ false →
+      HasHolder vs → HasHolder (set vs j w)
+  holder-set vs j v w e turn h = record {
+    seat = h.seat;
+    view = h.view;
+    there = set_else vs j h.seat w apart ∙ h.there;
+    turn = h.turn;
+  }
+    where
+      apart : h.seat ≢ j
+      apart same =
+          let is : h.view ≡ v = one_view vs j h.seat v h.view e h.there same in
+          true≢false (sym h.turn ∙ (ap (λ (u : View S A R). u.turn) is ∙ turn))
+
+  pub holder-append : (vs : List (View S A R)) (w : View S A R) → HasHolder vs → HasHolder (vs ++ w ∷ [])
+  holder-append vs w h = record { seat = h.seat; view = h.view; there = at_longer vs (w ∷ []) h.seat h.view h.there; turn = h.turn }

@@ -1,5 +1,6 @@
 -- The end of a turn keeps the rule.
 use Rattle.std.proofs.Common.{◌≡◌, ◌≢◌, ℕ, Bool, true, false, true≢false, ◌==◌, List, [], ◌∷◌, ◌++◌, length, set, refl, sym, ap, ◌∙◌, subst, ⊎_elim, inl, inr, arith, append-nil, length-set}
+use Rattle.std.proofs.lemmas.List.{get_or-set_same}
 use Rattle.std.specs.List.{Contains}
 use Rattle.std.proofs.lemmas.Bool.{cases_eq}
 use Rattle.std.proofs.lemmas.Bool.Decides.{Decides-eqb}
@@ -155,6 +156,7 @@ module _ {S A R : Type 0} (m : Meaning S A R) (slots : ℕ) (s : State (Contents
       represents = rw (← sized) may.represents;
       counted = now_crowd;
     };
+    held = λ taken. absurd (taken (get_or-set_same s.words 0 0 0 (omega (arith, kept.words))));
     turns = λ j u e t. ⊎_elim
         (λ (x : (j ≡ id) × (after ≡ u)). absurd (true≢false (sym t ∙ ap (λ (y : View S A R). y.turn) (sym x.1))))
         (λ (x : (j ≢ id) × (get_elem? s.views j ≡ some u)). absurd (x.0 ((kept.turns j u x.1 t).alone ∙ sym had.alone)))

@@ -21,7 +21,7 @@ use Rattle.npf_oneturn.specs.Passing.{taker_in, spent_view, Learns}
 use Rattle.npf_oneturn.specs.Rule.{IsListed, FitsRule, HasTurn, IsRuled}
 use Rattle.npf_oneturn.specs.Views.{one_if, crowd_of, IsSpent, HasOwner, Owns, show}
 use Rattle.npf_oneturn.proofs.CallLemmas.{seen_by}
-use Rattle.npf_oneturn.proofs.Counts.{crowd-set, places-set, one_of, two_of, one_view, set_at, spent-set, unspent, owner-set}
+use Rattle.npf_oneturn.proofs.Counts.{crowd-set, places-set, one_of, two_of, one_view, set_at, spent-set, unspent, holder-set, owner-set}
 use Rattle.npf_oneturn.proofs.StayLemmas.{nothing_in, cons_cases}
 use Rattle.npf_oneturn.proofs.SplitLemmas.{by_prefix}
 use Rattle.npf_oneturn.proofs.TakeLemmas.{fits-views}
@@ -154,6 +154,7 @@ module _ {S A R : Type 0} (m : Meaning S A R) (slots : ℕ) (s : State (Contents
     bare = kept.bare;
     words = kept.words;
     home = λ e. let home = kept.home e in record { contents = home.contents; there = home.there; represents = home.represents; counted = home.counted ∙ sym same_crowd };
+    held = λ taken. holder-set first other w gone still_there w-turn (holder-set s.views id v both at turn (kept.held taken));
     turns = cases (λ j u. u.turn ≡ true → HasTurn (record { words = s.words; homes = s.homes; views = after }) kept.log kept.holder j u)
         (λ t. absurd (true≢false (sym t ∙ turn))) (λ t. absurd (true≢false (sym t)))
         (λ j u ne no e t. let had = kept.turns j u e t in
@@ -278,6 +279,7 @@ module _ {S A R : Type 0} (m : Meaning S A R) (slots : ℕ) (s : State (Contents
         bare = kept.bare;
         words = kept.words;
         home = λ e. let home = kept.home e in record { contents = home.contents; there = home.there; represents = home.represents; counted = home.counted ∙ sym crowd_still };
+        held = λ taken. holder-set s.views id v learned at turn (kept.held taken);
         turns = λ j u e t. ⊎_elim
             (λ (x : (j ≡ id) × (learned ≡ u)). absurd (true≢false (sym t ∙ (ap (λ (y : View S A R). y.turn) (sym x.1) ∙ turn))))
             (λ (x : (j ≢ id) × (get_elem? s.views j ≡ some u)). let had = kept.turns j u x.1 t in

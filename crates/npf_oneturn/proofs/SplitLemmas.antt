@@ -23,7 +23,7 @@ use Rattle.npf_oneturn.specs.declared.view.View.{View}
 use Rattle.npf_oneturn.specs.Passing.{giver, newcomer, GetsNumber}
 use Rattle.npf_oneturn.specs.Rule.{FitsRule, HasTurn, IsRuled, first_view}
 use Rattle.npf_oneturn.specs.Views.{crowd_of, IsSpent, HasOwner, show}
-use Rattle.npf_oneturn.proofs.Counts.{crowd-set, crowd-append, places-set, places-append, spent-set, spent-append, owner-set, owner-append}
+use Rattle.npf_oneturn.proofs.Counts.{crowd-set, crowd-append, places-set, places-append, spent-set, spent-append, holder-set, holder-append, owner-set, owner-append}
 use Rattle.npf_oneturn.proofs.StayLemmas.{nothing_in, cons_cases}
 use Rattle.npf_oneturn.proofs.TakeLemmas.{fits-views}
 
@@ -61,6 +61,7 @@ module _ {S A R : Type 0} (m : Meaning S A R) (slots : ℕ) where
     bare = λ id dead. absurd (let none = sym (opening_stage {S = S} id) ∙ dead in cc);
     words = refl;
     home = λ _. record { contents = contents; there = refl; represents = represents; counted = nobody };
+    held = λ taken. absurd (taken refl);
     turns = turns;
     seats = seats;
     total = refl;
@@ -170,6 +171,7 @@ module _ {S A R : Type 0} (m : Meaning S A R) (slots : ℕ) (s : State (Contents
     bare = kept.bare;
     words = kept.words;
     home = λ e. let home = kept.home e in record { contents = home.contents; there = home.there; represents = home.represents; counted = home.counted ∙ sym same_crowd };
+    held = λ taken. holder-append first right (holder-set s.views id v left at turn (kept.held taken));
     turns = λ j u e t. ⊎_elim
         (λ (there : get_elem? first j ≡ some u). ⊎_elim
         (λ (x : (j ≡ id) × (left ≡ u)). absurd (true≢false (sym t ∙ (ap (λ (y : View S A R). y.turn) (sym x.1) ∙ turn))))
@@ -253,6 +255,7 @@ module _ {S A R : Type 0} (m : Meaning S A R) (slots : ℕ) (s : State (Contents
         bare = kept.bare;
         words = kept.words;
         home = λ e. let home = kept.home e in record { contents = home.contents; there = home.there; represents = home.represents; counted = home.counted ∙ sym crowd_too };
+        held = λ taken. holder-set s.views id v born at turn (kept.held taken);
         turns = λ j u e t. ⊎_elim
             (λ (x : (j ≡ id) × (born ≡ u)). absurd (true≢false (sym t ∙ (ap (λ (y : View S A R). y.turn) (sym x.1) ∙ turn))))
             (λ (x : (j ≢ id) × (get_elem? s.views j ≡ some u)). let had = kept.turns j u x.1 t in

@@ -18,7 +18,7 @@ use Rattle.npf_oneturn.specs.declared.view.View.{View}
 use Rattle.npf_oneturn.specs.Rule.{FitsRule, IsHome, HasTurn, IsRuled}
 use Rattle.npf_oneturn.specs.Taking.{Taken, TakesOrNot, IsResting}
 use Rattle.npf_oneturn.specs.Views.{crowd_of, IsTidy, HasOwner, IsSpent, Owns, show}
-use Rattle.npf_oneturn.proofs.Counts.{crowd-set, places-set, crowd-few, crowd-apart, crowd-there, one_of, two_of, one_view, spent-set, unspent, owner-set}
+use Rattle.npf_oneturn.proofs.Counts.{crowd-set, places-set, crowd-few, crowd-apart, crowd-there, one_of, two_of, one_view, set_at, spent-set, unspent, owner-set}
 
 module _ {S A R : Type 0} (m : Meaning S A R) (slots : ℕ) where
   -- a pass fits among other views where what is spent stays so
@@ -87,6 +87,7 @@ module _ {S A R : Type 0} (m : Meaning S A R) (slots : ℕ) where
       bare = kept.bare;
       words = length-set s.words 0 1 ∙ kept.words;
       home = λ e. absurd (let no : 1 ≡ 0 = sym one ∙ e in omega (arith, no));
+      held = λ _. record { seat = id; view = taker; there = set_at s.views id v taker at; turn = refl };
       turns = λ j u e t. ⊎_elim
           (λ (x : (j ≡ id) × (taker ≡ u)). subst (λ (y : ℕ × View S A R). HasTurn (stepped s 0 1 id c taker (takes 0 contents)) kept.log id y.0 y.1) (λ i. (sym x.0 i, x.1 i))
           (record { taken = one; alone = refl; lives = lives; place = place; newest = refl; crowd = sym same_crowd }))

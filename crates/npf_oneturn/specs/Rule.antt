@@ -14,7 +14,7 @@ use Rattle.npf_connections.specs.Pass.{all_places}
 use Rattle.npf_oneturn_store.specs.Represents.{Represents}
 use Rattle.npf_oneturn.specs.declared.contents.Contents.{Contents}
 use Rattle.npf_oneturn.specs.declared.view.View.{View}
-use Rattle.npf_oneturn.specs.Views.{crowd_of, places_of, IsSpent, HasOwner, Stays, IsTidy}
+use Rattle.npf_oneturn.specs.Views.{crowd_of, places_of, IsSpent, HasHolder, HasOwner, Stays, IsTidy}
 
 -- the entries of a number are all seen, and its seat is spent
 pub record IsListed {S A R : Type 0} (views : List (View S A R)) (log seen : List (Entry S A R)) (n : ℕ) : Type 0 where
@@ -59,8 +59,8 @@ pub record HasTurn {S A R : Type 0} (s : State (Contents S) (View S A R)) (log :
   pub newest : v.history ≡ log
   pub crowd : v.crowd ≡ crowd_of s.views
 
--- the rule: there is a legal history; where the turn is free its state lies in the slot, and one pass at most has the turn; each
--- pass fits; they own all reader places; and each number with entries has an owner
+-- the rule: there is a legal history; where the turn is free its state lies in the slot, and where it isn't a pass has it; one pass
+-- at most has the turn; each pass fits; they own all reader places; and each number with entries has an owner
 pub record IsRuled {S A R : Type 0} (m : Meaning S A R) (slots : ℕ) (s : State (Contents S) (View S A R)) : Type 0 where
   pub log : List (Entry S A R)
   pub holder : ℕ
@@ -68,6 +68,7 @@ pub record IsRuled {S A R : Type 0} (m : Meaning S A R) (slots : ℕ) (s : State
   pub bare : DeadHoldNone (state_of m log)
   pub words : length s.words ≡ 1
   pub home : slice_index s.words 0 ≡ 0 → IsHome m slots s log
+  pub held : slice_index s.words 0 ≢ 0 → HasHolder s.views
   pub turns : (j : ℕ) (v : View S A R) → get_elem? s.views j ≡ some v → v.turn ≡ true → HasTurn s log holder j v
   pub seats : (j : ℕ) (v : View S A R) → get_elem? s.views j ≡ some v → FitsRule m slots s.views log j v
   pub total : places_of s.views ≡ all_places

@@ -41,6 +41,13 @@ pub record HasOwner {S A R : Type 0} (views : List (View S A R)) (n : ℕ) : Typ
   pub place : 1 ≤ view.places
   pub owns : Owns seat view n
 
+-- a pass has the turn
+pub record HasHolder {S A R : Type 0} (views : List (View S A R)) : Type 0 where
+  pub seat : ℕ
+  pub view : View S A R
+  pub there : get_elem? views seat ≡ some view
+  pub turn : view.turn ≡ true
+
 -- what a pass was answered in its stay is claimed in this state, and what it builds is Building under its number
 pub record Stays {S A R : Type 0} (k : Machine S) (v : View S A R) : Type 0 where
   pub claimed : (id : ConnId) → Contains v.answered id → IsClaimed (stage_of k id)

@@ -11,12 +11,11 @@ use Rattle.npf_packet.specs.declared.decoded.BadPacket.{BadPacket}
 use Rattle.npf_packet.specs.declared.decoded.BadPacket.TheVariants.{Cut, Bad}
 use Rattle.npf_traffic.specs.declared.packet.FragWhy.{FragWhy}
 use Rattle.npf_traffic.specs.declared.packet.FragWhy.TheVariants as Frags
-use Rattle.npf_engine.specs.declared.outcome.DropWhy.{DropWhy}
-use Rattle.npf_engine.specs.declared.outcome.DropWhy.TheVariants as Drops
-use Rattle.npf_engine.specs.declared.outcome.Kept.{Kept}
-use Rattle.npf_engine.specs.declared.outcome.Kept.TheVariants as Keeps
+use Rattle.npf_core.specs.declared.conn_id.ConnId.{ConnId}
+use Rattle.npf_engine_opening.specs.declared.attempt.Refusal.{Refusal}
+use Rattle.npf_engine_opening.specs.declared.attempt.Refusal.TheVariants as Refusals
 use Rattle.npf_engine.specs.declared.outcome.Outcome.{Outcome}
-use Rattle.npf_engine.specs.declared.outcome.Outcome.TheVariants.{Skip, Fragment, Malformed, ByConn, ByRule, Dropped}
+use Rattle.npf_engine.specs.declared.outcome.Outcome.TheVariants.{Skip, Fragment, Malformed, ByConn, ByRule, Unkept, Dropped}
 
 -- two numbers, each behind its text
 abbrev pub two_numbers : List ℕ → ℕ → List ℕ → ℕ → List ℕ
@@ -48,28 +47,31 @@ return_text Returns.Any = codes " return"
 return_text Returns.Rst = codes " return-rst"
 return_text Returns.Icmp = codes " return-icmp"
 
--- the packet opened a connection, or isn't kept
-abbrev pub kept_text : Kept → List ℕ
-kept_text Keeps.Nothing = []
-kept_text (Keeps.Opened id) = codes " new"
-kept_text Keeps.Full = codes " unkept full"
-kept_text Keeps.NoNode = codes " unkept nonode"
-kept_text (Keeps.Taken holder) = codes " unkept taken"
+-- whether the packet opened a connection
+abbrev pub opened_text : Option ConnId → List ℕ
+opened_text None = []
+opened_text (Some id) = codes " new"
 
 -- what the configuration of this number decided by the rule at a place, or by none; rules are numbered from 1
-abbrev pub verdict_text : ℕ → Option ℕ → Decision → Kept → List ℕ
-verdict_text config (Some place) Pass kept = two_numbers (codes "pass config ") config (codes " rule ") (place + 1) ++ kept_text kept
-verdict_text config (Some place) (Block answer) kept = two_numbers (codes "block config ") config (codes " rule ") (place + 1) ++ return_text answer
-verdict_text config None decision kept = codes "block config " ++ (decimal config ++ codes " none")
+abbrev pub verdict_text : ℕ → Option ℕ → Decision → Option ConnId → List ℕ
+verdict_text config (Some place) Pass opened = two_numbers (codes "pass config ") config (codes " rule ") (place + 1) ++ opened_text opened
+verdict_text config (Some place) (Block answer) opened = two_numbers (codes "block config ") config (codes " rule ") (place + 1) ++ return_text answer
+verdict_text config None decision opened = codes "block config " ++ (decimal config ++ codes " none")
 
-abbrev pub drop_text : DropWhy → List ℕ
-drop_text Drops.Full = codes " full"
-drop_text Drops.NoNode = codes " nonode"
-drop_text (Drops.Taken holder) = codes " taken"
-drop_text Drops.NoPort = codes " noport"
+-- why a packet has no connection
+abbrev pub refusal_text : Refusal → List ℕ
+refusal_text Refusals.Full = codes " full"
+refusal_text Refusals.NoNode = codes " nonode"
+refusal_text (Refusals.Taken holder) = codes " taken"
+refusal_text Refusals.NoPort = codes " noport"
 
-abbrev pub dropped_text : ℕ → ℕ → DropWhy → List ℕ
-dropped_text config place why = two_numbers (codes "drop config ") config (codes " rule ") (place + 1) ++ drop_text why
+-- a packet that passes without the connection that it was to open
+unfoldable pub unkept_text : ℕ → ℕ → Refusal → List ℕ
+unkept_text config place why =
+    two_numbers (codes "pass config ") config (codes " rule ") (place + 1) ++ (codes " unkept" ++ refusal_text why)
+
+abbrev pub dropped_text : ℕ → ℕ → Refusal → List ℕ
+dropped_text config place why = two_numbers (codes "drop config ") config (codes " rule ") (place + 1) ++ refusal_text why
 
 -- what follows the direction in a packet's line
 abbrev pub outcome_text : Outcome → List ℕ
@@ -77,5 +79,6 @@ outcome_text Skip = codes "skip"
 outcome_text (Fragment why) = fragment_text why
 outcome_text (Malformed why at) = malformed_text why at
 outcome_text (ByConn id opener place pass log) = conn_text opener place pass log
-outcome_text (ByRule decision log rule config kept) = verdict_text config rule decision kept ++ log_text log
-outcome_text (Dropped config rule why) = dropped_text config rule why
+outcome_text (ByRule decision log rule config opened) = verdict_text config rule decision opened ++ log_text log
+outcome_text (Unkept log rule config why) = unkept_text config rule why ++ log_text log
+outcome_text (Dropped rule config why) = dropped_text config rule why

@@ -1,9 +1,10 @@
 // What a line says of a packet's outcome, by the rows of the table.
 ghost use Rattle.std.specs.Prelude.{◌≡◌, ◌+◌, ◌++◌, OnOk};
-ghost use Rattle.npf_report.specs.OutcomeText.{outcome_text, fragment_text, malformed_text, conn_text, verdict_text, dropped_text, drop_text, kept_text, return_text, log_text};
+ghost use Rattle.npf_report.specs.OutcomeText.{outcome_text, fragment_text, malformed_text, conn_text, verdict_text, unkept_text, dropped_text, refusal_text, opened_text, return_text, log_text};
 
 use crate::writing::{write_counted, write_text, write_two};
-use npf_engine::{DropWhy, Kept, Outcome};
+use npf_core::ConnId;
+use npf_engine::{Outcome, Refusal};
 use npf_packet::BadPacket;
 use npf_traffic::FragWhy;
 use npf_types::{Decision, Name, NoMemory, Return};
@@ -26,10 +27,19 @@ pub(crate) fn write_outcome(into: &mut Vec<u8>, outcome: &Outcome) -> Result<(),
             config,
             rule,
             decision,
-            kept,
+            opened,
             log,
         } => {
-            write_verdict(into, config, rule, decision, kept)?;
+            write_verdict(into, config, rule, decision, opened)?;
+            write_log(into, log)
+        }
+        Outcome::Unkept {
+            config,
+            rule,
+            why,
+            log,
+        } => {
+            write_unkept(into, config, rule, why)?;
             write_log(into, log)
         }
         Outcome::Dropped { config, rule, why } => write_dropped(into, config, rule, why),
@@ -78,9 +88,9 @@ fn write_verdict(
     config: u64,
     rule: Option<u32>,
     decision: Decision,
-    kept: Kept,
+    opened: Option<ConnId>,
 ) -> Result<(), NoMemory>
-    ensures { OnOk result (into.new.items ≡ into.old.items ++ verdict_text config rule decision kept) }
+    ensures { OnOk result (into.new.items ≡ into.old.items ++ verdict_text config rule decision opened) }
 {
     let Some(place) = rule else {
         write_counted(into, "block config ", config)?;
@@ -89,7 +99,7 @@ fn write_verdict(
     match decision {
         Decision::Pass => {
             write_two(into, "pass config ", config, " rule ", rule_number(place))?;
-            write_text(into, kept_text(kept))?;
+            write_text(into, opened_text(opened))?;
             Ok(())
         }
         Decision::Block(answer) => {
@@ -107,16 +117,13 @@ fn rule_number(place: u32) -> u64
     u64::from(place) + 1
 }
 
-/// The packet opened a connection, or isn't kept.
-fn kept_text(kept: Kept) -> &'static str
-    ensures { result.now ≡ kept_text kept }
+/// Whether the packet opened a connection.
+fn opened_text(opened: Option<ConnId>) -> &'static str
+    ensures { result.now ≡ opened_text opened }
 {
-    match kept {
-        Kept::Nothing => "",
-        Kept::Opened(_) => " new",
-        Kept::Full => " unkept full",
-        Kept::NoNode => " unkept nonode",
-        Kept::Taken(_) => " unkept taken",
+    match opened {
+        None => "",
+        Some(_) => " new",
     }
 }
 
@@ -131,22 +138,33 @@ fn return_text(answer: Return) -> &'static str
     }
 }
 
-fn write_dropped(into: &mut Vec<u8>, config: u64, rule: u32, why: DropWhy) -> Result<(), NoMemory>
-    ensures { OnOk result (into.new.items ≡ into.old.items ++ dropped_text config rule why) }
+/// A packet that passes without the connection that it was to open, without the log.
+fn write_unkept(into: &mut Vec<u8>, config: u64, rule: u32, why: Refusal) -> Result<(), NoMemory>
+    ensures { OnOk result (into.new.items ≡ into.old.items ++ unkept_text config rule why) }
 {
-    write_two(into, "drop config ", config, " rule ", rule_number(rule))?;
-    write_text(into, drop_text(why))?;
+    write_two(into, "pass config ", config, " rule ", rule_number(rule))?;
+    write_text(into, " unkept")?;
+    write_text(into, refusal_text(why))?;
     Ok(())
 }
 
-fn drop_text(why: DropWhy) -> &'static str
-    ensures { result.now ≡ drop_text why }
+fn write_dropped(into: &mut Vec<u8>, config: u64, rule: u32, why: Refusal) -> Result<(), NoMemory>
+    ensures { OnOk result (into.new.items ≡ into.old.items ++ dropped_text config rule why) }
+{
+    write_two(into, "drop config ", config, " rule ", rule_number(rule))?;
+    write_text(into, refusal_text(why))?;
+    Ok(())
+}
+
+/// Why a packet has no connection.
+fn refusal_text(why: Refusal) -> &'static str
+    ensures { result.now ≡ refusal_text why }
 {
     match why {
-        DropWhy::Full => " full",
-        DropWhy::NoNode => " nonode",
-        DropWhy::Taken(_) => " taken",
-        DropWhy::NoPort => " noport",
+        Refusal::Full => " full",
+        Refusal::NoNode => " nonode",
+        Refusal::Taken(_) => " taken",
+        Refusal::NoPort => " noport",
     }
 }
 

@@ -80,7 +80,7 @@ collect_grew : (old new : Pass FlowEntry) → Collects old new → Grew old new 
 collect_grew old new c = record {
   rest = c.frees.adds.adds.rest;
   goes_on = c.frees.adds.adds.goes_on;
-  number = ap (λ (p : Pass FlowEntry). p.number) c.view;
+  number = ap (λ (p : Pass FlowEntry). p.number) c.view.view;
   own = λ entry d seat. inr (frees_say old c.frees.ids entry
       (subst (λ (es : History). Contains es entry) c.frees.adds.adds.own (own_entry old.number c.frees.adds.adds.rest entry d seat)));
 }
@@ -95,7 +95,7 @@ pub freed_prefix : (time : ℕ) (old new : Pass FlowEntry) (x : ExpiresDue time 
 freed_prefix time old new x = let g = freed_grew time old new x in record { rest = g.rest; goes_on = g.goes_on }
 
 pub expiry_prefix : (time : ℕ) (old new : Pass FlowEntry) → ExpiresDue time old new → IsPrefix old.history new.history
-expiry_prefix time old new x = IsPrefix-trans old.history x.due.history new.history x.rested.begins (freed_prefix time old new x)
+expiry_prefix time old new x = IsPrefix-trans old.history x.due.history new.history x.rested.later.begins (freed_prefix time old new x)
 
 expiry_grew : (time : ℕ) (commands : List Command) (old new : Pass FlowEntry) → ExpiresDue time old new → Grew old new (OfCommands (Expire time ∷ commands))
 expiry_grew time commands old new x =
@@ -104,7 +104,7 @@ expiry_grew time commands old new x =
     (record {
       rest = adds.rest;
       goes_on = adds.goes_on;
-      number = x.rested.same.number;
+      number = x.rested.later.number;
       own = λ entry c seat. ⊎_elim
           (λ (k : (id : ConnId) × (entry.act ≡ Kill id (Expired time))). inl (record { id = k.0; time = time; act = k.1; named = first_of (Expire time) commands }))
           (λ (b : GivesBack entry). inr b)

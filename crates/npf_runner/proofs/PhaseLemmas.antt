@@ -112,7 +112,7 @@ module _ (says : SaysOwn) (tells : TellsInLonger) {P : Type 0} (view : P → Pas
   -- nothing is left Dead
   pub phase_clean : (final : Pass FlowEntry) → new.epoch ≤ final.epoch → final.epoch < last_epoch → ¬ ClaimsLast new.history → HasNoDead (state_of flow_law new.history)
   phase_clean final epoch early unclaimed =
-      r.ran.collects.clean (ap (λ (p : Pass FlowEntry). p.places) r.ran.collects.view ∙ (ap (λ (p : Pass FlowEntry). p.places) r.ran.is_whole.left ∙ all))
+      r.ran.collects.clean (ap (λ (p : Pass FlowEntry). p.places) r.ran.collects.view.view ∙ (ap (λ (p : Pass FlowEntry). p.places) r.ran.is_whole.left ∙ all))
       (λ worn. ⊎_elim (λ (e : new.epoch ≡ last_epoch). absurd (omega (arith, e, epoch, early))) (λ (c : ClaimsLast new.history). unclaimed c) worn)
 
   -- each entry that the phase made is a packet's, an expiry's, or gives back
@@ -192,7 +192,7 @@ module _ (says : SaysOwn) (tells : TellsInLonger) {P : Type 0} (view : P → Pas
           λ id live alive. ⊎_elim
           (λ one. absurd (expired_gone p due id other s.1.count s.1.expires b later one alive))
           (λ idle. subst (λ t. WasNotDue flow_law start end id t) times (wider start p.history due.history end id other b later idle))
-          (s.1.expires.left id (alive_live p.history id b (IsPrefix-trans p.history due.history end s.1.rested.begins later) live alive)))
+          (s.1.expires.left id (alive_live p.history id b (IsPrefix-trans p.history due.history end s.1.rested.later.begins later) live alive)))
           (λ d. leaves_no_due cs s.0 q s.2 (IsPrefix-trans start p.history s.0.history b (expiry_prefix other p s.0 s.1)) e time d)
           (first_or_later (Expire other) (Expire time) cs c)
 

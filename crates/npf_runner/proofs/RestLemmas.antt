@@ -1,9 +1,10 @@
 -- Passes that rest as before, and what a control task does with one.
-use Rattle.std.proofs.Common.{◌≡◌, ◌+◌, ℕ, List, [], ◌∷◌, refl, sym, ap, subst, arith}
-use Rattle.npf_core.proofs.HistoryLemmas.{IsPrefix-self, IsPrefix-trans}
+use Rattle.std.proofs.Common.{◌≡◌, ◌+◌, ℕ, List, [], ◌∷◌, refl, sym, ap, ◌∙◌, subst, arith}
+use Rattle.npf_core.specs.History.{IsPrefix}
 use Rattle.npf_connections.specs.Expiring.{Expires}
 use Rattle.npf_connections.specs.Pass.{Pass, IsPass}
-use Rattle.npf_connections.proofs.SaidLemmas.{same_pass, same_more}
+use Rattle.npf_connections.specs.Stay.{GoesOn}
+use Rattle.npf_connections.proofs.SaidLemmas.{did_nothing, later_more, later_so}
 use Rattle.npf_flow.specs.Flows.{flow_law}
 use Rattle.npf_engine.specs.Histories.{FlowEntry}
 use Rattle.npf_runner.specs.declared.phase.Command.{Command}
@@ -13,38 +14,34 @@ use Rattle.npf_runner.specs.Plays.{published_by}
 use Rattle.npf_runner.specs.Works.{IsRested}
 
 pub rested_self : (pass : Pass FlowEntry) → IsPass flow_law pass → IsRested pass pass
-rested_self pass legal = record { same = same_pass pass pass refl; legal = legal; begins = IsPrefix-self pass.history; sweeps = omega arith }
+rested_self pass legal = record { later = (did_nothing pass).later; joined = refl; legal = legal }
 
 pub rested_more : (old mid new : Pass FlowEntry) → IsRested old mid → IsRested mid new → IsRested old new
 rested_more old mid new p q = record {
-  same = same_more old mid new p.same q.same;
+  later = later_more old mid new p.later q.later;
+  joined = q.joined ∙ p.joined;
   legal = q.legal;
-  begins = IsPrefix-trans old.history mid.history new.history p.begins q.begins;
-  sweeps = omega (arith, p.sweeps, q.sweeps);
+}
+
+-- what a call says that leaves the pass but for what it has seen
+rested_on : (old new : Pass FlowEntry) → GoesOn old new → IsPrefix old.history new.history → IsPass flow_law new → IsRested old new
+rested_on old new on begins legal = record {
+  later = later_so old new on begins;
+  joined = ap (λ (p : Pass FlowEntry). p.joined) on.view;
+  legal = legal;
 }
 
 -- what the call of an expiry says
 pub rested_expired : (old new : Pass FlowEntry) (time count : ℕ) → Expires flow_law old new.history time count → IsPass flow_law new →
-    new ≡ record old { history = new.history; epoch = new.epoch } → IsRested old new
+    GoesOn old new → IsRested old new
 rested_expired old new time count e legal view =
-    let sweeps : new.sweeps ≡ old.sweeps = ap (λ (p : Pass FlowEntry). p.sweeps) view in
-    record {
-      same = same_pass old new view;
-      legal = legal;
-      begins = record { rest = e.adds.rest; goes_on = e.adds.goes_on };
-      sweeps = omega (arith, sweeps);
-    }
+    rested_on old new view (record { rest = e.adds.rest; goes_on = e.adds.goes_on }) legal
 
 -- what the call of a collection says
 pub rested_collected : (old new : Pass FlowEntry) → Collects old new → IsPass flow_law new → IsRested old new
 rested_collected old new c legal =
-    let sweeps : new.sweeps ≡ old.sweeps = ap (λ (p : Pass FlowEntry). p.sweeps) c.view in
-    record {
-      same = same_pass old new c.view;
-      legal = legal;
-      begins = record { rest = c.frees.adds.adds.rest; goes_on = c.frees.adds.adds.goes_on };
-      sweeps = omega (arith, sweeps);
-    }
+    let adds = c.frees.adds.adds in
+    rested_on old new c.view (record { rest = adds.rest; goes_on = adds.goes_on }) legal
 
 pub runs_expiry : (old new : Pass FlowEntry) (time : ℕ) → ExpiresDue time old new → Runs (Expire time ∷ []) old new
 runs_expiry old new time x = (new, x, refl)

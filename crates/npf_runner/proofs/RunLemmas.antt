@@ -18,7 +18,7 @@ use Rattle.npf_runner.specs.declared.phase.Spread.{Spread}
 use Rattle.npf_runner.specs.Job.{Handled, numbered_from}
 use Rattle.npf_runner.specs.Played.{outcomes_of, outputs_of}
 use Rattle.npf_runner.specs.Plays.{IsUnnumbered, PlaysPhases, PlaysPhase, PlaysFrom, packets_in, published_by}
-use Rattle.npf_runner.specs.Running.{IsBack, RunsPhase, RunsPhases}
+use Rattle.npf_runner.specs.Running.{RunsPhase, RunsPhases}
 use Rattle.npf_runner.proofs.CarryLemmas.{CarryNone, not_true, not_both}
 use Rattle.npf_runner.proofs.CommandLemmas.{frees_say}
 use Rattle.npf_runner.proofs.JobLemmas.{packets_first, numbered_length}
@@ -43,17 +43,6 @@ drop_map f n xs ys e = ap (drop n) (map-append f xs ys) ∙ drop_at (map f xs) (
 
 pub left_length : {X : Type 0} (n : ℕ) (xs : List X) → n ≤ length xs → n + length (drop n xs) ≡ length xs
 left_length n xs e = let left = length-drop n xs in omega (arith, left, e)
-
-pub back_more : (old mid new : Pass FlowEntry) → IsBack old mid → IsBack mid new → IsBack old new
-back_more old mid new p q = record {
-  slots = q.slots ∙ p.slots;
-  number = q.number ∙ p.number;
-  entered = q.entered ∙ p.entered;
-  places = q.places ∙ p.places;
-  begins = IsPrefix-trans old.history mid.history new.history p.begins q.begins;
-  sweeps = omega (arith, p.sweeps, q.sweeps);
-  epoch = omega (arith, p.epoch, q.epoch);
-}
 
 module _ (says : SaysOwn) (tells : TellsInLonger) {P : Type 0} (view : P → Pass FlowEntry) (configs : List Configuration) (workers : ℕ) (spread : Spread) where
   -- one phase adds entries of its packets' numbers alone

@@ -5,8 +5,7 @@ use Rattle.std.proofs.lemmas.List.Elements.{All-nil, All-cons, All-head, All-tai
 use Rattle.std.proofs.lemmas.List.{length-map}
 use Rattle.npf_core.proofs.HistoryLemmas.{IsPrefix-trans}
 use Rattle.npf_connections.specs.Pass.{Pass, IsPass, all_places}
-use Rattle.npf_connections.specs.Said.{IsSamePass}
-use Rattle.npf_connections.proofs.SaidLemmas.{same_pass, same_more}
+use Rattle.npf_connections.specs.Stay.{IsLater, IsOut}
 use Rattle.npf_flow.specs.Flows.{flow_law}
 use Rattle.npf_model.specs.Configuration.{Configuration}
 use Rattle.npf_publish.specs.declared.conf_reader.ConfReader.{ConfReader}
@@ -21,7 +20,6 @@ use Rattle.npf_runner.specs.Commands.{Collects}
 use Rattle.npf_runner.specs.Crew.{HasJobs, IsEquipped, jobs_of_lane, done_of_lane, worker_of_lane, pass_of_lane}
 use Rattle.npf_runner.specs.Job.{Handled, Job}
 use Rattle.npf_runner.specs.Lanes.{CanWork, HasWorked}
-use Rattle.npf_runner.specs.Running.{IsBack}
 use Rattle.npf_runner.specs.Works.{IsRested, WorksThrough}
 
 -- place by place is all along
@@ -56,49 +54,52 @@ zip_right R P Q f [] (y ∷ ys) z all = absurd z
 zip_right R P Q f (x ∷ xs) [] z all = absurd z
 zip_right R P Q f (x ∷ xs) (y ∷ ys) z all = All-cons Q y ys (f x y z.0 (All-head P x xs all)) (zip_right R P Q f xs ys z.1 (All-tail P x xs all))
 
-pub can_work : {P : Type 0} (view : P → Pass FlowEntry) (old : Pass FlowEntry) (configs : ℕ) (lanes : List (Lane P)) → All (λ (lane : Lane P). IsPass flow_law (view lane.pass)) lanes →
+pub can_work : {P : Type 0} (fits : P → Type 0) (view : P → Pass FlowEntry) (old : Pass FlowEntry) (configs : ℕ) (lanes : List (Lane P)) → All (λ (lane : Lane P). IsOut flow_law fits view lane.pass) lanes →
     All (λ (lane : Lane P). IsGiven old (view lane.pass)) lanes → All (λ (lane : Lane P). IsEquipped lane.worker) lanes → All (λ (lane : Lane P). HasJobs lane.worker) lanes →
-    All (λ (lane : Lane P). (reader_range lane.worker.reader).last < configs) lanes → All (CanWork view configs) lanes
-can_work view old configs lanes legal given ready jobs readers k d low =
+    All (λ (lane : Lane P). (reader_range lane.worker.reader).last < configs) lanes → All (CanWork fits view configs) lanes
+can_work fits view old configs lanes out given ready jobs readers k d low =
     let g = given k d low in
     let one = ap (λ (p : Pass FlowEntry). p.places) g.rests in
     record {
-      legal = legal k d low;
-      out = ap (λ (p : Pass FlowEntry). p.entered) g.rests;
+      out = out k d low;
       place = omega (arith, one);
       jobs = jobs k d low;
       numbers = readers k d low;
       ready = ready k d low;
     }
 
+-- it owns as many reader places as it did, and was joined with none
+abbrev IsRestedSo : Pass FlowEntry → Pass FlowEntry → Type 0
+IsRestedSo old new = (new.places ≡ old.places) × (new.joined ≡ old.joined)
+
 -- a pass that is ready to be taken in
 pub record ComesBack (pass : Pass FlowEntry) : Type 0 where
-  pub legal : IsPass flow_law pass
-  pub out : pass.entered ≡ false
   pub unjoined : pass.joined ≡ []
   pub place : pass.places ≡ 1
 
-pub comes_back : (old given new : Pass FlowEntry) → IsGiven old given → IsSamePass given new → IsPass flow_law new → ComesBack new
-comes_back old given new g same legal = record {
-  legal = legal;
-  out = same.entered ∙ ap (λ (p : Pass FlowEntry). p.entered) g.rests;
-  unjoined = same.joined ∙ ap (λ (p : Pass FlowEntry). p.joined) g.rests;
-  place = same.places ∙ ap (λ (p : Pass FlowEntry). p.places) g.rests;
+pub comes_back : (old given new : Pass FlowEntry) → IsGiven old given → IsRestedSo given new → ComesBack new
+comes_back old given new g same = record {
+  unjoined = same.1 ∙ ap (λ (p : Pass FlowEntry). p.joined) g.rests;
+  place = same.0 ∙ ap (λ (p : Pass FlowEntry). p.places) g.rests;
 }
 
 works_same : (configs : List Configuration) (old : Pass FlowEntry) (reader : ConfReader) (jobs : List Job) (new : Pass FlowEntry) (next : ConfReader) (dones : List Handled) →
-    WorksThrough configs old reader jobs new next dones → IsSamePass old new
-works_same configs old reader [] new next [] w = same_pass old new (sym w.0)
+    WorksThrough configs old reader jobs new next dones → IsRestedSo old new
+works_same configs old reader [] new next [] w =
+    (ap (λ (p : Pass FlowEntry). p.places) (sym w.0), ap (λ (p : Pass FlowEntry). p.joined) (sym w.0))
 works_same configs old reader [] new next (done ∷ dones) w = absurd w
 works_same configs old reader (job ∷ jobs) new next [] w = absurd w
-works_same configs old reader (job ∷ jobs) new next (done ∷ dones) w = same_more old w.0 new w.2.rested.same (works_same configs w.0 w.1 jobs new next dones w.3)
+works_same configs old reader (job ∷ jobs) new next (done ∷ dones) w =
+    let first = w.2.rested in
+    let later = works_same configs w.0 w.1 jobs new next dones w.3 in
+    (later.0 ∙ first.later.places, later.1 ∙ first.joined)
 
 pub lanes_come_back : {P : Type 0} (view : P → Pass FlowEntry) (configs : List Configuration) (old : Pass FlowEntry) (begun ended : List (Lane P)) →
     AllZip (HasWorked view configs) begun ended → All (λ (lane : Lane P). IsGiven old (view lane.pass)) begun → All (λ (lane : Lane P). ComesBack (view lane.pass)) ended
 lanes_come_back {P} view configs old begun ended z given =
     zip_right (HasWorked view configs) (λ (lane : Lane P). IsGiven old (view lane.pass)) (λ (lane : Lane P). ComesBack (view lane.pass))
     (λ b e h g. comes_back old (view b.pass) (view e.pass) g
-    (works_same configs (view b.pass) b.worker.reader (jobs_of_lane b) (view e.pass) e.worker.reader (done_of_lane e) h.works) h.legal)
+    (works_same configs (view b.pass) b.worker.reader (jobs_of_lane b) (view e.pass) e.worker.reader (done_of_lane e) h.works))
     begun ended z given
 
 -- all that come back: the workers' passes, and the control task's
@@ -116,18 +117,18 @@ pub views_of : {P : Type 0} (view : P → Pass FlowEntry) (ended : List (Lane P)
 views_of view [] own = refl
 views_of view (lane ∷ ended) own = ap (λ ps. view lane.pass ∷ ps) (views_of view ended own)
 
-pub is_back : (old whole new : Pass FlowEntry) (others : List (Pass FlowEntry)) → IsWhole old whole others → Collects whole new → IsBack old new
+pub is_back : (old whole new : Pass FlowEntry) (others : List (Pass FlowEntry)) → IsWhole old whole others → Collects whole new → IsLater old new
 is_back old whole new others w c =
-    let sweeps : new.sweeps ≡ whole.sweeps = ap (λ (p : Pass FlowEntry). p.sweeps) c.view in
+    let sweeps : new.sweeps ≡ whole.sweeps = ap (λ (p : Pass FlowEntry). p.sweeps) c.view.view in
     record {
-      slots = ap (λ (p : Pass FlowEntry). p.slots) c.view ∙ ap (λ (p : Pass FlowEntry). p.slots) w.left;
-      number = ap (λ (p : Pass FlowEntry). p.number) c.view ∙ ap (λ (p : Pass FlowEntry). p.number) w.left;
-      entered = ap (λ (p : Pass FlowEntry). p.entered) c.view ∙ ap (λ (p : Pass FlowEntry). p.entered) w.left;
-      places = ap (λ (p : Pass FlowEntry). p.places) c.view ∙ ap (λ (p : Pass FlowEntry). p.places) w.left;
+      slots = ap (λ (p : Pass FlowEntry). p.slots) c.view.view ∙ ap (λ (p : Pass FlowEntry). p.slots) w.left;
+      number = ap (λ (p : Pass FlowEntry). p.number) c.view.view ∙ ap (λ (p : Pass FlowEntry). p.number) w.left;
+      entered = ap (λ (p : Pass FlowEntry). p.entered) c.view.view ∙ ap (λ (p : Pass FlowEntry). p.entered) w.left;
+      places = ap (λ (p : Pass FlowEntry). p.places) c.view.view ∙ ap (λ (p : Pass FlowEntry). p.places) w.left;
       begins = IsPrefix-trans old.history whole.history new.history (record { rest = w.added; goes_on = w.goes_on })
           (record { rest = c.frees.adds.adds.rest; goes_on = c.frees.adds.adds.goes_on });
       sweeps = omega (arith, sweeps, w.sweeps);
-      epoch = omega (arith, w.epoch, c.epoch);
+      epoch = omega (arith, w.epoch, c.view.epoch);
     }
 
 module _ {P : Type 0} (view : P → Pass FlowEntry) (configs : List Configuration) (old : Pass FlowEntry) (passes left : List P) (crew : List Worker) (begun ended : List (Lane P)) (control controlled : P) where
@@ -156,7 +157,7 @@ module _ {P : Type 0} (view : P → Pass FlowEntry) (configs : List Configuratio
     pub all_back : (others : List P) → others ≡ map pass_of_lane ended ++ controlled ∷ [] → All (λ pass. ComesBack (view pass)) others
     all_back others same = All-others (λ pass. ComesBack (view pass)) others ended controlled same
         (lanes_come_back view configs old begun ended is.worked begun_given)
-        (comes_back old (view control) (view controlled) control_given is.rested.same is.rested.legal)
+        (comes_back old (view control) (view controlled) control_given (is.rested.later.places, is.rested.joined))
 
     pub crew_whole : (mid now : Pass FlowEntry) (others : List P) → Spreads old mid (map view passes) → Gathers mid now (map view others) →
         others ≡ map pass_of_lane ended ++ controlled ∷ [] → length others ≡ length passes → old.places ≡ all_places → IsPass flow_law now →

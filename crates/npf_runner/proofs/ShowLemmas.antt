@@ -61,8 +61,8 @@ module _ (says : SaysOwn) {P : Type 0} (view : P → Pass FlowEntry) (configs : 
   module _ (legal_new : IsPass flow_law new) (all : old.places ≡ all_places) where
     pub freed_is : new.history ≡ r.ran.whole.history ++ free_entries r.ran.whole r.ran.collects.frees.ids
     freed_is = adds_alone flow_law r.ran.whole new (free_entries r.ran.whole r.ran.collects.frees.ids) legal_new
-        (ap (λ (p : Pass FlowEntry). p.places) r.ran.collects.view ∙ (ap (λ (p : Pass FlowEntry). p.places) r.ran.is_whole.left ∙ all))
-        (ap (λ (p : Pass FlowEntry). p.number) r.ran.collects.view) (ap (λ (p : Pass FlowEntry). p.joined) r.ran.collects.view) r.ran.collects.frees.adds.adds
+        (ap (λ (p : Pass FlowEntry). p.places) r.ran.collects.view.view ∙ (ap (λ (p : Pass FlowEntry). p.places) r.ran.is_whole.left ∙ all))
+        (ap (λ (p : Pass FlowEntry). p.number) r.ran.collects.view.view) (ap (λ (p : Pass FlowEntry). p.joined) r.ran.collects.view.view) r.ran.collects.frees.adds.adds
 
     -- what the phase adds to the history
     pub phase_adds : new.history ≡ old.history ++ (r.ran.is_whole.added ++ free_entries r.ran.whole r.ran.collects.frees.ids)

@@ -71,7 +71,7 @@ module _ {P : Type 0} (view : P → Pass FlowEntry) (configs : List Configuratio
     where
       one : (test : Bool) → lacks_node done.outcome ≡ test → w.0.sweeps + lacking dones ≤ new.sweeps → old.sweeps + lacking (done ∷ dones) ≤ new.sweeps
       one true is rest = let m : lacking (done ∷ dones) ≡ 1 + lacking dones = lacking_more done dones ∙ ap (λ t. cond t 1 0 + lacking dones) is in let s = w.2.sweep is in omega (arith, m, s, rest)
-      one false is rest = let m : lacking (done ∷ dones) ≡ 0 + lacking dones = lacking_more done dones ∙ ap (λ t. cond t 1 0 + lacking dones) is in let s = w.2.rested.sweeps in omega (arith, m, s, rest)
+      one false is rest = let m : lacking (done ∷ dones) ≡ 0 + lacking dones = lacking_more done dones ∙ ap (λ t. cond t 1 0 + lacking dones) is in let s = w.2.rested.later.sweeps in omega (arith, m, s, rest)
 
   lanes_sweeps : (begun ended : List (Lane P)) (last : Pass FlowEntry) → AllZip (HasWorked view configs) begun ended →
       sum_by lacking (map done_of_lane ended) ≤ sum (sweep_counts (map (λ (lane : Lane P). view lane.pass) ended ++ last ∷ []))
@@ -92,5 +92,5 @@ module _ {P : Type 0} (view : P → Pass FlowEntry) (configs : List Configuratio
       let lanes = lanes_sweeps r.ran.begun r.ran.ended r.ran.controlled r.ran.worked in
       let done = ap (sum_by lacking) r.ran.done in
       let whole = r.ran.is_whole.sweeps in
-      let same = ap (λ (p : Pass FlowEntry). p.sweeps) r.ran.collects.view in
+      let same = ap (λ (p : Pass FlowEntry). p.sweeps) r.ran.collects.view.view in
       omega (arith, dealt, lanes, done, whole, same)

@@ -106,10 +106,10 @@ module _ (says : SaysOwn) (configs : List Configuration) where
       record {
         rest = first.adds.rest ++ later.rest;
         goes_on = later.goes_on ∙ (ap (λ (es : History). es ++ later.rest) first.adds.goes_on ∙ append_assoc old.history first.adds.rest later.rest);
-        number = later.number ∙ first.same.number;
+        number = later.number ∙ first.later.number;
         own = λ entry n c seat carry. ⊎_elim
             (λ d. subst (λ m. Contains (job.number ∷ numbers_of jobs) m) (sym (step_own old mid reader w.1 job done h entry n d seat carry)) (first_of job.number (numbers_of jobs)))
-            (λ d. later_of job.number n (numbers_of jobs) (later.own entry n d (seat ∙ sym first.same.number) carry))
+            (λ d. later_of job.number n (numbers_of jobs) (later.own entry n d (seat ∙ sym first.later.number) carry))
             (Contains-append_cases first.adds.rest later.rest entry c);
       }
 
@@ -222,7 +222,7 @@ module _ (says : SaysOwn) (configs : List Configuration) where
       later_quiet : CarryNone (λ n. n ≡ job.number) (rest.rest ++ s.behind)
       later_quiet entry n c is = rw is (⊎_elim
           (λ d. by_seat (job.number ∷ numbers_of jobs) job.number new entry s (in_rest entry d) (first_of job.number (numbers_of jobs))
-          (λ mine. not_true (carries job.number entry.act) (λ yes. apart (rest.own entry job.number d (mine ∙ (sym own ∙ sym h.handles.did.same.number)) yes))))
+          (λ mine. not_true (carries job.number entry.act) (λ yes. apart (rest.own entry job.number d (mine ∙ (sym own ∙ sym h.handles.did.later.number)) yes))))
           (λ d. s.quiet entry job.number d (first_of job.number (numbers_of jobs)))
           (Contains-append_cases rest.rest s.behind entry c))
 
@@ -292,7 +292,7 @@ module _ (says : SaysOwn) (configs : List Configuration) where
         let mid = w.0 in
         let h = w.2 in
         let rest = went_on mid w.1 jobs new next dones w.3 in
-        let later = answers mid new w.1 next jobs dones w.3 h.rested.legal (h.rested.same.slots ∙ sized) (h.rested.same.number ∙ own) apart.1
+        let later = answers mid new w.1 next jobs dones w.3 h.rested.legal (h.rested.later.slots ∙ sized) (h.rested.later.number ∙ own) apart.1
         (fewer job.number (numbers_of jobs) new s) (before_next old mid new reader w.1 next job jobs done dones h rest s own apart.0 before) in
         let here = answer old mid new reader w.1 next job jobs done dones h rest s own apart.0 legal sized before in (
           h.handles.asked ∷ later.0,

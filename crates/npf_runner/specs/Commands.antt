@@ -1,8 +1,9 @@
 -- What the control task does.
-use Rattle.std.specs.Prelude.{◌≡◌, ℕ, ◌≤◌, List, [], ◌∷◌}
+use Rattle.std.specs.Prelude.{◌≡◌, ℕ, List, [], ◌∷◌}
 use Rattle.npf_connections.specs.Collecting.{FreesAlone, IsClean}
 use Rattle.npf_connections.specs.Expiring.{Expires}
 use Rattle.npf_connections.specs.Pass.{Pass}
+use Rattle.npf_connections.specs.Stay.{GoesOn}
 use Rattle.npf_flow.specs.Flows.{flow_law}
 use Rattle.npf_engine.specs.Histories.{FlowEntry}
 use Rattle.npf_runner.specs.declared.phase.Command.{Command}
@@ -13,8 +14,7 @@ use Rattle.npf_runner.specs.Works.{IsRested}
 pub record Collects (old new : Pass FlowEntry) : Type 0 where
   pub frees : FreesAlone old new.history
   pub clean : IsClean flow_law new
-  pub view : new ≡ record old { history = new.history; epoch = new.epoch }
-  pub epoch : old.epoch ≤ new.epoch
+  pub view : GoesOn old new
 
 -- what is due at the time was expired, and then what may be freed was freed, three times over
 pub record ExpiresDue (time : ℕ) (old new : Pass FlowEntry) : Type 0 where

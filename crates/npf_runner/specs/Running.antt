@@ -1,8 +1,8 @@
 -- What a phase did, in terms of its passes.
 use Rattle.std.specs.Prelude.{◌≡◌, ℕ, ◌≤◌, ◌+◌, ◌++◌, List, [], ◌∷◌, All, map, take, drop}
 use Rattle.std.specs.List.{AllZip}
-use Rattle.npf_core.specs.History.{IsPrefix}
 use Rattle.npf_connections.specs.Pass.{Pass, IsPass}
+use Rattle.npf_connections.specs.Stay.{IsLater}
 use Rattle.npf_flow.specs.Flows.{flow_law}
 use Rattle.npf_model.specs.Configuration.{Configuration}
 use Rattle.npf_runner_passes.specs.Gathering.{IsWhole}
@@ -23,16 +23,6 @@ use Rattle.npf_runner.specs.Job.{Handled, Job, job_arrival, numbered_from}
 use Rattle.npf_runner.specs.Lanes.{HasWorked}
 use Rattle.npf_runner.specs.Plays.{published_by}
 use Rattle.npf_runner.specs.Works.{IsRested}
-
--- A pass that was split and is whole again: it owns and shows what it did, its history goes on, and its counts don't fall.
-pub record IsBack (old new : Pass FlowEntry) : Type 0 where
-  pub slots : new.slots ≡ old.slots
-  pub number : new.number ≡ old.number
-  pub entered : new.entered ≡ old.entered
-  pub places : new.places ≡ old.places
-  pub begins : IsPrefix old.history new.history
-  pub sweeps : old.sweeps ≤ new.sweeps
-  pub epoch : old.epoch ≤ new.epoch
 
 -- Each worker handled its packets with a pass of its own, beside the control task's commands. The pass was split for them, took all in
 -- again, and collected.
@@ -69,6 +59,6 @@ pub record RunsPhase {P : Type 0} (view : P → Pass FlowEntry) (configs : List 
 abbrev pub RunsPhases : {P : Type 0} → (P → Pass FlowEntry) → List Configuration → ℕ → Spread → Pass FlowEntry → Pass FlowEntry → ℕ → ℕ → List Phase → List Packet → List Handled → Type 0
 RunsPhases view configs workers spread old new first last [] packets dones = (old ≡ new) × (packets ≡ []) × (dones ≡ [])
 RunsPhases view configs workers spread old new first last (phase ∷ phases) packets dones =
-    (mid : Pass FlowEntry) × (here : List Handled) × (later : List Handled) × (dones ≡ here ++ later) × IsBack old mid × IsPass flow_law mid
+    (mid : Pass FlowEntry) × (here : List Handled) × (later : List Handled) × (dones ≡ here ++ later) × IsLater old mid × IsPass flow_law mid
     × RunsPhase view configs workers spread old mid last phase.commands (numbered_from first (take phase.packets packets)) here
     × RunsPhases view configs workers spread mid new (first + phase.packets) (last + published_by phase.commands) phases (drop phase.packets packets) later

@@ -1,8 +1,7 @@
 -- What a worker does with its packets.
 use Rattle.std.specs.Prelude.{◌≡◌, ◌≤◌, ◌+◌, true, false, List, [], ◌∷◌}
-use Rattle.npf_core.specs.History.{IsPrefix}
 use Rattle.npf_connections.specs.Pass.{Pass, IsPass}
-use Rattle.npf_connections.specs.Said.{IsSamePass}
+use Rattle.npf_connections.specs.Stay.{IsLater}
 use Rattle.npf_flow.specs.Flows.{flow_law}
 use Rattle.npf_model.specs.Configuration.{Configuration}
 use Rattle.npf_publish.specs.declared.conf_reader.ConfReader.{ConfReader}
@@ -11,12 +10,11 @@ use Rattle.npf_engine.specs.Histories.{FlowEntry}
 use Rattle.npf_engine.specs.Outcome.{passes, sent_of, lacks_node}
 use Rattle.npf_runner.specs.Job.{Handled, Job, job_arrival}
 
--- A pass that rests as before: it is the same, but for its history, which goes on, and its counts, which don't fall.
+-- a pass that rests as before at a later moment, and was joined with none
 pub record IsRested (old new : Pass FlowEntry) : Type 0 where
-  pub same : IsSamePass old new
+  pub later : IsLater old new
+  pub joined : new.joined ≡ old.joined
   pub legal : IsPass flow_law new
-  pub begins : IsPrefix old.history new.history
-  pub sweeps : old.sweeps ≤ new.sweeps
 
 -- a packet was handled, and left but for its bytes
 pub record IsHandled (configs : List Configuration) (old new : Pass FlowEntry) (reader next : ConfReader) (job : Job) (done : Handled) : Type 0 where

@@ -1,5 +1,5 @@
-ghost use Rattle.std.specs.Prelude.{◌≡◌, ◌≤◌, ◌+◌, false, [], ◌∷◌, OnOk};
-ghost use Rattle.npf_connections.specs.Pass.{IsPass};
+ghost use Rattle.std.specs.Prelude.{◌≡◌, ◌≤◌, ◌+◌, [], ◌∷◌, OnOk};
+ghost use Rattle.npf_connections.specs.Stay.{IsOut};
 ghost use Rattle.npf_flow.specs.Flows.{flow_law};
 ghost use Rattle.npf_publish.specs.Publisher.{published_number, publisher_range};
 ghost use Rattle.npf_runner.specs.Commands.{ExpiresDue, Runs};
@@ -21,11 +21,9 @@ pub fn control<R: Wait, C: Connections<FlowLaw>>(
     commands: &[Command],
     publisher: &mut Publisher,
 ) -> (C::Pass, Result<(), NoMemory>)
-    requires own { C.fits conns.now pass }
-    requires legal { IsPass flow_law (C.view pass) }
-    requires out { (C.view pass).entered ≡ false }
+    requires out { IsOut flow_law (C.fits conns.now) C.view pass }
     requires numbers { published_number publisher.old + published_by commands.now ≤ (publisher_range publisher.old).last }
-    ensures own { C.fits conns.now result.0 }
+    ensures out { IsOut flow_law (C.fits conns.now) C.view result.0 }
     ensures rested { IsRested (C.view pass) (C.view result.0) }
     ensures runs { OnOk result.1 (Runs commands.now (C.view pass) (C.view result.0)) }
 {
@@ -44,11 +42,9 @@ fn obey<R: Wait, C: Connections<FlowLaw>>(
     command: Command,
     publisher: &mut Publisher,
 ) -> Result<(), NoMemory>
-    requires own { C.fits conns.now pass.old }
-    requires legal { IsPass flow_law (C.view pass.old) }
-    requires out { (C.view pass.old).entered ≡ false }
+    requires out { IsOut flow_law (C.fits conns.now) C.view pass.old }
     requires numbers { published_number publisher.old + published_by (command ∷ []) ≤ (publisher_range publisher.old).last }
-    ensures own { C.fits conns.now pass.new }
+    ensures out { IsOut flow_law (C.fits conns.now) C.view pass.new }
     ensures rested { IsRested (C.view pass.old) (C.view pass.new) }
     ensures runs { OnOk result (Runs (command ∷ []) (C.view pass.old) (C.view pass.new)) }
     ensures range { publisher_range publisher.new ≡ publisher_range publisher.old }
@@ -66,10 +62,8 @@ fn obey<R: Wait, C: Connections<FlowLaw>>(
 /// Kills what is due, and then frees what may be freed. A table whose readers are still at work may take three calls to free what was
 /// killed.
 fn expire<R: Wait, C: Connections<FlowLaw>>(rt: &R, conns: &C, pass: &mut C::Pass, now: u64)
-    requires own { C.fits conns.now pass.old }
-    requires legal { IsPass flow_law (C.view pass.old) }
-    requires out { (C.view pass.old).entered ≡ false }
-    ensures own { C.fits conns.now pass.new }
+    requires out { IsOut flow_law (C.fits conns.now) C.view pass.old }
+    ensures out { IsOut flow_law (C.fits conns.now) C.view pass.new }
     ensures rested { IsRested (C.view pass.old) (C.view pass.new) }
     ensures expires { ExpiresDue now (C.view pass.old) (C.view pass.new) }
 {

@@ -1,6 +1,6 @@
-ghost use Rattle.std.specs.Prelude.{◌≡◌, ◌≤◌, false, All, length, IfOk};
-ghost use Rattle.npf_connections.specs.Pass.{IsPass, all_places};
-ghost use Rattle.npf_core.specs.History.{IsPrefix};
+ghost use Rattle.std.specs.Prelude.{◌≡◌, ◌≤◌, All, length, IfOk};
+ghost use Rattle.npf_connections.specs.Pass.{all_places};
+ghost use Rattle.npf_connections.specs.Stay.{IsLater, IsOut};
 ghost use Rattle.npf_flow.specs.Flows.{flow_law};
 ghost use Rattle.npf_engine.specs.Handles.{configurations};
 ghost use Rattle.npf_runner.specs.Plays.{PlaysPhases, IsUnnumbered, AreInOrder, packets_in};
@@ -42,24 +42,15 @@ pub fn play<'a, R: Threads + Wait + Sync, C: Connections<FlowLaw>, G: Gate>(
     pass: &mut C::Pass,
     gate: &G,
 ) -> Result<Played<'a>, NoMemory>
-    requires own { C.fits conns.now pass.old }
-    requires legal { IsPass flow_law (C.view pass.old) }
-    requires out { (C.view pass.old).entered ≡ false }
+    requires out { IsOut flow_law (C.fits conns.now) C.view pass.old }
     requires places { (C.view pass.old).places ≡ all_places }
     requires workers { (1 ≤ workers) × (workers ≤ 64) }
     requires short { All IsShortPacket packets.items }
     requires unnumbered { IsUnnumbered (length packets.items) (C.view pass.old).history }
     requires sum { packets_in phases.now ≡ length packets.items }
     requires publications { AreInOrder (length configs.now) phases.now }
-    ensures own { C.fits conns.now pass.new }
-    ensures legal { IsPass flow_law (C.view pass.new) }
-    ensures out { (C.view pass.new).entered ≡ false }
-    ensures places { (C.view pass.new).places ≡ all_places }
-    ensures slots { (C.view pass.new).slots ≡ (C.view pass.old).slots }
-    ensures number { (C.view pass.new).number ≡ (C.view pass.old).number }
-    ensures begins { IsPrefix (C.view pass.old).history (C.view pass.new).history }
-    ensures sweeps { (C.view pass.old).sweeps ≤ (C.view pass.new).sweeps }
-    ensures epoch { (C.view pass.old).epoch ≤ (C.view pass.new).epoch }
+    ensures out { IsOut flow_law (C.fits conns.now) C.view pass.new }
+    ensures later { IsLater (C.view pass.old) (C.view pass.new) }
     ensures plays { IfOk result (λ played. PlaysPhases (configurations configs.now) workers spread (C.view pass.old) (C.view pass.new) phases.now packets.entry.items played.packets played.outcomes) }
 {
     let mut all = Answers {

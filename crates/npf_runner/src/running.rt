@@ -1,7 +1,8 @@
 // One phase: its packets and its commands, side by side.
-ghost use Rattle.std.specs.Prelude.{◌≡◌, ◌≤◌, ◌<◌, ◌+◌, ◌^◌, ◌++◌, false, List, All, IfOk, length, map, vec_len, vec_capacity};
+ghost use Rattle.std.specs.Prelude.{◌≡◌, ◌≤◌, ◌<◌, ◌+◌, ◌^◌, ◌++◌, List, All, IfOk, length, map, vec_len, vec_capacity};
 ghost use Rattle.std.specs.List.{AllZip};
-ghost use Rattle.npf_connections.specs.Pass.{IsPass, all_places};
+ghost use Rattle.npf_connections.specs.Pass.{all_places};
+ghost use Rattle.npf_connections.specs.Stay.{IsLater, IsOut};
 ghost use Rattle.npf_runner_dealing.specs.Dealing.{IsDealt};
 ghost use Rattle.npf_flow.specs.Flows.{flow_law};
 ghost use Rattle.npf_publish.specs.ConfReader.{IsNewReader, reader_range};
@@ -13,7 +14,7 @@ ghost use Rattle.npf_runner.specs.Job.{job_arrival, numbered_from};
 ghost use Rattle.npf_runner.specs.Played.{outcomes_of, outputs_of};
 ghost use Rattle.npf_runner.specs.Plays.{published_by};
 ghost use Rattle.npf_traffic.specs.Packet.{IsShortPacket};
-ghost use Rattle.npf_runner.specs.Running.{IsBack, RunsCrew, RunsPhase};
+ghost use Rattle.npf_runner.specs.Running.{RunsCrew, RunsPhase};
 
 use crate::crew::{Queues, Room, apart, lanes_with, workers_with};
 use crate::gate::Gate;
@@ -64,9 +65,7 @@ pub fn run_phase<'a, R: Threads + Wait + Sync, C: Connections<FlowLaw>, G: Gate>
     commands: &[Command],
     all: Answers<'a>,
 ) -> Result<Answers<'a>, NoMemory>
-    requires own { C.fits conns.now pass.old }
-    requires legal { IsPass flow_law (C.view pass.old) }
-    requires out { (C.view pass.old).entered ≡ false }
+    requires out { IsOut flow_law (C.fits conns.now) C.view pass.old }
     requires places { (C.view pass.old).places ≡ all_places }
     requires workers { (1 ≤ task.workers) × (task.workers ≤ 64) }
     requires first { (1 ≤ task.first) × (task.first + vec_len task.packets < 2 ^ 64) }
@@ -74,9 +73,8 @@ pub fn run_phase<'a, R: Threads + Wait + Sync, C: Connections<FlowLaw>, G: Gate>
     requires numbers { task.last + published_by commands.now < length configs.now }
     requires for_outcomes { vec_len all.outcomes + vec_len task.packets ≤ vec_capacity all.outcomes }
     requires for_packets { vec_len all.packets + vec_len task.packets ≤ vec_capacity all.packets }
-    ensures own { C.fits conns.now pass.new }
-    ensures legal { IsPass flow_law (C.view pass.new) }
-    ensures back { IsBack (C.view pass.old) (C.view pass.new) }
+    ensures out { IsOut flow_law (C.fits conns.now) C.view pass.new }
+    ensures later { IsLater (C.view pass.old) (C.view pass.new) }
     ensures runs { IfOk result (λ done. (dones : List _) × (done.outcomes.items ≡ all.entry.outcomes.items ++ outcomes_of dones) × (done.packets.items ≡ all.entry.packets.items ++ outputs_of dones) × RunsPhase C.view (configurations configs.now) task.entry.workers task.entry.spread (C.view pass.old) (C.view pass.new) task.entry.last commands.now (numbered_from task.entry.first task.entry.packets.items) dones) }
     ensures outcomes_capacity { IfOk result (λ done. vec_capacity all.entry.outcomes ≤ vec_capacity done.outcomes) }
     ensures packets_capacity { IfOk result (λ done. vec_capacity all.entry.packets ≤ vec_capacity done.packets) }
@@ -168,9 +166,7 @@ fn run_crew<'a, R: Threads + Wait + Sync, C: Connections<FlowLaw>, G: Gate>(
     commands: &[Command],
     publisher: &mut Publisher,
 ) -> Result<Queues<'a>, NoMemory>
-    requires own { C.fits conns.now pass.old }
-    requires legal { IsPass flow_law (C.view pass.old) }
-    requires out { (C.view pass.old).entered ≡ false }
+    requires out { IsOut flow_law (C.fits conns.now) C.view pass.old }
     requires places { (C.view pass.old).places ≡ all_places }
     requires crew { (1 ≤ vec_len crew) × (vec_len crew ≤ 64) }
     requires ready { All IsEquipped crew.items }
@@ -178,9 +174,8 @@ fn run_crew<'a, R: Threads + Wait + Sync, C: Connections<FlowLaw>, G: Gate>(
     requires readers { All (λ worker. (reader_range worker.reader).last < length configs.now) crew.items }
     requires numbers { published_number publisher.old + published_by commands.now ≤ (publisher_range publisher.old).last }
     requires room { HasRoomFor (vec_len crew) room }
-    ensures own { C.fits conns.now pass.new }
-    ensures legal { IsPass flow_law (C.view pass.new) }
-    ensures back { IsBack (C.view pass.old) (C.view pass.new) }
+    ensures out { IsOut flow_law (C.fits conns.now) C.view pass.new }
+    ensures later { IsLater (C.view pass.old) (C.view pass.new) }
     ensures runs { IfOk result (λ queues. (dones : List (List _)) × AreQueuesOf dones queues × RunsCrew C.view (configurations configs.now) (C.view pass.old) (C.view pass.new) commands.now crew.entry.items dones) }
 {
     let mut passes = split_off(rt, alloc, conns, pass, crew.len() as u32 + 1)?;

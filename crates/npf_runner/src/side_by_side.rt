@@ -1,5 +1,5 @@
-ghost use Rattle.std.specs.Prelude.{◌≡◌, ◌≤◌, ◌<◌, ◌+◌, false, ℕ, All, OnOk, length, vec_len, slice_index_or};
-ghost use Rattle.npf_connections.specs.Pass.{IsPass};
+ghost use Rattle.std.specs.Prelude.{◌≡◌, ◌≤◌, ◌<◌, ◌+◌, ℕ, All, OnOk, length, vec_len, slice_index_or};
+ghost use Rattle.npf_connections.specs.Stay.{IsOut};
 ghost use Rattle.npf_flow.specs.Flows.{flow_law};
 ghost use Rattle.npf_publish.specs.Publisher.{published_number, publisher_range};
 ghost use Rattle.npf_engine.specs.Handles.{configurations};
@@ -31,27 +31,24 @@ pub fn side_by_side<'a, R: Threads + Wait + Sync, C: Connections<FlowLaw>, G: Ga
     publisher: &mut Publisher,
     mut lanes: Vec<Lane<'a, C::Pass>>,
 ) -> ((C::Pass, Result<(), NoMemory>), Vec<Lane<'a, C::Pass>>)
-    requires own { C.fits conns.now pass }
-    requires legal { IsPass flow_law (C.view pass) }
-    requires out { (C.view pass).entered ≡ false }
+    requires out { IsOut flow_law (C.fits conns.now) C.view pass }
     requires numbers { published_number publisher.old + published_by commands.now ≤ (publisher_range publisher.old).last }
-    requires lanes { All (λ lane. C.fits conns.now lane.pass) lanes.items }
-    requires can { All (CanWork C.view (length configs.now)) lanes.items }
+    requires can { All (CanWork (C.fits conns.now) C.view (length configs.now)) lanes.items }
     requires some { 0 < vec_len lanes }
-    ensures own { C.fits conns.now result.0.0 }
+    ensures out { IsOut flow_law (C.fits conns.now) C.view result.0.0 }
     ensures rested { IsRested (C.view pass) (C.view result.0.0) }
     ensures runs { OnOk result.0.1 (Runs commands.now (C.view pass) (C.view result.0.0)) }
-    ensures lanes { All (λ lane. C.fits conns.now lane.pass) result.1.items }
+    ensures lanes { All (λ lane. IsOut flow_law (C.fits conns.now) C.view lane.pass) result.1.items }
     ensures count { vec_len result.1 ≡ vec_len lanes.entry }
     ensures worked { (i : ℕ) (d : _) → i < vec_len lanes.entry → HasWorked C.view (configurations configs.now) (slice_index_or lanes.entry.items i d) (slice_index_or result.1.items i d) }
 {
     join(
         rt,
         ||
-            requires { C.fits conns.now pass × IsPass flow_law (C.view pass) × ((C.view pass).entered ≡ false) × (published_number publisher.now + published_by commands.now ≤ (publisher_range publisher.now).last) }
+            requires { IsOut flow_law (C.fits conns.now) C.view pass × (published_number publisher.now + published_by commands.now ≤ (publisher_range publisher.now).last) }
         { control(rt, conns, pass, commands, publisher) },
         move ||
-            requires { All (λ lane. C.fits conns.now lane.pass) lanes.items × All (CanWork C.view (length configs.now)) lanes.items × (0 < vec_len lanes) }
+            requires { All (CanWork (C.fits conns.now) C.view (length configs.now)) lanes.items × (0 < vec_len lanes) }
         {
             work_all(rt, conns, gate, configs, lanes.as_mut_slice());
             lanes
@@ -67,10 +64,9 @@ fn work_all<R: Threads + Wait + Sync, C: Connections<FlowLaw>, G: Gate>(
     configs: &[Config],
     lanes: &mut [Lane<'_, C::Pass>],
 )
-    requires lanes { All (λ lane. C.fits conns.now lane.pass) lanes.old }
-    requires can { All (CanWork C.view (length configs.now)) lanes.old }
+    requires can { All (CanWork (C.fits conns.now) C.view (length configs.now)) lanes.old }
     requires some { 0 < length lanes.old }
-    ensures lanes { All (λ lane. C.fits conns.now lane.pass) lanes.new }
+    ensures lanes { All (λ lane. IsOut flow_law (C.fits conns.now) C.view lane.pass) lanes.new }
     ensures worked { (i : ℕ) (d : _) → i < length lanes.old → HasWorked C.view (configurations configs.now) (slice_index_or lanes.old i d) (slice_index_or lanes.new i d) }
 {
     let workers = lanes.len();
@@ -79,7 +75,7 @@ fn work_all<R: Threads + Wait + Sync, C: Connections<FlowLaw>, G: Gate>(
         lanes,
         workers,
         &|_, lane: &mut Lane<'_, C::Pass>|
-            requires { C.fits conns.now lane.old.pass × CanWork C.view (length configs.now) lane.old }
+            requires { CanWork (C.fits conns.now) C.view (length configs.now) lane.old }
         { work(rt, conns, gate, configs, lane) },
     );
 }

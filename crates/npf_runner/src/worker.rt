@@ -1,5 +1,5 @@
-ghost use Rattle.std.specs.Prelude.{◌≡◌, ◌≤◌, ◌<◌, false, length};
-ghost use Rattle.npf_connections.specs.Pass.{IsPass};
+ghost use Rattle.std.specs.Prelude.{◌≡◌, ◌≤◌, ◌<◌, length};
+ghost use Rattle.npf_connections.specs.Stay.{IsOut};
 ghost use Rattle.npf_flow.specs.Flows.{flow_law};
 ghost use Rattle.npf_publish.specs.ConfReader.{reader_range};
 ghost use Rattle.npf_engine.specs.Handles.{configurations};
@@ -41,9 +41,8 @@ pub fn work<R: Wait, C: Connections<FlowLaw>, G: Gate>(
     configs: &[Config],
     lane: &mut Lane<'_, C::Pass>,
 )
-    requires own { C.fits conns.now lane.old.pass }
-    requires can { CanWork C.view (length configs.now) lane.old }
-    ensures own { C.fits conns.now lane.new.pass }
+    requires can { CanWork (C.fits conns.now) C.view (length configs.now) lane.old }
+    ensures out { IsOut flow_law (C.fits conns.now) C.view lane.new.pass }
     ensures worked { HasWorked C.view (configurations configs.now) lane.old lane.new }
 {
     let Lane { pass, worker } = lane;
@@ -83,13 +82,11 @@ fn handle<R: Wait, C: Connections<FlowLaw>, G: Gate>(
     number: u64,
     packet: &mut Packet<'_>,
 ) -> Outcome
-    requires own { C.fits conns.now pass.old }
-    requires legal { IsPass flow_law (C.view pass.old) }
-    requires out { (C.view pass.old).entered ≡ false }
+    requires out { IsOut flow_law (C.fits conns.now) C.view pass.old }
     requires place { 1 ≤ (C.view pass.old).places }
     requires short { IsJob (record { number = number; packet = packet.old }) }
     requires numbers { (reader_range reader.old).last < length configs.now }
-    ensures own { C.fits conns.now pass.new }
+    ensures out { IsOut flow_law (C.fits conns.now) C.view pass.new }
     ensures handled { IsHandled (configurations configs.now) (C.view pass.old) (C.view pass.new) reader.old reader.new (record { number = number; packet = packet.old }) (record { outcome = result; packet = packet.new }) }
 {
     if let Some(why) = packet.held {

@@ -1,20 +1,19 @@
-use Rattle.std.proofs.Common.{◌≡◌, ◌≤◌, ◌<◌, ◌+◌, ◌++◌, false, All, List, drop, length, vec_len, vec_capacity}
-use Rattle.npf_connections.specs.Pass.{IsPass, all_places}
+use Rattle.std.proofs.Common.{◌≡◌, ◌≤◌, ◌<◌, ◌+◌, ◌++◌, All, List, drop, length, vec_len, vec_capacity}
+use Rattle.npf_connections.specs.Pass.{all_places}
+use Rattle.npf_connections.specs.Stay.{IsLater, IsOut}
 use Rattle.npf_flow.specs.Flows.{flow_law}
 use Rattle.npf_engine.specs.Handles.{configurations}
 use Rattle.npf_runner.specs.Played.{handled}
 use Rattle.npf_runner.specs.Plays.{PhasesPublishFrom, packets_in}
 use Rattle.npf_traffic.specs.Packet.{IsShortPacket}
-use Rattle.npf_runner.specs.Running.{IsBack, RunsPhases}
+use Rattle.npf_runner.specs.Running.{RunsPhases}
 use Rattle.npf_runner.proofs.playing.play.Given as goal
 
 abbrev pub invariant-loop-phase : goal.invariant-loop-phase
 invariant-loop-phase g l =
-    g.C.Connections.fits l.conns l.pass
-    × IsPass flow_law (g.C.Connections.view l.pass)
-    × ((g.C.Connections.view l.pass).entered ≡ false)
+    IsOut flow_law (g.C.Connections.fits l.conns) g.C.Connections.view l.pass
     × ((g.C.Connections.view l.pass).places ≡ all_places)
-    × IsBack (g.C.Connections.view l.initial.pass) (g.C.Connections.view l.pass)
+    × IsLater (g.C.Connections.view l.initial.pass) (g.C.Connections.view l.pass)
     × (packets_in (drop l.phase-index l.phases) ≡ length l.left.items)
     × (l.first + length l.left.items ≡ 1 + length l.fn.packets.items)
     × (1 ≤ l.first)

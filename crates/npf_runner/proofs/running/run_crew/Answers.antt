@@ -1,12 +1,12 @@
-use Rattle.std.proofs.Common.{rules, ◌≡◌, ◌<◌, ◌+◌, false, [], ◌∷◌, ◌++◌, All, map, length, refl, ap, ◌∙◌, Some}
+use Rattle.std.proofs.Common.{rules, ◌≡◌, ◌<◌, ◌+◌, [], ◌∷◌, ◌++◌, All, map, length, refl, ap, ◌∙◌, Some}
 use Rattle.std.proofs.lemmas.List.{length-append, length-map}
 use Rattle.std.proofs.lemmas.List.Elements.{All-pop, All-weaker}
-use Rattle.npf_connections.specs.Pass.{Pass, IsPass}
+use Rattle.npf_connections.specs.Pass.{IsPass}
+use Rattle.npf_connections.specs.Stay.{IsOut}
 use Rattle.npf_flow.specs.Flows.{flow_law}
 use Rattle.npf_runner_passes.specs.Spreading.{IsGiven}
 use Rattle.npf_publish.specs.ConfReader.{reader_range}
 use Rattle.npf_engine.specs.Handles.{configurations}
-use Rattle.npf_engine.specs.Histories.{FlowEntry}
 use Rattle.npf_runner.specs.declared.worker.Lane.{Lane}
 use Rattle.npf_runner.specs.declared.worker.Worker.{Worker}
 use Rattle.npf_runner.specs.Commands.{Collects}
@@ -18,23 +18,18 @@ use Rattle.npf_runner.proofs.running.run_crew.Given.{Over}
 use Rattle.npf_runner.proofs.running.run_crew.Goals as goal
 use Rattle.npf_runner.proofs.running.run_crew.Goals.{After-push_reserved}
 
+-- each pass that was split off is outside, but the last, which is the control task's
 pub side_by_side-own-requires-clause-out : goal.side_by_side-own-requires-clause-out
 side_by_side-own-requires-clause-out g c lifetimes outlives =
-    let V = g.C.Connections.view in
+    let Out = IsOut flow_law (g.C.Connections.fits c.args.conns.now) g.C.Connections.view in
     let popped : c.in_ok-passes.passes.items ≡ c.pop.new.self.items ++ c.unwrap-own.result ∷ [] = search rules in
-    let given = All-unmap (IsGiven (V c.args.pass.now)) V c.in_ok-passes.passes.items c.in_ok-passes.ensures.spreads.each in
-    let own = (All-pop (λ pass. IsGiven (V c.args.pass.now) (V pass)) c.in_ok-passes.passes.items c.pop.new.self.items (Some c.unwrap-own.result) popped given).1 in
-    ap (λ (p : Pass FlowEntry). p.entered) own.rests
-
-pub side_by_side-own-requires-clause-lanes : goal.side_by_side-own-requires-clause-lanes
-side_by_side-own-requires-clause-lanes g c lifetimes outlives =
-    let popped : c.in_ok-passes.passes.items ≡ c.pop.new.self.items ++ c.unwrap-own.result ∷ [] = search rules in
-    let fits = (All-pop (λ pass. g.C.Connections.fits c.args.conns.now pass) c.in_ok-passes.passes.items c.pop.new.self.items (Some c.unwrap-own.result) popped c.in_ok-passes.ensures.given).0 in
-    All-passes (λ pass. g.C.Connections.fits c.args.conns.now pass) c.pop.new.self.items c.lanes_with-lanes.result.items fits c.lanes_with-lanes.ensures.passes
+    (All-pop Out c.in_ok-passes.passes.items c.pop.new.self.items (Some c.unwrap-own.result) popped c.in_ok-passes.ensures.given).1
 
 pub side_by_side-own-requires-clause-can : goal.side_by_side-own-requires-clause-can
 side_by_side-own-requires-clause-can g c lifetimes outlives =
     let V = g.C.Connections.view in
+    let fits = g.C.Connections.fits c.args.conns.now in
+    let Out = IsOut flow_law fits V in
     let old = V c.args.pass.now in
     let passes = c.in_ok-passes.passes.items in
     let left = c.pop.new.self.items in
@@ -42,10 +37,10 @@ side_by_side-own-requires-clause-can g c lifetimes outlives =
     let crew = c.args.crew.items in
     let popped : passes ≡ left ++ c.unwrap-own.result ∷ [] = search rules in
     let given = (All-pop (λ pass. IsGiven old (V pass)) passes left (Some c.unwrap-own.result) popped (All-unmap (IsGiven old) V passes c.in_ok-passes.ensures.spreads.each)).0 in
-    let legal = (All-pop (λ pass. IsPass flow_law (V pass)) passes left (Some c.unwrap-own.result) popped c.in_ok-passes.ensures.given_legal).0 in
+    let out = (All-pop Out passes left (Some c.unwrap-own.result) popped c.in_ok-passes.ensures.given).0 in
     let workers = c.lanes_with-lanes.ensures.workers in
-    can_work V old (length c.args.configs.now) lanes
-    (All-passes (λ pass. IsPass flow_law (V pass)) left lanes legal c.lanes_with-lanes.ensures.passes)
+    can_work fits V old (length c.args.configs.now) lanes
+    (All-passes Out left lanes out c.lanes_with-lanes.ensures.passes)
     (All-passes (λ pass. IsGiven old (V pass)) left lanes given c.lanes_with-lanes.ensures.passes)
     (All-workers IsEquipped lanes crew workers c.requires.ready)
     (All-workers HasJobs lanes crew workers c.requires.jobs)
@@ -53,11 +48,12 @@ side_by_side-own-requires-clause-can g c lifetimes outlives =
 
 pub take_in-requires-clause-others : goal.take_in-requires-clause-others
 take_in-requires-clause-others g c lifetimes outlives =
+    let Out = IsOut flow_law (g.C.Connections.fits c.args.conns.now) g.C.Connections.view in
     let ended = c.side_by_side-own.result.1.items in
     let controlled = c.side_by_side-own.result.0.0 in
     let others = c.push_reserved.new.self.items in
     let same = same_others others c.apart-queues.new.passes.items c.args.room.others.items ended controlled (search rules) c.apart-queues.ensures.passes c.requires.room.others in
-    All-others (λ pass. g.C.Connections.fits c.args.conns.now pass) others ended controlled same c.side_by_side-own.ensures.lanes c.side_by_side-own.ensures.own
+    All-others Out others ended controlled same c.side_by_side-own.ensures.lanes c.side_by_side-own.ensures.out
 
 -- all passes are ready to be taken in
 come_back : (g : Over) (c : After-push_reserved g) → All (λ pass. ComesBack (g.C.Connections.view pass)) c.push_reserved.new.self.items
@@ -75,27 +71,17 @@ come_back g c =
     let count : length ended ≡ length begun = search rules in
     let worked = zip_places (HasWorked V configs) begun ended count (λ i d low. c.side_by_side-own.ensures.worked i d (search rules)) in
     let is : IsCrew V configs old passes left c.args.crew.items begun ended control controlled =
-    record { popped = search rules; given = c.in_ok-passes.ensures.spreads.each; legal = c.in_ok-passes.ensures.given_legal; from = c.lanes_with-lanes.ensures.passes; worked = worked; rested = c.side_by_side-own.ensures.rested } in
+    record { popped = search rules; given = c.in_ok-passes.ensures.spreads.each; legal = All-weaker (IsOut flow_law (g.C.Connections.fits c.args.conns.now) V) (λ pass. IsPass flow_law (V pass)) (λ pass o. o.legal) passes c.in_ok-passes.ensures.given; from = c.lanes_with-lanes.ensures.passes; worked = worked; rested = c.side_by_side-own.ensures.rested } in
     let same = same_others others c.apart-queues.new.passes.items c.args.room.others.items ended controlled (search rules) c.apart-queues.ensures.passes c.requires.room.others in
     all_back V configs old passes left c.args.crew.items begun ended control controlled is others same
-
-pub take_in-requires-clause-others_legal : goal.take_in-requires-clause-others_legal
-take_in-requires-clause-others_legal g c lifetimes outlives =
-    let V = g.C.Connections.view in
-    All-weaker (λ pass. ComesBack (V pass)) (λ pass. IsPass flow_law (V pass)) (λ pass b. b.legal) c.push_reserved.new.self.items (come_back g (goal.at.take_in-requires-clause-others_legal g c).After-push_reserved)
-
-pub take_in-requires-clause-others_out : goal.take_in-requires-clause-others_out
-take_in-requires-clause-others_out g c lifetimes outlives =
-    let V = g.C.Connections.view in
-    All-weaker (λ pass. ComesBack (V pass)) (λ pass. (V pass).entered ≡ false) (λ pass b. b.out) c.push_reserved.new.self.items (come_back g (goal.at.take_in-requires-clause-others_out g c).After-push_reserved)
 
 pub take_in-requires-clause-unjoined : goal.take_in-requires-clause-unjoined
 take_in-requires-clause-unjoined g c lifetimes outlives =
     let V = g.C.Connections.view in
     All-weaker (λ pass. ComesBack (V pass)) (λ pass. (V pass).joined ≡ []) (λ pass b. b.unjoined) c.push_reserved.new.self.items (come_back g (goal.at.take_in-requires-clause-unjoined g c).After-push_reserved)
 
-pub returns-in_err-published-clause-back : goal.returns-in_err-published-clause-back
-returns-in_err-published-clause-back g c =
+pub returns-in_err-published-clause-later : goal.returns-in_err-published-clause-later
+returns-in_err-published-clause-later g c =
     let V = g.C.Connections.view in
     let old = V c.args.pass.now in
     let configs = configurations c.args.configs.now in
@@ -109,12 +95,12 @@ returns-in_err-published-clause-back g c =
     let count : length ended ≡ length begun = search rules in
     let worked = zip_places (HasWorked V configs) begun ended count (λ i d low. c.side_by_side-own.ensures.worked i d (search rules)) in
     let is : IsCrew V configs old passes left c.args.crew.items begun ended control controlled =
-    record { popped = search rules; given = c.in_ok-passes.ensures.spreads.each; legal = c.in_ok-passes.ensures.given_legal; from = c.lanes_with-lanes.ensures.passes; worked = worked; rested = c.side_by_side-own.ensures.rested } in
+    record { popped = search rules; given = c.in_ok-passes.ensures.spreads.each; legal = All-weaker (IsOut flow_law (g.C.Connections.fits c.args.conns.now) V) (λ pass. IsPass flow_law (V pass)) (λ pass o. o.legal) passes c.in_ok-passes.ensures.given; from = c.lanes_with-lanes.ensures.passes; worked = worked; rested = c.side_by_side-own.ensures.rested } in
     let same = same_others others c.apart-queues.new.passes.items c.args.room.others.items ended controlled (search rules) c.apart-queues.ensures.passes c.requires.room.others in
     let counted : length others ≡ length passes = ap length same ∙ (length-append (map pass_of_lane ended) (controlled ∷ []) ∙ (ap (λ n. n + 1) (length-map ended pass_of_lane) ∙ (ap (λ n. n + 1) count ∙ search rules))) in
     let whole = crew_whole V configs old passes left c.args.crew.items begun ended control controlled is (V c.split_off.new.pass) (V c.take_in.new.pass) others
-    c.in_ok-passes.ensures.spreads c.take_in.ensures.gathers same counted c.requires.places c.take_in.ensures.legal in
-    let collects : Collects (V c.take_in.new.pass) (V c.collect.new.pass) = record { frees = c.collect.ensures.adds; clean = c.collect.ensures.clean; view = c.collect.ensures.view; epoch = c.collect.ensures.epoch } in
+    c.in_ok-passes.ensures.spreads c.take_in.ensures.gathers same counted c.requires.places c.take_in.ensures.out.legal in
+    let collects : Collects (V c.take_in.new.pass) (V c.collect.new.pass) = record { frees = c.collect.ensures.adds; clean = c.collect.ensures.clean; view = c.collect.ensures.view } in
     is_back old (V c.take_in.new.pass) (V c.collect.new.pass) (map (λ (lane : Lane _). V lane.pass) ended ++ V controlled ∷ []) whole collects
 
 pub returns : goal.returns
@@ -132,16 +118,15 @@ returns g c =
     let count : length ended ≡ length begun = search rules in
     let worked = zip_places (HasWorked V configs) begun ended count (λ i d low. c.side_by_side-own.ensures.worked i d (search rules)) in
     let is : IsCrew V configs old passes left c.args.crew.items begun ended control controlled =
-    record { popped = search rules; given = c.in_ok-passes.ensures.spreads.each; legal = c.in_ok-passes.ensures.given_legal; from = c.lanes_with-lanes.ensures.passes; worked = worked; rested = c.side_by_side-own.ensures.rested } in
+    record { popped = search rules; given = c.in_ok-passes.ensures.spreads.each; legal = All-weaker (IsOut flow_law (g.C.Connections.fits c.args.conns.now) V) (λ pass. IsPass flow_law (V pass)) (λ pass o. o.legal) passes c.in_ok-passes.ensures.given; from = c.lanes_with-lanes.ensures.passes; worked = worked; rested = c.side_by_side-own.ensures.rested } in
     let same = same_others others c.apart-queues.new.passes.items c.args.room.others.items ended controlled (search rules) c.apart-queues.ensures.passes c.requires.room.others in
     let counted : length others ≡ length passes = ap length same ∙ (length-append (map pass_of_lane ended) (controlled ∷ []) ∙ (ap (λ n. n + 1) (length-map ended pass_of_lane) ∙ (ap (λ n. n + 1) count ∙ search rules))) in
     let whole = crew_whole V configs old passes left c.args.crew.items begun ended control controlled is (V c.split_off.new.pass) (V c.take_in.new.pass) others
-    c.in_ok-passes.ensures.spreads c.take_in.ensures.gathers same counted c.requires.places c.take_in.ensures.legal in
-    let collects : Collects (V c.take_in.new.pass) (V c.collect.new.pass) = record { frees = c.collect.ensures.adds; clean = c.collect.ensures.clean; view = c.collect.ensures.view; epoch = c.collect.ensures.epoch } in
+    c.in_ok-passes.ensures.spreads c.take_in.ensures.gathers same counted c.requires.places c.take_in.ensures.out.legal in
+    let collects : Collects (V c.take_in.new.pass) (V c.collect.new.pass) = record { frees = c.collect.ensures.adds; clean = c.collect.ensures.clean; view = c.collect.ensures.view } in
     record {
-      own = search rules;
-      legal = search rules;
-      back = is_back old (V c.take_in.new.pass) (V c.collect.new.pass) (map (λ (lane : Lane _). V lane.pass) ended ++ V controlled ∷ []) whole collects;
+      out = c.collect.ensures.out;
+      later = is_back old (V c.take_in.new.pass) (V c.collect.new.pass) (map (λ (lane : Lane _). V lane.pass) ended ++ V controlled ∷ []) whole collects;
       runs = (
         map done_of_lane ended,
         are_queues_of V configs begun ended c.apart-queues.result is.worked c.apart-queues.ensures.outcomes c.apart-queues.ensures.packets,

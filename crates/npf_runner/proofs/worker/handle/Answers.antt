@@ -8,7 +8,7 @@ use Rattle.npf_runner.proofs.worker.handle.Goals as goal
 pub returns-in-Some-clause-handled : goal.returns-in-Some-clause-handled
 returns-in-Some-clause-handled g c =
     handled_held (configurations c.args.configs.now) (g.C.Connections.view c.args.pass.now) c.args.reader.now
-    (record { number = c.args.number; packet = c.args.packet.now }) c.in-Some.why c.requires.legal c.in-Some.is
+    (record { number = c.args.number; packet = c.args.packet.now }) c.in-Some.why c.requires.out.legal c.in-Some.is
 
 pub returns-clause-handled : goal.returns-clause-handled
 returns-clause-handled g c =
@@ -18,12 +18,7 @@ returns-clause-handled g c =
     (ap (arrival c.args.number c.args.packet.now.time c.args.packet.now.link c.args.packet.now.ifid c.args.packet.now.dir) c.as_mut_slice.ensures.value ∙ arrives_free c.args.number c.args.packet.now c.in_default.is) done.handles in
     record {
       handles = handles;
-      rested = record {
-        same = done.handles.did.same;
-        legal = done.legal;
-        begins = record { rest = done.handles.did.adds.rest; goes_on = done.handles.did.adds.goes_on };
-        sweeps = done.sweeps;
-      };
+      rested = record { later = done.handles.did.later; joined = done.handles.did.joined; legal = done.out.legal };
       kept = λ no. done.kept no ∙ c.as_mut_slice.ensures.value;
       same = search rules;
       sweep = done.sweep;

@@ -22,7 +22,7 @@ handle-outcome-requires-clause-short g c lifetimes outlives =
     let low' : i < length numbers = search rules in
     let left = with_numbers (drop (i + 1) numbers) (drop (i + 1) packets) in
     let is = numbered_rest numbers packets i n packet low' low (search rules) (search rules) in
-    All-head IsJob (record { number = n; packet = packet }) left (subst (λ jobs. All IsJob jobs) is c.loop-place.invariant.3)
+    All-head IsJob (record { number = n; packet = packet }) left (subst (λ jobs. All IsJob jobs) is c.loop-place.invariant.2)
 
 pub loop-place-preserved : goal.loop-place-preserved
 loop-place-preserved g c =
@@ -50,18 +50,17 @@ loop-place-preserved g c =
     let come : c.push_reserved.new.self.items ≡ outcomes ++ outcome ∷ [] = search rules in
     let pushed : handled c.push_reserved.new.self.items (set packets i output) ≡ before ++ done ∷ [] =
     ap (λ os. handled os (set packets i output)) come ∙ handled_at outcomes packets i outcome output (search rules) low in (
-      c.handle-outcome.ensures.own,
-      h.rested.legal,
-      rested_more (V first.pass) (V c.loop-place.pass) (V c.handle-outcome.new.pass) inv.2 h.rested,
-      subst (λ jobs. All IsJob jobs) (sym same) (All-rest IsJob job left (with_numbers (drop i numbers) (drop i packets)) is inv.3),
-      asks_range c.loop-place.reader c.handle-outcome.new.reader h.handles.asked h.handles.asks ∙ inv.4,
+      c.handle-outcome.ensures.out,
+      rested_more (V first.pass) (V c.loop-place.pass) (V c.handle-outcome.new.pass) inv.1 h.rested,
+      subst (λ jobs. All IsJob jobs) (sym same) (All-rest IsJob job left (with_numbers (drop i numbers) (drop i packets)) is inv.2),
+      asks_range c.loop-place.reader c.handle-outcome.new.reader h.handles.asked h.handles.asks ∙ inv.3,
       search rules,
       search rules,
       search rules,
       (λ new next dones w.
           subst (λ z. WorksThrough configs (V first.pass) first.worker.reader (jobs_of first.worker) new next z)
           (sym (append_assoc before (done ∷ []) dones) ∙ ap (λ z. z ++ dones) (sym pushed))
-          (inv.8 new next (done ∷ dones) (subst (λ jobs. WorksThrough configs (V c.loop-place.pass) c.loop-place.reader jobs new next (done ∷ dones)) (sym is) (
+          (inv.7 new next (done ∷ dones) (subst (λ jobs. WorksThrough configs (V c.loop-place.pass) c.loop-place.reader jobs new next (done ∷ dones)) (sym is) (
             V c.handle-outcome.new.pass,
             c.handle-outcome.new.reader,
             h,
@@ -81,8 +80,8 @@ returns-clause-worked g c =
     let left = drop c.loop-place.place c.loop-place.packets.items in
     let none : drop c.loop-place.place numbers ≡ [] = drop_all c.loop-place.place numbers (search rules) in
     record {
-      legal = inv.1;
+      legal = inv.1.legal;
       works = subst (λ z. WorksThrough configs (V first.pass) first.worker.reader (jobs_of first.worker) pass reader z) (append-nil (handled c.loop-place.outcomes.items c.loop-place.packets.items))
-          (inv.8 pass reader [] (subst (λ ns. WorksThrough configs pass reader (with_numbers ns left) pass reader []) (sym none) (refl, refl)));
+          (inv.7 pass reader [] (subst (λ ns. WorksThrough configs pass reader (with_numbers ns left) pass reader []) (sym none) (refl, refl)));
       same_length = search rules;
     }

@@ -1,5 +1,5 @@
 use Rattle.std.proofs.Common.{◌≡◌, ◌≤◌, ◌++◌, All, List, drop, vec_len, vec_capacity}
-use Rattle.npf_connections.specs.Pass.{IsPass}
+use Rattle.npf_connections.specs.Stay.{IsOut}
 use Rattle.npf_flow.specs.Flows.{flow_law}
 use Rattle.npf_publish.specs.ConfReader.{reader_range}
 use Rattle.npf_engine.specs.Handles.{configurations}
@@ -10,8 +10,7 @@ use Rattle.npf_runner.proofs.worker.work.Given as goal
 
 abbrev pub invariant-loop-place : goal.invariant-loop-place
 invariant-loop-place g l =
-    g.C.Connections.fits l.conns l.pass
-    × IsPass flow_law (g.C.Connections.view l.pass)
+    IsOut flow_law (g.C.Connections.fits l.conns) g.C.Connections.view l.pass
     × IsRested (g.C.Connections.view l.initial.pass) (g.C.Connections.view l.pass)
     × All IsJob (with_numbers (drop l.place l.numbers.items) (drop l.place l.packets.items))
     × (reader_range l.reader ≡ reader_range l.initial.reader)

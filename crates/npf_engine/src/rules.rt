@@ -1,0 +1,152 @@
+// What a configuration makes of a packet that no connection took.
+ghost use Rattle.std.specs.Prelude.{◌≡◌, ◌↔◌, IsTrue, Some};
+ghost use Rattle.npf_packet.specs.declared.decoded.Decoded.TheVariants.{Ip};
+ghost use Rattle.npf_packet.specs.Decoding.{Decodes};
+ghost use Rattle.npf_ruleset.specs.Configuration.{configuration};
+ghost use Rattle.npf_engine.specs.Rules.{OpensOne, action_of, static_change, key_interface, mapping, mapping_of, no_action, plan_of, procedure_action, ruling_of, unchanged};
+
+use crate::crossing::Crossing;
+use npf_model::{Algo, Model, Procedure, Rule, StateOpt};
+use npf_nat::{MapPlan, plan};
+use npf_packet::decoded_is_packet;
+use npf_ruleset::{Config, map_for, walk};
+use npf_types::{Action, Change, Decision, IfId};
+
+/// What the rule at a place, counted from 0 in the order of inspection, makes of a packet; `action` is that of its procedure.
+#[derive(Clone, Copy, Debug, PartialEq, Eq)]
+pub struct Ruling {
+    pub place: u32,
+    pub decision: Decision,
+    pub state: StateOpt,
+    pub action: Action,
+}
+
+/// What a configuration's maps make of a packet, there and back. A dynamic map translates the packets of its connections alone.
+#[derive(Clone, Copy, Debug, PartialEq, Eq)]
+pub enum Mapping {
+    Unmapped,
+    Static { there: Change, back: Change },
+    Dynamic(MapPlan),
+}
+
+/// No procedure: nothing is normalised or logged.
+const NO_ACTION: Action = Action {
+    min_ttl: None,
+    max_mss: None,
+    no_df: false,
+    log: None,
+};
+
+/// A change that names nothing.
+pub(crate) const UNCHANGED: Change = Change {
+    src: None,
+    dst: None,
+    neutral: false,
+};
+
+/// The rule that decides on the packet, if one does.
+pub(crate) fn ruling_of(config: &Config, crossing: &Crossing) -> Option<Ruling>
+    requires { Decodes crossing.now.link crossing.now.bytes.now (Ip crossing.now.facts.now) }
+    ensures { result ≡ ruling_of (configuration config.now) crossing.now.facts.now crossing.now.ifid crossing.now.dir }
+{
+    decoded_is_packet();
+    let ip = crossing.packet();
+    let Some(place) = walk(config, crossing.facts, ip, crossing.ifid, crossing.dir) else {
+        return None;
+    };
+    let rule = config.rule(place);
+    Some(Ruling {
+        place,
+        decision: rule.decision,
+        state: rule.state,
+        action: action_of(config.model(), rule),
+    })
+}
+
+/// The action of a rule: that of its procedure, and empty without one.
+fn action_of(model: &Model, rule: &Rule) -> Action
+    ensures { result ≡ action_of model.now rule.now }
+{
+    let Some(place) = rule.procedure else {
+        return NO_ACTION;
+    };
+    match model.procedures.as_slice().get(place as usize) {
+        Some(procedure) => procedure_action(procedure),
+        None => NO_ACTION,
+    }
+}
+
+fn procedure_action(procedure: &Procedure) -> Action
+    ensures { result ≡ procedure_action (Some procedure.now) }
+{
+    npf_proc::action_of(procedure)
+}
+
+/// The map that translates the packet, if one does.
+pub(crate) fn mapping_of(config: &Config, crossing: &Crossing) -> Mapping
+    requires { Decodes crossing.now.link crossing.now.bytes.now (Ip crossing.now.facts.now) }
+    ensures { result ≡ mapping_of (configuration config.now) crossing.now.facts.now crossing.now.ifid crossing.now.dir }
+{
+    let ip = crossing.packet();
+    let Some(place) = map_for(config, crossing.facts, ip, crossing.ifid, crossing.dir) else {
+        return Mapping::Unmapped;
+    };
+    let map = config.map(place);
+    match plan(map, crossing.facts, crossing.dir) {
+        Some(made) => mapping_by_algo(map.algo, made),
+        None => Mapping::Unmapped,
+    }
+}
+
+/// A map by its algorithm, with what it makes of the packet.
+fn mapping_by_algo(algo: Algo, made: MapPlan) -> Mapping
+    ensures { result ≡ mapping algo made }
+{
+    match (algo, made) {
+        (Algo::Netmap | Algo::Npt66, MapPlan::Fixed { there, back }) => {
+            Mapping::Static { there, back }
+        }
+        _ => Mapping::Dynamic(made),
+    }
+}
+
+/// How the packets of a connection that the packet would open are translated.
+pub(crate) fn plan_of(mapping: &Mapping) -> MapPlan
+    ensures { result ≡ plan_of mapping.now }
+{
+    match *mapping {
+        Mapping::Unmapped => MapPlan::Fixed {
+            there: UNCHANGED,
+            back: UNCHANGED,
+        },
+        Mapping::Static { there, back } => MapPlan::Fixed { there, back },
+        Mapping::Dynamic(made) => made,
+    }
+}
+
+/// The change of a packet that opens no connection.
+pub(crate) fn static_change(mapping: &Mapping) -> Change
+    ensures { result ≡ static_change mapping.now }
+{
+    match *mapping {
+        Mapping::Static { there, .. } => there,
+        Mapping::Unmapped | Mapping::Dynamic(_) => UNCHANGED,
+    }
+}
+
+/// Whether a packet that passes opens a connection.
+pub(crate) fn opens_one(ruling: &Ruling, mapping: &Mapping) -> bool
+    ensures { IsTrue result ↔ OpensOne ruling.now mapping.now }
+{
+    ruling.state != StateOpt::Not || matches!(mapping, Mapping::Dynamic(_))
+}
+
+/// The interface of the keys: that of every interface exactly where the rule is `stateful-all`.
+pub(crate) fn key_interface(state: StateOpt, ifid: IfId) -> IfId
+    ensures { result ≡ key_interface state ifid }
+{
+    match state {
+        StateOpt::Not | StateOpt::OnInterface => ifid,
+        StateOpt::Everywhere => IfId(0),
+    }
+}
