@@ -1,7 +1,8 @@
 -- What a phase did, in terms of its passes.
-use Rattle.std.specs.Prelude.{◌≡◌, ℕ, ◌≤◌, ◌+◌, ◌++◌, List, [], ◌∷◌, All, map, take, drop}
+use Rattle.std.specs.Prelude.{◌≡◌, ◌⊎◌, ℕ, ◌≤◌, ◌+◌, ◌++◌, List, [], ◌∷◌, All, map, take, drop}
 use Rattle.std.specs.List.{AllZip}
-use Rattle.npf_core.specs.History.{IsPrefix}
+use Rattle.npf_core.specs.History.{IsPrefix, state_of}
+use Rattle.npf_connections.specs.Collecting.{HasNoDead, IsWorn}
 use Rattle.npf_connections.specs.Pass.{Pass, IsPass}
 use Rattle.npf_flow.specs.Flows.{flow_law}
 use Rattle.npf_model.specs.Configuration.{Configuration}
@@ -33,6 +34,10 @@ pub record IsBack (old new : Pass FlowEntry) : Type 0 where
   pub begins : IsPrefix old.history new.history
   pub sweeps : old.sweeps ≤ new.sweeps
   pub epoch : old.epoch ≤ new.epoch
+
+-- the pass is as it was, or shows no Dead connection, unless it is worn
+abbrev pub LeavesNoDead : Pass FlowEntry → Pass FlowEntry → Type 0
+LeavesNoDead old new = (new ≡ old) ⊎ (¬ IsWorn new → HasNoDead (state_of flow_law new.history))
 
 -- Each worker handled its packets with a pass of its own, beside the control task's commands. The pass was split for them, took all in
 -- again, and collected.
