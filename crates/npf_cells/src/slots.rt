@@ -4,31 +4,12 @@ use crate::cells::{CellPass, Cells};
 use npf_cells_words::Pool;
 use crate::pools::{is_clear, place_bit};
 use crate::rule::Running;
+use crate::told::Told;
 use npf_cells_rule::CellView;
 use atomic_table::Play;
 use npf_core::Law;
 use npf_paths::KeyHash;
 use std::marker::{Brand, PhantomData};
-
-// What a step on a slot's bit is told.
-pub(crate) trait SlotAim {
-    ghost use Rattle.std.specs.Prelude.{ℕ};
-    ghost use Rattle.npf_cells_words.specs.declared.layout.Layout.{Layout};
-
-    ghost layout: { Layout };
-
-    ghost slot: { ℕ };
-
-    ghost packet: { ℕ };
-}
-
-impl SlotAim for Brand {
-    ghost layout = { record { slots = 0; nodes = 0 } };
-
-    ghost slot = { 0 };
-
-    ghost packet = { 0 };
-}
 
 pub(crate) struct TakesSlot<L: Law, H: KeyHash, W> {
     law: PhantomData<L>,
@@ -36,11 +17,11 @@ pub(crate) struct TakesSlot<L: Law, H: KeyHash, W> {
     aim: PhantomData<W>,
 }
 
-impl<L: Law, H: KeyHash, W: SlotAim> Play<Running<L::State>, CellView<L::State, L::Arg, L::Reply>>
+impl<L: Law, H: KeyHash, W: Told> Play<Running<L::State>, CellView<L::State, L::Arg, L::Reply>>
     for TakesSlot<L, H, W> {
     ghost use Rattle.npf_cells_takes.specs.SlotKinds.{ClaimsSlot};
 
-    ghost then = { ClaimsSlot L.meaning H.digest W.layout W.packet W.slot };
+    ghost then = { ClaimsSlot L.meaning H.digest W.told.layout W.told.packet W.told.number };
 }
 
 impl<L: Law, H: KeyHash> Cells<L, H> {
@@ -67,11 +48,11 @@ impl<L: Law, H: KeyHash> Cells<L, H> {
         self.claim_slot_as::<Brand>(pass, slot, n)
     }
 
-    fn claim_slot_as<W: SlotAim>(&self, pass: &mut CellPass<L>, slot: u32, n: u64) -> bool
+    fn claim_slot_as<W: Told>(&self, pass: &mut CellPass<L>, slot: u32, n: u64) -> bool
         requires own { IsPassOf self.now.table.shared.key self.now.table.shared.table_id pass.old.seat.table_id pass.old.readers.items pass.old.seat.me }
         requires slot { slot < self.now.table.shared.key.slots }
         requires protected { IsProtected pass.old.seat.me.0.epochs.pin }
-        requires aim { (W.layout ≡ self.now.table.shared.key) × (W.slot ≡ slot) × (W.packet ≡ n) }
+        requires aim { (W.told.layout ≡ self.now.table.shared.key) × (W.told.number ≡ slot) × (W.told.packet ≡ n) }
         ensures own { IsPassOf self.now.table.shared.key self.now.table.shared.table_id pass.new.seat.table_id pass.new.readers.items pass.new.seat.me }
         ensures claims { result ≡ true → HasClaimed L.meaning n slot pass.old.seat.me pass.new.seat.me }
         ensures loses { result ≡ false → pass.new.seat.me ≡ with_pools pass.old.seat.me (record pass.old.seat.me.0.pools { found = pass.new.seat.me.0.pools.found }) }

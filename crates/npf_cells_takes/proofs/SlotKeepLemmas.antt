@@ -40,7 +40,7 @@ use Rattle.npf_cells_rule.specs.Cells.{IsCells}
 use Rattle.npf_cells_rule.specs.Passes.{IsProtected, cell_pass}
 use Rattle.npf_cells_rule.specs.Views.{seat_side, reader_view, pool_side, trie_side}
 use Rattle.npf_cells_rule.proofs.EntryLemmas.{adds_entry, sole_entries}
-use Rattle.npf_cells_rule.proofs.Frames.{pools_step, entry_step}
+use Rattle.npf_cells_rule.proofs.Frames.{alone_within, pools_step, entry_step}
 use Rattle.npf_cells_rule.proofs.PassLemmas.{pinned_in}
 use Rattle.npf_cells_rule.proofs.StoodLemmas.{stood_so}
 use Rattle.npf_cells_takes.specs.SlotKinds.{claiming_slot, HasClaimed, ClaimsSlot}
@@ -92,7 +92,7 @@ module _ {S A R F : Type 0} (m : Meaning S A R) (digest : Key → ℕ) (layout :
         IsCells m digest layout (stepped s word n id me.1 winner keeps)
     wins n clear here bits =
         let may = follows clear in
-        entry_step m digest layout s word n id me.1 me.0 winner kept at lives place entry refl may refl refl (winner_stored clear) refl (pool_step layout s.words Slots slot n within)
+        entry_step m digest layout s word n id me.1 me.0 winner kept at lives place entry refl may refl refl (winner_stored clear) refl (alone_within winner place stays) (pool_step layout s.words Slots slot n within)
         (pools-set layout (taken pool_side kept.published k s.views) (taken pool_side kept.published (claimed m k id packet slot) (set s.views id winner)) s.words Slots slot n kept.pools within (here ∙ sym (now_taken m k id packet slot)) bits
         (taken_else m k id packet slot pool_side s.views id me.0 winner at kept.published refl))
         (trie_same trie_side digest layout kept.published k (claimed m k id packet slot) s.words (set s.words word n) s.views id me.0 winner kept.trie at (knows_same me.0.trie)
@@ -130,7 +130,7 @@ module _ {S A R F : Type 0} (m : Meaning S A R) (digest : Key → ℕ) (layout :
         let bit = kept.pools.bits Slots slot within in
         let below = bit_at-lt found (slot % 64) in
         let one : bit_at found (slot % 64) ≡ 1 = omega (arith, some', below) in
-        pools_step m digest layout s word n id me.1 me.0 w kept at refl refl (knows_same me.0.trie) (stored_kept layout s.words s.words me.0.pools w.pools (kept.stored id me.0 at) refl (own_same layout me.0.pools w.pools refl refl) (λ pool p field own. refl)) refl refl (λ none. absurd (omega (arith, none, place))) (pool_step layout s.words Slots slot n within)
+        pools_step m digest layout s word n id me.1 me.0 w kept at refl refl (knows_same me.0.trie) (stored_kept layout s.words s.words me.0.pools w.pools (kept.stored id me.0 at) refl (own_same layout me.0.pools w.pools refl refl) (λ pool p field own. refl)) refl refl (alone_within w place stays) (pool_step layout s.words Slots slot n within)
         (pools-set layout (taken pool_side kept.published k s.views) (taken pool_side kept.published k (set s.views id w)) s.words Slots slot n kept.pools within (here ∙ (sym one ∙ (bit ∙ sym (taken' Slots slot)))) bits (λ other p two. taken' other p))
 
   pub may_claim_slot : (st : Step F) (id n packet slot mask : ℕ) (me : Me F (CellView S A R)) → me.0.seats.lives ≡ true → me.0.seats.theirs ≡ [] → 1 ≤ length me.0.seats.readers → IsProtected me.0.epochs.pin → slot < layout.slots → mask ≡ 1 * 2 ^ (slot % 64) % 2 ^ 64 →

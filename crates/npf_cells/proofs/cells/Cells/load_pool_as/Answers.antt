@@ -17,7 +17,7 @@ load-requires g c =
     let place : c.pool_place-place.result ≡ pool_at c.args.self.now.table.shared.key c.args.pool + c.args.word
     = c.pool_place-place.ensures ∙ ap (λ l. pool_at l c.args.pool + c.args.word) (sym c.args.self.now.laid) in
     rw (c.requires.aim.0, c.requires.aim.1, c.requires.aim.2)
-    (own.same, omega (arith, own.words, reach, place), may_sweep g.L.Law.meaning g.H.KeyHash.digest c.args.self.now.table.shared.key _ _ _ c.args.pool c.args.word _ c.args.pass.now.seat.me own.lives place)
+    (own.same, omega (arith, own.words, reach, place), may_sweep g.L.Law.meaning g.H.KeyHash.digest c.args.self.now.table.shared.key _ _ _ c.args.pool c.args.word _ c.args.pass.now.seat.me own.lives own.place place)
 
 pub returns-clause-own : goal.returns-clause-own
 returns-clause-own g c = pools_on c.args.self.now.table.shared.key _ _ _ _ _ _ _ c.requires.own c.load.ensures.0 c.load.ensures.2.is
