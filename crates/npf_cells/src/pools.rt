@@ -51,7 +51,7 @@ impl<L: Law, H: KeyHash, W: Told> Play<Running<L::State>, CellView<L::State, L::
 }
 
 impl<L: Law, H: KeyHash> Cells<L, H> {
-    ghost use Rattle.std.specs.Prelude.{◌≡◌, ◌<◌, ◌↔◌, ◌==◌, ◌+◌, ◌%◌, true, false, ℕ, length, Contains};
+    ghost use Rattle.std.specs.Prelude.{◌≡◌, ◌<◌, ◌↔◌, ◌==◌, ◌+◌, ◌/◌, ◌%◌, true, false, ℕ, length, Contains};
     ghost use Rattle.std.specs.Int.{bit_at};
     ghost use Rattle.npf_cells_words.specs.declared.layout.Pool.TheVariants.{Slots, Nodes};
     ghost use Rattle.npf_cells_words.specs.Layout.{pool_at, pool_places, pool_words, place_word};
@@ -59,15 +59,17 @@ impl<L: Law, H: KeyHash> Cells<L, H> {
     ghost use Rattle.npf_cells_rule.specs.Stood.{StoodSo};
     ghost use Rattle.npf_cells_takes.specs.PoolKinds.{NeedsNode, sweeping, claiming_node, giving_back};
     ghost use Rattle.npf_cells_rule.specs.Views.{with_pools};
-    ghost use Rattle.npf_cells_takes.specs.SlotKinds.{HasClaimed};
+    ghost use Rattle.npf_cells_takes.specs.SlotKinds.{HasClaimed, HasSeenSlots};
 
-    /// Loads a word of a pool: a bit for each of 64 places, set where it is taken or past the last place.
+    /// Loads a word of a pool: a bit for each of 64 places, set where it is taken or past the last place. At a word of the slots the pass
+    /// then sees all of the history.
     pub fn load_pool(&self, pass: &mut CellPass<L>, pool: Pool, word: u32) -> u64
         requires own { IsPassOf self.now.table.shared.key self.now.table.shared.table_id pass.old.seat.table_id pass.old.readers.items pass.old.seat.me }
         requires word { word < pool_words (pool_places self.now.table.shared.key pool) }
         requires needs { pool ≡ Nodes → NeedsNode H.digest pass.old.seat.me.0 }
         ensures own { IsPassOf self.now.table.shared.key self.now.table.shared.table_id pass.new.seat.table_id pass.new.readers.items pass.new.seat.me }
-        ensures next { pass.new.seat.me ≡ with_pools pass.old.seat.me (sweeping pool (pool_words self.now.table.shared.key.nodes) word pass.old.seat.me.0.pools result) }
+        ensures nodes { pool ≡ Nodes → pass.new.seat.me ≡ with_pools pass.old.seat.me (sweeping (pool_words self.now.table.shared.key.nodes) word pass.old.seat.me.0.pools result) }
+        ensures slots { pool ≡ Slots → HasSeenSlots L.meaning self.now.table.shared.key word result pass.old.seat.me pass.new.seat.me }
         ensures stood { StoodSo L.meaning H.digest self.now.table.shared.key pass.old.seat.me.0 (pool_at self.now.table.shared.key pool + word) result }
     {
         self.load_pool_as::<Brand>(pass, pool, word)
@@ -78,7 +80,8 @@ impl<L: Law, H: KeyHash> Cells<L, H> {
         requires word { word < pool_words (pool_places self.now.table.shared.key pool) }
         requires aim { (W.told.layout ≡ self.now.table.shared.key) × (W.told.pool ≡ pool) × (W.told.word ≡ word) }
         ensures own { IsPassOf self.now.table.shared.key self.now.table.shared.table_id pass.new.seat.table_id pass.new.readers.items pass.new.seat.me }
-        ensures next { pass.new.seat.me ≡ with_pools pass.old.seat.me (sweeping pool (pool_words self.now.table.shared.key.nodes) word pass.old.seat.me.0.pools result) }
+        ensures nodes { pool ≡ Nodes → pass.new.seat.me ≡ with_pools pass.old.seat.me (sweeping (pool_words self.now.table.shared.key.nodes) word pass.old.seat.me.0.pools result) }
+        ensures slots { pool ≡ Slots → HasSeenSlots L.meaning self.now.table.shared.key word result pass.old.seat.me pass.new.seat.me }
         ensures stood { StoodSo L.meaning H.digest self.now.table.shared.key pass.old.seat.me.0 (pool_at self.now.table.shared.key pool + word) result }
     {
         let place = self.layout.pool_place(pool, word);
@@ -98,7 +101,8 @@ impl<L: Law, H: KeyHash> Cells<L, H> {
         ensures slot { pool ≡ Slots → result ≡ true → HasClaimed L.meaning n place pass.old.seat.me pass.new.seat.me }
         ensures node { pool ≡ Nodes → pass.new.seat.me ≡ with_pools pass.old.seat.me (claiming_node place pass.old.seat.me.0.pools pass.new.seat.me.0.pools.found) }
         ensures unowned { pool ≡ Nodes → result ≡ true → ¬ (Contains pass.old.seat.me.0.pools.nodes place) }
-        ensures loses { result ≡ false → pass.new.seat.me ≡ with_pools pass.old.seat.me (record pass.old.seat.me.0.pools { found = pass.new.seat.me.0.pools.found }) }
+        ensures sees { pool ≡ Slots → result ≡ false → HasSeenSlots L.meaning self.now.table.shared.key (place / 64) pass.new.seat.me.0.pools.found pass.old.seat.me pass.new.seat.me }
+        ensures loses { pool ≡ Nodes → result ≡ false → pass.new.seat.me ≡ with_pools pass.old.seat.me (record pass.old.seat.me.0.pools { found = pass.new.seat.me.0.pools.found }) }
         ensures stood { StoodSo L.meaning H.digest self.now.table.shared.key pass.old.seat.me.0 (place_word self.now.table.shared.key pool place) pass.new.seat.me.0.pools.found }
         ensures answers { (result ≡ true) ↔ (bit_at pass.new.seat.me.0.pools.found (place % 64) ≡ 0) }
     {

@@ -19,7 +19,7 @@ use Rattle.npf_cells_words.specs.Places.{lock_at}
 use Rattle.npf_cells_words.proofs.WordLemmas.{lock_behind, field_behind}
 use Rattle.npf_seats.specs.Seats.{Seats}
 use Rattle.npf_seats.specs.Sums.{occurs}
-use Rattle.npf_seats.proofs.SeatLemmas.{owned_within, seats-adds}
+use Rattle.npf_seats.proofs.SeatLemmas.{owned_within, seats-adds, seats-sees}
 use Rattle.npf_seats.proofs.SumLemmas.{from_map, side_same}
 use Rattle.npf_cells_pins.specs.Epochs.{ReaderView, Epochs}
 use Rattle.npf_cells_pins.proofs.EpochLemmas.{epochs-words}
@@ -174,6 +174,21 @@ module _ {S A R F : Type 0} (m : Meaning S A R) (digest : Key → ℕ) (layout :
       Pools layout (taken pool_side kept.published (state_of m kept.log) (set s.views id w)) (set s.words i n) → IsCells m digest layout (stepped s i n id c w keeps)
   pools_step s i n id c v w kept at same reads trie stored builds unstored alone words pools = framed s (stepped s i n id c w keeps) kept kept.published kept.log (length-set s.words i n)
       (subst (λ sides. Seats entry_seat layout.slots all_places kept.log sides) (sym (side_same seat_side s.views id v w at same)) kept.seats)
+      (epochs_apart s i n id v w kept at reads words.before)
+      pools
+      (trie_apart s i n id v w kept at trie words.behind)
+      (conns_apart s i n id v w kept at builds unstored words.behind)
+      (stored_apart s i n id w kept stored words.behind)
+      (locks_apart s i n id v w kept at trie.locks words.behind)
+      (alone-set s.views id w alone kept.alone)
+
+  -- the same, where the pass also sees all of the history
+  pub sight_step : (s : State F (CellView S A R)) (i n id : ℕ) (c : List (ℕ × F)) (v w : CellView S A R) (kept : IsCells m digest layout s) → get_elem? s.views id ≡ some v → v.seats.lives ≡ true → w.seats ≡ record v.seats { history = kept.log } → reader_view w ≡ reader_view v →
+      KnowsNoMore v.trie w.trie → FitsStored layout s.words w.pools → w.pools.builds ≡ v.pools.builds → w.pools.unstored ≡ v.pools.unstored → FitsAlone w → IsPoolStep layout s.words i n →
+      Pools layout (taken pool_side kept.published (state_of m kept.log) (set s.views id w)) (set s.words i n) → IsCells m digest layout (stepped s i n id c w keeps)
+  sight_step s i n id c v w kept at lives seats reads trie stored builds unstored alone words pools = framed s (stepped s i n id c w keeps) kept kept.published kept.log (length-set s.words i n)
+      (subst (λ sides. Seats entry_seat layout.slots all_places kept.log sides) (sym (map-set seat_side s.views id w ∙ ap (λ side. set (map seat_side s.views) id side) seats))
+      (seats-sees entry_seat layout.slots all_places kept.log (map seat_side s.views) id v.seats kept.seats (at_map seat_side s.views id v at) lives))
       (epochs_apart s i n id v w kept at reads words.before)
       pools
       (trie_apart s i n id v w kept at trie words.behind)
