@@ -10,6 +10,7 @@ use crate::kinds::{
 use npf_cells_words::{EPOCH, FIRST_EPOCH, IDLE, Layout, Pool, READERS, reader_place};
 use crate::passing::{GetsBorn, Gives, Reads, TakesIn};
 use crate::rule::CellsRule;
+use crate::told::Told;
 use npf_cells_rule::CellView;
 use arrayvec::ArrayVec;
 use atomic_table::{Refused, Seat, Table};
@@ -17,6 +18,7 @@ use npf_core::Law;
 use npf_paths::KeyHash;
 use npf_types::NoMemory;
 use std::alloc::Global;
+use std::marker::Brand;
 
 /// A table of connections without locks.
 #[derive(Drop)]
@@ -52,9 +54,11 @@ impl<L: Law, H: KeyHash> Cells<L, H> {
     ghost use Rattle.npf_cells_leaves.specs.Trie.{unread_side};
     ghost use Rattle.npf_cells_pins.specs.Pinning.{HasLoaded, IsMet, loading, pinning, protecting, scanning, advancing, joined_epochs};
     ghost use Rattle.npf_cells_rule.specs.Views.{with_epochs};
-    ghost use Rattle.npf_cells_moves.specs.Kinds.{unpinned};
+    ghost use Rattle.npf_cells_moves.specs.Kinds.{IsSole, unpinned};
     ghost use Rattle.npf_cells_moves.specs.Moves.{joined_pools, joined_trie};
     ghost use Rattle.npf_cells_rule.specs.Passes.{IsPassOf, cell_pass};
+    ghost use Rattle.npf_cells_rule.specs.Stood.{StoodSo};
+    ghost use Rattle.npf_cells_words.specs.Layout.{reader_at};
 
     /// A table of so many slots and nodes, and its first pass. All the memory that it ever has is taken here.
     pub fn new(
@@ -62,6 +66,8 @@ impl<L: Law, H: KeyHash> Cells<L, H> {
         slots: u32,
         nodes: u32,
     ) -> Result<(Cells<L, H>, CellPass<L>), NoMemory>
+        requires slots { (1 ≤ slots) × (slots ≤ 65536) }
+        requires nodes { (16 ≤ nodes) × (nodes ≤ 262144) }
         ensures layout { IfOk result (λ made. made.0.table.shared.key ≡ record { slots = slots; nodes = nodes }) }
         ensures own { IfOk result (λ made. IsPassOf made.0.table.shared.key made.0.table.shared.table_id made.1.seat.table_id made.1.readers.items made.1.seat.me) }
         ensures first { IfOk result (λ made. IsFirstPass slots (cell_pass made.1.seat.me.0)) }
@@ -142,6 +148,7 @@ impl<L: Law, H: KeyHash> Cells<L, H> {
         requires own { IsPassOf self.now.table.shared.key self.now.table.shared.table_id pass.old.seat.table_id pass.old.readers.items pass.old.seat.me }
         ensures own { IsPassOf self.now.table.shared.key self.now.table.shared.table_id pass.new.seat.table_id pass.new.readers.items pass.new.seat.me }
         ensures met { IsMet pass.old.seat.me.0.epochs result }
+        ensures sole { IsSole pass.old.seat.me.0 result }
         ensures next { pass.new.seat.me ≡ with_epochs pass.old.seat.me (loading pass.old.seat.me.0.epochs result) }
     {
         self.table.shared.load::<LoadsEpoch>(&mut pass.seat, EPOCH)
@@ -167,6 +174,7 @@ impl<L: Law, H: KeyHash> Cells<L, H> {
         requires pinned { (epoch : ℕ) × (pass.old.seat.me.0.epochs.pin ≡ Pinned epoch) }
         ensures own { IsPassOf self.now.table.shared.key self.now.table.shared.table_id pass.new.seat.table_id pass.new.readers.items pass.new.seat.me }
         ensures met { IsMet pass.old.seat.me.0.epochs result }
+        ensures sole { IsSole pass.old.seat.me.0 result }
         ensures next { pass.new.seat.me ≡ with_epochs pass.old.seat.me (protecting pass.old.seat.me.0.epochs result) }
     {
         self.table
@@ -194,10 +202,22 @@ impl<L: Law, H: KeyHash> Cells<L, H> {
         requires reader { reader < all_places }
         ensures own { IsPassOf self.now.table.shared.key self.now.table.shared.table_id pass.new.seat.table_id pass.new.readers.items pass.new.seat.me }
         ensures next { pass.new.seat.me ≡ with_epochs pass.old.seat.me (scanning pass.old.seat.me.0.epochs reader result) }
+        ensures stood { StoodSo L.meaning H.digest self.now.table.shared.key pass.old.seat.me.0 (reader_at reader) result }
+    {
+        self.scan_reader_as::<Brand>(pass, reader)
+    }
+
+    fn scan_reader_as<W: Told>(&self, pass: &mut CellPass<L>, reader: u32) -> u64
+        requires own { IsPassOf self.now.table.shared.key self.now.table.shared.table_id pass.old.seat.table_id pass.old.readers.items pass.old.seat.me }
+        requires reader { reader < all_places }
+        requires aim { W.told.layout ≡ self.now.table.shared.key }
+        ensures own { IsPassOf self.now.table.shared.key self.now.table.shared.table_id pass.new.seat.table_id pass.new.readers.items pass.new.seat.me }
+        ensures next { pass.new.seat.me ≡ with_epochs pass.old.seat.me (scanning pass.old.seat.me.0.epochs reader result) }
+        ensures stood { StoodSo L.meaning H.digest self.now.table.shared.key pass.old.seat.me.0 (reader_at reader) result }
     {
         self.table
             .shared
-            .load::<ScansReader>(&mut pass.seat, reader_place(reader))
+            .load::<ScansReader<L, H, W>>(&mut pass.seat, reader_place(reader))
     }
 
     /// Raises the epoch by one, unless it is another by now. Answers whether it did.
@@ -208,6 +228,7 @@ impl<L: Law, H: KeyHash> Cells<L, H> {
         requires scanned { HasScannedAll pass.old.seat.me.0.epochs }
         ensures own { IsPassOf self.now.table.shared.key self.now.table.shared.table_id pass.new.seat.table_id pass.new.readers.items pass.new.seat.me }
         ensures met { IsMet pass.old.seat.me.0.epochs pass.new.seat.me.0.epochs.met }
+        ensures sole { IsSole pass.old.seat.me.0 pass.new.seat.me.0.epochs.met }
         ensures next { pass.new.seat.me ≡ with_epochs pass.old.seat.me (advancing pass.old.seat.me.0.epochs pass.new.seat.me.0.epochs.met) }
         ensures raises { pass.new.seat.me.0.epochs.raises ≡ pass.old.seat.me.0.epochs.raises + (if result then 1 else 0) }
         ensures moved { (result ≡ true) ↔ (pass.new.seat.me.0.epochs.met ≡ epoch) }

@@ -2,6 +2,7 @@ ghost use Rattle.std.specs.Prelude.{◌≡◌};
 
 use crate::cells::{CellPass, Cells};
 use crate::rule::Running;
+use crate::told::Told;
 use npf_cells_rule::CellView;
 use atomic_table::Play;
 use npf_core::{ConnId, Law};
@@ -9,58 +10,17 @@ use npf_paths::{Cell, KeyHash, Place};
 use npf_types::{Key, Way};
 use std::marker::{Brand, PhantomData};
 
-// What a step for a key that is to be held is told.
-pub(crate) trait HoldAim {
-    ghost use Rattle.npf_types.specs.declared.key.Key.{Key};
-    ghost use Rattle.npf_types.specs.declared.key.Way.{Way};
-    ghost use Rattle.npf_core.specs.declared.conn_id.ConnId.{ConnId};
-    ghost use Rattle.npf_paths.specs.declared.place.Place.{Place};
-    ghost use Rattle.npf_paths.specs.declared.cell.Cell.{Cell};
-    ghost use Rattle.npf_cells_words.specs.declared.layout.Layout.{Layout};
-
-    ghost layout: { Layout };
-
-    ghost id: { ConnId };
-
-    ghost key: { Key };
-
-    ghost way: { Way };
-
-    ghost place: { Place };
-
-    ghost cell: { Cell };
-}
-
-impl HoldAim for Brand {
-    ghost use Rattle.std.specs.Prelude.{[]};
-    ghost use Rattle.npf_types.specs.declared.key.Way.TheVariants.{Forward};
-    ghost use Rattle.npf_paths.specs.declared.cell.Cell.TheVariants.{Empty};
-    ghost use Rattle.npf_paths.specs.declared.place.Place.TheVariants.{Root};
-
-    ghost layout = { record { slots = 0; nodes = 0 } };
-
-    ghost id = { record { slot = 0; inc = 0 } };
-
-    ghost key = { record { 0 = [] } };
-
-    ghost way = { Forward };
-
-    ghost place = { Root 0 };
-
-    ghost cell = { Empty };
-}
-
 pub(crate) struct LoadsToHold<L: Law, H: KeyHash, W> {
     law: PhantomData<L>,
     hash: PhantomData<H>,
     aim: PhantomData<W>,
 }
 
-impl<L: Law, H: KeyHash, W: HoldAim> Play<Running<L::State>, CellView<L::State, L::Arg, L::Reply>>
+impl<L: Law, H: KeyHash, W: Told> Play<Running<L::State>, CellView<L::State, L::Arg, L::Reply>>
     for LoadsToHold<L, H, W> {
     ghost use Rattle.npf_cells_holds.specs.HoldKinds.{LoadsForHold};
 
-    ghost then = { LoadsForHold L.meaning H.digest W.layout W.id W.key W.way W.place };
+    ghost then = { LoadsForHold L.meaning H.digest W.told.layout W.told.id W.told.key W.told.way W.told.place };
 }
 
 impl<L: Law, H: KeyHash> Cells<L, H> {
@@ -71,7 +31,7 @@ impl<L: Law, H: KeyHash> Cells<L, H> {
     ghost use Rattle.npf_cells_words.specs.Places.{IsInTrie};
 
     // Loads a place of the path of a key that is to be held.
-    pub(crate) fn hold_place<W: HoldAim>(
+    pub(crate) fn hold_place<W: Told>(
         &self,
         pass: &mut CellPass<L>,
         place: Place,
@@ -84,7 +44,7 @@ impl<L: Law, H: KeyHash> Cells<L, H> {
         requires protected { IsProtected pass.old.seat.me.0.epochs.pin }
         requires stands { StandsOnPath H.digest pass.old.seat.me.0.trie key.now place }
         requires may { MayHoldSo L.meaning pass.old.seat.me.0 id way }
-        requires aim { (W.layout ≡ self.now.table.shared.key) × (W.id ≡ id) × (W.key ≡ key.now) × (W.way ≡ way) × (W.place ≡ place) }
+        requires aim { (W.told.layout ≡ self.now.table.shared.key) × (W.told.id ≡ id) × (W.told.key ≡ key.now) × (W.told.way ≡ way) × (W.told.place ≡ place) }
         ensures own { IsPassOf self.now.table.shared.key self.now.table.shared.table_id pass.new.seat.table_id pass.new.readers.items pass.new.seat.me }
         ensures holds { HoldsAt L.meaning H.digest self.now.table.shared.key id key.now way place result pass.old.seat.me pass.new.seat.me }
     {

@@ -1,5 +1,10 @@
-use npf_cells_rule::CellView;
+use crate::rule::Running;
+use crate::told::Told;
 use atomic_table::Play;
+use npf_cells_rule::CellView;
+use npf_core::Law;
+use npf_paths::KeyHash;
+use std::marker::PhantomData;
 
 /// A load of the epoch.
 pub(crate) struct LoadsEpoch;
@@ -38,12 +43,17 @@ impl<F, S, A, R> Play<F, CellView<S, A, R>> for UnpinsReader {
 }
 
 /// A load of a reader word.
-pub(crate) struct ScansReader;
+pub(crate) struct ScansReader<L: Law, H: KeyHash, W> {
+    law: PhantomData<L>,
+    hash: PhantomData<H>,
+    aim: PhantomData<W>,
+}
 
-impl<F, S, A, R> Play<F, CellView<S, A, R>> for ScansReader {
+impl<L: Law, H: KeyHash, W: Told> Play<Running<L::State>, CellView<L::State, L::Arg, L::Reply>>
+    for ScansReader<L, H, W> {
     ghost use Rattle.npf_cells_moves.specs.Kinds.{Scans};
 
-    ghost then = { Scans };
+    ghost then = { Scans L.meaning H.digest W.told.layout };
 }
 
 /// A try to raise the epoch.

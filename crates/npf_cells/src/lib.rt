@@ -23,6 +23,7 @@ mod private;
 mod publish;
 mod rule;
 mod slots;
+mod told;
 
 pub use cells::{CellPass, Cells};
 pub use npf_cells_holds::Aim;

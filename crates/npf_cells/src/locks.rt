@@ -2,6 +2,7 @@ ghost use Rattle.std.specs.Prelude.{◌≡◌};
 
 use crate::cells::{CellPass, Cells};
 use crate::rule::Running;
+use crate::told::Told;
 use npf_cells_rule::CellView;
 use atomic_table::Play;
 use npf_core::Law;
@@ -13,50 +14,27 @@ const FREE: u64 = 0;
 
 const LOCKED: u64 = 1;
 
-// What a step on a lock is told.
-pub(crate) trait LockAim {
-    ghost use Rattle.std.specs.Prelude.{ℕ};
-    ghost use Rattle.npf_paths.specs.declared.place.Lock.{Lock};
-    ghost use Rattle.npf_cells_words.specs.declared.layout.Layout.{Layout};
-
-    ghost layout: { Layout };
-
-    ghost lock: { Lock };
-
-    ghost state: { ℕ };
-}
-
-impl LockAim for Brand {
-    ghost use Rattle.npf_paths.specs.declared.place.Lock.TheVariants.{Root};
-
-    ghost layout = { record { slots = 0; nodes = 0 } };
-
-    ghost lock = { Root 0 };
-
-    ghost state = { 0 };
-}
-
 pub(crate) struct GetsLock<L: Law, H: KeyHash, W> {
     law: PhantomData<L>,
     hash: PhantomData<H>,
     aim: PhantomData<W>,
 }
 
-impl<L: Law, H: KeyHash, W: LockAim> Play<Running<L::State>, CellView<L::State, L::Arg, L::Reply>>
+impl<L: Law, H: KeyHash, W: Told> Play<Running<L::State>, CellView<L::State, L::Arg, L::Reply>>
     for GetsLock<L, H, W> {
     ghost use Rattle.npf_cells_holds.specs.LockKinds.{TriesLock};
 
-    ghost then = { TriesLock L.meaning H.digest W.layout W.lock };
+    ghost then = { TriesLock L.meaning H.digest W.told.layout W.told.lock };
 }
 
 pub(crate) struct StoresNode<W> {
     aim: PhantomData<W>,
 }
 
-impl<F, S, A, R, W: LockAim> Play<F, CellView<S, A, R>> for StoresNode<W> {
+impl<F, S, A, R, W: Told> Play<F, CellView<S, A, R>> for StoresNode<W> {
     ghost use Rattle.npf_cells_holds.specs.LockKinds.{StoresState};
 
-    ghost then = { StoresState W.layout W.lock W.state };
+    ghost then = { StoresState W.told.layout W.told.lock W.told.state };
 }
 
 impl<L: Law, H: KeyHash> Cells<L, H> {
@@ -79,11 +57,11 @@ impl<L: Law, H: KeyHash> Cells<L, H> {
         self.try_lock_as::<Brand>(pass, lock)
     }
 
-    fn try_lock_as<W: LockAim>(&self, pass: &mut CellPass<L>, lock: Lock) -> bool
+    fn try_lock_as<W: Told>(&self, pass: &mut CellPass<L>, lock: Lock) -> bool
         requires own { IsPassOf self.now.table.shared.key self.now.table.shared.table_id pass.old.seat.table_id pass.old.readers.items pass.old.seat.me }
         requires lock { IsLockOf self.now.table.shared.key lock }
         requires protected { IsProtected pass.old.seat.me.0.epochs.pin }
-        requires aim { (W.layout ≡ self.now.table.shared.key) × (W.lock ≡ lock) }
+        requires aim { (W.told.layout ≡ self.now.table.shared.key) × (W.told.lock ≡ lock) }
         ensures own { IsPassOf self.now.table.shared.key self.now.table.shared.table_id pass.new.seat.table_id pass.new.readers.items pass.new.seat.me }
         ensures gets { result ≡ true → pass.new.seat.me ≡ with_trie pass.old.seat.me (locking lock pass.old.seat.me.0.trie) }
         ensures same { result ≡ false → pass.new.seat.me ≡ pass.old.seat.me }
@@ -109,12 +87,12 @@ impl<L: Law, H: KeyHash> Cells<L, H> {
         self.store_node_as::<Brand>(pass, lock, state);
     }
 
-    fn store_node_as<W: LockAim>(&self, pass: &mut CellPass<L>, lock: Lock, state: u64)
+    fn store_node_as<W: Told>(&self, pass: &mut CellPass<L>, lock: Lock, state: u64)
         requires own { IsPassOf self.now.table.shared.key self.now.table.shared.table_id pass.old.seat.table_id pass.old.readers.items pass.old.seat.me }
         requires lock { IsLockOf self.now.table.shared.key lock }
         requires locked { Contains pass.old.seat.me.0.trie.locks lock }
         requires state { state < 2 }
-        requires aim { (W.layout ≡ self.now.table.shared.key) × (W.lock ≡ lock) × (W.state ≡ state) }
+        requires aim { (W.told.layout ≡ self.now.table.shared.key) × (W.told.lock ≡ lock) × (W.told.state ≡ state) }
         ensures own { IsPassOf self.now.table.shared.key self.now.table.shared.table_id pass.new.seat.table_id pass.new.readers.items pass.new.seat.me }
         ensures next { pass.new.seat.me ≡ with_trie pass.old.seat.me (unlocking self.now.table.shared.key lock state pass.old.seat.me.0.trie) }
     {

@@ -4,6 +4,7 @@ use npf_cells_holds::Aim;
 use crate::cells::{CellPass, Cells};
 use npf_cells_words::{Pool, key_field};
 use crate::rule::Running;
+use crate::told::Told;
 use npf_cells_rule::CellView;
 use atomic_table::Play;
 use npf_core::Law;
@@ -11,83 +12,27 @@ use npf_paths::{Cell, KeyHash, Place};
 use npf_types::{Key, Way};
 use std::marker::{Brand, PhantomData};
 
-// What a load of a place is told.
-pub(crate) trait LookAim {
-    ghost use Rattle.std.specs.Prelude.{ℕ};
-    ghost use Rattle.npf_types.specs.declared.key.Key.{Key};
-    ghost use Rattle.npf_paths.specs.declared.place.Place.{Place};
-    ghost use Rattle.npf_cells_words.specs.declared.layout.Layout.{Layout};
-
-    ghost layout: { Layout };
-
-    ghost packet: { ℕ };
-
-    ghost key: { Key };
-
-    ghost place: { Place };
-}
-
-impl LookAim for Brand {
-    ghost use Rattle.std.specs.Prelude.{[]};
-    ghost use Rattle.npf_paths.specs.declared.place.Place.TheVariants.{Root};
-
-    ghost layout = { record { slots = 0; nodes = 0 } };
-
-    ghost packet = { 0 };
-
-    ghost key = { record { 0 = [] } };
-
-    ghost place = { Root 0 };
-}
-
-// What a load of a word of a key is told.
-pub(crate) trait KeyAim {
-    ghost use Rattle.std.specs.Prelude.{ℕ};
-    ghost use Rattle.npf_types.specs.declared.key.Way.{Way};
-    ghost use Rattle.npf_cells_words.specs.declared.layout.Layout.{Layout};
-
-    ghost layout: { Layout };
-
-    ghost slot: { ℕ };
-
-    ghost way: { Way };
-
-    ghost word: { ℕ };
-}
-
-impl KeyAim for Brand {
-    ghost use Rattle.npf_types.specs.declared.key.Way.TheVariants.{Forward};
-
-    ghost layout = { record { slots = 0; nodes = 0 } };
-
-    ghost slot = { 0 };
-
-    ghost way = { Forward };
-
-    ghost word = { 0 };
-}
-
 pub(crate) struct LooksAtPlace<L: Law, H: KeyHash, W> {
     law: PhantomData<L>,
     hash: PhantomData<H>,
     aim: PhantomData<W>,
 }
 
-impl<L: Law, H: KeyHash, W: LookAim> Play<Running<L::State>, CellView<L::State, L::Arg, L::Reply>>
+impl<L: Law, H: KeyHash, W: Told> Play<Running<L::State>, CellView<L::State, L::Arg, L::Reply>>
     for LooksAtPlace<L, H, W> {
     ghost use Rattle.npf_cells_holds.specs.LookKinds.{LoadsPlace};
 
-    ghost then = { LoadsPlace L.meaning H.digest W.layout W.packet W.key W.place };
+    ghost then = { LoadsPlace L.meaning H.digest W.told.layout W.told.packet W.told.key W.told.place };
 }
 
 pub(crate) struct LoadsKeyWord<W> {
     aim: PhantomData<W>,
 }
 
-impl<F, S, A, R, W: KeyAim> Play<F, CellView<S, A, R>> for LoadsKeyWord<W> {
+impl<F, S, A, R, W: Told> Play<F, CellView<S, A, R>> for LoadsKeyWord<W> {
     ghost use Rattle.npf_cells_holds.specs.LookKinds.{LoadsKey};
 
-    ghost then = { LoadsKey W.layout W.slot W.way W.word };
+    ghost then = { LoadsKey W.told.layout W.told.number W.told.way W.told.word };
 }
 
 impl<L: Law, H: KeyHash> Cells<L, H> {
@@ -116,7 +61,7 @@ impl<L: Law, H: KeyHash> Cells<L, H> {
         }
     }
 
-    fn look_place<W: LookAim>(
+    fn look_place<W: Told>(
         &self,
         pass: &mut CellPass<L>,
         place: Place,
@@ -127,7 +72,7 @@ impl<L: Law, H: KeyHash> Cells<L, H> {
         requires place { IsInTrie self.now.table.shared.key place }
         requires protected { IsProtected pass.old.seat.me.0.epochs.pin }
         requires stands { StandsOnPath H.digest pass.old.seat.me.0.trie key.now place }
-        requires aim { (W.layout ≡ self.now.table.shared.key) × (W.packet ≡ n) × (W.key ≡ key.now) × (W.place ≡ place) }
+        requires aim { (W.told.layout ≡ self.now.table.shared.key) × (W.told.packet ≡ n) × (W.told.key ≡ key.now) × (W.told.place ≡ place) }
         ensures own { IsPassOf self.now.table.shared.key self.now.table.shared.table_id pass.new.seat.table_id pass.new.readers.items pass.new.seat.me }
         ensures looks { LooksAt L.meaning H.digest self.now.table.shared.key n key.now place result pass.old.seat.me pass.new.seat.me }
     {
@@ -153,11 +98,11 @@ impl<L: Law, H: KeyHash> Cells<L, H> {
         self.load_key_as::<Brand>(pass, slot, way, word)
     }
 
-    fn load_key_as<W: KeyAim>(&self, pass: &mut CellPass<L>, slot: u32, way: Way, word: u32) -> u64
+    fn load_key_as<W: Told>(&self, pass: &mut CellPass<L>, slot: u32, way: Way, word: u32) -> u64
         requires own { IsPassOf self.now.table.shared.key self.now.table.shared.table_id pass.old.seat.table_id pass.old.readers.items pass.old.seat.me }
         requires slot { slot < self.now.table.shared.key.slots }
         requires word { word < 5 }
-        requires aim { (W.layout ≡ self.now.table.shared.key) × (W.slot ≡ slot) × (W.way ≡ way) × (W.word ≡ word) }
+        requires aim { (W.told.layout ≡ self.now.table.shared.key) × (W.told.number ≡ slot) × (W.told.way ≡ way) × (W.told.word ≡ word) }
         ensures own { IsPassOf self.now.table.shared.key self.now.table.shared.table_id pass.new.seat.table_id pass.new.readers.items pass.new.seat.me }
         ensures next { pass.new.seat.me ≡ with_trie pass.old.seat.me (reading pass.old.seat.me.0.trie) }
         ensures shows { ShowsKey pass.old.seat.me.0.trie slot way word result }

@@ -4,50 +4,12 @@ ghost use Rattle.std.specs.Int.{bit_at};
 use crate::cells::{CellPass, Cells};
 use npf_cells_words::Pool;
 use crate::rule::Running;
+use crate::told::Told;
 use npf_cells_rule::CellView;
 use atomic_table::Play;
 use npf_core::Law;
 use npf_paths::KeyHash;
 use std::marker::{Brand, PhantomData};
-
-// What a load of a pool's word is told.
-pub(crate) trait SweepAim {
-    ghost use Rattle.std.specs.Prelude.{ℕ};
-    ghost use Rattle.npf_cells_words.specs.declared.layout.Layout.{Layout};
-    ghost use Rattle.npf_cells_words.specs.declared.layout.Pool.{Pool};
-
-    ghost layout: { Layout };
-
-    ghost pool: { Pool };
-
-    ghost word: { ℕ };
-}
-
-impl SweepAim for Brand {
-    ghost use Rattle.npf_cells_words.specs.declared.layout.Pool.TheVariants.{Slots};
-
-    ghost layout = { record { slots = 0; nodes = 0 } };
-
-    ghost pool = { Slots };
-
-    ghost word = { 0 };
-}
-
-// What a step on a node's bit is told.
-pub(crate) trait NodeAim {
-    ghost use Rattle.std.specs.Prelude.{ℕ};
-    ghost use Rattle.npf_cells_words.specs.declared.layout.Layout.{Layout};
-
-    ghost layout: { Layout };
-
-    ghost node: { ℕ };
-}
-
-impl NodeAim for Brand {
-    ghost layout = { record { slots = 0; nodes = 0 } };
-
-    ghost node = { 0 };
-}
 
 pub(crate) struct SweepsPool<L: Law, H: KeyHash, W> {
     law: PhantomData<L>,
@@ -55,11 +17,11 @@ pub(crate) struct SweepsPool<L: Law, H: KeyHash, W> {
     aim: PhantomData<W>,
 }
 
-impl<L: Law, H: KeyHash, W: SweepAim> Play<Running<L::State>, CellView<L::State, L::Arg, L::Reply>>
+impl<L: Law, H: KeyHash, W: Told> Play<Running<L::State>, CellView<L::State, L::Arg, L::Reply>>
     for SweepsPool<L, H, W> {
     ghost use Rattle.npf_cells_takes.specs.PoolKinds.{Sweeps};
 
-    ghost then = { Sweeps L.meaning H.digest W.layout W.pool W.word };
+    ghost then = { Sweeps L.meaning H.digest W.told.layout W.told.pool W.told.word };
 }
 
 pub(crate) struct TakesNode<L: Law, H: KeyHash, W> {
@@ -68,11 +30,11 @@ pub(crate) struct TakesNode<L: Law, H: KeyHash, W> {
     aim: PhantomData<W>,
 }
 
-impl<L: Law, H: KeyHash, W: NodeAim> Play<Running<L::State>, CellView<L::State, L::Arg, L::Reply>>
+impl<L: Law, H: KeyHash, W: Told> Play<Running<L::State>, CellView<L::State, L::Arg, L::Reply>>
     for TakesNode<L, H, W> {
     ghost use Rattle.npf_cells_takes.specs.PoolKinds.{ClaimsNode};
 
-    ghost then = { ClaimsNode L.meaning H.digest W.layout W.node };
+    ghost then = { ClaimsNode L.meaning H.digest W.told.layout W.told.number };
 }
 
 pub(crate) struct ReturnsNode<L: Law, H: KeyHash, W> {
@@ -81,15 +43,15 @@ pub(crate) struct ReturnsNode<L: Law, H: KeyHash, W> {
     aim: PhantomData<W>,
 }
 
-impl<L: Law, H: KeyHash, W: NodeAim> Play<Running<L::State>, CellView<L::State, L::Arg, L::Reply>>
+impl<L: Law, H: KeyHash, W: Told> Play<Running<L::State>, CellView<L::State, L::Arg, L::Reply>>
     for ReturnsNode<L, H, W> {
     ghost use Rattle.npf_cells_takes.specs.PoolKinds.{GivesNodeBack};
 
-    ghost then = { GivesNodeBack L.meaning H.digest W.layout W.node };
+    ghost then = { GivesNodeBack L.meaning H.digest W.told.layout W.told.number };
 }
 
 impl<L: Law, H: KeyHash> Cells<L, H> {
-    ghost use Rattle.std.specs.Prelude.{◌≡◌, ◌<◌, ◌↔◌, ◌==◌, ◌+◌, ◌%◌, true, false, ℕ, length, Contains};
+    ghost use Rattle.std.specs.Prelude.{◌≡◌, ◌<◌, ◌↔◌, ◌==◌, ◌+◌, ◌/◌, ◌%◌, true, false, ℕ, length, Contains};
     ghost use Rattle.std.specs.Int.{bit_at};
     ghost use Rattle.npf_cells_words.specs.declared.layout.Pool.TheVariants.{Slots, Nodes};
     ghost use Rattle.npf_cells_words.specs.Layout.{pool_at, pool_places, pool_words, place_word};
@@ -97,26 +59,29 @@ impl<L: Law, H: KeyHash> Cells<L, H> {
     ghost use Rattle.npf_cells_rule.specs.Stood.{StoodSo};
     ghost use Rattle.npf_cells_takes.specs.PoolKinds.{NeedsNode, sweeping, claiming_node, giving_back};
     ghost use Rattle.npf_cells_rule.specs.Views.{with_pools};
-    ghost use Rattle.npf_cells_takes.specs.SlotKinds.{HasClaimed};
+    ghost use Rattle.npf_cells_takes.specs.SlotKinds.{HasClaimed, HasSeenSlots};
 
-    /// Loads a word of a pool: a bit for each of 64 places, set where it is taken or past the last place.
+    /// Loads a word of a pool: a bit for each of 64 places, set where it is taken or past the last place. At a word of the slots the pass
+    /// then sees all of the history.
     pub fn load_pool(&self, pass: &mut CellPass<L>, pool: Pool, word: u32) -> u64
         requires own { IsPassOf self.now.table.shared.key self.now.table.shared.table_id pass.old.seat.table_id pass.old.readers.items pass.old.seat.me }
         requires word { word < pool_words (pool_places self.now.table.shared.key pool) }
         requires needs { pool ≡ Nodes → NeedsNode H.digest pass.old.seat.me.0 }
         ensures own { IsPassOf self.now.table.shared.key self.now.table.shared.table_id pass.new.seat.table_id pass.new.readers.items pass.new.seat.me }
-        ensures next { pass.new.seat.me ≡ with_pools pass.old.seat.me (sweeping pool (pool_words self.now.table.shared.key.nodes) word pass.old.seat.me.0.pools result) }
+        ensures nodes { pool ≡ Nodes → pass.new.seat.me ≡ with_pools pass.old.seat.me (sweeping (pool_words self.now.table.shared.key.nodes) word pass.old.seat.me.0.pools result) }
+        ensures slots { pool ≡ Slots → HasSeenSlots L.meaning self.now.table.shared.key word result pass.old.seat.me pass.new.seat.me }
         ensures stood { StoodSo L.meaning H.digest self.now.table.shared.key pass.old.seat.me.0 (pool_at self.now.table.shared.key pool + word) result }
     {
         self.load_pool_as::<Brand>(pass, pool, word)
     }
 
-    fn load_pool_as<W: SweepAim>(&self, pass: &mut CellPass<L>, pool: Pool, word: u32) -> u64
+    fn load_pool_as<W: Told>(&self, pass: &mut CellPass<L>, pool: Pool, word: u32) -> u64
         requires own { IsPassOf self.now.table.shared.key self.now.table.shared.table_id pass.old.seat.table_id pass.old.readers.items pass.old.seat.me }
         requires word { word < pool_words (pool_places self.now.table.shared.key pool) }
-        requires aim { (W.layout ≡ self.now.table.shared.key) × (W.pool ≡ pool) × (W.word ≡ word) }
+        requires aim { (W.told.layout ≡ self.now.table.shared.key) × (W.told.pool ≡ pool) × (W.told.word ≡ word) }
         ensures own { IsPassOf self.now.table.shared.key self.now.table.shared.table_id pass.new.seat.table_id pass.new.readers.items pass.new.seat.me }
-        ensures next { pass.new.seat.me ≡ with_pools pass.old.seat.me (sweeping pool (pool_words self.now.table.shared.key.nodes) word pass.old.seat.me.0.pools result) }
+        ensures nodes { pool ≡ Nodes → pass.new.seat.me ≡ with_pools pass.old.seat.me (sweeping (pool_words self.now.table.shared.key.nodes) word pass.old.seat.me.0.pools result) }
+        ensures slots { pool ≡ Slots → HasSeenSlots L.meaning self.now.table.shared.key word result pass.old.seat.me pass.new.seat.me }
         ensures stood { StoodSo L.meaning H.digest self.now.table.shared.key pass.old.seat.me.0 (pool_at self.now.table.shared.key pool + word) result }
     {
         let place = self.layout.pool_place(pool, word);
@@ -136,7 +101,8 @@ impl<L: Law, H: KeyHash> Cells<L, H> {
         ensures slot { pool ≡ Slots → result ≡ true → HasClaimed L.meaning n place pass.old.seat.me pass.new.seat.me }
         ensures node { pool ≡ Nodes → pass.new.seat.me ≡ with_pools pass.old.seat.me (claiming_node place pass.old.seat.me.0.pools pass.new.seat.me.0.pools.found) }
         ensures unowned { pool ≡ Nodes → result ≡ true → ¬ (Contains pass.old.seat.me.0.pools.nodes place) }
-        ensures loses { result ≡ false → pass.new.seat.me ≡ with_pools pass.old.seat.me (record pass.old.seat.me.0.pools { found = pass.new.seat.me.0.pools.found }) }
+        ensures sees { pool ≡ Slots → result ≡ false → HasSeenSlots L.meaning self.now.table.shared.key (place / 64) pass.new.seat.me.0.pools.found pass.old.seat.me pass.new.seat.me }
+        ensures loses { pool ≡ Nodes → result ≡ false → pass.new.seat.me ≡ with_pools pass.old.seat.me (record pass.old.seat.me.0.pools { found = pass.new.seat.me.0.pools.found }) }
         ensures stood { StoodSo L.meaning H.digest self.now.table.shared.key pass.old.seat.me.0 (place_word self.now.table.shared.key pool place) pass.new.seat.me.0.pools.found }
         ensures answers { (result ≡ true) ↔ (bit_at pass.new.seat.me.0.pools.found (place % 64) ≡ 0) }
     {
@@ -159,10 +125,10 @@ impl<L: Law, H: KeyHash> Cells<L, H> {
         self.claim_node_as::<Brand>(pass, node)
     }
 
-    fn claim_node_as<W: NodeAim>(&self, pass: &mut CellPass<L>, node: u32) -> bool
+    fn claim_node_as<W: Told>(&self, pass: &mut CellPass<L>, node: u32) -> bool
         requires own { IsPassOf self.now.table.shared.key self.now.table.shared.table_id pass.old.seat.table_id pass.old.readers.items pass.old.seat.me }
         requires node { node < self.now.table.shared.key.nodes }
-        requires aim { (W.layout ≡ self.now.table.shared.key) × (W.node ≡ node) }
+        requires aim { (W.told.layout ≡ self.now.table.shared.key) × (W.told.number ≡ node) }
         ensures own { IsPassOf self.now.table.shared.key self.now.table.shared.table_id pass.new.seat.table_id pass.new.readers.items pass.new.seat.me }
         ensures next { pass.new.seat.me ≡ with_pools pass.old.seat.me (claiming_node node pass.old.seat.me.0.pools pass.new.seat.me.0.pools.found) }
         ensures stood { StoodSo L.meaning H.digest self.now.table.shared.key pass.old.seat.me.0 (place_word self.now.table.shared.key Nodes node) pass.new.seat.me.0.pools.found }
@@ -190,12 +156,12 @@ impl<L: Law, H: KeyHash> Cells<L, H> {
         self.give_back_as::<Brand>(pass, pool, place);
     }
 
-    fn give_back_as<W: NodeAim>(&self, pass: &mut CellPass<L>, pool: Pool, place: u32)
+    fn give_back_as<W: Told>(&self, pass: &mut CellPass<L>, pool: Pool, place: u32)
         requires own { IsPassOf self.now.table.shared.key self.now.table.shared.table_id pass.old.seat.table_id pass.old.readers.items pass.old.seat.me }
         requires pool { pool ≡ Nodes }
         requires place { place < self.now.table.shared.key.nodes }
         requires owned { Contains pass.old.seat.me.0.pools.nodes place }
-        requires aim { (W.layout ≡ self.now.table.shared.key) × (W.node ≡ place) }
+        requires aim { (W.told.layout ≡ self.now.table.shared.key) × (W.told.number ≡ place) }
         ensures own { IsPassOf self.now.table.shared.key self.now.table.shared.table_id pass.new.seat.table_id pass.new.readers.items pass.new.seat.me }
         ensures next { pass.new.seat.me ≡ with_pools pass.old.seat.me (giving_back place pass.old.seat.me.0.pools pass.new.seat.me.0.pools.found) }
         ensures stood { StoodSo L.meaning H.digest self.now.table.shared.key pass.old.seat.me.0 (place_word self.now.table.shared.key Nodes place) pass.new.seat.me.0.pools.found }

@@ -3,58 +3,21 @@ ghost use Rattle.std.specs.Prelude.{◌≡◌};
 use crate::cells::{CellPass, Cells};
 use npf_cells_words::{INCARNATION, Pool};
 use crate::rule::Running;
+use crate::told::Told;
 use npf_cells_rule::CellView;
 use atomic_table::Play;
 use npf_core::Law;
 use npf_paths::KeyHash;
 use std::marker::{Brand, PhantomData};
 
-// What a load of an incarnation is told.
-pub(crate) trait IncAim {
-    ghost use Rattle.std.specs.Prelude.{ℕ};
-
-    ghost slot: { ℕ };
-}
-
-impl IncAim for Brand {
-    ghost slot = { 0 };
-}
-
-// What a store in an own word is told.
-pub(crate) trait StoreAim {
-    ghost use Rattle.std.specs.Prelude.{ℕ};
-    ghost use Rattle.npf_cells_words.specs.declared.layout.Layout.{Layout};
-    ghost use Rattle.npf_cells_words.specs.declared.layout.Pool.{Pool};
-
-    ghost layout: { Layout };
-
-    ghost pool: { Pool };
-
-    ghost place: { ℕ };
-
-    ghost field: { ℕ };
-}
-
-impl StoreAim for Brand {
-    ghost use Rattle.npf_cells_words.specs.declared.layout.Pool.TheVariants.{Slots};
-
-    ghost layout = { record { slots = 0; nodes = 0 } };
-
-    ghost pool = { Slots };
-
-    ghost place = { 0 };
-
-    ghost field = { 0 };
-}
-
 pub(crate) struct LoadsIncarnation<W> {
     aim: PhantomData<W>,
 }
 
-impl<F, S, A, R, W: IncAim> Play<F, CellView<S, A, R>> for LoadsIncarnation<W> {
+impl<F, S, A, R, W: Told> Play<F, CellView<S, A, R>> for LoadsIncarnation<W> {
     ghost use Rattle.npf_cells_takes.specs.PrivateKinds.{LoadsInc};
 
-    ghost then = { LoadsInc W.slot };
+    ghost then = { LoadsInc W.told.number };
 }
 
 pub(crate) struct StoresInOwn<L: Law, H: KeyHash, W> {
@@ -63,11 +26,11 @@ pub(crate) struct StoresInOwn<L: Law, H: KeyHash, W> {
     aim: PhantomData<W>,
 }
 
-impl<L: Law, H: KeyHash, W: StoreAim> Play<Running<L::State>, CellView<L::State, L::Arg, L::Reply>>
+impl<L: Law, H: KeyHash, W: Told> Play<Running<L::State>, CellView<L::State, L::Arg, L::Reply>>
     for StoresInOwn<L, H, W> {
     ghost use Rattle.npf_cells_takes.specs.PrivateKinds.{StoresPrivate};
 
-    ghost then = { StoresPrivate L.meaning H.digest W.layout W.pool W.place W.field };
+    ghost then = { StoresPrivate L.meaning H.digest W.told.layout W.told.pool W.told.number W.told.field };
 }
 
 impl<L: Law, H: KeyHash> Cells<L, H> {
@@ -92,10 +55,10 @@ impl<L: Law, H: KeyHash> Cells<L, H> {
         self.load_inc_as::<Brand>(pass, slot)
     }
 
-    fn load_inc_as<W: IncAim>(&self, pass: &mut CellPass<L>, slot: u32) -> u64
+    fn load_inc_as<W: Told>(&self, pass: &mut CellPass<L>, slot: u32) -> u64
         requires own { IsPassOf self.now.table.shared.key self.now.table.shared.table_id pass.old.seat.table_id pass.old.readers.items pass.old.seat.me }
         requires slot { slot < self.now.table.shared.key.slots }
-        requires aim { W.slot ≡ slot }
+        requires aim { W.told.number ≡ slot }
         ensures own { IsPassOf self.now.table.shared.key self.now.table.shared.table_id pass.new.seat.table_id pass.new.readers.items pass.new.seat.me }
         ensures same { pass.new.seat.me ≡ pass.old.seat.me }
         ensures shows { ShowsInc pass.old.seat.me.0.pools slot result }
@@ -128,7 +91,7 @@ impl<L: Law, H: KeyHash> Cells<L, H> {
         self.store_private_as::<Brand>(pass, pool, place, field, value);
     }
 
-    fn store_private_as<W: StoreAim>(
+    fn store_private_as<W: Told>(
         &self,
         pass: &mut CellPass<L>,
         pool: Pool,
@@ -140,7 +103,7 @@ impl<L: Law, H: KeyHash> Cells<L, H> {
         requires place { place < pool_places self.now.table.shared.key pool }
         requires field { field < field_count pool }
         requires may { MayStore L.meaning pass.old.seat.me.0 pool place field value }
-        requires aim { (W.layout ≡ self.now.table.shared.key) × (W.pool ≡ pool) × (W.place ≡ place) × (W.field ≡ field) }
+        requires aim { (W.told.layout ≡ self.now.table.shared.key) × (W.told.pool ≡ pool) × (W.told.number ≡ place) × (W.told.field ≡ field) }
         ensures own { IsPassOf self.now.table.shared.key self.now.table.shared.table_id pass.new.seat.table_id pass.new.readers.items pass.new.seat.me }
         ensures next { pass.new.seat.me ≡ with_pools pass.old.seat.me (storing pool place field value pass.old.seat.me.0.pools) }
     {

@@ -2,8 +2,8 @@ ghost use Rattle.std.specs.Prelude.{◌≡◌};
 
 use npf_cells_holds::Aim;
 use crate::cells::{CellPass, Cells};
-use crate::hold::HoldAim;
 use crate::rule::Running;
+use crate::told::Told;
 use npf_cells_rule::CellView;
 use atomic_table::Play;
 use npf_core::{ConnId, Law};
@@ -17,11 +17,11 @@ pub(crate) struct PublishesKey<L: Law, H: KeyHash, W> {
     aim: PhantomData<W>,
 }
 
-impl<L: Law, H: KeyHash, W: HoldAim> Play<Running<L::State>, CellView<L::State, L::Arg, L::Reply>>
+impl<L: Law, H: KeyHash, W: Told> Play<Running<L::State>, CellView<L::State, L::Arg, L::Reply>>
     for PublishesKey<L, H, W> {
     ghost use Rattle.npf_cells_holds.specs.PublishKinds.{PublishesFor};
 
-    ghost then = { PublishesFor L.meaning H.digest W.layout W.id W.key W.way W.place W.cell };
+    ghost then = { PublishesFor L.meaning H.digest W.told.layout W.told.id W.told.key W.told.way W.told.place W.told.cell };
 }
 
 /// A store of what stands in a place.
@@ -74,7 +74,7 @@ impl<L: Law, H: KeyHash> Cells<L, H> {
             .store::<StoresSame>(&mut pass.seat, word, cell.word());
     }
 
-    fn publish_key<W: HoldAim>(
+    fn publish_key<W: Told>(
         &self,
         pass: &mut CellPass<L>,
         place: Place,
@@ -87,7 +87,7 @@ impl<L: Law, H: KeyHash> Cells<L, H> {
         requires place { IsInTrie self.now.table.shared.key place }
         requires protected { IsProtected pass.old.seat.me.0.epochs.pin }
         requires may { MayPublishFor L.meaning H.digest self.now.table.shared.key pass.old.seat.me.0 id key.now way place cell }
-        requires aim { (W.layout ≡ self.now.table.shared.key) × (W.id ≡ id) × (W.key ≡ key.now) × (W.way ≡ way) × (W.place ≡ place) × (W.cell ≡ cell) }
+        requires aim { (W.told.layout ≡ self.now.table.shared.key) × (W.told.id ≡ id) × (W.told.key ≡ key.now) × (W.told.way ≡ way) × (W.told.place ≡ place) × (W.told.cell ≡ cell) }
         ensures own { IsPassOf self.now.table.shared.key self.now.table.shared.table_id pass.new.seat.table_id pass.new.readers.items pass.new.seat.me }
         ensures held { HasHeld L.meaning H.digest self.now.table.shared.key id key.now way place cell pass.old.seat.me pass.new.seat.me }
     {

@@ -4,31 +4,12 @@ use crate::cells::{CellPass, Cells};
 use npf_cells_words::Pool;
 use crate::pools::{is_clear, place_bit};
 use crate::rule::Running;
+use crate::told::Told;
 use npf_cells_rule::CellView;
 use atomic_table::Play;
 use npf_core::Law;
 use npf_paths::KeyHash;
 use std::marker::{Brand, PhantomData};
-
-// What a step on a slot's bit is told.
-pub(crate) trait SlotAim {
-    ghost use Rattle.std.specs.Prelude.{ℕ};
-    ghost use Rattle.npf_cells_words.specs.declared.layout.Layout.{Layout};
-
-    ghost layout: { Layout };
-
-    ghost slot: { ℕ };
-
-    ghost packet: { ℕ };
-}
-
-impl SlotAim for Brand {
-    ghost layout = { record { slots = 0; nodes = 0 } };
-
-    ghost slot = { 0 };
-
-    ghost packet = { 0 };
-}
 
 pub(crate) struct TakesSlot<L: Law, H: KeyHash, W> {
     law: PhantomData<L>,
@@ -36,22 +17,21 @@ pub(crate) struct TakesSlot<L: Law, H: KeyHash, W> {
     aim: PhantomData<W>,
 }
 
-impl<L: Law, H: KeyHash, W: SlotAim> Play<Running<L::State>, CellView<L::State, L::Arg, L::Reply>>
+impl<L: Law, H: KeyHash, W: Told> Play<Running<L::State>, CellView<L::State, L::Arg, L::Reply>>
     for TakesSlot<L, H, W> {
     ghost use Rattle.npf_cells_takes.specs.SlotKinds.{ClaimsSlot};
 
-    ghost then = { ClaimsSlot L.meaning H.digest W.layout W.packet W.slot };
+    ghost then = { ClaimsSlot L.meaning H.digest W.told.layout W.told.packet W.told.number };
 }
 
 impl<L: Law, H: KeyHash> Cells<L, H> {
-    ghost use Rattle.std.specs.Prelude.{◌≡◌, ◌<◌, ◌↔◌, ◌%◌, true, false};
+    ghost use Rattle.std.specs.Prelude.{◌≡◌, ◌<◌, ◌↔◌, ◌/◌, ◌%◌, true, false};
     ghost use Rattle.std.specs.Int.{bit_at};
     ghost use Rattle.npf_cells_words.specs.declared.layout.Pool.TheVariants.{Slots};
     ghost use Rattle.npf_cells_words.specs.Layout.{place_word};
     ghost use Rattle.npf_cells_rule.specs.Passes.{IsPassOf, IsProtected};
     ghost use Rattle.npf_cells_rule.specs.Stood.{StoodSo};
-    ghost use Rattle.npf_cells_rule.specs.Views.{with_pools};
-    ghost use Rattle.npf_cells_takes.specs.SlotKinds.{HasClaimed};
+    ghost use Rattle.npf_cells_takes.specs.SlotKinds.{HasClaimed, HasSeenSlots};
 
     // Claims a slot for the packet n, unless it is claimed. Answers whether it did.
     pub(crate) fn claim_slot(&self, pass: &mut CellPass<L>, slot: u32, n: u64) -> bool
@@ -60,21 +40,21 @@ impl<L: Law, H: KeyHash> Cells<L, H> {
         requires protected { IsProtected pass.old.seat.me.0.epochs.pin }
         ensures own { IsPassOf self.now.table.shared.key self.now.table.shared.table_id pass.new.seat.table_id pass.new.readers.items pass.new.seat.me }
         ensures claims { result ≡ true → HasClaimed L.meaning n slot pass.old.seat.me pass.new.seat.me }
-        ensures loses { result ≡ false → pass.new.seat.me ≡ with_pools pass.old.seat.me (record pass.old.seat.me.0.pools { found = pass.new.seat.me.0.pools.found }) }
+        ensures loses { result ≡ false → HasSeenSlots L.meaning self.now.table.shared.key (slot / 64) pass.new.seat.me.0.pools.found pass.old.seat.me pass.new.seat.me }
         ensures stood { StoodSo L.meaning H.digest self.now.table.shared.key pass.old.seat.me.0 (place_word self.now.table.shared.key Slots slot) pass.new.seat.me.0.pools.found }
         ensures answers { (result ≡ true) ↔ (bit_at pass.new.seat.me.0.pools.found (slot % 64) ≡ 0) }
     {
         self.claim_slot_as::<Brand>(pass, slot, n)
     }
 
-    fn claim_slot_as<W: SlotAim>(&self, pass: &mut CellPass<L>, slot: u32, n: u64) -> bool
+    fn claim_slot_as<W: Told>(&self, pass: &mut CellPass<L>, slot: u32, n: u64) -> bool
         requires own { IsPassOf self.now.table.shared.key self.now.table.shared.table_id pass.old.seat.table_id pass.old.readers.items pass.old.seat.me }
         requires slot { slot < self.now.table.shared.key.slots }
         requires protected { IsProtected pass.old.seat.me.0.epochs.pin }
-        requires aim { (W.layout ≡ self.now.table.shared.key) × (W.slot ≡ slot) × (W.packet ≡ n) }
+        requires aim { (W.told.layout ≡ self.now.table.shared.key) × (W.told.number ≡ slot) × (W.told.packet ≡ n) }
         ensures own { IsPassOf self.now.table.shared.key self.now.table.shared.table_id pass.new.seat.table_id pass.new.readers.items pass.new.seat.me }
         ensures claims { result ≡ true → HasClaimed L.meaning n slot pass.old.seat.me pass.new.seat.me }
-        ensures loses { result ≡ false → pass.new.seat.me ≡ with_pools pass.old.seat.me (record pass.old.seat.me.0.pools { found = pass.new.seat.me.0.pools.found }) }
+        ensures loses { result ≡ false → HasSeenSlots L.meaning self.now.table.shared.key (slot / 64) pass.new.seat.me.0.pools.found pass.old.seat.me pass.new.seat.me }
         ensures stood { StoodSo L.meaning H.digest self.now.table.shared.key pass.old.seat.me.0 (place_word self.now.table.shared.key Slots slot) pass.new.seat.me.0.pools.found }
         ensures answers { (result ≡ true) ↔ (bit_at pass.new.seat.me.0.pools.found (slot % 64) ≡ 0) }
     {

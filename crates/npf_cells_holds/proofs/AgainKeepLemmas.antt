@@ -1,6 +1,6 @@
 -- Kind 15 where what stands in a place is stored again keeps the rule.
 use Rattle.std.specs.List.{Contains}
-use Rattle.std.proofs.Common.{◌≡◌, ◌≢◌, ℕ, List, set, refl, sym, ap, ◌∙◌, subst, ⊎_elim, length-set}
+use Rattle.std.proofs.Common.{◌≤◌, length, ◌≡◌, ◌≢◌, ℕ, List, set, refl, sym, ap, ◌∙◌, subst, ⊎_elim, length-set}
 use mathlib.Core.Option.{some}
 use lib.ListN.{get_elem?}
 use Rattle.atomic_table.specs.Table.{State, Me, Step, Allows, stepped, keeps}
@@ -17,6 +17,7 @@ use Rattle.npf_paths.proofs.FillingLemmas.{same_or_apart}
 use Rattle.npf_cells_words.specs.declared.layout.Layout.{Layout}
 use Rattle.npf_cells_words.specs.Places.{IsInTrie, place_at}
 use Rattle.npf_cells_words.proofs.WordLemmas.{place_behind}
+use Rattle.npf_seats.proofs.PrefixLemmas.{none_listed}
 use Rattle.npf_cells_leaves.specs.declared.trie.TrieSide.{TrieSide}
 use Rattle.npf_cells_leaves.specs.Trie.{cell_in, digits_of, TrieWords, trie_words}
 use Rattle.npf_cells_leaves.proofs.TrieLemmas.{said, KnowsNoMore, are_digits, trie_same}
@@ -26,7 +27,7 @@ use Rattle.npf_cells_lives.proofs.StoredLemmas.{stored_kept, stored-set}
 use Rattle.npf_cells_rule.specs.declared.view.CellView.{CellView}
 use Rattle.npf_cells_rule.specs.Cells.{IsCells}
 use Rattle.npf_cells_rule.specs.Views.{lock_side, pool_side, trie_side}
-use Rattle.npf_cells_rule.proofs.Frames.{private_step}
+use Rattle.npf_cells_rule.proofs.Frames.{alone_still, private_step}
 use Rattle.npf_cells_holds.specs.PublishKinds.{SeesLocked, publishing, StoresAgain}
 use Rattle.npf_cells_holds.proofs.PlaceLemmas.{cell_here, cell_else, key_else, inc_else, lock_else, own_else}
 
@@ -39,7 +40,7 @@ pub record StandsThere (digest : Key → ℕ) (t : TrieWords) (p : Place) (cell 
 
 -- a store makes the pass know no more of the trie
 publishes_less : (side : TrieSide) → KnowsNoMore side (publishing side)
-publishes_less side = record { stands = λ point e. e; leaf = λ leaf e. e; seen = λ x e. absurd cc; locks = refl; answered = λ i c. c }
+publishes_less side = record { stands = λ point e. e; leaf = λ leaf e. e; seen = λ x e. absurd cc; locks = refl; answered = λ i c. c; grown = refl }
 
 module _ {S A R F : Type 0} (m : Meaning S A R) (digest : Key → ℕ) (layout : Layout) where
   module _ (s : State F (CellView S A R)) (id : ℕ) (me : Me F (CellView S A R)) (kept : IsCells m digest layout s) (at : get_elem? s.views id ≡ some me.0) (p : Place) (inside : IsInTrie layout p) where
@@ -60,12 +61,13 @@ module _ {S A R F : Type 0} (m : Meaning S A R) (digest : Key → ℕ) (layout :
         }
 
     -- the same is stored again
-    pub stored_again : (cell : Cell) → SeesLocked me.0.trie p cell → IsCells m digest layout (stepped s (place_at layout p) (cell_word cell) id me.1 (record me.0 { trie = publishing me.0.trie }) keeps)
-    stored_again cell sees =
+    pub stored_again : 1 ≤ length me.0.seats.readers → (cell : Cell) → SeesLocked me.0.trie p cell → IsCells m digest layout (stepped s (place_at layout p) (cell_word cell) id me.1 (record me.0 { trie = publishing me.0.trie }) keeps)
+    stored_again place cell sees =
         let there = stands_there cell sees in
         let w : CellView S A R = record me.0 { trie = publishing me.0.trie } in
         let are = are_digits digest there.key in
         private_step m digest layout s (place_at layout p) (cell_word cell) id me.1 me.0 w kept at (place_behind layout p) refl refl refl refl
+        (alone_still me.0 w (kept.alone id me.0 at) place refl (λ none. absurd (none_listed (lock_of p) (subst (λ locks. Contains locks (lock_of p)) none.locks sees.locked))))
         (trie_same trie_side digest layout kept.published k k s.words words s.views id me.0 w kept.trie at (publishes_less me.0.trie) (record {
           holder = λ key. refl;
           claimed = λ identity c. c;
@@ -86,12 +88,12 @@ module _ {S A R F : Type 0} (m : Meaning S A R) (digest : Key → ℕ) (layout :
         words : List ℕ
         words = set s.words (place_at layout p) (cell_word cell)
 
-  pub may_store_again : (st : Step F) (id n : ℕ) (p : Place) (cell : Cell) (me : Me F (CellView S A R)) → IsInTrie layout p → SeesLocked me.0.trie p cell →
+  pub may_store_again : (st : Step F) (id n : ℕ) (p : Place) (cell : Cell) (me : Me F (CellView S A R)) → 1 ≤ length me.0.seats.readers → IsInTrie layout p → SeesLocked me.0.trie p cell →
       Allows (IsCells m digest layout) n id me (place_at layout p) (λ _. cell_word cell) (λ _. StoresAgain st me (cell_word cell))
-  may_store_again st id n p cell me inside sees s kept homes at bound = (
+  may_store_again st id n p cell me place inside sees s kept homes at bound = (
     record me.0 { trie = publishing me.0.trie },
     keeps,
     tt,
-    stored_again s id me kept at p inside cell sees,
+    stored_again s id me kept at p inside place cell sees,
     record { is = refl },
   )

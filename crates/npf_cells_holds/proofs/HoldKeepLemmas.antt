@@ -39,7 +39,7 @@ use Rattle.npf_cells_leaves.specs.declared.trie.LoadedLeaf.{LoadedLeaf}
 use Rattle.npf_cells_leaves.specs.declared.trie.PathPlace.{PathPlace}
 use Rattle.npf_cells_leaves.specs.declared.trie.TrieSide.{TrieSide}
 use Rattle.npf_cells_leaves.specs.Trie.{cell_in, digits_of, TrieWords, trie_words, IsRightLeaf, StaysLeaf, FitsTrie, Trie}
-use Rattle.npf_cells_leaves.proofs.TrieLemmas.{KeepsTrie, knows_same, keeps_words, fits_kept, fits-set, fits_all, trie_kept, are_digits, cell_there}
+use Rattle.npf_cells_leaves.proofs.TrieLemmas.{grown-set, KeepsTrie, knows_same, keeps_words, fits_kept, fits-set, fits_all, trie_kept, are_digits, cell_there}
 use Rattle.npf_cells_lives.specs.Conns.{inc_word, entry_seat}
 use Rattle.npf_cells_lives.specs.Pools.{taken}
 use Rattle.npf_cells_lives.proofs.BuiltLemmas.{bare_in_log}
@@ -50,7 +50,7 @@ use Rattle.npf_cells_rule.specs.Cells.{IsCells}
 use Rattle.npf_cells_rule.specs.Passes.{IsProtected, cell_pass, IsPassOf}
 use Rattle.npf_cells_rule.specs.Views.{seat_side, reader_view, with_trie, pool_side, trie_side}
 use Rattle.npf_cells_rule.proofs.EntryLemmas.{adds_entry, sole_entries}
-use Rattle.npf_cells_rule.proofs.Frames.{entry_step}
+use Rattle.npf_cells_rule.proofs.Frames.{alone_within, entry_step}
 use Rattle.npf_cells_rule.proofs.PassLemmas.{pinned_in}
 use Rattle.npf_cells_holds.specs.HoldKinds.{MayHoldSo, renewed, leaf_holder, meeting, taken_by, HasMetHolder, MeetsLeaf, HoldsAt, LoadsForHold}
 use Rattle.npf_cells_holds.specs.LookKinds.{StandsOnPath, level_at, sighting, descending, FitsLayout}
@@ -94,7 +94,7 @@ module _ {S A R F : Type 0} (m : Meaning S A R) (digest : Key → ℕ) (layout :
       leaf = was.leaf;
       seen = sees m digest layout s id me kept at lives settled place stays 0 key p stands (Node node) is;
       claimed = λ i c. absurd (none_listed i c);
-    }) refl
+    }) refl refl (alone_within (record me.0 { trie = descending digest key p level node (renewed me.0.trie) }) place stays)
 
     -- where nothing stands only that is seen
     pub sights : IsCells m digest layout (stepped s word (slice_index s.words word) id me.1 (record me.0 { trie = sighting key level p (t.cell p) (renewed me.0.trie) }) keeps)
@@ -103,7 +103,7 @@ module _ {S A R F : Type 0} (m : Meaning S A R) (digest : Key → ℕ) (layout :
       leaf = was.leaf;
       seen = sees m digest layout s id me kept at lives settled place stays 0 key p stands (t.cell p) refl;
       claimed = λ i c. absurd (none_listed i c);
-    }) refl
+    }) refl refl (alone_within (record me.0 { trie = sighting key level p (t.cell p) (renewed me.0.trie) }) place stays)
 
     module _ (slot : ℕ) (leaf_way : Way) (is : t.cell p ≡ Leaf slot leaf_way) where
       abbrev leaf : LoadedLeaf
@@ -122,7 +122,7 @@ module _ {S A R F : Type 0} (m : Meaning S A R) (digest : Key → ℕ) (layout :
         leaf = leaf_stays;
         seen = sees m digest layout s id me kept at lives settled place stays 0 key p stands (t.cell p) refl;
         claimed = λ i c. absurd (none_listed i c);
-      }) refl
+      }) refl refl (alone_within (record me.0 { trie = meeting key p (t.cell p) level leaf me.0.trie }) place stays)
 
       module _ (conn : ConnId) (way : Way) (may : MayHoldSo m me.0 conn way) (same : is_key leaf.key key ≡ true) where
         abbrev entry : Entry S A R
@@ -165,7 +165,7 @@ module _ {S A R F : Type 0} (m : Meaning S A R) (digest : Key → ℕ) (layout :
         })
 
         trie_after : Trie trie_side digest layout kept.published k' s.words (set s.views id asker)
-        trie_after = trie_kept trie_side digest layout kept.published k k' s.words s.words s.views (set s.views id asker) kept.trie keeps_trie
+        trie_after = trie_kept trie_side digest layout kept.published k k' s.words s.words s.views (set s.views id asker) kept.trie keeps_trie (grown-set trie_side s.views id me.0 asker at refl)
             (fits-set trie_side digest layout.slots k' t s.views id asker asker_fits (fits_all trie_side digest layout.slots k k' t t s.views keeps_trie kept.trie.each))
 
         builds_after : BuildsIn pool_side k' (set s.views id asker)
@@ -174,7 +174,7 @@ module _ {S A R F : Type 0} (m : Meaning S A R) (digest : Key → ℕ) (layout :
         pub takes : IsCells m digest layout (stepped s word (slice_index s.words word) id me.1 asker keeps)
         takes =
             let words = set-get_or s.words word 0 in
-            entry_step m digest layout s word (slice_index s.words word) id me.1 me.0 asker kept at lives place entry refl follows refl refl (kept.stored id me.0 at) refl
+            entry_step m digest layout s word (slice_index s.words word) id me.1 me.0 asker kept at lives place entry refl follows refl refl (kept.stored id me.0 at) refl (alone_within asker place stays)
             (record { before = λ j h. ap (λ ws. slice_index ws j) words; behind = λ j h. ap (λ ws. slice_index ws j) words })
             (pools-same layout (taken pool_side kept.published k s.views) (taken pool_side kept.published k' (set s.views id asker)) s.words (set s.words word (slice_index s.words word)) kept.pools
             (length-set s.words word (slice_index s.words word)) (λ j h. ap (λ ws. slice_index ws j) words) (taken-set pool_side kept.published k s.views id me.0 asker at refl))

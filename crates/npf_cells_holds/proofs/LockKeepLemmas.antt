@@ -29,17 +29,17 @@ use Rattle.npf_seats.proofs.SumLemmas.{sum-set, one_of_sum}
 use Rattle.npf_cells_pins.specs.declared.pin.Pin.TheVariants.{Idle}
 use Rattle.npf_cells_leaves.specs.declared.trie.TrieSide.{TrieSide}
 use Rattle.npf_cells_leaves.specs.Trie.{key_word, TrieWords, trie_words, FitsTrie}
-use Rattle.npf_cells_leaves.proofs.TrieLemmas.{KeepsTrie, knows_same, cell_kept, trie_kept, fits_kept, fits-set, fits_all}
+use Rattle.npf_cells_leaves.proofs.TrieLemmas.{grown-set, KeepsTrie, knows_same, cell_kept, trie_kept, fits_kept, fits-set, fits_all}
 use Rattle.npf_cells_lives.specs.declared.pools.PoolSide.{PoolSide}
 use Rattle.npf_cells_lives.specs.Locks.{has_lock, lock_holders, Locks}
 use Rattle.npf_cells_lives.specs.Stored.{FitsStored}
 use Rattle.npf_cells_lives.proofs.ConnLemmas.{builds-kept, unstored-set, conns-same}
 use Rattle.npf_cells_lives.proofs.StoredLemmas.{no_lock, stored_kept, stored-set}
 use Rattle.npf_cells_rule.specs.declared.view.CellView.{CellView}
-use Rattle.npf_cells_rule.specs.Cells.{IsCells}
-use Rattle.npf_cells_rule.specs.Passes.{IsPassOf}
+use Rattle.npf_cells_rule.specs.Cells.{FitsAlone, IsCells}
+use Rattle.npf_cells_rule.specs.Passes.{IsPassOf, IsProtected}
 use Rattle.npf_cells_rule.specs.Views.{with_trie, lock_side, pool_side, trie_side}
-use Rattle.npf_cells_rule.proofs.Frames.{private_step}
+use Rattle.npf_cells_rule.proofs.Frames.{alone_still, alone_within, private_step}
 use Rattle.npf_cells_rule.proofs.StoodLemmas.{stood_so}
 use Rattle.npf_cells_holds.specs.LockKinds.{locking, locks_but, unlocking, TriesLock, StoresState}
 use Rattle.npf_cells_holds.proofs.LookKeepLemmas.{load_step}
@@ -168,12 +168,12 @@ module _ {S A R F : Type 0} (m : Meaning S A R) (digest : Key → ℕ) (layout :
     keeps_trie n = lock_keeps layout k s.words lock n exists
 
     -- a step on the word of the lock, after which the seat fits and is one of those that have it
-    lock_step : (n : ℕ) (side : TrieSide) → FitsTrie digest layout.slots k (t' n) side → n ≡ lock_holders lock_side layout (set s.views id (having side)) lock → n ≤ 1 →
+    lock_step : (n : ℕ) (side : TrieSide) → side.grown ≡ me.0.trie.grown → FitsAlone (having side) → FitsTrie digest layout.slots k (t' n) side → n ≡ lock_holders lock_side layout (set s.views id (having side)) lock → n ≤ 1 →
         ((other : Lock) → lock_at layout other ≢ word → has_lock layout other side.locks ≡ has_lock layout other me.0.trie.locks) → IsCells m digest layout (stepped s word n id me.1 (having side) keeps)
-    lock_step n side fits here most others =
+    lock_step n side grown alone fits here most others =
         let w = having side in
-        private_step m digest layout s word n id me.1 me.0 w kept at (lock_behind layout lock) refl refl refl refl
-        (trie_kept trie_side digest layout kept.published k k s.words (words' n) s.views (set s.views id w) kept.trie (keeps_trie n)
+        private_step m digest layout s word n id me.1 me.0 w kept at (lock_behind layout lock) refl refl refl refl alone
+        (trie_kept trie_side digest layout kept.published k k s.words (words' n) s.views (set s.views id w) kept.trie (keeps_trie n) (grown-set trie_side s.views id me.0 w at grown)
         (fits-set trie_side digest layout.slots k (t' n) s.views id w fits (fits_all trie_side digest layout.slots k k (trie_words layout s.words) (t' n) s.views (keeps_trie n) kept.trie.each)))
         (conns-same pool_side m layout kept.log s.words (words' n) s.views (set s.views id w) kept.connections (length-set s.words word n)
         (λ slot h. get_or-set_other s.words word (field_at layout Slots slot inc_field) n 0 (not_slot layout slot inc_field lock exists)) (builds-kept pool_side k s.views id me.0 w at refl refl kept.connections.each) (unstored-set pool_side s.views id me.0 w at refl))
@@ -192,8 +192,8 @@ module _ {S A R F : Type 0} (m : Meaning S A R) (digest : Key → ℕ) (layout :
     holders_after side = sum-set (λ (u : CellView S A R). has_lock layout lock u.trie.locks) s.views id me.0 (having side) at
 
     -- the lock was free, and the pass has it
-    pub got : slice_index s.words word ≡ 0 → IsCells m digest layout (stepped s word 1 id me.1 (having (locking lock me.0.trie)) keeps)
-    got free = lock_step 1 (locking lock me.0.trie) (fits_locking digest layout.slots k (t' 1) lock me.0.trie (fits_still 1))
+    pub got : IsProtected me.0.epochs.pin → 1 ≤ length me.0.seats.readers → slice_index s.words word ≡ 0 → IsCells m digest layout (stepped s word 1 id me.1 (having (locking lock me.0.trie)) keeps)
+    got stays place free = lock_step 1 (locking lock me.0.trie) refl (alone_within (having (locking lock me.0.trie)) place stays) (fits_locking digest layout.slots k (t' 1) lock me.0.trie (fits_still 1))
         (let says = kept.locks.says lock exists in
         let after = holders_after (locking lock me.0.trie) in
         let more = occurs-cons word word (map (lock_at layout) me.0.trie.locks) in
@@ -212,8 +212,12 @@ module _ {S A R F : Type 0} (m : Meaning S A R) (digest : Key → ℕ) (layout :
         let once = has_once layout lock me.0.trie.locks c in
         (omega (arith, most, mine, once), omega (arith, most, mine, once))
 
-    freed : Contains me.0.trie.locks lock → IsCells m digest layout (stepped s word 0 id me.1 (having (record me.0.trie { locks = locks_but layout lock me.0.trie.locks })) keeps)
-    freed c = lock_step 0 (record me.0.trie { locks = locks_but layout lock me.0.trie.locks }) (fits_unlocking digest layout.slots k (t' 0) layout lock me.0.trie (fits_still 0))
+    -- it is protected
+    locked_alone : (side : TrieSide) → 1 ≤ length me.0.seats.readers → Contains me.0.trie.locks lock → FitsAlone (having side)
+    locked_alone side place c = alone_still me.0 (having side) (kept.alone id me.0 at) place refl (λ none. absurd (none_listed lock (subst (λ locks. Contains locks lock) none.locks c)))
+
+    freed : 1 ≤ length me.0.seats.readers → Contains me.0.trie.locks lock → IsCells m digest layout (stepped s word 0 id me.1 (having (record me.0.trie { locks = locks_but layout lock me.0.trie.locks })) keeps)
+    freed place c = lock_step 0 (record me.0.trie { locks = locks_but layout lock me.0.trie.locks }) refl (locked_alone (record me.0.trie { locks = locks_but layout lock me.0.trie.locks }) place c) (fits_unlocking digest layout.slots k (t' 0) layout lock me.0.trie (fits_still 0))
         (let had = held c in
         let all = had.0 in
         let mine = had.1 in
@@ -222,43 +226,43 @@ module _ {S A R F : Type 0} (m : Meaning S A R) (digest : Key → ℕ) (layout :
         omega (arith, all, mine, after, left)) (omega arith)
         (λ other ne. ap (occurs (lock_at layout other)) (but_words layout lock me.0.trie.locks) ∙ left_others word (lock_at layout other) (map (lock_at layout) me.0.trie.locks) ne)
 
-    stays_locked : Contains me.0.trie.locks lock → IsCells m digest layout (stepped s word 1 id me.1 me.0 keeps)
-    stays_locked c = lock_step 1 me.0.trie (fits_still 1) (let had = held c in let all = had.0 in let after = holders_after me.0.trie in omega (arith, all, after)) (omega arith) (λ other ne. refl)
+    stays_locked : 1 ≤ length me.0.seats.readers → Contains me.0.trie.locks lock → IsCells m digest layout (stepped s word 1 id me.1 me.0 keeps)
+    stays_locked place c = lock_step 1 me.0.trie refl (locked_alone me.0.trie place c) (fits_still 1) (let had = held c in let all = had.0 in let after = holders_after me.0.trie in omega (arith, all, after)) (omega arith) (λ other ne. refl)
 
-    pub stores_state : (state : ℕ) → Contains me.0.trie.locks lock → state < 2 → IsCells m digest layout (stepped s word state id me.1 (having (unlocking layout lock state me.0.trie)) keeps)
-    stores_state zero c h = freed c
-    stores_state (suc zero) c h = stays_locked c
-    stores_state (suc (suc state)) c h = absurd (omega (arith, h))
+    pub stores_state : (state : ℕ) → 1 ≤ length me.0.seats.readers → Contains me.0.trie.locks lock → state < 2 → IsCells m digest layout (stepped s word state id me.1 (having (unlocking layout lock state me.0.trie)) keeps)
+    stores_state zero place c h = freed place c
+    stores_state (suc zero) place c h = stays_locked place c
+    stores_state (suc (suc state)) place c h = absurd (omega (arith, h))
 
   -- a try that makes the word of the lock this
   abbrev LockTry : (st : Step F) (id : ℕ) (lock : Lock) (me : Me F (CellView S A R)) (s : State F (CellView S A R)) → ℕ → Type 0
   LockTry st id lock me s n = (w : CellView S A R) × (a : Act F) × Valid s.homes me.1 a × IsCells m digest layout (stepped s (lock_at layout lock) n id me.1 w a)
       × TriesLock m digest layout lock st me (slice_index s.words (lock_at layout lock)) (w, carried_after me.1 a)
 
-  pub may_lock : (st : Step F) (id n : ℕ) (lock : Lock) (me : Me F (CellView S A R)) → me.0.seats.lives ≡ true → IsLockOf layout lock →
+  pub may_lock : (st : Step F) (id n : ℕ) (lock : Lock) (me : Me F (CellView S A R)) → me.0.seats.lives ≡ true → 1 ≤ length me.0.seats.readers → IsProtected me.0.epochs.pin → IsLockOf layout lock →
       Allows (IsCells m digest layout) n id me (lock_at layout lock) (λ x. either (eqb x 0) 1 x) (TriesLock m digest layout lock st me)
-  may_lock st id n lock me lives exists s kept homes at bound = exchanged (slice_index s.words (lock_at layout lock)) 0 1 (LockTry st id lock me s)
+  may_lock st id n lock me lives place stays exists s kept homes at bound = exchanged (slice_index s.words (lock_at layout lock)) 0 1 (LockTry st id lock me s)
       (λ free. (
         record me.0 { trie = locking lock me.0.trie },
         keeps,
         tt,
-        got s id me kept at lock exists free,
+        got s id me kept at lock exists stays place free,
         record { stood = stood_so m digest layout s id me.0 (lock_at layout lock) (lock_at layout lock) kept at lives refl; won = λ _. refl; lost = λ taken. absurd (taken free) },
       ))
       (λ taken. (
         me.0,
         keeps,
         tt,
-        load_step m digest layout s (lock_at layout lock) id me.1 me.0 me.0.trie kept at (lock_behind layout lock) (kept.trie.each id me.0 at) refl,
-        record { stood = stood_so m digest layout s id me.0 (lock_at layout lock) (lock_at layout lock) kept at lives refl; won = λ free. absurd (taken pool_side free); lost = λ _. refl },
+        load_step m digest layout s (lock_at layout lock) id me.1 me.0 me.0.trie kept at (lock_behind layout lock) (kept.trie.each id me.0 at) refl refl (kept.alone id me.0 at),
+        record { stood = stood_so m digest layout s id me.0 (lock_at layout lock) (lock_at layout lock) kept at lives refl; won = λ free. absurd (taken free); lost = λ _. refl },
       ))
 
-  pub may_store_state : (st : Step F) (id n : ℕ) (lock : Lock) (state : ℕ) (me : Me F (CellView S A R)) → IsLockOf layout lock → Contains me.0.trie.locks lock → state < 2 →
+  pub may_store_state : (st : Step F) (id n : ℕ) (lock : Lock) (state : ℕ) (me : Me F (CellView S A R)) → 1 ≤ length me.0.seats.readers → IsLockOf layout lock → Contains me.0.trie.locks lock → state < 2 →
       Allows (IsCells m digest layout) n id me (lock_at layout lock) (λ _. state) (λ _. StoresState layout lock state st me state)
-  may_store_state st id n lock state me exists has below s kept homes at bound = (
+  may_store_state st id n lock state me place exists has below s kept homes at bound = (
     record me.0 { trie = unlocking layout lock state me.0.trie },
     keeps,
     tt,
-    stores_state s id me kept at lock exists state has below,
+    stores_state s id me kept at lock exists state place has below,
     record { is = refl },
   )

@@ -47,11 +47,11 @@ use Rattle.npf_cells_lives.specs.Pools.{taken}
 use Rattle.npf_cells_lives.proofs.ConnLemmas.{builds-kept, unstored-set}
 use Rattle.npf_cells_lives.proofs.PoolLemmas.{pools-same, taken-set}
 use Rattle.npf_cells_rule.specs.declared.view.CellView.{CellView}
-use Rattle.npf_cells_rule.specs.Cells.{IsCells}
+use Rattle.npf_cells_rule.specs.Cells.{FitsAlone, IsCells}
 use Rattle.npf_cells_rule.specs.Passes.{IsProtected, cell_pass}
 use Rattle.npf_cells_rule.specs.Views.{seat_side, reader_view, with_trie, pool_side, trie_side}
 use Rattle.npf_cells_rule.proofs.EntryLemmas.{adds_entry, sole_entries}
-use Rattle.npf_cells_rule.proofs.Frames.{conns_apart, stored_apart, locks_apart, entry_step, private_step}
+use Rattle.npf_cells_rule.proofs.Frames.{alone_still, alone_within, conns_apart, stored_apart, locks_apart, entry_step, private_step}
 use Rattle.npf_cells_rule.proofs.PassLemmas.{pinned_in}
 use Rattle.npf_cells_holds.specs.LookKinds.{StandsOnPath, level_of, level_at, descending, TellsHolder, looked, HasLooked, FitsLayout, LooksAt, LoadsPlace, reading, LoadsKey}
 
@@ -105,11 +105,11 @@ fits_layout layout Mark leaf node = tt
 module _ {S A R F : Type 0} (m : Meaning S A R) (digest : Key → ℕ) (layout : Layout) where
   -- a load of a word behind the pools', after which the seat still fits
   pub load_step : (s : State F (CellView S A R)) (i id : ℕ) (c : List (ℕ × F)) (v : CellView S A R) (side : TrieSide) (kept : IsCells m digest layout s) → get_elem? s.views id ≡ some v → root_at layout ≤ i →
-      FitsTrie digest layout.slots (state_of m kept.log) (trie_words layout s.words) side → side.locks ≡ v.trie.locks → IsCells m digest layout (stepped s i (slice_index s.words i) id c (record v { trie = side }) keeps)
-  load_step s i id c v side kept at behind fits locks =
+      FitsTrie digest layout.slots (state_of m kept.log) (trie_words layout s.words) side → side.locks ≡ v.trie.locks → side.grown ≡ v.trie.grown → FitsAlone (record v { trie = side }) → IsCells m digest layout (stepped s i (slice_index s.words i) id c (record v { trie = side }) keeps)
+  load_step s i id c v side kept at behind fits locks grown alone =
       let w : CellView S A R = record v { trie = side } in
-      private_step m digest layout s i (slice_index s.words i) id c v w kept at behind refl refl refl refl
-      (subst (λ ws. Trie trie_side digest layout kept.published (state_of m kept.log) ws (set s.views id w)) (sym (set-get_or s.words i 0)) (trie_moved trie_side digest layout kept.published (state_of m kept.log) s.words s.views id w kept.trie fits))
+      private_step m digest layout s i (slice_index s.words i) id c v w kept at behind refl refl refl refl alone
+      (subst (λ ws. Trie trie_side digest layout kept.published (state_of m kept.log) ws (set s.views id w)) (sym (set-get_or s.words i 0)) (trie_moved trie_side digest layout kept.published (state_of m kept.log) s.words s.views id v w kept.trie at grown fits))
       (conns_apart m digest layout s i (slice_index s.words i) id v w kept at refl refl (λ j h. ap (λ ws. slice_index ws j) (set-get_or s.words i 0)))
       (stored_apart m digest layout s i (slice_index s.words i) id w kept (kept.stored id v at) (λ j h. ap (λ ws. slice_index ws j) (set-get_or s.words i 0)))
       (locks_apart m digest layout s i (slice_index s.words i) id v w kept at locks (λ j h. ap (λ ws. slice_index ws j) (set-get_or s.words i 0)))
@@ -160,7 +160,7 @@ module _ {S A R F : Type 0} (m : Meaning S A R) (digest : Key → ℕ) (layout :
       leaf = (kept.trie.each id me.0 at).leaf;
       seen = sees (Node node) is;
       claimed = (kept.trie.each id me.0 at).claimed;
-    }) refl
+    }) refl refl (alone_within (record me.0 { trie = descending digest key p level node me.0.trie }) place stays)
 
     -- the leaf that is then known stays
     leaf_fits : (cell : Cell) → t.cell p ≡ cell → (leaf : LoadedLeaf) → leaf_after t cell me.0.trie.leaf ≡ Some leaf → StaysLeaf layout.slots k.holder t leaf
@@ -188,11 +188,11 @@ module _ {S A R F : Type 0} (m : Meaning S A R) (digest : Key → ℕ) (layout :
     pub ends : IsCells m digest layout (stepped s word (slice_index s.words word) id me.1 looker keeps)
     ends =
         let words = set-get_or s.words word 0 in
-        entry_step m digest layout s word (slice_index s.words word) id me.1 me.0 looker kept at lives place entry refl follows refl refl (kept.stored id me.0 at) refl
+        entry_step m digest layout s word (slice_index s.words word) id me.1 me.0 looker kept at lives place entry refl follows refl refl (kept.stored id me.0 at) refl (alone_within looker place stays)
         (record { before = λ j h. ap (λ ws. slice_index ws j) words; behind = λ j h. ap (λ ws. slice_index ws j) words })
         (pools-same layout (taken pool_side kept.published k s.views) (taken pool_side kept.published k (set s.views id looker)) s.words (set s.words word (slice_index s.words word)) kept.pools
         (length-set s.words word (slice_index s.words word)) (λ j h. ap (λ ws. slice_index ws j) words) (taken-set pool_side kept.published k s.views id me.0 looker at refl))
-        (subst (λ ws. Trie trie_side digest layout kept.published k ws (set s.views id looker)) (sym words) (trie_moved trie_side digest layout kept.published k s.words s.views id looker kept.trie looker_fits))
+        (subst (λ ws. Trie trie_side digest layout kept.published k ws (set s.views id looker)) (sym words) (trie_moved trie_side digest layout kept.published k s.words s.views id me.0 looker kept.trie at refl looker_fits))
         (builds-kept pool_side k s.views id me.0 looker at refl refl kept.connections.each)
         (λ slot h. ap (λ n. inc_word layout s.words slot + n) (unstored-set pool_side s.views id me.0 looker at refl slot) ∙ kept.connections.incs slot h)
 
@@ -266,14 +266,16 @@ module _ {S A R F : Type 0} (m : Meaning S A R) (digest : Key → ℕ) (layout :
         }),
       )
 
-  pub may_load_key : (st : Step F) (id n slot : ℕ) (way : Way) (place : ℕ) (me : Me F (CellView S A R)) → place < 5 →
+  pub may_load_key : (st : Step F) (id n slot : ℕ) (way : Way) (place : ℕ) (me : Me F (CellView S A R)) → 1 ≤ length me.0.seats.readers → place < 5 →
       Allows (IsCells m digest layout) n id me (field_at layout Slots slot (key_field way + place)) (λ x. x) (LoadsKey layout slot way place st me)
-  may_load_key st id n slot way place me short s kept homes at bound = (
+  may_load_key st id n slot way place me seated short s kept homes at bound = (
     record me.0 { trie = reading me.0.trie },
     keeps,
     tt,
     load_step s (field_at layout Slots slot (key_field way + place)) id me.1 me.0 (reading me.0.trie) kept at (omega arith)
-        (let fits = kept.trie.each id me.0 at in record { stands = fits.stands; leaf = fits.leaf; seen = fits.seen; claimed = fits.claimed }) refl,
+        (let fits = kept.trie.each id me.0 at in record { stands = fits.stands; leaf = fits.leaf; seen = fits.seen; claimed = fits.claimed }) refl refl
+        (alone_still me.0 (record me.0 { trie = reading me.0.trie }) (kept.alone id me.0 at) seated refl
+        (λ none. record { stands = none.stands; leaf = none.leaf; seen = none.seen; meets = none.meets; answered = none.answered; locks = none.locks })),
     record {
       is = refl;
       stored = λ x e. (kept.stored id me.0 at).stands (field_at layout Slots slot (key_field way + place)) x e;

@@ -45,10 +45,11 @@ use Rattle.npf_seats.specs.Sums.{occurs}
 use Rattle.npf_seats.proofs.ListLemmas.{occurs_or}
 use Rattle.npf_seats.proofs.PrefixLemmas.{none_listed}
 use Rattle.npf_seats.proofs.SeatLemmas.{seats-adds}
+use Rattle.npf_seats.proofs.SumLemmas.{sum-set}
 use Rattle.npf_cells_pins.specs.Epochs.{ReaderView}
 use Rattle.npf_cells_pins.proofs.EpochLemmas.{within_last}
 use Rattle.npf_cells_leaves.specs.declared.trie.LoadedLeaf.{LoadedLeaf}
-use Rattle.npf_cells_leaves.specs.Trie.{key_in, digits_of, TrieWords, trie_words, leaf_found, holder_at, StaysLeaf, FitsTrie, Trie}
+use Rattle.npf_cells_leaves.specs.Trie.{key_in, digits_of, TrieWords, trie_words, leaf_found, holder_at, StaysLeaf, FitsTrie, Trie, all_grown}
 use Rattle.npf_cells_leaves.proofs.FillLemmas.{FillsFor, fills_place, trie_filled}
 use Rattle.npf_cells_leaves.proofs.GivenLemmas.{GivesKey, fits_still, others-fit}
 use Rattle.npf_cells_leaves.proofs.GrowLemmas.{branch_seen, trie_grown}
@@ -63,15 +64,16 @@ use Rattle.npf_cells_lives.proofs.LockLemmas.{locks-same, holders-set, locks_alo
 use Rattle.npf_cells_lives.proofs.PoolLemmas.{pools-kept}
 use Rattle.npf_cells_lives.proofs.StoredLemmas.{fits_unstored, stored_kept, stored-set}
 use Rattle.npf_cells_rule.specs.declared.view.CellView.{CellView}
-use Rattle.npf_cells_rule.specs.Cells.{IsCells}
+use Rattle.npf_cells_rule.specs.Cells.{IsCells, FitsAlone}
 use Rattle.npf_cells_rule.specs.Passes.{IsProtected, cell_pass}
 use Rattle.npf_cells_rule.specs.Views.{seat_side, reader_view, lock_side, pool_side, trie_side}
 use Rattle.npf_cells_rule.proofs.EntryLemmas.{adds_entry, sole_entries}
-use Rattle.npf_cells_rule.proofs.Frames.{spent-set, framed, epochs_apart}
+use Rattle.npf_cells_rule.proofs.Frames.{alone-set, alone_within, framed, epochs_apart}
 use Rattle.npf_cells_rule.proofs.MetLemmas.{unowned}
 use Rattle.npf_cells_rule.proofs.PassLemmas.{pinned_in}
+use Rattle.npf_cells_holds.specs.HoldKinds.{renewed}
 use Rattle.npf_cells_holds.specs.LookKinds.{level_at}
-use Rattle.npf_cells_holds.specs.PublishKinds.{SeesLocked, stored_cell, cell_stored, GrowsNodes, PutsFor, MayPublishFor, published_for, HasHeld, PublishesFor}
+use Rattle.npf_cells_holds.specs.PublishKinds.{SeesLocked, stored_cell, cell_stored, GrowsNodes, PutsFor, MayPublishFor, published_for, HasHeld, PublishesFor, publishing}
 use Rattle.npf_cells_holds.proofs.AgainKeepLemmas.{stands_there}
 use Rattle.npf_cells_holds.proofs.LookKeepLemmas.{word_of, on_path}
 use Rattle.npf_cells_holds.proofs.OwnedLemmas.{owns_there, taken_moved}
@@ -83,9 +85,9 @@ module _ {S A R F : Type 0} (m : Meaning S A R) (digest : Key → ℕ) (layout :
   publish_step : (s : State F (CellView S A R)) (i n id : ℕ) (v w : CellView S A R) (kept : IsCells m digest layout s) (published : List ℕ) → get_elem? s.views id ≡ some v → root_at layout ≤ i → v.seats.lives ≡ true → 1 ≤ length v.seats.readers →
       (entry : Entry S A R) → entry.seat ≡ id → MayFollow m layout.slots (state_of m kept.log) entry → w.seats ≡ record v.seats { history = kept.log ++ entry ∷ [] } → reader_view w ≡ reader_view v →
       ((pool : Pool) (place : ℕ) → taken pool_side published (after m (state_of m kept.log) entry) (set s.views id w) pool place ≡ taken pool_side kept.published (state_of m kept.log) s.views pool place) →
-      Trie trie_side digest layout published (after m (state_of m kept.log) entry) (set s.words i n) (set s.views id w) → Conns pool_side m layout (kept.log ++ entry ∷ []) (set s.words i n) (set s.views id w) → StoredWords pool_side layout (set s.words i n) (set s.views id w) → Locks lock_side layout (set s.words i n) (set s.views id w) →
+      Trie trie_side digest layout published (after m (state_of m kept.log) entry) (set s.words i n) (set s.views id w) → Conns pool_side m layout (kept.log ++ entry ∷ []) (set s.words i n) (set s.views id w) → StoredWords pool_side layout (set s.words i n) (set s.views id w) → Locks lock_side layout (set s.words i n) (set s.views id w) → FitsAlone w →
       (c : List (ℕ × F)) → IsCells m digest layout (stepped s i n id c w keeps)
-  publish_step s i n id v w kept published at behind lives place entry mine follows seats reads takes trie connections stored locks c =
+  publish_step s i n id v w kept published at behind lives place entry mine follows seats reads takes trie connections stored locks alone c =
       let log = kept.log ++ entry ∷ [] in
       let state = state_of-append m kept.log entry in
       framed m digest layout s (stepped s i n id c w keeps) kept published log (length-set s.words i n)
@@ -98,7 +100,7 @@ module _ {S A R F : Type 0} (m : Meaning S A R) (digest : Key → ℕ) (layout :
       connections
       stored
       locks
-      (spent-set s.views id w (λ none. absurd (let same = ap (λ (r : ReaderView). length r.places) reads in omega (arith, same, none, place))) kept.spent)
+      (alone-set s.views id w alone kept.alone)
     where
       below : (j : ℕ) → j < root_at layout → slice_index (set s.words i n) j ≡ slice_index s.words j
       below j h = get_or-set_other s.words i j n 0 (λ e. absurd (omega (arith, e, h, behind)))
@@ -196,13 +198,20 @@ module _ {S A R F : Type 0} (m : Meaning S A R) (digest : Key → ℕ) (layout :
     locks_stay : (nodes : List ℕ) → Locks lock_side layout words' (set s.views id (holding nodes))
     locks_stay nodes = locks-same lock_side layout s.words words' s.views (set s.views id (holding nodes)) kept.locks (lock_else m digest layout s kept p inside (cell_word cell)) (holders-set lock_side layout s.views id me.0 (holding nodes) at refl)
 
+    -- the pass counts the nodes
+    all_after : (nodes : List ℕ) → all_grown trie_side (set s.views id (holding nodes)) ≡ length nodes + all_grown trie_side s.views
+    all_after nodes = let more = sum-set (λ (u : CellView S A R). u.trie.grown) s.views id me.0 (holding nodes) at in omega (arith, more)
+
+    fits_grown : {k'' : Machine S} {t'' : TrieWords} (nodes : List ℕ) → FitsTrie digest layout.slots k'' t'' (publishing (renewed me.0.trie)) → FitsTrie digest layout.slots k'' t'' (holding nodes).trie
+    fits_grown nodes was = record { stands = was.stands; leaf = was.leaf; seen = was.seen; claimed = was.claimed }
+
     -- each seat fits still: none but this pass had the place's lock
     all_fit : (free : k.holder key ≡ None) (nodes : List ℕ) → Contains me.0.trie.locks (lock_of p) → ((digits : ℕ → ℕ) (l : ℕ) (q : Place) → AreDigits digits → IsOnPath digits t.cell l q → IsOnPath digits t'.cell l q) →
         ((digits : ℕ → ℕ) (l : ℕ) (q : Place) → AreDigits digits → IsOnPath digits t.cell l q → q ≢ p → t'.cell q ≡ t.cell q) →
         (j : ℕ) (u : CellView S A R) → get_elem? (set s.views id (holding nodes)) j ≡ some u → FitsTrie digest layout.slots k' t' u.trie
     all_fit free nodes locked old elsewhere = others-fit trie_side layout digest k' t' s.views id (holding nodes)
-        (fits_still digest layout.slots k k' t t' conn key way (gives free) p old elsewhere me.0.trie (holding nodes).trie
-        (record { stands = λ point e. e; leaf = λ leaf e. e; seen = λ x e. absurd cc; locks = refl; answered = λ i c. absurd (none_listed i c) }) (λ x e. absurd cc) (kept.trie.each id me.0 at))
+        (fits_grown nodes (fits_still digest layout.slots k k' t t' conn key way (gives free) p old elsewhere me.0.trie (publishing (renewed me.0.trie))
+        (record { stands = λ point e. e; leaf = λ leaf e. e; seen = λ x e. absurd cc; locks = refl; answered = λ i c. absurd (none_listed i c); grown = refl }) (λ x e. absurd cc) (kept.trie.each id me.0 at)))
         (λ j u ne e. fits_still digest layout.slots k k' t t' conn key way (gives free) p old elsewhere u.trie u.trie (knows_same u.trie)
         (λ x seen has same. locks_alone lock_side layout s.words s.views j id u me.0 (lock_of p) kept.locks (place_lock layout p inside) e at (subst (λ q. Contains u.trie.locks (lock_of q)) same has) locked ne) (kept.trie.each j u e))
 
@@ -210,7 +219,7 @@ module _ {S A R F : Type 0} (m : Meaning S A R) (digest : Key → ℕ) (layout :
     held_so : (nodes : List ℕ) → k.holder key ≡ None →
         ((pool : Pool) (x : ℕ) → taken pool_side (nodes ++ kept.published) k' (set s.views id (holding nodes)) pool x ≡ taken pool_side kept.published k s.views pool x) →
         Trie trie_side digest layout (nodes ++ kept.published) k' words' (set s.views id (holding nodes)) → IsCells m digest layout (stepped s word (cell_word cell) id me.1 (holding nodes) keeps)
-    held_so nodes free takes trie = publish_step s word (cell_word cell) id me.0 (holding nodes) kept (nodes ++ kept.published) at (place_behind layout p) lives place entry refl (follows free) refl refl takes trie (connected nodes free) (stored_stays nodes) (locks_stay nodes) me.1
+    held_so nodes free takes trie = publish_step s word (cell_word cell) id me.0 (holding nodes) kept (nodes ++ kept.published) at (place_behind layout p) lives place entry refl (follows free) refl refl takes trie (connected nodes free) (stored_stays nodes) (locks_stay nodes) (alone_within (holding nodes) place stays) me.1
 
     -- the hold ends what the pass has then seen
     pub has_held : (nodes : List ℕ) → PutsFor digest layout me.0 conn key way p cell nodes → k.holder key ≡ None → HasHeld m digest layout conn key way p cell me (holding nodes, me.1)
@@ -249,6 +258,7 @@ module _ {S A R F : Type 0} (m : Meaning S A R) (digest : Key → ℕ) (layout :
         let changed = fills_place digest t t' conn.slot key way p level (filled_for put empty) in
         held_so [] free (taken_moved m digest layout s kept id me.0 at k k' (holding []) [] (λ i j h. absurd (omega (arith, h))) (λ node c. absurd (none_listed node c)) refl (λ slot. refl))
         (trie_filled trie_side digest layout kept.published k k' s.words words' s.views (set s.views id (holding [])) conn key way p level kept.trie (gives free) (filled_for put empty)
+        (let sums = all_after [] in omega (arith, sums))
         (all_fit free [] sees.locked (λ digits l q are on'. filled_places changed on') (λ digits l q are on' ne. changed.others q ne)))
 
     -- new nodes lead on from the place to the leaf and to that of another key, which stood there
@@ -309,6 +319,7 @@ module _ {S A R F : Type 0} (m : Meaning S A R) (digest : Key → ℕ) (layout :
           held_so nodes free_other (taken_moved m digest layout s kept id me.0 at k k' (holding nodes) nodes news.apart news.owned refl (λ slot. refl))
           (trie_grown trie_side digest layout kept.published k k' s.words words' s.views (set s.views id (holding nodes)) conn key way leaf p level first nodes kept.trie (gives free_other) leaf_stays other_key stood grows_branch news.apart
           (λ node has. owns_there m digest layout s kept id me.0 at node (news.owned node has)) may.key_stored.five
+          (let sums = all_after nodes in omega (arith, sums))
           (all_fit free_other nodes sees.locked grown_paths.old_places (λ digits l q are on' ne. cell_else m digest layout s kept p inside (cell_word cell) q ne)))
 
     -- either way the key is held

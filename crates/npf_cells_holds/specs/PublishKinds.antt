@@ -98,7 +98,7 @@ MayPublish m digest layout v p cell (Some (Aim.Hold id key way)) = MayPublishFor
 abbrev pub nodes_but : List ℕ → List ℕ → List ℕ
 nodes_but published = filter (λ node. if list_any (λ x. x == node) published then false else true)
 
--- the pass after a store, and after one for a key: it has seen this history, is in a new stay, and these nodes aren't its own any more
+-- the pass after a store, and after one for a key: it has seen this history, is in a new stay, and these nodes aren't its own any more but counted
 abbrev pub publishing : TrieSide → TrieSide
 publishing side = record side { seen = None; meets = None; published = side.published + 1 }
 
@@ -106,7 +106,7 @@ abbrev pub published_for : {S A R : Type 0} → CellView S A R → List (Entry S
 published_for v history nodes = record v {
   seats = record v.seats { history = history };
   pools = record v.pools { nodes = nodes_but nodes v.pools.nodes; stored = [] };
-  trie = publishing (renewed v.trie);
+  trie = record (publishing (renewed v.trie)) { grown = v.trie.grown + length nodes };
 }
 
 -- the pass holds the key for the connection, by new nodes or none: this ends its history

@@ -1,5 +1,6 @@
 -- The trie where the leaf of a key's new holder fills the place at which the key's path ends.
 use Rattle.std.proofs.Common.{◌≡◌, ◌≢◌, ℕ, false, None, List, sym, ap, ◌∙◌, subst, ⊎_elim}
+use Rattle.std.specs.List.{Contains}
 use mathlib.Core.Option.{some}
 use lib.ListN.{get_elem?}
 use Rattle.npf_types.specs.declared.key.Key.{Key}
@@ -15,7 +16,7 @@ use Rattle.npf_paths.proofs.LevelLemmas.{filled_levels}
 use Rattle.npf_paths.proofs.PathLemmas.{one_end}
 use Rattle.npf_cells_words.specs.declared.layout.Layout.{Layout}
 use Rattle.npf_cells_leaves.specs.declared.trie.TrieSide.{TrieSide}
-use Rattle.npf_cells_leaves.specs.Trie.{digits_of, TrieWords, trie_words, holder_at, IsRightLeaf, IsRightNode, FitsTrie, Trie}
+use Rattle.npf_cells_leaves.specs.Trie.{digits_of, TrieWords, trie_words, holder_at, IsRightLeaf, IsRightNode, FitsTrie, IsHung, all_grown, Trie}
 use Rattle.npf_cells_leaves.proofs.GivenLemmas.{key_cases, GivesKey, other_holds, right_still, right_now, said_same, said_now, key_now}
 use Rattle.npf_cells_leaves.proofs.TrieLemmas.{are_digits}
 
@@ -93,5 +94,11 @@ module _ {S V : Type 0} (side_of : V → TrieSide) (digest : Key → ℕ) (layou
         subst (λ x. IsOnPath (digits_of digest x) t'.cell l q) (sym (gives.keys slot w)) (filled_places changed home))
         (same_or_apart q p)
 
-    pub trie_filled : ((j : ℕ) (v : V) → get_elem? views' j ≡ some v → FitsTrie digest layout.slots k' t' (side_of v)) → Trie side_of digest layout published k' words' views'
-    trie_filled each = record { ends = ends; leaves = leaves; nodes = nodes; homes = homes; levels = filled_levels changed kept.levels; each = each }
+    hang : (node : ℕ) → Contains published node → IsHung t'.cell node
+    hang node c =
+        let h = kept.hang node c in
+        let ne : h.place ≢ p = (λ e. let clash : Empty ≡ Node node = sym fills.empty ∙ (ap t.cell (sym e) ∙ h.there) in cc) in
+        record { digits = h.digits; are = h.are; level = h.level; place = h.place; on_path = filled_places changed h.on_path; there = fills.others h.place ne ∙ h.there }
+
+    pub trie_filled : all_grown side_of views' ≡ all_grown side_of views → ((j : ℕ) (v : V) → get_elem? views' j ≡ some v → FitsTrie digest layout.slots k' t' (side_of v)) → Trie side_of digest layout published k' words' views'
+    trie_filled sums each = record { ends = ends; leaves = leaves; nodes = nodes; homes = homes; levels = filled_levels changed kept.levels; hang = hang; counted = kept.counted ∙ sym sums; each = each }

@@ -1,9 +1,10 @@
 -- The trie where new nodes give way to the leaf of a key's new holder beside the leaf that stood in their place.
 use Rattle.std.specs.List.{Contains}
-use Rattle.std.proofs.Common.{◌≡◌, ◌≢◌, ℕ, ◌+◌, ◌-◌, ◌*◌, ◌/◌, ◌%◌, ◌^◌, ◌<◌, ◌≤◌, cond, suc, false, Some, None, List, [], ◌∷◌, ◌++◌, length, slice_index, refl, sym, ap, ◌∙◌, subst, ⊎_elim, arith}
+use Rattle.std.proofs.Common.{◌≡◌, ◌≢◌, ℕ, ◌+◌, ◌-◌, ◌*◌, ◌/◌, ◌%◌, ◌^◌, ◌<◌, ◌≤◌, cond, suc, false, Some, None, List, [], ◌∷◌, ◌++◌, length, slice_index, refl, sym, ap, ◌∙◌, subst, ⊎_elim, arith, length-append}
 use Rattle.std.proofs.Math.ListN.{get_or-eq_default}
 use Rattle.std.proofs.lemmas.Bool.{cases_lt}
-use Rattle.std.proofs.lemmas.List.Elements.{Contains-append_left, Contains-append_right}
+use Rattle.std.proofs.lemmas.List.Elements.{Contains-append_cases, Contains-append_left, Contains-append_right}
+use Rattle.std.proofs.lemmas.List.{get_or_default}
 use mathlib.Core.Option.{some}
 use lib.ListN.{get_elem?}
 use Rattle.npf_types.specs.declared.key.Key.{Key}
@@ -24,14 +25,15 @@ use Rattle.npf_paths.specs.LevelLaw.{AreApart}
 use Rattle.npf_paths.specs.Paths.{AreDigits, IsOnPath, IsEnd, EndsAt}
 use Rattle.npf_paths.proofs.BranchLemmas.{branch_parts}
 use Rattle.npf_paths.proofs.GrowingLemmas.{growth_told}
-use Rattle.npf_paths.proofs.HomeLemmas.{leaves_home}
+use Rattle.npf_paths.proofs.HomeLemmas.{mine_along, leaves_home}
 use Rattle.npf_paths.proofs.LevelLemmas.{grown_levels}
 use Rattle.npf_paths.proofs.PathLemmas.{one_end}
 use Rattle.npf_cells_words.specs.declared.layout.Layout.{Layout}
 use Rattle.npf_cells_leaves.specs.declared.trie.LoadedLeaf.{LoadedLeaf}
 use Rattle.npf_cells_leaves.specs.declared.trie.TrieSide.{TrieSide}
-use Rattle.npf_cells_leaves.specs.Trie.{digits_of, TrieWords, trie_words, leaf_found, holder_at, IsRightLeaf, IsRightNode, StaysLeaf, FitsTrie, Trie}
+use Rattle.npf_cells_leaves.specs.Trie.{digits_of, TrieWords, trie_words, leaf_found, holder_at, IsRightLeaf, IsRightNode, StaysLeaf, FitsTrie, IsHung, all_grown, Trie}
 use Rattle.npf_cells_leaves.proofs.GivenLemmas.{key_cases, keys_apart, GivesKey, other_holds, key_now, right_still, right_now, said_same, said_now}
+use Rattle.npf_cells_leaves.proofs.StandLemmas.{hung_at}
 use Rattle.npf_cells_leaves.proofs.TrieLemmas.{are_digits}
 
 -- a branch is seen by cells that say what stands in its places, unless that is a mark
@@ -207,12 +209,40 @@ module _ {S V : Type 0} (side_of : V → TrieSide) (digest : Key → ℕ) (layou
             let most = deep in
             record { exists = exist node grown.within; published_once = Contains-append_left nodes published node grown.within; within = omega (arith, low, most) }
 
-    pub trie_grown : ((j : ℕ) (v : V) → get_elem? views' j ≡ some v → FitsTrie digest layout.slots k' t' (side_of v)) → Trie side_of digest layout (nodes ++ published) k' words' views'
-    trie_grown each = record {
+    -- the key's path goes down through each new node, so it stands in the place before that one
+    hang_new : (node : ℕ) → Contains nodes node → IsHung t'.cell node
+    hang_new node c =
+        let short = c.1 in
+        let down = mine_along mine theirs t.cell t'.cell (Leaf conn.slot way) (Leaf leaf.slot leaf.way) level p first nodes grows small (level + 1 + c.0) (omega arith) (omega (arith, short)) in
+        let index : level + 1 + c.0 - (level + 1) ≡ c.0 = omega arith in
+        let which : slice_index nodes (level + 1 + c.0 - (level + 1)) ≡ node = ap (slice_index nodes) index ∙ (sym (get_or_default nodes c.0 node 0 short) ∙ c.2) in
+        hung_at mine small t'.cell (level + 1 + c.0) (Places.Node (slice_index nodes (level + 1 + c.0 - (level + 1))) (mine (level + 1 + c.0))) node (mine (level + 1 + c.0)) down (ap (λ n. Places.Node n (mine (level + 1 + c.0))) which)
+
+    hang_old : (node : ℕ) → Contains published node → IsHung t'.cell node
+    hang_old node c =
+        let h = kept.hang node c in
+        let ne : h.place ≢ p = (λ e. let clash : Leaf leaf.slot leaf.way ≡ Node node = sym stood ∙ (ap t.cell (sym e) ∙ h.there) in cc) in
+        record {
+          digits = h.digits;
+          are = h.are;
+          level = h.level;
+          place = h.place;
+          on_path = told.old_places h.digits h.level h.place h.are h.on_path;
+          there = grows.others h.place ne (grows.fresh h.digits h.level h.place h.are h.on_path) ∙ h.there;
+        }
+
+    hang : (node : ℕ) → Contains (nodes ++ published) node → IsHung t'.cell node
+    hang node c = ⊎_elim (λ new. hang_new node new) (λ old. hang_old node old) (Contains-append_cases nodes published node c)
+
+    pub trie_grown : all_grown side_of views' ≡ length nodes + all_grown side_of views → ((j : ℕ) (v : V) → get_elem? views' j ≡ some v → FitsTrie digest layout.slots k' t' (side_of v)) →
+        Trie side_of digest layout (nodes ++ published) k' words' views'
+    trie_grown sums each = record {
       ends = ends;
       leaves = leaves;
       nodes = nodes_right;
       homes = homes;
       levels = grown_levels mine theirs t.cell t'.cell (Leaf conn.slot way) (Leaf leaf.slot leaf.way) level p first nodes grows apart kept.levels;
+      hang = hang;
+      counted = (let more = length-append nodes published in let was = kept.counted in omega (arith, more, was, sums));
       each = each;
     }

@@ -1,5 +1,5 @@
 -- The part of the rule on the trie: who holds a key stands where the key's path ends.
-use Rattle.std.specs.Prelude.{◌≡◌, ℕ, ◌+◌, ◌<◌, Option, Some, None, List, [], ◌∷◌, Contains, slice_index, if◌then◌else◌}
+use Rattle.std.specs.Prelude.{◌≡◌, ℕ, ◌+◌, ◌<◌, Option, Some, None, List, [], ◌∷◌, Contains, length, sum_by, slice_index, if◌then◌else◌}
 use mathlib.Core.Option.{some}
 use lib.ListN.{get_elem?}
 use Rattle.npf_types.specs.declared.key.Key.{Key}
@@ -97,8 +97,21 @@ pub record FitsTrie {S : Type 0} (digest : Key → ℕ) (slots : ℕ) (k : Machi
   pub seen : (s : SeenCell) → side.seen ≡ Some s → StaysSighted digest t side.locks s
   pub claimed : (id : ConnId) → Contains side.answered id → IsClaimed (stage_of k id)
 
+-- a node hangs on a path: it stands in a place that the path meets
+pub record IsHung (cell : Place → Cell) (node : ℕ) : Type 0 where
+  pub digits : ℕ → ℕ
+  pub are : AreDigits digits
+  pub level : ℕ
+  pub place : Place
+  pub on_path : IsOnPath digits cell level place
+  pub there : cell place ≡ Node node
+
+-- how many nodes passes published in all
+abbrev pub all_grown : {V : Type 0} → (V → TrieSide) → List V → ℕ
+all_grown side_of views = sum_by (λ v. (side_of v).grown) views
+
 -- over views of which each has a side: the end of each key's path says who holds it; what paths meet is right, a leaf on its own key's
--- path, and each place at one level; and each seat fits
+-- path, and each place at one level; each published node hangs on a path, and some seat counts it; and each seat fits
 pub record Trie {S V : Type 0} (side_of : V → TrieSide) (digest : Key → ℕ) (layout : Layout) (published : List ℕ) (k : Machine S) (words : List ℕ) (views : List V) : Type 0 where
   pub ends : (key : Key) (level : ℕ) (p : Place) → EndsAt (digits_of digest key) (trie_words layout words).cell level p →
       k.holder key ≡ holder_at (trie_words layout words) ((trie_words layout words).cell p) key
@@ -109,12 +122,23 @@ pub record Trie {S V : Type 0} (side_of : V → TrieSide) (digest : Key → ℕ)
   pub homes : (digits : ℕ → ℕ) (level : ℕ) (p : Place) (slot : ℕ) (way : Way) → AreDigits digits → IsOnPath digits (trie_words layout words).cell level p →
       (trie_words layout words).cell p ≡ Leaf slot way → IsOnPath (digits_of digest ((trie_words layout words).key slot way)) (trie_words layout words).cell level p
   pub levels : MeetsAtOneLevel (trie_words layout words).cell
+  pub hang : (node : ℕ) → Contains published node → IsHung (trie_words layout words).cell node
+  pub counted : length published ≡ all_grown side_of views
   pub each : (j : ℕ) (v : V) → get_elem? views j ≡ some v → FitsTrie digest layout.slots k (trie_words layout words) (side_of v)
 
 -- a pass that knows nothing of the trie
 abbrev pub unread_side : TrieSide
-unread_side = record { stands = None; leaf = None; seen = None; meets = None; locks = []; answered = []; places = 0; words = 0; published = 0 }
+unread_side = record { stands = None; leaf = None; seen = None; meets = None; locks = []; answered = []; places = 0; words = 0; published = 0; grown = 0 }
 
 -- what a pass read of the trie in its stay is nothing to the next one
 abbrev pub forgetting : TrieSide → TrieSide
 forgetting side = record side { stands = None; leaf = None; seen = None; meets = None; answered = [] }
+
+-- a pass that isn't protected walked nowhere, was answered nothing, and has no lock
+pub record HasNoWalk (side : TrieSide) : Type 0 where
+  pub stands : side.stands ≡ None
+  pub leaf : side.leaf ≡ None
+  pub seen : side.seen ≡ None
+  pub meets : side.meets ≡ None
+  pub answered : side.answered ≡ []
+  pub locks : side.locks ≡ []

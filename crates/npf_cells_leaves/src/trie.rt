@@ -53,4 +53,6 @@ pub struct TrieSide {
     pub words: u64,
     /// How often it stored in a place of the trie.
     pub published: u64,
+    /// How many nodes it published.
+    pub grown: u64,
 }

@@ -1,5 +1,5 @@
 -- Kinds 1 to 6 keep the rule: each by its part and the frame of a step on the epoch or a reader word.
-use Rattle.std.proofs.Common.{◌≡◌, ◌≢◌, ℕ, ◌+◌, ◌^◌, ◌<◌, ◌≤◌, max, cond, eqb, eq-eqb, ne_eqb, List, [], map, set, length, slice_index, refl, sym, ap, ◌∙◌, subst, arith}
+use Rattle.std.proofs.Common.{true, ◌≡◌, ◌≢◌, ℕ, ◌+◌, ◌^◌, ◌<◌, ◌≤◌, max, cond, eqb, eq-eqb, ne_eqb, List, [], map, set, length, slice_index, refl, sym, ap, ◌∙◌, subst, arith}
 use Rattle.std.proofs.lemmas.List.{get_or-set_same, get_or-set_other, set-get_or}
 use mathlib.Core.Option.{some}
 use lib.ListN.{get_elem?}
@@ -28,11 +28,13 @@ use Rattle.npf_cells_leaves.specs.Trie.{forgetting}
 use Rattle.npf_cells_leaves.proofs.TrieLemmas.{KnowsNoMore, knows_same, knows_less}
 use Rattle.npf_cells_lives.specs.Conns.{entry_seat}
 use Rattle.npf_cells_rule.specs.declared.view.CellView.{CellView}
-use Rattle.npf_cells_rule.specs.Cells.{IsCells}
-use Rattle.npf_cells_rule.specs.Passes.{IsPassOf}
+use Rattle.npf_cells_rule.specs.Cells.{FitsAlone, IsCells}
+use Rattle.npf_cells_rule.specs.Passes.{IsPassOf, IsProtected}
 use Rattle.npf_cells_rule.specs.TableLaw.{HoldsBack}
 use Rattle.npf_cells_rule.specs.Views.{seat_side, reader_view, with_epochs}
-use Rattle.npf_cells_rule.proofs.Frames.{epochs_step}
+use Rattle.npf_cells_rule.proofs.Frames.{epochs_step, alone_still, alone_within}
+use Rattle.npf_cells_rule.proofs.SoleLemmas.{raised_alone}
+use Rattle.npf_cells_rule.proofs.StoodLemmas.{stood_so}
 use Rattle.npf_cells_moves.specs.Kinds.{unpinned, Loads, Pins, Protects, Unpins, Scans, RaisesEpoch}
 
 module _ {S A R F : Type 0} (m : Meaning S A R) (digest : Key → ℕ) (layout : Layout) where
@@ -50,9 +52,9 @@ module _ {S A R F : Type 0} (m : Meaning S A R) (digest : Key → ℕ) (layout :
     there = at_map reader_view s.views id v at
 
     -- a load, which changes this side alone
-    pub load_keeps : (i : ℕ) (side : EpochSide) → Change now reader readings id (record { places = v.seats.readers; side = side }) →
+    pub load_keeps : (i : ℕ) (side : EpochSide) → FitsAlone (record v { epochs = side }) → Change now reader readings id (record { places = v.seats.readers; side = side }) →
         IsCells m digest layout (stepped s i (slice_index s.words i) id c (record v { epochs = side }) keeps)
-    load_keeps i side change = epochs_step m digest layout s i (slice_index s.words i) id c v (record v { epochs = side }) kept at refl refl (knows_same v.trie) (λ j h. ap (λ ws. slice_index ws j) (set-get_or s.words i 0))
+    load_keeps i side alone change = epochs_step m digest layout s i (slice_index s.words i) id c v (record v { epochs = side }) kept at refl refl (knows_same v.trie) alone (λ j h. ap (λ ws. slice_index ws j) (set-get_or s.words i 0))
         (subst (λ (ws : List ℕ). Epochs (epoch_word ws) (reader_word ws) (set readings id (record { places = v.seats.readers; side = side }))) (sym (set-get_or s.words i 0))
         (changed now now reader reader readings id (record { places = v.seats.readers; side = side }) kept.epochs change))
 
@@ -73,15 +75,15 @@ module _ {S A R F : Type 0} (m : Meaning S A R) (digest : Key → ℕ) (layout :
     room place h = let a = kept.connections.reach in omega (arith, a, h)
 
     -- a store of the own reader word
-    pub store_keeps : (place : ℕ) (pin : Pin) (trie : TrieSide) → KnowsNoMore v.trie trie → place ≡ pin_place v.seats.readers → 1 ≤ length v.seats.readers → PinAllows pin now → ((n : ℕ) → NotProtectedBefore n pin) →
+    pub store_keeps : (place : ℕ) (pin : Pin) (trie : TrieSide) → KnowsNoMore v.trie trie → place ≡ pin_place v.seats.readers → 1 ≤ length v.seats.readers → PinAllows pin now → ((n : ℕ) → NotProtectedBefore n pin) → FitsAlone (record v { epochs = record v.epochs { pin = pin }; trie = trie }) →
         IsCells m digest layout (stepped s (reader_at place) (pin_word pin) id c (record v { epochs = record v.epochs { pin = pin }; trie = trie }) keeps)
-    store_keeps place pin trie less is some' guards free =
+    store_keeps place pin trie less is some' guards free alone =
         let owns : 1 ≤ occurs place v.seats.readers = subst (λ p. 1 ≤ occurs p v.seats.readers) (sym is) (first_occurs v.seats.readers some') in
         let below = within id place (reader_view v) there owns in
         let long = room place below in
         let words' : List ℕ = set s.words (reader_at place) (pin_word pin) in
         let epoch : epoch_word words' ≡ now = get_or-set_other s.words (reader_at place) 0 (pin_word pin) 0 (λ e. absurd (omega (arith, e))) in
-        epochs_step m digest layout s (reader_at place) (pin_word pin) id c v (record v { epochs = record v.epochs { pin = pin }; trie = trie }) kept at refl refl less
+        epochs_step m digest layout s (reader_at place) (pin_word pin) id c v (record v { epochs = record v.epochs { pin = pin }; trie = trie }) kept at refl refl less alone
         (λ j h. get_or-set_other s.words (reader_at place) j (pin_word pin) 0 (λ e. absurd (omega (arith, e, h, below))))
         (subst (λ n. Epochs n (reader_word words') (set readings id (record { places = v.seats.readers; side = record v.epochs { pin = pin } }))) (sym epoch)
         (changed now now reader (reader_word words') readings id (record { places = v.seats.readers; side = record v.epochs { pin = pin } }) kept.epochs
@@ -92,13 +94,14 @@ module _ {S A R F : Type 0} (m : Meaning S A R) (digest : Key → ℕ) (layout :
         guards free)))
 
     -- the epoch is raised
-    pub raise_keeps : (greatest known raises : ℕ) → now ≡ v.epochs.loaded → v.epochs.loaded < 2 ^ 62 → HasScannedAll v.epochs → greatest ≤ v.epochs.loaded + 1 → known ≤ v.epochs.loaded + 1 → raises ≡ v.epochs.raises + 1 →
+    pub raise_keeps : (greatest known raises : ℕ) → now ≡ v.epochs.loaded → v.epochs.loaded < 2 ^ 62 → HasScannedAll v.epochs → greatest ≤ v.epochs.loaded + 1 → known ≤ v.epochs.loaded + 1 → raises ≡ v.epochs.raises + 1 → 1 ≤ length v.seats.readers →
         IsCells m digest layout (stepped s 0 (v.epochs.loaded + 1) id c (record v { epochs = record v.epochs { met = now; greatest = greatest; known = known; raises = raises } }) keeps)
-    raise_keeps greatest known raises same below all found le once =
+    raise_keeps greatest known raises same below all found le once place =
         let words' : List ℕ = set s.words 0 (v.epochs.loaded + 1) in
         let a = kept.connections.reach in
         let epoch : epoch_word words' ≡ v.epochs.loaded + 1 = get_or-set_same s.words 0 (v.epochs.loaded + 1) 0 (omega (arith, a)) in
         epochs_step m digest layout s 0 (v.epochs.loaded + 1) id c v (record v { epochs = record v.epochs { met = now; greatest = greatest; known = known; raises = raises } }) kept at refl refl (knows_same v.trie)
+        (alone_still v (record v { epochs = record v.epochs { met = now; greatest = greatest; known = known; raises = raises } }) (kept.alone id v at) place refl (λ none. none))
         (λ j h. get_or-set_other s.words 0 j (v.epochs.loaded + 1) 0 (λ e. absurd (omega (arith, e, h))))
         (subst (λ n. Epochs n (reader_word words') (set readings id (record { places = v.seats.readers; side = record v.epochs { met = now; greatest = greatest; known = known; raises = raises } }))) (sym epoch)
         (changed now (v.epochs.loaded + 1) reader (reader_word words') readings id (record { places = v.seats.readers; side = record v.epochs { met = now; greatest = greatest; known = known; raises = raises } }) kept.epochs
@@ -106,57 +109,60 @@ module _ {S A R F : Type 0} (m : Meaning S A R) (digest : Key → ℕ) (layout :
         (λ p. get_or-set_other s.words 0 (reader_at p) (v.epochs.loaded + 1) 0 (λ e. absurd (omega (arith, e))))
         within)))
 
-  pub may_load : (st : Step F) (id n : ℕ) (me : Me F (CellView S A R)) → Allows (IsCells m digest layout) n id me 0 (λ k. k) (Loads st me)
-  may_load st id n me s kept homes at bound = (
+  pub may_load : (st : Step F) (id n : ℕ) (me : Me F (CellView S A R)) → 1 ≤ length me.0.seats.readers → Allows (IsCells m digest layout) n id me 0 (λ k. k) (Loads st me)
+  may_load st id n me place s kept homes at bound = (
     record me.0 { epochs = loading me.0.epochs (epoch_word s.words) },
     keeps,
     tt,
-    load_keeps s id me.1 me.0 kept at 0 (loading me.0.epochs (epoch_word s.words))
+    load_keeps s id me.1 me.0 kept at 0 (loading me.0.epochs (epoch_word s.words)) (alone_still me.0 (record me.0 { epochs = loading me.0.epochs (epoch_word s.words) }) (kept.alone id me.0 at) place refl (λ none. none))
         (loads (epoch_word s.words) (reader_word s.words) (map reader_view s.views) id (reader_view me.0) kept.epochs (there s id me.1 me.0 kept at)),
-    record { met = is_met (epoch_word s.words) (reader_word s.words) (map reader_view s.views) id (reader_view me.0) kept.epochs (there s id me.1 me.0 kept at); is = refl },
+    record { met = is_met (epoch_word s.words) (reader_word s.words) (map reader_view s.views) id (reader_view me.0) kept.epochs (there s id me.1 me.0 kept at); sole = λ all. raised_alone m digest layout s id me.0 kept at all; is = refl },
   )
 
-  pub may_pin : (st : Step F) (id n place epoch : ℕ) (me : Me F (CellView S A R)) → place ≡ pin_place me.0.seats.readers → 1 ≤ length me.0.seats.readers → me.0.epochs.loaded ≡ epoch →
+  pub may_pin : (st : Step F) (id n place epoch : ℕ) (me : Me F (CellView S A R)) → place ≡ pin_place me.0.seats.readers → 1 ≤ length me.0.seats.readers → me.0.epochs.loaded ≡ epoch → me.0.epochs.pin ≡ Idle →
       Allows (IsCells m digest layout) n id me (reader_at place) (λ _. epoch + 1) (λ _. Pins st me (epoch + 1))
-  may_pin st id n place epoch me is some' loaded = subst (λ e. Allows (IsCells m digest layout) n id me (reader_at place) (λ _. e + 1) (λ _. Pins st me (e + 1))) loaded
+  may_pin st id n place epoch me is some' loaded idle = subst (λ e. Allows (IsCells m digest layout) n id me (reader_at place) (λ _. e + 1) (λ _. Pins st me (e + 1))) loaded
       (λ s kept homes at bound. (
         record me.0 { epochs = pinning me.0.epochs me.0.epochs.loaded },
         keeps,
         tt,
-        store_keeps s id me.1 me.0 kept at place (Pinned me.0.epochs.loaded) me.0.trie (knows_same me.0.trie) is some' (kept.epochs.each id (reader_view me.0) (there s id me.1 me.0 kept at)).loaded (λ _. tt),
+        store_keeps s id me.1 me.0 kept at place (Pinned me.0.epochs.loaded) me.0.trie (knows_same me.0.trie) is some' (kept.epochs.each id (reader_view me.0) (there s id me.1 me.0 kept at)).loaded (λ _. tt)
+            (record { out = λ _. (kept.alone id me.0 at).out (λ stays. subst IsProtected idle stays); spent = λ none. absurd (omega (arith, none, some')) }),
         record { is = refl },
       ))
 
-  pub may_protect : (st : Step F) (id n epoch : ℕ) (me : Me F (CellView S A R)) → me.0.epochs.pin ≡ Pinned epoch → Allows (IsCells m digest layout) n id me 0 (λ k. k) (Protects st me)
-  may_protect st id n epoch me pin s kept homes at bound = (
+  pub may_protect : (st : Step F) (id n epoch : ℕ) (me : Me F (CellView S A R)) → me.0.epochs.pin ≡ Pinned epoch → 1 ≤ length me.0.seats.readers → Allows (IsCells m digest layout) n id me 0 (λ k. k) (Protects st me)
+  may_protect st id n epoch me pin place s kept homes at bound = (
     record me.0 { epochs = protecting me.0.epochs (epoch_word s.words) },
     keeps,
     tt,
-    load_keeps s id me.1 me.0 kept at 0 (protecting me.0.epochs (epoch_word s.words))
+    load_keeps s id me.1 me.0 kept at 0 (protecting me.0.epochs (epoch_word s.words)) (alone_within (record me.0 { epochs = protecting me.0.epochs (epoch_word s.words) }) place tt)
         (protects (epoch_word s.words) (reader_word s.words) (map reader_view s.views) id (reader_view me.0) kept.epochs (there s id me.1 me.0 kept at) epoch pin),
-    record { met = is_met (epoch_word s.words) (reader_word s.words) (map reader_view s.views) id (reader_view me.0) kept.epochs (there s id me.1 me.0 kept at); is = refl },
+    record { met = is_met (epoch_word s.words) (reader_word s.words) (map reader_view s.views) id (reader_view me.0) kept.epochs (there s id me.1 me.0 kept at); sole = λ all. raised_alone m digest layout s id me.0 kept at all; is = refl },
   )
 
-  pub may_unpin : (st : Step F) (id n place : ℕ) (me : Me F (CellView S A R)) → place ≡ pin_place me.0.seats.readers → 1 ≤ length me.0.seats.readers →
+  pub may_unpin : (st : Step F) (id n place : ℕ) (me : Me F (CellView S A R)) → place ≡ pin_place me.0.seats.readers → 1 ≤ length me.0.seats.readers → me.0.trie.locks ≡ [] →
       Allows (IsCells m digest layout) n id me (reader_at place) (λ _. 0) (λ _. Unpins st me 0)
-  may_unpin st id n place me is some' s kept homes at bound = (
+  may_unpin st id n place me is some' free s kept homes at bound = (
     record me.0 { epochs = unpinning me.0.epochs; trie = forgetting me.0.trie },
     keeps,
     tt,
-    store_keeps s id me.1 me.0 kept at place Idle (forgetting me.0.trie) (knows_less me.0.trie) is some' tt (λ _. tt),
+    store_keeps s id me.1 me.0 kept at place Idle (forgetting me.0.trie) (knows_less me.0.trie) is some' tt (λ _. tt)
+        (record { out = λ _. record { stands = refl; leaf = refl; seen = refl; meets = refl; answered = refl; locks = free }; spent = λ none. absurd (omega (arith, none, some')) }),
     record { is = refl },
   )
 
-  pub may_scan : (st : Step F) (id n place : ℕ) (me : Me F (CellView S A R)) → st.word ≡ reader_at place →
-      Allows (IsCells m digest layout) n id me (reader_at place) (λ k. k) (Scans st me)
-  may_scan st id n place me is s kept homes at bound = (
+  pub may_scan : (st : Step F) (id n place : ℕ) (me : Me F (CellView S A R)) → st.word ≡ reader_at place → me.0.seats.lives ≡ true → 1 ≤ length me.0.seats.readers →
+      Allows (IsCells m digest layout) n id me (reader_at place) (λ k. k) (Scans m digest layout st me)
+  may_scan st id n place me is lives owns s kept homes at bound = (
     record me.0 { epochs = scanning me.0.epochs place (reader_word s.words place) },
     keeps,
     tt,
     load_keeps s id me.1 me.0 kept at (reader_at place) (scanning me.0.epochs place (reader_word s.words place))
+        (alone_still me.0 (record me.0 { epochs = scanning me.0.epochs place (reader_word s.words place) }) (kept.alone id me.0 at) owns refl (λ none. none))
         (scans (epoch_word s.words) (reader_word s.words) (map reader_view s.views) id (reader_view me.0) kept.epochs (there s id me.1 me.0 kept at) place
         (passes_by me.0.epochs (reader_word s.words place)) refl),
-    record { reader = place; there = is; is = refl },
+    record { reader = place; there = is; stood = stood_so m digest layout s id me.0 (reader_at place) (reader_at place) kept at lives refl; is = refl },
   )
 
   -- the pass after a try to raise the epoch, which it found so
@@ -175,13 +181,14 @@ module _ {S A R F : Type 0} (m : Meaning S A R) (digest : Key → ℕ) (layout :
       (w : CellView S A R) × (a : Act F) × Valid s.homes me.1 a × IsCells m digest layout (stepped s 0 k id me.1 w a)
       × RaisesEpoch st me (epoch_word s.words) (w, carried_after me.1 a)
 
-  pub may_advance : (st : Step F) (id n epoch : ℕ) (me : Me F (CellView S A R)) → me.0.epochs.loaded ≡ epoch → epoch < 2 ^ 62 → HasScannedAll me.0.epochs →
+  pub may_advance : (st : Step F) (id n epoch : ℕ) (me : Me F (CellView S A R)) → me.0.epochs.loaded ≡ epoch → epoch < 2 ^ 62 → HasScannedAll me.0.epochs → 1 ≤ length me.0.seats.readers →
       Allows (IsCells m digest layout) n id me 0 (λ k. either (eqb k epoch) (epoch + 1) k) (RaisesEpoch st me)
-  may_advance st id n epoch me loaded below all s kept homes at bound = exchanged (epoch_word s.words) epoch (epoch + 1) (Try st id me s) hit miss
+  may_advance st id n epoch me loaded below all place s kept homes at bound = exchanged (epoch_word s.words) epoch (epoch + 1) (Try st id me s) hit miss
     where
       tells : RaisesEpoch st me (epoch_word s.words) (tried me (epoch_word s.words), me.1)
       tells = record {
         met = is_met (epoch_word s.words) (reader_word s.words) (map reader_view s.views) id (reader_view me.0) kept.epochs (there s id me.1 me.0 kept at);
+        sole = λ whole. raised_alone m digest layout s id me.0 kept at whole;
         is = refl;
       }
 
@@ -204,7 +211,7 @@ module _ {S A R F : Type 0} (m : Meaning S A R) (digest : Key → ℕ) (layout :
             keeps,
             tt,
             subst (λ k. IsCells m digest layout (stepped s 0 (k + 1) id me.1 (tried me (epoch_word s.words)) keeps)) loaded
-                (raise_keeps s id me.1 me.0 kept at (max me.0.epochs.greatest (epoch_word s.words)) (known_after me (epoch_word s.words)) (raises_after me (epoch_word s.words)) same (omega (arith, below, loaded)) all found le once),
+                (raise_keeps s id me.1 me.0 kept at (max me.0.epochs.greatest (epoch_word s.words)) (known_after me (epoch_word s.words)) (raises_after me (epoch_word s.words)) same (omega (arith, below, loaded)) all found le once place),
             tells,
           )
 
@@ -220,7 +227,7 @@ module _ {S A R F : Type 0} (m : Meaning S A R) (digest : Key → ℕ) (layout :
             tried me (epoch_word s.words),
             keeps,
             tt,
-            load_keeps s id me.1 me.0 kept at 0 (advancing me.0.epochs (epoch_word s.words))
+            load_keeps s id me.1 me.0 kept at 0 (advancing me.0.epochs (epoch_word s.words)) (alone_still me.0 (tried me (epoch_word s.words)) (kept.alone id me.0 at) place refl (λ none. none))
                 (misses (epoch_word s.words) (reader_word s.words) (map reader_view s.views) id (reader_view me.0) kept.epochs (there s id me.1 me.0 kept at) (epoch_word s.words)
                 (max me.0.epochs.greatest (epoch_word s.words)) (known_after me (epoch_word s.words)) (raises_after me (epoch_word s.words)) greatest le none),
             tells,

@@ -21,24 +21,24 @@ use Rattle.npf_seats.specs.Moves.{given_seat, taking_seat}
 use Rattle.npf_seats.specs.Seats.{Seats}
 use Rattle.npf_seats.proofs.PrefixLemmas.{none_listed, none_in_prefix, seen_entry}
 use Rattle.npf_seats.proofs.SeatLemmas.{unspent, seats-split, none_seen, seats-born, seats-join, long, mine_seen, told_seen, seats-read, only_seat, most_places, owned_within}
-use Rattle.npf_seats.proofs.SumLemmas.{first_occurs}
+use Rattle.npf_seats.proofs.SumLemmas.{first_occurs, sum-set}
 use Rattle.npf_cells_pins.specs.declared.pin.Pin.TheVariants.{Idle}
 use Rattle.npf_cells_pins.specs.Epochs.{Epochs, pin_place}
 use Rattle.npf_cells_pins.proofs.EpochLemmas.{epochs-split, epochs-join, within_last}
-use Rattle.npf_cells_leaves.specs.Trie.{TrieWords, trie_words, FitsTrie}
-use Rattle.npf_cells_leaves.proofs.TrieLemmas.{KeepsTrie, knows_same, trie_kept, fits-set, fits-push, fits_unread, keeps_words}
+use Rattle.npf_cells_leaves.specs.Trie.{all_grown, TrieWords, trie_words, FitsTrie}
+use Rattle.npf_cells_leaves.proofs.TrieLemmas.{KeepsTrie, knows_same, grown-set, grown-push, trie_kept, fits-set, fits-push, fits_unread, keeps_words}
 use Rattle.npf_cells_lives.specs.Conns.{entry_seat}
-use Rattle.npf_cells_lives.specs.Pools.{taken, OwnsNothing}
+use Rattle.npf_cells_lives.specs.Pools.{taken}
 use Rattle.npf_cells_lives.specs.Stored.{FitsStored}
 use Rattle.npf_cells_lives.proofs.ConnLemmas.{fits_nothing, owes_nothing, builds-set, builds-kept, builds-push, unstored-set, unstored-push, conns-same}
 use Rattle.npf_cells_lives.proofs.LockLemmas.{locks-same, holders-set, holders-push}
 use Rattle.npf_cells_lives.proofs.PoolLemmas.{pools-same, taken-set, taken-push}
 use Rattle.npf_cells_lives.proofs.StoredLemmas.{fits_unstored, own_same, stored_kept, stored-set, stored-push}
 use Rattle.npf_cells_rule.specs.declared.view.CellView.{CellView}
-use Rattle.npf_cells_rule.specs.Cells.{IsCells}
+use Rattle.npf_cells_rule.specs.Cells.{FitsAlone, IsCells}
 use Rattle.npf_cells_rule.specs.Passes.{cell_pass, IsPassOf}
 use Rattle.npf_cells_rule.specs.Views.{seat_side, reader_view, nothing_left, lock_side, pool_side, trie_side}
-use Rattle.npf_cells_rule.proofs.Frames.{pushed_side, merged_side, framed, seats_step, spent-set, spent-push}
+use Rattle.npf_cells_rule.proofs.Frames.{pushed_side, merged_side, framed, seats_step, alone-set, alone-push, alone_still}
 use Rattle.npf_cells_moves.specs.Moves.{gives_reader, given_view, joined_pools, joined_trie, takes_in, IsBorn, HasRead}
 
 module _ {S A R F : Type 0} (m : Meaning S A R) (digest : Key → ℕ) (layout : Layout) where
@@ -57,6 +57,7 @@ module _ {S A R F : Type 0} (m : Meaning S A R) (digest : Key → ℕ) (layout :
       (pools-same layout (taken pool_side kept.published (state_of m kept.log) s.views) (taken pool_side kept.published (state_of m kept.log) (set s.views id (gives_reader v) ++ given_view v ∷ [])) s.words s.words kept.pools refl (λ j h. refl)
       (λ pool p. taken-push pool_side kept.published (state_of m kept.log) (set s.views id (gives_reader v)) (given_view v) refl pool p ∙ taken-set pool_side kept.published (state_of m kept.log) s.views id v (gives_reader v) at refl pool p))
       (trie_kept trie_side digest layout kept.published (state_of m kept.log) (state_of m kept.log) s.words s.words s.views (set s.views id (gives_reader v) ++ given_view v ∷ []) kept.trie (keeps_all s kept)
+      (grown-push trie_side (set s.views id (gives_reader v)) (given_view v) refl ∙ grown-set trie_side s.views id v (gives_reader v) at refl)
       (fits-push trie_side digest layout.slots (state_of m kept.log) (trie_words layout s.words) (set s.views id (gives_reader v)) (given_view v) (fits_unread digest layout.slots (state_of m kept.log) (trie_words layout s.words))
       (fits-set trie_side digest layout.slots (state_of m kept.log) (trie_words layout s.words) s.views id (gives_reader v) (kept.trie.each id v at) kept.trie.each)))
       (conns-same pool_side m layout kept.log s.words s.words s.views (set s.views id (gives_reader v) ++ given_view v ∷ []) kept.connections refl (λ slot h. refl)
@@ -65,10 +66,16 @@ module _ {S A R F : Type 0} (m : Meaning S A R) (digest : Key → ℕ) (layout :
       (stored-push pool_side layout s.words (set s.views id (gives_reader v)) (given_view v) (fits_unstored layout s.words (given_view v).pools refl) (stored-set pool_side layout s.words s.views id (gives_reader v) (kept.stored id v at) (λ j u ne there. kept.stored j u there)))
       (locks-same lock_side layout s.words s.words s.views (set s.views id (gives_reader v) ++ given_view v ∷ []) kept.locks (λ lock h. refl)
       (λ lock. holders-push lock_side layout (set s.views id (gives_reader v)) (given_view v) refl lock ∙ holders-set lock_side layout s.views id v (gives_reader v) at refl lock))
-      (spent-push (set s.views id (gives_reader v)) (given_view v) (record { nodes = refl; builds = refl }) (spent-set s.views id (gives_reader v) some_left kept.spent))
+      (alone-push (set s.views id (gives_reader v)) (given_view v) given_alone (alone-set s.views id (gives_reader v) (alone_still v (gives_reader v) (kept.alone id v at) some_left refl (λ none. none)) kept.alone))
     where
-      some_left : length (gives_reader v).seats.readers ≡ 0 → OwnsNothing v.pools
-      some_left none = let left = length-take-le (length v.seats.readers - 1) v.seats.readers (omega arith) in absurd (omega (arith, left, none, places))
+      some_left : 1 ≤ length (gives_reader v).seats.readers
+      some_left = let left = length-take-le (length v.seats.readers - 1) v.seats.readers (omega arith) in omega (arith, left, places)
+
+      given_alone : FitsAlone (given_view v)
+      given_alone = record {
+        out = λ _. record { stands = refl; leaf = refl; seen = refl; meets = refl; answered = refl; locks = refl };
+        spent = λ none. (let dropped = length-drop (length v.seats.readers - 1) v.seats.readers in absurd (omega (arith, dropped, none, places)));
+      }
 
   -- two seats are joined so
   pub joins : (id : ℕ) (v : CellView S A R) (other : ℕ) (w : CellView S A R) → v.seats.lives ≡ true → v.seats.theirs ≡ [] → v.epochs.pin ≡ Idle → 1 ≤ length v.seats.readers →
@@ -84,7 +91,7 @@ module _ {S A R F : Type 0} (m : Meaning S A R) (digest : Key → ℕ) (layout :
       (at_map reader_view s.views id v at) (at_map reader_view s.views other w was) idle w-idle))
       (pools-same layout (taken pool_side kept.published (state_of m kept.log) s.views) (taken pool_side kept.published (state_of m kept.log) (set (set s.views id (takes_in v w)) other nothing_left)) s.words s.words kept.pools refl (λ j h. refl)
       (λ pool p. taken-set pool_side kept.published (state_of m kept.log) (set s.views id (takes_in v w)) other w nothing_left there (sym w-nodes) pool p ∙ taken-set pool_side kept.published (state_of m kept.log) s.views id v (takes_in v w) at refl pool p))
-      (trie_kept trie_side digest layout kept.published (state_of m kept.log) (state_of m kept.log) s.words s.words s.views (set (set s.views id (takes_in v w)) other nothing_left) kept.trie (keeps_all s kept)
+      (trie_kept trie_side digest layout kept.published (state_of m kept.log) (state_of m kept.log) s.words s.words s.views (set (set s.views id (takes_in v w)) other nothing_left) kept.trie (keeps_all s kept) grown_so
       (fits-set trie_side digest layout.slots (state_of m kept.log) (trie_words layout s.words) (set s.views id (takes_in v w)) other nothing_left (fits_unread digest layout.slots (state_of m kept.log) (trie_words layout s.words))
       (fits-set trie_side digest layout.slots (state_of m kept.log) (trie_words layout s.words) s.views id (takes_in v w) (taker_fits (kept.trie.each id v at)) kept.trie.each)))
       (conns-same pool_side m layout kept.log s.words s.words s.views (set (set s.views id (takes_in v w)) other nothing_left) kept.connections refl (λ slot h. refl)
@@ -95,7 +102,8 @@ module _ {S A R F : Type 0} (m : Meaning S A R) (digest : Key → ℕ) (layout :
       (λ j u ne there'. stored-set pool_side layout s.words s.views id (takes_in v w) (taker_stored (kept.stored id v at)) (λ i x ne' e. kept.stored i x e) j u there'))
       (locks-same lock_side layout s.words s.words s.views (set (set s.views id (takes_in v w)) other nothing_left) kept.locks (λ lock h. refl)
       (λ lock. holders-set lock_side layout (set s.views id (takes_in v w)) other w nothing_left there (sym w-locks) lock ∙ holders-set lock_side layout s.views id v (takes_in v w) at refl lock))
-      (spent-set (set s.views id (takes_in v w)) other nothing_left (λ _. record { nodes = refl; builds = refl }) (spent-set s.views id (takes_in v w) some_left kept.spent))
+      (alone-set (set s.views id (takes_in v w)) other nothing_left (record { out = λ _. record { stands = refl; leaf = refl; seen = refl; meets = refl; answered = refl; locks = refl }; spent = λ _. refl })
+      (alone-set s.views id (takes_in v w) (alone_still v (takes_in v w) (kept.alone id v at) some_left refl (λ none. record { stands = none.stands; leaf = none.leaf; seen = none.seen; meets = none.meets; answered = none.answered; locks = none.locks })) kept.alone))
     where
       taker_stored : {words : List ℕ} → FitsStored layout words v.pools → FitsStored layout words (joined_pools v.pools w.pools)
       taker_stored {words} fits = stored_kept layout words words v.pools (joined_pools v.pools w.pools) fits refl (own_same layout v.pools (joined_pools v.pools w.pools) refl refl) (λ pool place field own. refl)
@@ -103,8 +111,14 @@ module _ {S A R F : Type 0} (m : Meaning S A R) (digest : Key → ℕ) (layout :
       taker_fits : {k : Machine S} {t : TrieWords} → FitsTrie digest layout.slots k t v.trie → FitsTrie digest layout.slots k t (joined_trie v.trie w.trie)
       taker_fits fits = record { stands = fits.stands; leaf = fits.leaf; seen = fits.seen; claimed = fits.claimed }
 
-      some_left : length (v.seats.readers ++ w.seats.readers) ≡ 0 → OwnsNothing (takes_in v w).pools
-      some_left none = let has = length-append v.seats.readers w.seats.readers in absurd (omega (arith, has, none, place))
+      some_left : 1 ≤ length (v.seats.readers ++ w.seats.readers)
+      some_left = let has = length-append v.seats.readers w.seats.readers in omega (arith, has, place)
+
+      grown_so : all_grown trie_side (set (set s.views id (takes_in v w)) other nothing_left) ≡ all_grown trie_side s.views
+      grown_so =
+          let one = sum-set (λ (u : CellView S A R). u.trie.grown) s.views id v (takes_in v w) at in
+          let two = sum-set (λ (u : CellView S A R). u.trie.grown) (set s.views id (takes_in v w)) other w nothing_left there in
+          omega (arith, one, two)
 
   -- a new seat gets its number by a load
   pub gets_born : (st : Step F) (id n i : ℕ) (me : Me F (CellView S A R)) → me.0.seats.lives ≡ false → 1 ≤ length me.0.seats.readers →
@@ -116,7 +130,7 @@ module _ {S A R F : Type 0} (m : Meaning S A R) (digest : Key → ℕ) (layout :
         record v { seats = record v.seats { number = id; lives = true; others = [] } },
         keeps,
         tt,
-        seats_step m digest layout s i id me.1 v (record v { seats = record v.seats { number = id; lives = true; others = [] } }) kept at refl refl (knows_same v.trie)
+        seats_step m digest layout s i id me.1 v (record v { seats = record v.seats { number = id; lives = true; others = [] } }) kept at refl refl (knows_same v.trie) (alone_still v (record v { seats = record v.seats { number = id; lives = true; others = [] } }) (kept.alone id v at) place refl (λ none. none))
             (seats-born entry_seat layout.slots all_places kept.log (map seat_side s.views) id v.seats kept.seats there lives place),
         record {
           number = id;
@@ -142,7 +156,7 @@ module _ {S A R F : Type 0} (m : Meaning S A R) (digest : Key → ℕ) (layout :
         next,
         keeps,
         tt,
-        seats_step m digest layout s i id me.1 v next kept at refl refl (knows_same v.trie) (seats-read entry_seat layout.slots all_places kept.log sides id v.seats kept.seats there lives),
+        seats_step m digest layout s i id me.1 v next kept at refl refl (knows_same v.trie) (alone_still v next (kept.alone id v at) place refl (λ none. none)) (seats-read entry_seat layout.slots all_places kept.log sides id v.seats kept.seats there lives),
         record {
           history = long.history;
           is = refl;

@@ -26,7 +26,12 @@ abbrev pub joined_pools : PoolSide → PoolSide → PoolSide
 joined_pools mine theirs = record mine { sweeps = mine.sweeps + theirs.sweeps }
 
 abbrev pub joined_trie : TrieSide → TrieSide → TrieSide
-joined_trie mine theirs = record mine { places = mine.places + theirs.places; words = mine.words + theirs.words; published = mine.published + theirs.published }
+joined_trie mine theirs = record mine {
+  places = mine.places + theirs.places;
+  words = mine.words + theirs.words;
+  published = mine.published + theirs.published;
+  grown = mine.grown + theirs.grown;
+}
 
 abbrev pub takes_in : {S A R : Type 0} → CellView S A R → CellView S A R → CellView S A R
 takes_in v w = record {

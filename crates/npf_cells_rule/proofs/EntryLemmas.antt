@@ -6,7 +6,7 @@ use lib.ListN.{get_elem?}
 use Rattle.npf_core.specs.declared.entry.Entry.{Entry}
 use Rattle.npf_core.specs.History.{by}
 use Rattle.npf_core.proofs.HistoryLemmas.{by-append}
-use Rattle.npf_connections.specs.Adding.{AddsOwn}
+use Rattle.npf_connections.specs.Adding.{Adds, AddsOwn}
 use Rattle.npf_connections.specs.Pass.{IsOwn, all_places}
 use Rattle.npf_seats.specs.declared.side.SeatSide.{SeatSide}
 use Rattle.npf_seats.specs.Seats.{FitsSeats, AnswersFor, Seats}
@@ -57,3 +57,27 @@ module _ {S A R : Type 0} (slots : ℕ) (log : List (Entry S A R)) (sides : List
 
       own : AnswersFor id adding e.seat → IsOwn (cell_pass v) e.seat
       own answers = ⊎_elim (λ same. inl (same ∙ sym number)) (λ (c : Contains (v.seats.theirs ++ v.seats.joined) e.seat). inr (subst (λ xs. Contains (xs ++ v.seats.joined) e.seat) settled c)) answers
+
+-- What it has seen once it has seen all, and added nothing.
+module _ {S A R : Type 0} (slots : ℕ) (log : List (Entry S A R)) (sides : List (SeatSide ℕ (Entry S A R))) (id : ℕ) (v : CellView S A R) (kept : Seats entry_seat slots all_places log sides) (at : get_elem? sides id ≡ some v.seats)
+    (lives : v.seats.lives ≡ true) where
+  saw : FitsSeats entry_seat slots sides log id v.seats
+  saw = kept.each id v.seats at
+
+  -- the history goes on by others' entries alone
+  pub sees_nothing : Adds (cell_pass v) log []
+  sees_nothing = record {
+    rest = saw.seen.rest;
+    goes_on = saw.seen.goes_on;
+    own = ap (λ n. by n saw.seen.rest) (saw.lives lives).number ∙ rest_none entry_seat id v.seats.history log saw.seen (saw.lives lives).own;
+    listed = λ n c. rest_none entry_seat n v.seats.history log saw.seen (saw.joined n c).same;
+  }
+
+  pub sole_seen : v.seats.theirs ≡ [] → length v.seats.readers ≡ all_places → (e : Entry S A R) → Contains log e → IsOwn (cell_pass v) e.seat
+  sole_seen settled all e c = ⊎_elim
+      (λ none. absurd (seen_entry entry_seat log e none c))
+      (λ has. own (only_seat entry_seat slots all_places log sides id v.seats kept at lives all e.seat has))
+      (kept.known e.seat)
+    where
+      own : AnswersFor id v.seats e.seat → IsOwn (cell_pass v) e.seat
+      own answers = ⊎_elim (λ same. inl (same ∙ sym (saw.lives lives).number)) (λ (c : Contains (v.seats.theirs ++ v.seats.joined) e.seat). inr (subst (λ xs. Contains (xs ++ v.seats.joined) e.seat) settled c)) answers

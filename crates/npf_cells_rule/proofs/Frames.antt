@@ -19,23 +19,24 @@ use Rattle.npf_cells_words.specs.Places.{lock_at}
 use Rattle.npf_cells_words.proofs.WordLemmas.{lock_behind, field_behind}
 use Rattle.npf_seats.specs.Seats.{Seats}
 use Rattle.npf_seats.specs.Sums.{occurs}
-use Rattle.npf_seats.proofs.SeatLemmas.{owned_within, seats-adds}
+use Rattle.npf_seats.proofs.SeatLemmas.{owned_within, seats-adds, seats-sees}
 use Rattle.npf_seats.proofs.SumLemmas.{from_map, side_same}
 use Rattle.npf_cells_pins.specs.Epochs.{ReaderView, Epochs}
 use Rattle.npf_cells_pins.proofs.EpochLemmas.{epochs-words}
-use Rattle.npf_cells_leaves.specs.Trie.{Trie}
+use Rattle.npf_cells_leaves.specs.Trie.{HasNoWalk, Trie}
 use Rattle.npf_cells_leaves.proofs.TrieLemmas.{KnowsNoMore, keeps_words, trie_same}
 use Rattle.npf_cells_lives.specs.declared.pools.PoolSide.{PoolSide}
 use Rattle.npf_cells_lives.specs.Conns.{inc_word, unstored_by, Conns, entry_seat}
 use Rattle.npf_cells_lives.specs.Locks.{Locks}
-use Rattle.npf_cells_lives.specs.Pools.{taken, OwnsNothing, Pools}
+use Rattle.npf_cells_lives.specs.Pools.{taken, Pools}
 use Rattle.npf_cells_lives.specs.Stored.{FitsStored, StoredWords}
 use Rattle.npf_cells_lives.proofs.ConnLemmas.{BuildsIn, builds-kept, unstored-set, conns-same}
 use Rattle.npf_cells_lives.proofs.LockLemmas.{locks-same, holders-set}
 use Rattle.npf_cells_lives.proofs.PoolLemmas.{pools-same, pools-kept, taken-set}
 use Rattle.npf_cells_lives.proofs.StoredLemmas.{stored-set, stored-words}
 use Rattle.npf_cells_rule.specs.declared.view.CellView.{CellView}
-use Rattle.npf_cells_rule.specs.Cells.{SpentOwnNothing, IsCells}
+use Rattle.npf_cells_rule.specs.Cells.{FitsAlone, AllFitAlone, IsCells}
+use Rattle.npf_cells_rule.specs.Passes.{IsProtected}
 use Rattle.npf_cells_rule.specs.Views.{seat_side, reader_view, lock_side, pool_side, trie_side}
 
 pub pushed_side : {X Y : Type 0} (f : X → Y) (xs : List X) (i : ℕ) (x y : X) → map f (set xs i x ++ y ∷ []) ≡ set (map f xs) i (f x) ++ f y ∷ []
@@ -50,25 +51,35 @@ pub merged_side : {X Y : Type 0} (f : X → Y) (xs : List X) (i j : ℕ) (x y : 
 merged_side f xs i j x y = map-set f (set xs i x) j y ∙ ap (λ z. set z j (f y)) (map-set f xs i x)
 
 module _ {S A R : Type 0} where
-  -- who owns no reader place owns nothing
-  pub spent-set : (views : List (CellView S A R)) (i : ℕ) (w : CellView S A R) → (length w.seats.readers ≡ 0 → OwnsNothing w.pools) → SpentOwnNothing views → SpentOwnNothing (set views i w)
-  spent-set views i w mine kept j u e none = ⊎_elim
-      (λ (x : (j ≡ i) × (w ≡ u)). subst (λ (y : CellView S A R). OwnsNothing y.pools) x.1 (mine (ap (λ (y : CellView S A R). length y.seats.readers) x.1 ∙ none)))
-      (λ (x : (j ≢ i) × (get_elem? views j ≡ some u)). kept j u x.1 none)
+  -- each pass fits by itself, where one changes or a new one comes
+  pub alone-set : (views : List (CellView S A R)) (i : ℕ) (w : CellView S A R) → FitsAlone w → AllFitAlone views → AllFitAlone (set views i w)
+  alone-set views i w mine kept j u e = ⊎_elim
+      (λ (x : (j ≡ i) × (w ≡ u)). subst FitsAlone x.1 mine)
+      (λ (x : (j ≢ i) × (get_elem? views j ≡ some u)). kept j u x.1)
       (at_set views i j w u e)
 
-  pub spent-push : (views : List (CellView S A R)) (w : CellView S A R) → OwnsNothing w.pools → SpentOwnNothing views → SpentOwnNothing (views ++ w ∷ [])
-  spent-push views w nothing kept j u e none = ⊎_elim
-      (λ (there : get_elem? views j ≡ some u). kept j u there none)
-      (λ (x : w ≡ u). subst (λ (y : CellView S A R). OwnsNothing y.pools) x nothing)
+  pub alone-push : (views : List (CellView S A R)) (w : CellView S A R) → FitsAlone w → AllFitAlone views → AllFitAlone (views ++ w ∷ [])
+  alone-push views w mine kept j u e = ⊎_elim
+      (λ (there : get_elem? views j ≡ some u). kept j u there)
+      (λ (x : w ≡ u). subst FitsAlone x mine)
       (at_snoc views w u j e)
+
+  -- so does one that owns a reader place and is protected, or whose pin stays and which walked nowhere where it had walked nowhere
+  pub alone_within : (w : CellView S A R) → 1 ≤ length w.seats.readers → IsProtected w.epochs.pin → FitsAlone w
+  alone_within w place stays = record { out = λ no. absurd (no stays); spent = λ none. absurd (omega (arith, none, place)) }
+
+  pub alone_still : (v w : CellView S A R) → FitsAlone v → 1 ≤ length w.seats.readers → w.epochs.pin ≡ v.epochs.pin → (HasNoWalk v.trie → HasNoWalk w.trie) → FitsAlone w
+  alone_still v w fits place same less = record {
+    out = λ no. less (fits.out (λ stays. no (subst IsProtected (sym same) stays)));
+    spent = λ none. absurd (omega (arith, none, place));
+  }
 
 module _ {S A R F : Type 0} (m : Meaning S A R) (digest : Key → ℕ) (layout : Layout) where
   -- a state of as many words, with the parts on seats, epochs, pools and connections
   pub framed : (s s' : State F (CellView S A R)) (kept : IsCells m digest layout s) (published : List ℕ) (log : List (Entry S A R)) → length s'.words ≡ length s.words →
       Seats entry_seat layout.slots all_places log (map seat_side s'.views) → Epochs (epoch_word s'.words) (reader_word s'.words) (map reader_view s'.views) →
-      Pools layout (taken pool_side published (state_of m log) s'.views) s'.words → Trie trie_side digest layout published (state_of m log) s'.words s'.views → Conns pool_side m layout log s'.words s'.views → StoredWords pool_side layout s'.words s'.views → Locks lock_side layout s'.words s'.views → SpentOwnNothing s'.views → IsCells m digest layout s'
-  framed s s' kept published log count seats epochs pools trie connections stored locks spent = record {
+      Pools layout (taken pool_side published (state_of m log) s'.views) s'.words → Trie trie_side digest layout published (state_of m log) s'.words s'.views → Conns pool_side m layout log s'.words s'.views → StoredWords pool_side layout s'.words s'.views → Locks lock_side layout s'.words s'.views → AllFitAlone s'.views → IsCells m digest layout s'
+  framed s s' kept published log count seats epochs pools trie connections stored locks alone = record {
     log = log;
     published = published;
     seats = seats;
@@ -78,7 +89,7 @@ module _ {S A R F : Type 0} (m : Meaning S A R) (digest : Key → ℕ) (layout :
     connections = connections;
     stored = stored;
     locks = locks;
-    spent = spent;
+    alone = alone;
   }
 
   -- the part on connections stays where the words behind the pools' do, and what the seat builds and still has to store
@@ -112,10 +123,10 @@ module _ {S A R F : Type 0} (m : Meaning S A R) (digest : Key → ℕ) (layout :
       locks-same lock_side layout s.words (set s.words i n) s.views (set s.views id w) kept.locks (λ lock h. words (lock_at layout lock) (lock_behind layout lock)) (holders-set lock_side layout s.views id v w at same)
 
   -- a step on a word of the part on epochs, that changes this side of one view alone
-  pub epochs_step : (s : State F (CellView S A R)) (i n id : ℕ) (c : List (ℕ × F)) (v w : CellView S A R) → IsCells m digest layout s → get_elem? s.views id ≡ some v → w.seats ≡ v.seats → w.pools ≡ v.pools → KnowsNoMore v.trie w.trie →
+  pub epochs_step : (s : State F (CellView S A R)) (i n id : ℕ) (c : List (ℕ × F)) (v w : CellView S A R) → IsCells m digest layout s → get_elem? s.views id ≡ some v → w.seats ≡ v.seats → w.pools ≡ v.pools → KnowsNoMore v.trie w.trie → FitsAlone w →
       ((j : ℕ) → pools_at ≤ j → slice_index (set s.words i n) j ≡ slice_index s.words j) →
       Epochs (epoch_word (set s.words i n)) (reader_word (set s.words i n)) (set (map reader_view s.views) id (reader_view w)) → IsCells m digest layout (stepped s i n id c w keeps)
-  epochs_step s i n id c v w kept at same pools trie words epochs = framed s (stepped s i n id c w keeps) kept kept.published kept.log (length-set s.words i n)
+  epochs_step s i n id c v w kept at same pools trie alone words epochs = framed s (stepped s i n id c w keeps) kept kept.published kept.log (length-set s.words i n)
       (subst (λ sides. Seats entry_seat layout.slots all_places kept.log sides) (sym (side_same seat_side s.views id v w at same)) kept.seats)
       (subst (λ rs. Epochs (epoch_word (set s.words i n)) (reader_word (set s.words i n)) rs) (sym (map-set reader_view s.views id w)) epochs)
       (pools-same layout (taken pool_side kept.published (state_of m kept.log) s.views) (taken pool_side kept.published (state_of m kept.log) (set s.views id w)) s.words (set s.words i n) kept.pools (length-set s.words i n) words
@@ -124,12 +135,12 @@ module _ {S A R F : Type 0} (m : Meaning S A R) (digest : Key → ℕ) (layout :
       (conns_apart s i n id v w kept at (ap (λ p. p.builds) pools) (ap (λ p. p.unstored) pools) (λ j h. words j (omega (arith, h))))
       (stored_apart s i n id w kept (subst (FitsStored layout s.words) (sym pools) (kept.stored id v at)) (λ j h. words j (omega (arith, h))))
       (locks_apart s i n id v w kept at trie.locks (λ j h. words j (omega (arith, h))))
-      (spent-set s.views id w (λ none. subst OwnsNothing (sym pools) (kept.spent id v at (ap (λ side. length side.readers) (sym same) ∙ none))) kept.spent)
+      (alone-set s.views id w alone kept.alone)
 
   -- a load that changes the seats' side of one view alone
-  pub seats_step : (s : State F (CellView S A R)) (i id : ℕ) (c : List (ℕ × F)) (v w : CellView S A R) (kept : IsCells m digest layout s) → get_elem? s.views id ≡ some v → reader_view w ≡ reader_view v → w.pools ≡ v.pools → KnowsNoMore v.trie w.trie →
+  pub seats_step : (s : State F (CellView S A R)) (i id : ℕ) (c : List (ℕ × F)) (v w : CellView S A R) (kept : IsCells m digest layout s) → get_elem? s.views id ≡ some v → reader_view w ≡ reader_view v → w.pools ≡ v.pools → KnowsNoMore v.trie w.trie → FitsAlone w →
       Seats entry_seat layout.slots all_places kept.log (set (map seat_side s.views) id w.seats) → IsCells m digest layout (stepped s i (slice_index s.words i) id c w keeps)
-  seats_step s i id c v w kept at same pools trie seats = framed s (stepped s i (slice_index s.words i) id c w keeps) kept kept.published kept.log (length-set s.words i (slice_index s.words i))
+  seats_step s i id c v w kept at same pools trie alone seats = framed s (stepped s i (slice_index s.words i) id c w keeps) kept kept.published kept.log (length-set s.words i (slice_index s.words i))
       (subst (λ sides. Seats entry_seat layout.slots all_places kept.log sides) (sym (map-set seat_side s.views id w)) seats)
       (subst (λ (ws : List ℕ). Epochs (epoch_word ws) (reader_word ws) (map reader_view (set s.views id w))) (sym (set-get_or s.words i 0))
       (subst (λ rs. Epochs (epoch_word s.words) (reader_word s.words) rs) (sym (side_same reader_view s.views id v w at same)) kept.epochs))
@@ -139,7 +150,7 @@ module _ {S A R F : Type 0} (m : Meaning S A R) (digest : Key → ℕ) (layout :
       (conns_apart s i (slice_index s.words i) id v w kept at (ap (λ p. p.builds) pools) (ap (λ p. p.unstored) pools) (λ j h. ap (λ ws. slice_index ws j) (set-get_or s.words i 0)))
       (stored_apart s i (slice_index s.words i) id w kept (subst (FitsStored layout s.words) (sym pools) (kept.stored id v at)) (λ j h. ap (λ ws. slice_index ws j) (set-get_or s.words i 0)))
       (locks_apart s i (slice_index s.words i) id v w kept at trie.locks (λ j h. ap (λ ws. slice_index ws j) (set-get_or s.words i 0)))
-      (spent-set s.views id w (λ none. subst OwnsNothing (sym pools) (kept.spent id v at (ap (λ (r : ReaderView). length r.places) (sym same) ∙ none))) kept.spent)
+      (alone-set s.views id w alone kept.alone)
 
   -- the part on epochs stays where the words before the pools' do, and what the seat knows of it
   pub epochs_apart : (s : State F (CellView S A R)) (i n id : ℕ) (v w : CellView S A R) → IsCells m digest layout s → get_elem? s.views id ≡ some v → reader_view w ≡ reader_view v →
@@ -159,9 +170,9 @@ module _ {S A R F : Type 0} (m : Meaning S A R) (digest : Key → ℕ) (layout :
 
   -- a step on a word of the part on pools, that changes this side of one view alone
   pub pools_step : (s : State F (CellView S A R)) (i n id : ℕ) (c : List (ℕ × F)) (v w : CellView S A R) (kept : IsCells m digest layout s) → get_elem? s.views id ≡ some v → w.seats ≡ v.seats → reader_view w ≡ reader_view v → KnowsNoMore v.trie w.trie → FitsStored layout s.words w.pools →
-      w.pools.builds ≡ v.pools.builds → w.pools.unstored ≡ v.pools.unstored → (length w.seats.readers ≡ 0 → OwnsNothing w.pools) → IsPoolStep layout s.words i n →
+      w.pools.builds ≡ v.pools.builds → w.pools.unstored ≡ v.pools.unstored → FitsAlone w → IsPoolStep layout s.words i n →
       Pools layout (taken pool_side kept.published (state_of m kept.log) (set s.views id w)) (set s.words i n) → IsCells m digest layout (stepped s i n id c w keeps)
-  pools_step s i n id c v w kept at same reads trie stored builds unstored spent words pools = framed s (stepped s i n id c w keeps) kept kept.published kept.log (length-set s.words i n)
+  pools_step s i n id c v w kept at same reads trie stored builds unstored alone words pools = framed s (stepped s i n id c w keeps) kept kept.published kept.log (length-set s.words i n)
       (subst (λ sides. Seats entry_seat layout.slots all_places kept.log sides) (sym (side_same seat_side s.views id v w at same)) kept.seats)
       (epochs_apart s i n id v w kept at reads words.before)
       pools
@@ -169,14 +180,29 @@ module _ {S A R F : Type 0} (m : Meaning S A R) (digest : Key → ℕ) (layout :
       (conns_apart s i n id v w kept at builds unstored words.behind)
       (stored_apart s i n id w kept stored words.behind)
       (locks_apart s i n id v w kept at trie.locks words.behind)
-      (spent-set s.views id w spent kept.spent)
+      (alone-set s.views id w alone kept.alone)
+
+  -- the same, where the pass also sees all of the history
+  pub sight_step : (s : State F (CellView S A R)) (i n id : ℕ) (c : List (ℕ × F)) (v w : CellView S A R) (kept : IsCells m digest layout s) → get_elem? s.views id ≡ some v → v.seats.lives ≡ true → w.seats ≡ record v.seats { history = kept.log } → reader_view w ≡ reader_view v →
+      KnowsNoMore v.trie w.trie → FitsStored layout s.words w.pools → w.pools.builds ≡ v.pools.builds → w.pools.unstored ≡ v.pools.unstored → FitsAlone w → IsPoolStep layout s.words i n →
+      Pools layout (taken pool_side kept.published (state_of m kept.log) (set s.views id w)) (set s.words i n) → IsCells m digest layout (stepped s i n id c w keeps)
+  sight_step s i n id c v w kept at lives seats reads trie stored builds unstored alone words pools = framed s (stepped s i n id c w keeps) kept kept.published kept.log (length-set s.words i n)
+      (subst (λ sides. Seats entry_seat layout.slots all_places kept.log sides) (sym (map-set seat_side s.views id w ∙ ap (λ side. set (map seat_side s.views) id side) seats))
+      (seats-sees entry_seat layout.slots all_places kept.log (map seat_side s.views) id v.seats kept.seats (at_map seat_side s.views id v at) lives))
+      (epochs_apart s i n id v w kept at reads words.before)
+      pools
+      (trie_apart s i n id v w kept at trie words.behind)
+      (conns_apart s i n id v w kept at builds unstored words.behind)
+      (stored_apart s i n id w kept stored words.behind)
+      (locks_apart s i n id v w kept at trie.locks words.behind)
+      (alone-set s.views id w alone kept.alone)
 
   -- the same, where the pass also adds an entry of its own to the history
   pub entry_step : (s : State F (CellView S A R)) (i n id : ℕ) (c : List (ℕ × F)) (v w : CellView S A R) (kept : IsCells m digest layout s) → get_elem? s.views id ≡ some v → v.seats.lives ≡ true → 1 ≤ length v.seats.readers →
-      (entry : Entry S A R) → entry.seat ≡ id → MayFollow m layout.slots (state_of m kept.log) entry → w.seats ≡ record v.seats { history = kept.log ++ entry ∷ [] } → reader_view w ≡ reader_view v → FitsStored layout s.words w.pools → w.trie.locks ≡ v.trie.locks →
+      (entry : Entry S A R) → entry.seat ≡ id → MayFollow m layout.slots (state_of m kept.log) entry → w.seats ≡ record v.seats { history = kept.log ++ entry ∷ [] } → reader_view w ≡ reader_view v → FitsStored layout s.words w.pools → w.trie.locks ≡ v.trie.locks → FitsAlone w →
       IsPoolStep layout s.words i n → Pools layout (taken pool_side kept.published (after m (state_of m kept.log) entry) (set s.views id w)) (set s.words i n) → Trie trie_side digest layout kept.published (after m (state_of m kept.log) entry) (set s.words i n) (set s.views id w) → BuildsIn pool_side (after m (state_of m kept.log) entry) (set s.views id w) →
       ((slot : ℕ) → slot < layout.slots → inc_word layout s.words slot + unstored_by pool_side (set s.views id w) slot ≡ ((after m (state_of m kept.log) entry).slot slot).inc) → IsCells m digest layout (stepped s i n id c w keeps)
-  entry_step s i n id c v w kept at lives place entry mine follows seats reads stored locks words pools trie builds incs =
+  entry_step s i n id c v w kept at lives place entry mine follows seats reads stored locks alone words pools trie builds incs =
       let log = kept.log ++ entry ∷ [] in
       let state = state_of-append m kept.log entry in
       framed s (stepped s i n id c w keeps) kept kept.published log (length-set s.words i n)
@@ -193,12 +219,12 @@ module _ {S A R F : Type 0} (m : Meaning S A R) (digest : Key → ℕ) (layout :
       })
       (stored_apart s i n id w kept stored words.behind)
       (locks_apart s i n id v w kept at locks words.behind)
-      (spent-set s.views id w (λ none. absurd (let same = ap (λ (r : ReaderView). length r.places) reads in omega (arith, same, none, place))) kept.spent)
+      (alone-set s.views id w alone kept.alone)
 
   -- a step on a word behind the pools', that changes of one view what the pass still has to store alone
   pub private_step : (s : State F (CellView S A R)) (i n id : ℕ) (c : List (ℕ × F)) (v w : CellView S A R) (kept : IsCells m digest layout s) → get_elem? s.views id ≡ some v → root_at layout ≤ i → w.seats ≡ v.seats → reader_view w ≡ reader_view v →
-      w.pools.nodes ≡ v.pools.nodes → w.pools.builds ≡ v.pools.builds → Trie trie_side digest layout kept.published (state_of m kept.log) (set s.words i n) (set s.views id w) → Conns pool_side m layout kept.log (set s.words i n) (set s.views id w) → StoredWords pool_side layout (set s.words i n) (set s.views id w) → Locks lock_side layout (set s.words i n) (set s.views id w) → IsCells m digest layout (stepped s i n id c w keeps)
-  private_step s i n id c v w kept at behind same reads nodes builds trie connections stored locks = framed s (stepped s i n id c w keeps) kept kept.published kept.log (length-set s.words i n)
+      w.pools.nodes ≡ v.pools.nodes → w.pools.builds ≡ v.pools.builds → FitsAlone w → Trie trie_side digest layout kept.published (state_of m kept.log) (set s.words i n) (set s.views id w) → Conns pool_side m layout kept.log (set s.words i n) (set s.views id w) → StoredWords pool_side layout (set s.words i n) (set s.views id w) → Locks lock_side layout (set s.words i n) (set s.views id w) → IsCells m digest layout (stepped s i n id c w keeps)
+  private_step s i n id c v w kept at behind same reads nodes builds alone trie connections stored locks = framed s (stepped s i n id c w keeps) kept kept.published kept.log (length-set s.words i n)
       (subst (λ sides. Seats entry_seat layout.slots all_places kept.log sides) (sym (side_same seat_side s.views id v w at same)) kept.seats)
       (epochs_apart s i n id v w kept at reads (λ j h. below j (omega (arith, h))))
       (pools-kept layout (taken pool_side kept.published (state_of m kept.log) s.views) (taken pool_side kept.published (state_of m kept.log) (set s.views id w)) s.words (set s.words i n) kept.pools (length-set s.words i n) below (taken-set pool_side kept.published (state_of m kept.log) s.views id v w at nodes))
@@ -206,7 +232,7 @@ module _ {S A R F : Type 0} (m : Meaning S A R) (digest : Key → ℕ) (layout :
       connections
       stored
       locks
-      (spent-set s.views id w (λ none. let nothing = kept.spent id v at (ap (λ (r : ReaderView). length r.places) (sym reads) ∙ none) in record { nodes = nodes ∙ nothing.nodes; builds = builds ∙ nothing.builds }) kept.spent)
+      (alone-set s.views id w alone kept.alone)
     where
       below : (j : ℕ) → j < root_at layout → slice_index (set s.words i n) j ≡ slice_index s.words j
       below j h = get_or-set_other s.words i j n 0 (λ e. absurd (omega (arith, e, h, behind)))

@@ -4,5 +4,6 @@ pub mod LawLemmas
 pub mod MetLemmas
 pub mod OpenLemmas
 pub mod PassLemmas
+pub mod SoleLemmas
 pub mod StoodLemmas
 pub mod TrieLawLemmas

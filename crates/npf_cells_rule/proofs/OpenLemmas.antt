@@ -36,12 +36,12 @@ use Rattle.npf_cells_leaves.specs.Trie.{trie_words, holder_at, FitsTrie}
 use Rattle.npf_cells_leaves.proofs.TrieLemmas.{fits_unread}
 use Rattle.npf_cells_lives.specs.Conns.{FitsBuilds, inc_word, unstored_by, entry_seat}
 use Rattle.npf_cells_lives.specs.Locks.{has_lock, lock_holders}
-use Rattle.npf_cells_lives.specs.Pools.{taken, OwnsNothing}
+use Rattle.npf_cells_lives.specs.Pools.{taken}
 use Rattle.npf_cells_lives.specs.Stored.{FitsStored}
 use Rattle.npf_cells_lives.proofs.ConnLemmas.{fits_nothing}
 use Rattle.npf_cells_lives.proofs.StoredLemmas.{fits_unstored}
 use Rattle.npf_cells_rule.specs.declared.view.CellView.{CellView}
-use Rattle.npf_cells_rule.specs.Cells.{IsCells, first_cell_view}
+use Rattle.npf_cells_rule.specs.Cells.{FitsAlone, IsCells, first_cell_view}
 use Rattle.npf_cells_rule.specs.Views.{reader_view, lock_side, pool_side}
 
 -- no cell is said by 0
@@ -111,12 +111,14 @@ module _ {S A R : Type 0} (layout : Layout) where
       nodes = λ digits level p node are on e. absurd (let no : Empty ≡ Node node = sym (blank p) ∙ e in cc);
       homes = λ digits level p slot way are on e. absurd (let no : Empty ≡ Leaf slot way = sym (blank p) ∙ e in cc);
       levels = bare_has_levels (trie_words layout (opening_words layout)).cell (λ p. rw (blank p) tt);
+      hang = λ node c. absurd (none_listed node c);
+      counted = sym (sum_by-cons (λ (u : CellView S A R). u.trie.grown) view []);
       each = unread;
     };
     connections = record { reach = count layout; legal = tt; each = builds_none; incs = no_incs };
     stored = unstored;
     locks = record { says = λ lock h. behind layout (lock_at layout lock) (lock_behind layout lock) ∙ sym (unheld lock); alone = λ lock h. (let none = unheld lock in omega (arith, none)) };
-    spent = λ j v e none. nothing j v e;
+    alone = alone;
   })
     where
       epoch : epoch_word (opening_words layout) ≡ 2
@@ -159,9 +161,10 @@ module _ {S A R : Type 0} (layout : Layout) where
       unheld : (lock : Lock) → lock_holders lock_side layout (view ∷ []) lock ≡ 0
       unheld lock = sum_by-cons (λ (u : CellView S A R). has_lock layout lock u.trie.locks) view []
 
-      nothing : (j : ℕ) (v : CellView S A R) → get_elem? (view ∷ []) j ≡ some v → OwnsNothing v.pools
-      nothing zero v e = subst (λ (u : CellView S A R). OwnsNothing u.pools) (some-injective _ _ e) (record { nodes = refl; builds = refl })
-      nothing (suc j) v e = absurd (some-ne-none v (sym e))
+      alone : (j : ℕ) (v : CellView S A R) → get_elem? (view ∷ []) j ≡ some v → FitsAlone v
+      alone zero v e = subst (λ (u : CellView S A R). FitsAlone u) (some-injective _ _ e)
+          (record { out = λ _. record { stands = refl; leaf = refl; seen = refl; meets = refl; answered = refl; locks = refl }; spent = λ none. absurd (let long = length-numbers_below all_places in omega (arith, none, long)) })
+      alone (suc j) v e = absurd (some-ne-none v (sym e))
 
       builds_none : (j : ℕ) (v : CellView S A R) → get_elem? (view ∷ []) j ≡ some v → FitsBuilds {S = S} opening j v.pools.builds v.pools.unstored
       builds_none zero v e = subst (λ (u : CellView S A R). FitsBuilds {S = S} opening 0 u.pools.builds u.pools.unstored) (some-injective _ _ e) (fits_nothing opening 0)

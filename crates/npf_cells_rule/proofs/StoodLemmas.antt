@@ -25,7 +25,7 @@ module _ {S A R F : Type 0} (m : Meaning S A R) (digest : Key → ℕ) (layout :
     connections = kept.connections;
     stored = kept.stored;
     locks = kept.locks;
-    spent = kept.spent;
+    alone = kept.alone;
   }
 
   -- what a step finds, in the state that it meets

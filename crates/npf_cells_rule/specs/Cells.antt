@@ -1,4 +1,4 @@
--- The rule of the table without locks: seven parts, over its words and the sides of the views, and that a spent seat owns nothing.
+-- The rule of the table without locks: seven parts, over its words and the sides of the views, and what it says of each pass by itself.
 use Rattle.std.specs.Prelude.{◌≡◌, ℕ, true, List, [], map, length}
 use mathlib.Core.Option.{some}
 use lib.ListN.{get_elem?}
@@ -13,17 +13,23 @@ use Rattle.npf_cells_words.specs.Layout.{epoch_word, reader_word}
 use Rattle.npf_seats.specs.Seats.{Seats}
 use Rattle.npf_seats.specs.Sums.{numbers_below}
 use Rattle.npf_cells_pins.specs.Epochs.{Epochs, idle_side}
-use Rattle.npf_cells_leaves.specs.Trie.{Trie, unread_side}
+use Rattle.npf_cells_leaves.specs.Trie.{HasNoWalk, Trie, unread_side}
 use Rattle.npf_cells_lives.specs.Conns.{Conns, entry_seat}
 use Rattle.npf_cells_lives.specs.Locks.{Locks}
-use Rattle.npf_cells_lives.specs.Pools.{taken, OwnsNothing, Pools, empty_handed}
+use Rattle.npf_cells_lives.specs.Pools.{taken, Pools, empty_handed}
 use Rattle.npf_cells_lives.specs.Stored.{StoredWords}
 use Rattle.npf_cells_rule.specs.declared.view.CellView.{CellView}
-use Rattle.npf_cells_rule.specs.Views.{seat_side, reader_view, lock_side, pool_side, trie_side}
+use Rattle.npf_cells_rule.specs.Passes.{IsProtected}
+use Rattle.npf_cells_rule.specs.Views.{seat_side, reader_view, lock_side, pool_side, trie_side, nothing_left}
 
--- a spent seat, which owns no reader place, owns no node and builds nothing
-abbrev pub SpentOwnNothing : {S A R : Type 0} → List (CellView S A R) → Type 0
-SpentOwnNothing {S} {A} {R} views = (j : ℕ) (v : CellView S A R) → get_elem? views j ≡ some v → length v.seats.readers ≡ 0 → OwnsNothing v.pools
+-- what the rule says of one pass by itself: one that isn't protected walked nowhere and has no lock, and one that owns no reader place,
+-- whose seat is spent, is nothing at all
+pub record FitsAlone {S A R : Type 0} (v : CellView S A R) : Type 0 where
+  pub out : ¬ (IsProtected v.epochs.pin) → HasNoWalk v.trie
+  pub spent : length v.seats.readers ≡ 0 → v ≡ nothing_left
+
+abbrev pub AllFitAlone : {S A R : Type 0} → List (CellView S A R) → Type 0
+AllFitAlone {S} {A} {R} views = (j : ℕ) (v : CellView S A R) → get_elem? views j ≡ some v → FitsAlone v
 
 -- the rule
 pub record IsCells {S A R F : Type 0} (m : Meaning S A R) (digest : Key → ℕ) (layout : Layout) (s : State F (CellView S A R)) : Type 0 where
@@ -36,7 +42,7 @@ pub record IsCells {S A R F : Type 0} (m : Meaning S A R) (digest : Key → ℕ)
   pub connections : Conns pool_side m layout log s.words s.views
   pub stored : StoredWords pool_side layout s.words s.views
   pub locks : Locks lock_side layout s.words s.views
-  pub spent : SpentOwnNothing s.views
+  pub alone : AllFitAlone s.views
 
 -- the first pass, which owns all reader places
 abbrev pub first_cell_view : {S A R : Type 0} → Layout → CellView S A R

@@ -1,6 +1,6 @@
 // What holds of every table between any two steps. The functions do nothing: each is a theorem.
 ghost use Rattle.npf_cells_words.specs.declared.layout.Layout.{Layout};
-ghost use Rattle.npf_cells_rule.specs.TableLaw.{OwnsAlone, BuildsAlone, HoldsBack, CountsRaises};
+ghost use Rattle.npf_cells_rule.specs.TableLaw.{OwnsAlone, BuildsAlone, HoldsBack, CountsRaises, SoleRaises};
 ghost use Rattle.npf_cells_rule.specs.TrieLaw.{EndsNameHolders, LeavesAreKept, NodesAreKept};
 
 use npf_core::Law;
@@ -16,9 +16,10 @@ pub fn protection_law<L: Law>()
     ensures within { (layout : Layout) → HoldsBack L.meaning layout }
 {}
 
-/// The count law: no pass raises the epoch without counting it.
+/// The count law: no pass raises the epoch without counting it; so where one owns all reader places, the epoch is 2 and what it counts.
 pub fn count_law<L: Law>()
     ensures counted { (layout : Layout) → CountsRaises L.meaning layout }
+    ensures sole { (layout : Layout) → SoleRaises L.meaning layout }
 {}
 
 /// The trie law: what stands where a key's path ends names the key's holder; the words of the leaf that a pass loaded last in its stay are as

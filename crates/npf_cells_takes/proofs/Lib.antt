@@ -1,4 +1,5 @@
 pub mod PoolKeepLemmas
 pub mod PrivateKeepLemmas
 pub mod PrivateTrieLemmas
+pub mod SightLemmas
 pub mod SlotKeepLemmas

@@ -32,14 +32,10 @@ use Rattle.npf_cells_rule.specs.declared.view.CellView.{CellView}
 use Rattle.npf_cells_rule.specs.Cells.{IsCells}
 use Rattle.npf_cells_rule.specs.Stood.{StoodSo}
 use Rattle.npf_cells_rule.specs.Views.{seat_side, pool_side}
-use Rattle.npf_cells_rule.proofs.Frames.{IsPoolStep, pools_step}
+use Rattle.npf_cells_rule.proofs.Frames.{alone_still, IsPoolStep, pools_step, sight_step}
 use Rattle.npf_cells_rule.proofs.StoodLemmas.{stood_so}
+use Rattle.npf_cells_takes.proofs.SightLemmas.{seer, seer_stored, has_seen}
 use Rattle.npf_cells_takes.specs.PoolKinds.{sweeping, claiming_node, giving_back, Sweeps, ClaimsNode, GivesNodeBack}
-
-sweeping-same : (pool : Pool) (count word : ℕ) (side : PoolSide) (found : ℕ) →
-    ((sweeping pool count word side found).nodes ≡ side.nodes) × ((sweeping pool count word side found).builds ≡ side.builds) × ((sweeping pool count word side found).unstored ≡ side.unstored)
-sweeping-same Slots count word side found = (refl, refl, refl)
-sweeping-same Nodes count word side found = (refl, refl, refl)
 
 -- a step on the word of a place is one on the pools' words
 pub pool_step : (layout : Layout) (words : List ℕ) (pool : Pool) (place n : ℕ) → place < pool_places layout pool → IsPoolStep layout words (place_word layout pool place) n
@@ -50,24 +46,38 @@ pool_step layout words pool place n within =
     }
 
 module _ {S A R F : Type 0} (m : Meaning S A R) (digest : Key → ℕ) (layout : Layout) where
-  sweep_fits : (s : State F (CellView S A R)) (id : ℕ) (v : CellView S A R) → IsCells m digest layout s → get_elem? s.views id ≡ some v → (pool : Pool) (word n : ℕ) → FitsStored layout s.words (sweeping pool (pool_words layout.nodes) word v.pools n)
-  sweep_fits s id v kept at Slots word n = stored_kept layout s.words s.words v.pools (sweeping Slots (pool_words layout.nodes) word v.pools n) (kept.stored id v at) refl (own_same layout v.pools (sweeping Slots (pool_words layout.nodes) word v.pools n) refl refl) (λ pool place field own. refl)
-  sweep_fits s id v kept at Nodes word n = stored_kept layout s.words s.words v.pools (sweeping Nodes (pool_words layout.nodes) word v.pools n) (kept.stored id v at) refl (own_same layout v.pools (sweeping Nodes (pool_words layout.nodes) word v.pools n) refl refl) (λ pool place field own. refl)
-
-  pub may_sweep : (st : Step F) (id n : ℕ) (pool : Pool) (word i : ℕ) (me : Me F (CellView S A R)) → me.0.seats.lives ≡ true → i ≡ pool_at layout pool + word →
+  -- a load of a word of the nodes, or of one of the slots, after which the pass has seen all of the history
+  pub may_sweep : (st : Step F) (id n : ℕ) (pool : Pool) (word i : ℕ) (me : Me F (CellView S A R)) → me.0.seats.lives ≡ true → me.0.seats.theirs ≡ [] → 1 ≤ length me.0.seats.readers → i ≡ pool_at layout pool + word →
       Allows (IsCells m digest layout) n id me i (λ k. k) (Sweeps m digest layout pool word st me)
-  may_sweep st id n pool word i me lives there s kept homes at bound =
-      let w : CellView S A R = record me.0 { pools = sweeping pool (pool_words layout.nodes) word me.0.pools (slice_index s.words i) } in
-      let same = sweeping-same pool (pool_words layout.nodes) word me.0.pools (slice_index s.words i) in
+  may_sweep st id n Nodes word i me lives settled place there s kept homes at bound =
+      let w : CellView S A R = record me.0 { pools = sweeping (pool_words layout.nodes) word me.0.pools (slice_index s.words i) } in
       let words = set-get_or s.words i 0 in (
         w,
         keeps,
         tt,
-        pools_step m digest layout s i (slice_index s.words i) id me.1 me.0 w kept at refl refl (knows_same me.0.trie) (sweep_fits s id me.0 kept at pool word (slice_index s.words i)) same.1 same.2 (λ none. let nothing = kept.spent id me.0 at none in record { nodes = same.0 ∙ nothing.nodes; builds = same.1 ∙ nothing.builds })
+        pools_step m digest layout s i (slice_index s.words i) id me.1 me.0 w kept at refl refl (knows_same me.0.trie)
+            (stored_kept layout s.words s.words me.0.pools w.pools (kept.stored id me.0 at) refl (own_same layout me.0.pools w.pools refl refl) (λ pool place field own. refl)) refl refl (alone_still me.0 w (kept.alone id me.0 at) place refl (λ none. none))
             (record { before = λ j h. ap (λ ws. slice_index ws j) words; behind = λ j h. ap (λ ws. slice_index ws j) words })
             (pools-same layout (taken pool_side kept.published (state_of m kept.log) s.views) (taken pool_side kept.published (state_of m kept.log) (set s.views id w)) s.words (set s.words i (slice_index s.words i)) kept.pools
-            (length-set s.words i (slice_index s.words i)) (λ j h. ap (λ ws. slice_index ws j) words) (taken-set pool_side kept.published (state_of m kept.log) s.views id me.0 w at same.0)),
-        record { is = refl; stood = stood_so m digest layout s id me.0 (pool_at layout pool + word) i kept at lives there },
+            (length-set s.words i (slice_index s.words i)) (λ j h. ap (λ ws. slice_index ws j) words) (taken-set pool_side kept.published (state_of m kept.log) s.views id me.0 w at refl)),
+        record { nodes = λ _. refl; slots = λ e. absurd cc; stood = stood_so m digest layout s id me.0 (pool_at layout Nodes + word) i kept at lives there },
+      )
+  may_sweep st id n Slots word i me lives settled place there s kept homes at bound =
+      let w = seer m digest layout s id me kept at lives place (slice_index s.words i) in
+      let words = set-get_or s.words i 0 in (
+        w,
+        keeps,
+        tt,
+        sight_step m digest layout s i (slice_index s.words i) id me.1 me.0 w kept at lives refl refl (knows_same me.0.trie) (seer_stored m digest layout s id me kept at lives place (slice_index s.words i)) refl refl
+            (alone_still me.0 w (kept.alone id me.0 at) place refl (λ none. none))
+            (record { before = λ j h. ap (λ ws. slice_index ws j) words; behind = λ j h. ap (λ ws. slice_index ws j) words })
+            (pools-same layout (taken pool_side kept.published (state_of m kept.log) s.views) (taken pool_side kept.published (state_of m kept.log) (set s.views id w)) s.words (set s.words i (slice_index s.words i)) kept.pools
+            (length-set s.words i (slice_index s.words i)) (λ j h. ap (λ ws. slice_index ws j) words) (taken-set pool_side kept.published (state_of m kept.log) s.views id me.0 w at refl)),
+        record {
+          nodes = λ e. absurd cc;
+          slots = λ _. has_seen m digest layout s id me kept at lives place (slice_index s.words i) settled word i there refl;
+          stood = stood_so m digest layout s id me.0 (pool_at layout Slots + word) i kept at lives there;
+        },
       )
 
   -- a node's bit changes, and with it who owns the node
@@ -95,7 +105,7 @@ module _ {S A R F : Type 0} (m : Meaning S A R) (digest : Key → ℕ) (layout :
         ((i : ℕ) → i < 64 → i ≢ node % 64 → bit_at n i ≡ bit_at found i) → ((p : ℕ) → p ≢ node → occurs p nodes ≡ occurs p me.0.pools.nodes) →
         IsCells m digest layout (stepped s word n id me.1 (with_nodes nodes stored) keeps)
     node_step n nodes stored fits place here bits others =
-        pools_step m digest layout s word n id me.1 me.0 (with_nodes nodes stored) kept at refl refl (knows_same me.0.trie) fits refl refl (λ none. absurd (omega (arith, none, place))) (pool_step layout s.words Nodes node n within)
+        pools_step m digest layout s word n id me.1 me.0 (with_nodes nodes stored) kept at refl refl (knows_same me.0.trie) fits refl refl (alone_still me.0 (with_nodes nodes stored) (kept.alone id me.0 at) place refl (λ none. none)) (pool_step layout s.words Nodes node n within)
         (pools-set layout (taken pool_side kept.published k s.views) (taken pool_side kept.published k (set s.views id (with_nodes nodes stored))) s.words Nodes node n kept.pools within here bits rest)
       where
         rest : (other : Pool) (p : ℕ) → (other ≡ Nodes → p ≢ node) → taken pool_side kept.published k (set s.views id (with_nodes nodes stored)) other p ≡ taken pool_side kept.published k s.views other p

@@ -1,6 +1,6 @@
 -- Kind 10, and the load of an incarnation, keep the rule.
 use Rattle.std.specs.List.{Contains}
-use Rattle.std.proofs.Common.{◌≡◌, ◌≢◌, ℕ, ◌+◌, ◌<◌, Bool, true, false, cond, eqb, Some, List, [], ◌∷◌, set, length, slice_index, refl, sym, ap, ◌∙◌, subst, ⊎_elim, arith, length-set}
+use Rattle.std.proofs.Common.{◌≤◌, ◌≡◌, ◌≢◌, ℕ, ◌+◌, ◌<◌, Bool, true, false, cond, eqb, Some, List, [], ◌∷◌, set, length, slice_index, refl, sym, ap, ◌∙◌, subst, ⊎_elim, arith, length-set}
 use Rattle.std.proofs.lemmas.Bool.Decides.{Decides-eqb, not_from_Decides}
 use Rattle.std.proofs.lemmas.List.{get_or-set_same, get_or-set_other, set-get_or}
 use mathlib.Core.Option.{some}
@@ -32,7 +32,7 @@ use Rattle.npf_cells_lives.proofs.StoredLemmas.{own_same, stored_kept, stored-se
 use Rattle.npf_cells_rule.specs.declared.view.CellView.{CellView}
 use Rattle.npf_cells_rule.specs.Cells.{IsCells}
 use Rattle.npf_cells_rule.specs.Views.{lock_side, pool_side, trie_side}
-use Rattle.npf_cells_rule.proofs.Frames.{private_step, trie_apart, stored_apart, locks_apart}
+use Rattle.npf_cells_rule.proofs.Frames.{alone_still, private_step, trie_apart, stored_apart, locks_apart}
 use Rattle.npf_cells_rule.proofs.LawLemmas.{builds_alone, owns_alone}
 use Rattle.npf_cells_rule.proofs.StoodLemmas.{unhomed}
 use Rattle.npf_cells_takes.specs.PrivateKinds.{ShowsInc, MayStore, MayStoreInSlot, storing, LoadsInc, StoresPrivate}
@@ -87,7 +87,7 @@ module _ {S A R F : Type 0} (m : Meaning S A R) (digest : Key → ℕ) (layout :
         me.0,
         keeps,
         tt,
-        private_step m digest layout s i (slice_index s.words i) id me.1 me.0 me.0 kept at (field_behind layout Slots slot inc_field) refl refl refl refl
+        private_step m digest layout s i (slice_index s.words i) id me.1 me.0 me.0 kept at (field_behind layout Slots slot inc_field) refl refl refl refl (kept.alone id me.0 at)
             (trie_apart m digest layout s i (slice_index s.words i) id me.0 me.0 kept at (knows_same me.0.trie) (λ j h. ap (λ ws. slice_index ws j) (set-get_or s.words i 0)))
             (conns_else s i (slice_index s.words i) id me.0 kept at (λ p h. ap (λ ws. slice_index ws (field_at layout Slots p inc_field)) (set-get_or s.words i 0)))
             (stored_apart m digest layout s i (slice_index s.words i) id me.0 kept (kept.stored id me.0 at) (λ j h. ap (λ ws. slice_index ws j) (set-get_or s.words i 0)))
@@ -155,11 +155,11 @@ module _ {S A R F : Type 0} (m : Meaning S A R) (digest : Key → ℕ) (layout :
         (λ lock h. get_or-set_other s.words (field_at layout pool place field) (lock_at layout lock) value 0 (no_lock layout me.0.pools pool place field lock own h)) (holders-set lock_side layout s.views id me.0 (with_stored pool unstored) at refl)
 
     -- as long as the part on connections holds
-    stored_step : me.0.seats.lives ≡ true → (pool : Pool) (unstored : List ℕ) → place < pool_places layout pool → field < field_count pool → MayStore m me.0 pool place field value →
+    stored_step : me.0.seats.lives ≡ true → 1 ≤ length me.0.seats.readers → (pool : Pool) (unstored : List ℕ) → place < pool_places layout pool → field < field_count pool → MayStore m me.0 pool place field value →
         Conns pool_side m layout kept.log (words' pool) (set s.views id (with_stored pool unstored)) → Stored pool (with_stored pool unstored)
-    stored_step lives pool unstored within exists may connections =
+    stored_step lives seated pool unstored within exists may connections =
         let own = owns pool within exists may in
-        private_step m digest layout s (field_at layout pool place field) value id me.1 me.0 (with_stored pool unstored) kept at (field_behind layout pool place field) refl refl refl refl
+        private_step m digest layout s (field_at layout pool place field) value id me.1 me.0 (with_stored pool unstored) kept at (field_behind layout pool place field) refl refl refl refl (alone_still me.0 (with_stored pool unstored) (kept.alone id me.0 at) seated refl (λ none. none))
         (trie_same trie_side digest layout kept.published (state_of m kept.log) (state_of m kept.log) s.words (words' pool) s.views id me.0 (with_stored pool unstored) kept.trie at (knows_same me.0.trie) (trie_stays lives pool within exists may))
         connections (stored_stay pool unstored own (reaches pool within exists)) (locks_stay pool unstored own)
 
@@ -178,20 +178,20 @@ module _ {S A R F : Type 0} (m : Meaning S A R) (digest : Key → ℕ) (layout :
         (conns-stored pool_side m layout kept.log s.words s.views id me.0 kept.connections at may.id may.built below w refl (ap (λ p. others_than p me.0.pools.unstored) (sym may.there))
         (let reach = field_reach layout Slots may.id.slot inc_field below (omega arith) in omega (arith, reach, long)))
 
-    pub stores : me.0.seats.lives ≡ true → (pool : Pool) → place < pool_places layout pool → field < field_count pool → MayStore m me.0 pool place field value → Stored pool (storer pool)
-    stores lives Nodes within exists may = stored_step lives Nodes me.0.pools.unstored within exists may (conns_stay Nodes (λ slot h. node_apart layout place field slot within exists))
-    stores lives Slots within exists may = by_field (eqb field inc_field) refl
+    pub stores : me.0.seats.lives ≡ true → 1 ≤ length me.0.seats.readers → (pool : Pool) → place < pool_places layout pool → field < field_count pool → MayStore m me.0 pool place field value → Stored pool (storer pool)
+    stores lives seated Nodes within exists may = stored_step lives seated Nodes me.0.pools.unstored within exists may (conns_stay Nodes (λ slot h. node_apart layout place field slot within exists))
+    stores lives seated Slots within exists may = by_field (eqb field inc_field) refl
       where
         by_field : (b : Bool) → eqb field inc_field ≡ b → Stored Slots (with_stored Slots (cond b (others_than place me.0.pools.unstored) me.0.pools.unstored))
-        by_field true e = stored_step lives Slots (others_than place me.0.pools.unstored) within exists may (incs_stay may within ((Decides-eqb field inc_field).0 e))
-        by_field false e = stored_step lives Slots me.0.pools.unstored within exists may (conns_stay Slots (λ slot h same. inc_apart layout place field slot exists (λ _. not_from_Decides _ (Decides-eqb field inc_field) e) (sym same)))
+        by_field true e = stored_step lives seated Slots (others_than place me.0.pools.unstored) within exists may (incs_stay may within ((Decides-eqb field inc_field).0 e))
+        by_field false e = stored_step lives seated Slots me.0.pools.unstored within exists may (conns_stay Slots (λ slot h same. inc_apart layout place field slot exists (λ _. not_from_Decides _ (Decides-eqb field inc_field) e) (sym same)))
 
-  pub may_store : (st : Step F) (id n : ℕ) (pool : Pool) (place field value : ℕ) (me : Me F (CellView S A R)) → me.0.seats.lives ≡ true → place < pool_places layout pool → field < field_count pool →
+  pub may_store : (st : Step F) (id n : ℕ) (pool : Pool) (place field value : ℕ) (me : Me F (CellView S A R)) → me.0.seats.lives ≡ true → 1 ≤ length me.0.seats.readers → place < pool_places layout pool → field < field_count pool →
       MayStore m me.0 pool place field value → Allows (IsCells m digest layout) n id me (field_at layout pool place field) (λ _. value) (λ _. StoresPrivate m digest layout pool place field st me value)
-  may_store st id n pool place field value me lives within exists may s kept homes at bound = (
+  may_store st id n pool place field value me lives seated within exists may s kept homes at bound = (
     storer s id me kept at place field value pool,
     keeps,
     tt,
-    stores s id me kept at place field value lives pool within exists may,
+    stores s id me kept at place field value lives seated pool within exists may,
     record { is = refl },
   )

@@ -1,8 +1,9 @@
 -- Kind 8 for slots keeps the rule, and makes the claim.
 use Rattle.std.specs.Int.{bit_at, w64}
-use Rattle.std.proofs.Common.{◌≡◌, ◌≢◌, ℕ, ◌*◌, ◌%◌, ◌^◌, ◌<◌, ◌≤◌, Bool, true, false, true≢false, eqb, [], ◌∷◌, ◌++◌, map, set, length, slice_index, refl, sym, ap, ◌∙◌, subst, arith, bit_or}
+use Rattle.std.specs.List.{Contains}
+use Rattle.std.proofs.Common.{◌/◌, ◌≡◌, ◌≢◌, ℕ, ◌*◌, ◌%◌, ◌^◌, ◌<◌, ◌≤◌, Bool, true, false, true≢false, eqb, [], ◌∷◌, ◌++◌, map, set, length, slice_index, refl, sym, ap, ◌∙◌, subst, ⊎_elim, arith, bit_or}
 use Rattle.std.proofs.lemmas.Bool.Decides.{Decides-eqb, not_from_Decides}
-use Rattle.std.proofs.lemmas.List.Elements.{Contains-append_right}
+use Rattle.std.proofs.lemmas.List.Elements.{Contains-append_left, Contains-append_right, Contains-push}
 use Rattle.std.proofs.lemmas.Nat.Bits.{bit_at-lt, bit_at_set_same, bit_at_set_other}
 use mathlib.Core.Option.{some}
 use lib.ListN.{get_elem?}
@@ -10,6 +11,7 @@ use Rattle.atomic_table.specs.Table.{State, Me, Step, Allows, Act, Valid, carrie
 use Rattle.atomic_table.proofs.Lists.{at_map}
 use Rattle.npf_types.specs.declared.key.Key.{Key}
 use Rattle.npf_core.specs.declared.act.Act.TheVariants.{Claim}
+use Rattle.npf_core.specs.declared.conn_id.ConnId.{ConnId}
 use Rattle.npf_core.specs.declared.entry.Entry.{Entry}
 use Rattle.npf_core.specs.declared.reply.Reply.TheVariants.{ToClaim}
 use Rattle.npf_core.specs.declared.stage.Stage.TheVariants.{Building}
@@ -25,9 +27,11 @@ use Rattle.npf_cells_words.specs.declared.layout.Pool.{Pool}
 use Rattle.npf_cells_words.specs.declared.layout.Pool.TheVariants.{Slots, Nodes}
 use Rattle.npf_cells_words.specs.Layout.{place_word}
 use Rattle.npf_seats.specs.Seats.{FitsSeats}
+use Rattle.npf_seats.proofs.PrefixLemmas.{cons_cases}
 use Rattle.npf_seats.proofs.SumLemmas.{set_there}
 use Rattle.npf_cells_pins.proofs.EpochLemmas.{within_last}
-use Rattle.npf_cells_leaves.proofs.TrieLemmas.{knows_same, keeps_words, trie_same}
+use Rattle.npf_cells_leaves.specs.Trie.{FitsTrie, trie_words}
+use Rattle.npf_cells_leaves.proofs.TrieLemmas.{KeepsTrie, knows_same, fits_kept, trie_kept, grown-set, fits-set, fits_all, keeps_words}
 use Rattle.npf_cells_lives.specs.Conns.{inc_word, entry_seat}
 use Rattle.npf_cells_lives.specs.Pools.{taken}
 use Rattle.npf_cells_lives.specs.Stored.{IsOwnField, FitsStored}
@@ -40,7 +44,8 @@ use Rattle.npf_cells_rule.specs.Cells.{IsCells}
 use Rattle.npf_cells_rule.specs.Passes.{IsProtected, cell_pass}
 use Rattle.npf_cells_rule.specs.Views.{seat_side, reader_view, pool_side, trie_side}
 use Rattle.npf_cells_rule.proofs.EntryLemmas.{adds_entry, sole_entries}
-use Rattle.npf_cells_rule.proofs.Frames.{pools_step, entry_step}
+use Rattle.npf_cells_rule.proofs.Frames.{alone_within, sight_step, entry_step}
+use Rattle.npf_cells_takes.proofs.SightLemmas.{seer, seer_stored, has_seen}
 use Rattle.npf_cells_rule.proofs.PassLemmas.{pinned_in}
 use Rattle.npf_cells_rule.proofs.StoodLemmas.{stood_so}
 use Rattle.npf_cells_takes.specs.SlotKinds.{claiming_slot, HasClaimed, ClaimsSlot}
@@ -88,15 +93,36 @@ module _ {S A R F : Type 0} (m : Meaning S A R) (digest : Key → ℕ) (layout :
         builds_too Slots p field own = let built = own.0 in (record { id = built.id; built = Contains-append_right (claimed_id k slot ∷ []) me.0.pools.builds built.id built.built; there = built.there }, own.1, own.2, own.3)
         builds_too Nodes p field own = own
 
+    -- the claim leaves the holders, and what was claimed
+    keeps_claim : (n : ℕ) → bit_at found (slot % 64) ≡ 0 → KeepsTrie layout.slots k (claimed m k id packet slot) (trie_words layout s.words) (trie_words layout (set s.words word n))
+    keeps_claim n clear = keeps_words layout k (claimed m k id packet slot) s.words (set s.words word n) (λ key. refl) (λ identity c. claimed_by m layout.slots k entry identity (follows clear) (λ e. absurd cc) c)
+        (pool_step layout s.words Slots slot n within).behind
+
+    -- and the pass was answered the new connection
+    new_claimed : bit_at found (slot % 64) ≡ 0 → (i : ConnId) → Contains (claimed_id k slot ∷ me.0.trie.answered) i → IsClaimed (stage_of (claimed m k id packet slot) i)
+    new_claimed clear i c = ⊎_elim
+        (λ (e : claimed_id k slot ≡ i).
+        let first = Contains-append_left (claimed_id k slot ∷ []) me.0.pools.builds (claimed_id k slot) (Contains-push [] (claimed_id k slot)) in
+        let built = (builds clear id winner (set_there s.views id me.0 winner at)).building (claimed_id k slot) first in
+        subst (λ x. IsClaimed (stage_of (claimed m k id packet slot) x)) e (subst IsClaimed (sym built) tt))
+        (λ d. claimed_by m layout.slots k entry i (follows clear) (λ e. absurd cc) ((kept.trie.each id me.0 at).claimed i d))
+        (cons_cases (claimed_id k slot) i me.0.trie.answered c)
+
+    winner_fits : (n : ℕ) → bit_at found (slot % 64) ≡ 0 → FitsTrie digest layout.slots (claimed m k id packet slot) (trie_words layout (set s.words word n)) winner.trie
+    winner_fits n clear =
+        let was = fits_kept digest layout.slots k (claimed m k id packet slot) (trie_words layout s.words) (trie_words layout (set s.words word n)) (keeps_claim n clear) me.0.trie me.0.trie (knows_same me.0.trie) (kept.trie.each id me.0 at) in
+        record { stands = was.stands; leaf = was.leaf; seen = was.seen; claimed = new_claimed clear }
+
     pub wins : (n : ℕ) → bit_at found (slot % 64) ≡ 0 → bit_at n (slot % 64) ≡ 1 → ((i : ℕ) → i < 64 → i ≢ slot % 64 → bit_at n i ≡ bit_at found i) →
         IsCells m digest layout (stepped s word n id me.1 winner keeps)
     wins n clear here bits =
         let may = follows clear in
-        entry_step m digest layout s word n id me.1 me.0 winner kept at lives place entry refl may refl refl (winner_stored clear) refl (pool_step layout s.words Slots slot n within)
+        entry_step m digest layout s word n id me.1 me.0 winner kept at lives place entry refl may refl refl (winner_stored clear) refl (alone_within winner place stays) (pool_step layout s.words Slots slot n within)
         (pools-set layout (taken pool_side kept.published k s.views) (taken pool_side kept.published (claimed m k id packet slot) (set s.views id winner)) s.words Slots slot n kept.pools within (here ∙ sym (now_taken m k id packet slot)) bits
         (taken_else m k id packet slot pool_side s.views id me.0 winner at kept.published refl))
-        (trie_same trie_side digest layout kept.published k (claimed m k id packet slot) s.words (set s.words word n) s.views id me.0 winner kept.trie at (knows_same me.0.trie)
-        (keeps_words layout k (claimed m k id packet slot) s.words (set s.words word n) (λ key. refl) (λ identity c. claimed_by m layout.slots k entry identity may (λ e. absurd cc) c) (pool_step layout s.words Slots slot n within).behind))
+        (trie_kept trie_side digest layout kept.published k (claimed m k id packet slot) s.words (set s.words word n) s.views (set s.views id winner) kept.trie (keeps_claim n clear) (grown-set trie_side s.views id me.0 winner at refl)
+        (fits-set trie_side digest layout.slots (claimed m k id packet slot) (trie_words layout (set s.words word n)) s.views id winner (winner_fits n clear)
+        (fits_all trie_side digest layout.slots k (claimed m k id packet slot) (trie_words layout s.words) (trie_words layout (set s.words word n)) s.views (keeps_claim n clear) kept.trie.each)))
         (builds clear)
         (λ p h. incs_more m k id packet slot pool_side s.views id me.0 winner at refl may.allowed.unclaimed kept.connections.each refl refl (inc_word layout s.words) p (kept.connections.incs p h))
 
@@ -108,7 +134,7 @@ module _ {S A R F : Type 0} (m : Meaning S A R) (digest : Key → ℕ) (layout :
       adds = subst (AddsOwn (cell_pass me.0) (kept.log ++ entry ∷ [])) (ap (λ n. record entry { seat = n } ∷ []) (sym number)) (adds_entry layout.slots kept.log (map seat_side s.views) id me.0 kept.seats there lives place entry refl);
       legal = record {
         legal = subst (λ slots. Legal m slots (kept.log ++ entry ∷ [])) (sym (fits.sized place)) (Legal-append m layout.slots kept.log entry kept.connections.legal (follows clear));
-        stays = λ i c. subst (λ n. IsClaimed (stage_of n i)) (sym (state_of-append m kept.log entry)) (claimed_by m layout.slots k entry i (follows clear) (λ e. absurd cc) ((kept.trie.each id me.0 at).claimed i c));
+        stays = λ i c. subst (λ n. IsClaimed (stage_of n i)) (sym (state_of-append m kept.log entry)) (new_claimed clear i c);
         building = λ i c. ap (λ n. stage_of n i) (state_of-append m kept.log entry) ∙ ((builds clear id winner (set_there s.views id me.0 winner at)).building i c ∙ ap (λ n. Building n) (sym number));
         unanswered = λ out. absurd (true≢false (sym (pinned_in me.0.epochs.pin stays) ∙ out));
         idle = λ out. absurd (true≢false (sym (pinned_in me.0.epochs.pin stays) ∙ out));
@@ -121,16 +147,16 @@ module _ {S A R F : Type 0} (m : Meaning S A R) (digest : Key → ℕ) (layout :
         number : me.0.seats.number ≡ id
         number = (fits.lives lives).number
 
-    -- where it is set nothing changes but what the pass found
+    -- where it is set the pass has seen all of the history
     pub loses : (n : ℕ) → bit_at found (slot % 64) ≢ 0 → bit_at n (slot % 64) ≡ 1 → ((i : ℕ) → i < 64 → i ≢ slot % 64 → bit_at n i ≡ bit_at found i) →
-        IsCells m digest layout (stepped s word n id me.1 (record me.0 { pools = record me.0.pools { found = found } }) keeps)
+        IsCells m digest layout (stepped s word n id me.1 (seer m digest layout s id me kept at lives place found) keeps)
     loses n some' here bits =
-        let w = record me.0 { pools = record me.0.pools { found = found } } in
+        let w = seer m digest layout s id me kept at lives place found in
         let taken' = taken-set pool_side kept.published k s.views id me.0 w at refl in
         let bit = kept.pools.bits Slots slot within in
         let below = bit_at-lt found (slot % 64) in
         let one : bit_at found (slot % 64) ≡ 1 = omega (arith, some', below) in
-        pools_step m digest layout s word n id me.1 me.0 w kept at refl refl (knows_same me.0.trie) (stored_kept layout s.words s.words me.0.pools w.pools (kept.stored id me.0 at) refl (own_same layout me.0.pools w.pools refl refl) (λ pool p field own. refl)) refl refl (λ none. absurd (omega (arith, none, place))) (pool_step layout s.words Slots slot n within)
+        sight_step m digest layout s word n id me.1 me.0 w kept at lives refl refl (knows_same me.0.trie) (seer_stored m digest layout s id me kept at lives place found) refl refl (alone_within w place stays) (pool_step layout s.words Slots slot n within)
         (pools-set layout (taken pool_side kept.published k s.views) (taken pool_side kept.published k (set s.views id w)) s.words Slots slot n kept.pools within (here ∙ (sym one ∙ (bit ∙ sym (taken' Slots slot)))) bits (λ other p two. taken' other p))
 
   pub may_claim_slot : (st : Step F) (id n packet slot mask : ℕ) (me : Me F (CellView S A R)) → me.0.seats.lives ≡ true → me.0.seats.theirs ≡ [] → 1 ≤ length me.0.seats.readers → IsProtected me.0.epochs.pin → slot < layout.slots → mask ≡ 1 * 2 ^ (slot % 64) % 2 ^ 64 →
@@ -169,7 +195,7 @@ module _ {S A R F : Type 0} (m : Meaning S A R) (digest : Key → ℕ) (layout :
           )
       by_bit false e =
           let some' : bit ≢ 0 = not_from_Decides _ (Decides-eqb bit 0) e in (
-            record me.0 { pools = record me.0.pools { found = number } },
+            seer m digest layout s id me kept at lives place number,
             keeps,
             tt,
             loses s id me kept at lives settled place stays packet slot within after' some' here else',
@@ -177,6 +203,6 @@ module _ {S A R F : Type 0} (m : Meaning S A R) (digest : Key → ℕ) (layout :
               finds = refl;
               stood = stood_so m digest layout s id me.0 (place_word layout Slots slot) (place_word layout Slots slot) kept at lives refl;
               won = λ clear. absurd (some' clear);
-              lost = λ _. refl;
+              lost = λ _. has_seen m digest layout s id me kept at lives place number settled (slot / 64) (place_word layout Slots slot) refl refl;
             },
           )

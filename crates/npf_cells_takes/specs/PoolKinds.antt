@@ -15,6 +15,7 @@ use Rattle.npf_cells_lives.specs.declared.pools.PoolSide.{PoolSide}
 use Rattle.npf_cells_rule.specs.declared.view.CellView.{CellView}
 use Rattle.npf_cells_rule.specs.Stood.{StoodSo}
 use Rattle.npf_cells_rule.specs.Views.{with_pools}
+use Rattle.npf_cells_takes.specs.SlotKinds.{HasSeenSlots}
 
 -- a pass needs a node where its last load of a place, for a key that it is to hold, found the leaf of another key, and it owns fewer
 -- nodes than there are levels below that place, down to and with the one at which the two keys part
@@ -29,10 +30,9 @@ pub record NeedsNode {S A R : Type 0} (digest : Key → ℕ) (v : CellView S A R
 abbrev pub row_after : ℕ → ℕ → ℕ → ℕ
 row_after row word found = if found == 2 ^ 64 - 1 then (if word == 0 then 1 else (if word == row then row + 1 else 0)) else 0
 
--- a load of a word of a pool, where the nodes have so many: a row that is complete counts as a sweep
-abbrev pub sweeping : Pool → ℕ → ℕ → PoolSide → ℕ → PoolSide
-sweeping Slots count word side found = record side { found = found }
-sweeping Nodes count word side found = record side {
+-- a load of a word of the nodes, which have so many: a row that is complete counts as a sweep
+abbrev pub sweeping : ℕ → ℕ → PoolSide → ℕ → PoolSide
+sweeping count word side found = record side {
   found = found;
   row = row_after side.row word found;
   sweeps = if row_after side.row word found == count then side.sweeps + 1 else side.sweeps;
@@ -48,7 +48,8 @@ giving_back node side found = record side { found = found; nodes = others_than n
 
 -- the kinds, as what they tell
 pub record Sweeps {S A R F : Type 0} (m : Meaning S A R) (digest : Key → ℕ) (layout : Layout) (pool : Pool) (word : ℕ) (step : Step F) (me : Me F (CellView S A R)) (found : ℕ) (next : Me F (CellView S A R)) : Type 0 where
-  pub is : next ≡ with_pools me (sweeping pool (pool_words layout.nodes) word me.0.pools found)
+  pub nodes : pool ≡ Nodes → next ≡ with_pools me (sweeping (pool_words layout.nodes) word me.0.pools found)
+  pub slots : pool ≡ Slots → HasSeenSlots m layout word found me next
   pub stood : StoodSo m digest layout me.0 (pool_at layout pool + word) found
 
 pub record ClaimsNode {S A R F : Type 0} (m : Meaning S A R) (digest : Key → ℕ) (layout : Layout) (node : ℕ) (step : Step F) (me : Me F (CellView S A R)) (found : ℕ) (next : Me F (CellView S A R)) : Type 0 where

@@ -2,18 +2,20 @@ ghost use Rattle.std.specs.Prelude.{◌≡◌, ◌≢◌, ◌-◌, ◌^◌, ◌<
 ghost use Rattle.std.specs.Int.{bit_at};
 ghost use Rattle.npf_cells_words.specs.declared.layout.Pool.TheVariants.{Slots, Nodes};
 ghost use Rattle.npf_cells_words.specs.Layout.{pool_places, pool_words};
-ghost use Rattle.npf_cells_rule.specs.Passes.{IsPassOf, IsProtected};
+ghost use Rattle.npf_connections.specs.Beginning.{IsFullBetween};
+ghost use Rattle.npf_cells_rule.specs.Passes.{IsPassOf, IsProtected, cell_pass};
 ghost use Rattle.npf_cells_takes.specs.PoolKinds.{NeedsNode};
 ghost use Rattle.npf_cells_rule.specs.Views.{with_pools};
 ghost use Rattle.npf_cells_takes.specs.SlotKinds.{HasClaimed};
-ghost use Rattle.npf_pool.specs.Take.{searching, taking, having_swept, CountsSweep, StoodFull};
+ghost use Rattle.npf_pool.specs.Take.{searching, taking, having_swept, CountsSweep, StoodFull, HasSeenMore};
 
 use npf_cells::{CellPass, Cells, Pool};
 use npf_core::Law;
 use npf_paths::KeyHash;
 use std::sync::Wait;
 
-/// Takes a node, or claims a slot for the packet n. None only after a sweep that found each word of that pool full.
+/// Takes a node, or claims a slot for the packet n. None only after a sweep that found each word of that pool full; of the slots, each was
+/// claimed at some point of this call.
 pub fn take<L: Law, H: KeyHash>(
     rt: &impl Wait,
     cells: &Cells<L, H>,
@@ -28,10 +30,12 @@ pub fn take<L: Law, H: KeyHash>(
     ensures within { IfSome result (λ place. place < pool_places cells.now.table.shared.key pool) }
     ensures claims { IfSome result (λ slot. pool ≡ Slots → HasClaimed L.meaning n slot pass.old.seat.me pass.new.seat.me) }
     ensures unowned { IfSome result (λ node. pool ≡ Nodes → ¬ (Contains pass.old.seat.me.0.pools.nodes node)) }
+    ensures sees { IfNone result (pool ≡ Slots → HasSeenMore L.meaning pass.old.seat.me pass.new.seat.me) }
     ensures takes { IfSome result (λ node. pool ≡ Nodes → pass.new.seat.me ≡ with_pools pass.old.seat.me (taking node pass.old.seat.me.0.pools pass.new.seat.me.0.pools)) }
-    ensures none { IfNone result (pass.new.seat.me ≡ with_pools pass.old.seat.me (having_swept pool pass.old.seat.me.0.pools pass.new.seat.me.0.pools)) }
+    ensures none { IfNone result (pool ≡ Nodes → pass.new.seat.me ≡ with_pools pass.old.seat.me (having_swept pass.old.seat.me.0.pools pass.new.seat.me.0.pools)) }
     ensures swept { IfNone result (pool ≡ Nodes → CountsSweep (pool_words cells.now.table.shared.key.nodes) pass.old.seat.me.0.pools pass.new.seat.me.0.pools) }
-    ensures full { IfNone result ((word : ℕ) → word < pool_words (pool_places cells.now.table.shared.key pool) → StoodFull L.meaning H.digest cells.now.table.shared.key pool pass.old.seat.me.0 word) }
+    ensures full { IfNone result (pool ≡ Nodes → (word : ℕ) → word < pool_words cells.now.table.shared.key.nodes → StoodFull L.meaning H.digest cells.now.table.shared.key pass.old.seat.me.0 word) }
+    ensures claimed { IfNone result (pool ≡ Slots → IsFullBetween L.meaning (cell_pass pass.old.seat.me.0) pass.new.seat.me.0.seats.history) }
 {
     for _ in rt.forever() {
         match find_clear(cells, pass, pool) {
@@ -56,10 +60,12 @@ fn find_clear<L: Law, H: KeyHash>(
     requires needs { pool ≡ Nodes → NeedsNode H.digest pass.old.seat.me.0 }
     ensures own { IsPassOf cells.now.table.shared.key cells.now.table.shared.table_id pass.new.seat.table_id pass.new.readers.items pass.new.seat.me }
     ensures within { IfSome result (λ place. place < pool_places cells.now.table.shared.key pool) }
-    ensures searches { IfSome result (λ place. pass.new.seat.me ≡ with_pools pass.old.seat.me (searching pool pass.old.seat.me.0.pools pass.new.seat.me.0.pools)) }
-    ensures none { IfNone result (pass.new.seat.me ≡ with_pools pass.old.seat.me (having_swept pool pass.old.seat.me.0.pools pass.new.seat.me.0.pools)) }
+    ensures searches { IfSome result (λ place. pool ≡ Nodes → pass.new.seat.me ≡ with_pools pass.old.seat.me (searching pass.old.seat.me.0.pools pass.new.seat.me.0.pools)) }
+    ensures sees { pool ≡ Slots → HasSeenMore L.meaning pass.old.seat.me pass.new.seat.me }
+    ensures none { IfNone result (pool ≡ Nodes → pass.new.seat.me ≡ with_pools pass.old.seat.me (having_swept pass.old.seat.me.0.pools pass.new.seat.me.0.pools)) }
     ensures swept { IfNone result (pool ≡ Nodes → CountsSweep (pool_words cells.now.table.shared.key.nodes) pass.old.seat.me.0.pools pass.new.seat.me.0.pools) }
-    ensures full { IfNone result ((word : ℕ) → word < pool_words (pool_places cells.now.table.shared.key pool) → StoodFull L.meaning H.digest cells.now.table.shared.key pool pass.old.seat.me.0 word) }
+    ensures full { IfNone result (pool ≡ Nodes → (word : ℕ) → word < pool_words cells.now.table.shared.key.nodes → StoodFull L.meaning H.digest cells.now.table.shared.key pass.old.seat.me.0 word) }
+    ensures claimed { IfNone result (pool ≡ Slots → IsFullBetween L.meaning (cell_pass pass.old.seat.me.0) pass.new.seat.me.0.seats.history) }
 {
     let words = cells.layout().pool_words(pool);
     for word in 0..words {

@@ -48,8 +48,8 @@ module _ {S A R F : Type 0} (m : Meaning S A R) (n slot : ℕ) (old now : Me F (
   bare : (way : Way) → HoldsNone (state_of m now.0.seats.history) has.id way
   bare way =
       let end = has.adds.ends [] (entry_of (cell_pass old.0) (Claim n has.id.slot) (ToClaim has.id)) refl in
-      let legal : Legal m now.0.seats.slots (end.0 ++ entry_of (cell_pass old.0) (Claim n has.id.slot) (ToClaim has.id) ∷ []) = subst (λ (h : List (Entry S A R)). Legal m now.0.seats.slots h) end.1 has.legal.legal in
-      subst (λ (h : List (Entry S A R)). HoldsNone (state_of m h) has.id way) (sym end.1) (claimed_holds_none m now.0.seats.slots end.0 _ has.id way legal refl)
+      let legal : Legal m now.0.seats.about (end.0 ++ entry_of (cell_pass old.0) (Claim n has.id.slot) (ToClaim has.id) ∷ []) = subst (λ (h : List (Entry S A R)). Legal m now.0.seats.about h) end.1 has.legal.legal in
+      subst (λ (h : List (Entry S A R)). HoldsNone (state_of m h) has.id way) (sym end.1) (claimed_holds_none m now.0.seats.about end.0 _ has.id way legal refl)
 
 module _ {S A R F : Type 0} (m : Meaning S A R) (n slot before : ℕ) (old now : Me F (CellView S A R)) (has : HasClaimed m n slot old now) (shows : ShowsInc now.0.pools slot before) where
   owes : Contains now.0.pools.unstored slot

@@ -496,6 +496,38 @@ module _ {K E : Type 0} (seat_of : E → ℕ) (about : K) (all : ℕ) (log : Lis
               (cases_eq n id);
         }
 
+  -- a seat sees all that was added, and adds nothing
+  module _ (sides : List (SeatSide K E)) (id : ℕ) (v : SeatSide K E) (kept : Seats seat_of about all log sides) (at : get_elem? sides id ≡ some v)
+      (lives : v.lives ≡ true) where
+    abbrev seeing : SeatSide K E
+    seeing = record v { history = log }
+
+    saw_fits : FitsSeats seat_of about sides log id v
+    saw_fits = kept.each id v at
+
+    spent_on_sight : (n : ℕ) → IsSpentSeat sides n → IsSpentSeat (set sides id seeing) n
+    spent_on_sight n = spent-set sides id n v seeing at (λ none. none)
+
+    seeing_fits : FitsSeats seat_of about (set sides id seeing) log id seeing
+    seeing_fits = record {
+      sized = saw_fits.sized;
+      others = saw_fits.others;
+      seen = IsPrefix-self log;
+      told = saw_fits.told;
+      unborn = λ no. absurd (true≢false (sym lives ∙ no));
+      lives = λ l. record { number = (saw_fits.lives l).number; own = refl };
+      joined = λ n c. record { same = refl; spent = spent_on_sight n (saw_fits.joined n c).spent };
+      theirs = λ n c. record { same = (saw_fits.theirs n c).same; spent = spent_on_sight n (saw_fits.theirs n c).spent };
+    }
+
+    pub seats-sees : Seats seat_of about all log (set sides id seeing)
+    seats-sees = owned_so sides (set sides id seeing) kept (own-set sides id v seeing at refl)
+        (λ j u e. ⊎_elim
+        (λ (x : (j ≡ id) × (seeing ≡ u)). subst (λ (y : ℕ × SeatSide K E). FitsSeats seat_of about (set sides id seeing) log y.0 y.1) (λ i. (sym x.0 i, x.1 i)) seeing_fits)
+        (λ (x : (j ≢ id) × (get_elem? sides j ≡ some u)). fits-others sides (set sides id seeing) j u spent_on_sight (kept.each j u x.1))
+        (at_set sides id j seeing u e))
+        (λ n has. seat-set sides id n v seeing at (λ p. p) (λ o. o) has)
+
   -- a reader place has one owner at most, and it is one of the table's
   pub one_owner : (sides : List (SeatSide K E)) (i j reader : ℕ) (v w : SeatSide K E) → Seats seat_of about all log sides → get_elem? sides i ≡ some v → get_elem? sides j ≡ some w →
       i ≢ j → 1 ≤ occurs reader v.readers → 1 ≤ occurs reader w.readers → ⊥

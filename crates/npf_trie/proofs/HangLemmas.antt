@@ -142,11 +142,11 @@ module _ {S A R : Type 0} where
             ]
       ]
 
-  abbrev having_hung : CellView S A R → List (Entry S A R) → TrieSide → List ℕ → CellView S A R
-  having_hung v history side nodes = record v {
+  abbrev having_hung : CellView S A R → List (Entry S A R) → TrieSide → ℕ → List ℕ → CellView S A R
+  having_hung v history side grown nodes = record v {
     seats = record v.seats { history = history };
     pools = record v.pools { nodes = nodes; stored = [] };
-    trie = publishing (renewed side);
+    trie = record (publishing (renewed side)) { grown = side.grown + grown };
   }
 
 -- the pass loaded the place, met the leaf of another key there, and compared words of that
@@ -293,7 +293,7 @@ module _ {S A R F : Type 0} (m : Meaning S A R) (digest : Key → ℕ) (layout :
         ap (λ ns. nodes_but ns old.0.pools.nodes) (puts_one digest layout _ wanted.id wanted.key wanted.way point.place _ grown.nodes held.nodes may_put puts) ∙ grown.all in
         let adds : AddsOwn (cell_pass (record old.0 { trie = side })) history (hold_entries (cell_pass old.0) wanted.id wanted.key wanted.way Held.Done) =
         subst (λ (y : Me F (CellView S A R)). AddsOwn (cell_pass y.0) history (hold_entries (cell_pass y.0) wanted.id wanted.key wanted.way Held.Done)) sees.is held.adds in
-        let is = held.is ∙ (ap (λ (y : Me F (CellView S A R)). (published_for y.0 history held.nodes, y.1)) sees.is ∙ ap (λ ns. (having_hung old.0 history side ns, old.1)) none) in
+        let is = held.is ∙ (ap (λ (y : Me F (CellView S A R)). (published_for y.0 history held.nodes, y.1)) sees.is ∙ ap (λ ns. (having_hung old.0 history side (length held.nodes) ns, old.1)) none) in
         record {
           some = λ e. cc;
           adds = record { adds = record { rest = adds.adds.rest; goes_on = adds.adds.goes_on; own = adds.adds.own; listed = adds.adds.listed }; ends = adds.ends };

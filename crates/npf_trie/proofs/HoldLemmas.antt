@@ -89,7 +89,7 @@ module _ {S A R F : Type 0} where
 
   pub keeps_after : (a b c : Me F (CellView S A R)) → KeepsPass a b → KeepsPass b c → KeepsPass a c
   keeps_after a b c ab bc = record {
-    seats = bc.seats ∙ ap (λ (s : SeatSide S A R). record s { history = c.0.seats.history }) ab.seats;
+    seats = bc.seats ∙ ap (λ (s : SeatSide ℕ (Entry S A R)). record s { history = c.0.seats.history }) ab.seats;
     epochs = bc.epochs ∙ ab.epochs;
     nodes = bc.nodes ∙ ab.nodes;
     builds = bc.builds ∙ ab.builds;
@@ -189,7 +189,7 @@ module _ {S A R F : Type 0} (m : Meaning S A R) where
 
   adds_after : (a b : Me F (CellView S A R)) (new : List (Entry S A R)) (id : ConnId) (key : Key) (way : Way) (held : Held) → StaysOn a b → AddsOwn (cell_pass b.0) new (hold_entries (cell_pass b.0) id key way held) →
       AddsOwn (cell_pass a.0) new (hold_entries (cell_pass a.0) id key way held)
-  adds_after a b new id key way held stays added = adds_from (cell_pass b.0) (cell_pass a.0) new id key way held stays.history (ap (λ (s : SeatSide S A R). s.number) stays.keeps.seats) (ap (λ (s : SeatSide S A R). s.joined) stays.keeps.seats) added
+  adds_after a b new id key way held stays added = adds_from (cell_pass b.0) (cell_pass a.0) new id key way held stays.history (ap (λ (s : SeatSide ℕ (Entry S A R)). s.number) stays.keeps.seats) (ap (λ (s : SeatSide ℕ (Entry S A R)). s.joined) stays.keeps.seats) added
 
   ends_after : (a b c : Me F (CellView S A R)) (id : ConnId) (key : Key) (way : Way) (held : Held) → StaysOn a b → EndsHold id key way held b c → EndsHold id key way held a c
   ends_after a b c id key way held stays ends = record {

@@ -37,7 +37,7 @@ fn takes_all(
     requires protected { IsProtected pass.old.seat.me.0.epochs.pin }
     ensures own { IsPassOf cells.now.table.shared.key cells.now.table.shared.table_id pass.new.seat.table_id pass.new.readers.items pass.new.seat.me }
     ensures protected { IsProtected pass.new.seat.me.0.epochs.pin }
-    ensures trie { pass.new.seat.me.0.trie ≡ pass.old.seat.me.0.trie }
+    ensures locks { pass.new.seat.me.0.trie.locks ≡ pass.old.seat.me.0.trie.locks }
 {
     let mut ordered = true;
     for count in 0..100u32 {
@@ -58,6 +58,40 @@ fn tell_taken(rt: &impl Wait, alloc: Global, told: &mut String) -> Result<(), Fa
     put(told, &(taken, last == u64::MAX))
 }
 
+// Takes one slot after the other by two passes in turn, until either finds none. Answers how many they were.
+fn take_in_turn(
+    rt: &impl Wait,
+    cells: &Cells<FlowLaw, ByProtocol>,
+    pass: &mut CellPass<FlowLaw>,
+    other: &mut CellPass<FlowLaw>,
+) -> u32
+    requires own { IsPassOf cells.now.table.shared.key cells.now.table.shared.table_id pass.old.seat.table_id pass.old.readers.items pass.old.seat.me }
+    requires other_own { IsPassOf cells.now.table.shared.key cells.now.table.shared.table_id other.old.seat.table_id other.old.readers.items other.old.seat.me }
+    requires protected { IsProtected pass.old.seat.me.0.epochs.pin }
+    requires other_protected { IsProtected other.old.seat.me.0.epochs.pin }
+{
+    for count in 0..50u32 {
+        match take(rt, cells, pass, Pool::Slots, 7) {
+            Some(_) => {}
+            None => return 2 * count,
+        }
+        match take(rt, cells, other, Pool::Slots, 7) {
+            Some(_) => {}
+            None => return 2 * count + 1,
+        }
+    }
+    100
+}
+
+// Of a table of 64 slots two passes take all, and the 65th is refused.
+fn tell_full(rt: &impl Wait, alloc: Global, told: &mut String) -> Result<(), Fail> {
+    let (cells, mut pass) = Cells::<FlowLaw, ByProtocol>::new(alloc, 64, 16)?;
+    let mut other = cells.split(&mut pass);
+    enter(&cells, &mut pass);
+    enter(&cells, &mut other);
+    put(told, &take_in_turn(rt, &cells, &mut pass, &mut other))
+}
+
 // Two slots, and what each of three connections is.
 fn tell_begun(rt: &impl Wait, alloc: Global, told: &mut String) -> Result<(), Fail> {
     let (cells, mut pass) = Cells::<FlowLaw, ByProtocol>::new(alloc, 2, 16)?;
@@ -76,6 +110,7 @@ fn slots_are_claimed_once(rt: HostRuntime) -> Result<(), Fail> {
     let mut told = String::new(rt.alloc());
     tell_claims(rt.alloc(), &mut told)?;
     tell_taken(&rt, rt.alloc(), &mut told)?;
+    tell_full(&rt, rt.alloc(), &mut told)?;
     tell_begun(&rt, rt.alloc(), &mut told)?;
     same(
         &rt,
@@ -83,6 +118,7 @@ fn slots_are_claimed_once(rt: HostRuntime) -> Result<(), Fail> {
         "[18446744073709551608, 18446744073709551610]
 [true, false]
 ((true, 70), true)
+64
 [Some(ConnId { slot: 0, inc: 1 }), Some(ConnId { slot: 1, inc: 1 }), None]
 ",
     );

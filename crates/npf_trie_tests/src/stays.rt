@@ -35,9 +35,10 @@ fn tell_held(
     let raised_again = cells.advance(other, second);
     let raised_past_it = try_advance(cells, other);
     let third = cells.load_epoch(other);
+    let scanned = cells.scan_reader(other, 0);
     cells.unpin(reader);
     let raised_after_it = try_advance(cells, other);
-    put(told, &[first, second, protecting, third])?;
+    put(told, &[first, second, protecting, third, scanned])?;
     put(
         told,
         &[raised, raised_again, raised_past_it, raised_after_it],
@@ -71,7 +72,7 @@ fn reader_is_protected_from_its_second_load_on(rt: HostRuntime) -> Result<(), Fa
     same(
         &rt,
         told.as_str(),
-        "[2, 3, 3, 4]
+        "[2, 3, 3, 4, 3]
 [true, true, false, true]
 (true, false, true, 4)
 ",

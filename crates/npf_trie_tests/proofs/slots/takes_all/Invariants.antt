@@ -6,5 +6,5 @@ abbrev pub invariant-loop-count : goal.invariant-loop-count
 invariant-loop-count g l = record {
   own : IsPassOf l.cells.table.shared.key l.cells.table.shared.table_id l.pass.seat.table_id l.pass.readers.items l.pass.seat.me;
   protected : IsProtected l.pass.seat.me.0.epochs.pin;
-  trie : l.pass.seat.me.0.trie ≡ l.initial.pass.seat.me.0.trie;
+  locks : l.pass.seat.me.0.trie.locks ≡ l.initial.pass.seat.me.0.trie.locks;
 }

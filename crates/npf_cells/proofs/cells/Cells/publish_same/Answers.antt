@@ -10,4 +10,4 @@ store-requires g c =
     let place : c.trie_place-word.result ≡ place_at c.args.self.now.table.shared.key c.args.place
     = c.trie_place-word.ensures ∙ ap (λ l. place_at l c.args.place) (sym c.args.self.now.laid) in
     rw (place, c.word.ensures)
-    (own.same, omega (arith, own.words, place_reach c.args.self.now.table.shared.key c.args.place c.requires.place), may_store_again g.L.Law.meaning g.H.KeyHash.digest c.args.self.now.table.shared.key _ _ _ c.args.place c.args.cell c.args.pass.now.seat.me c.requires.place c.requires.sees)
+    (own.same, omega (arith, own.words, place_reach c.args.self.now.table.shared.key c.args.place c.requires.place), may_store_again g.L.Law.meaning g.H.KeyHash.digest c.args.self.now.table.shared.key _ _ _ c.args.place c.args.cell c.args.pass.now.seat.me own.place c.requires.place c.requires.sees)

@@ -11,4 +11,4 @@ store-requires g c =
     = c.lock_place-word.ensures ∙ ap (λ l. lock_at l c.args.lock) (sym c.args.self.now.laid) in
     let reach = lock_reach c.args.self.now.table.shared.key c.args.lock c.requires.lock in
     rw (c.requires.aim.0, c.requires.aim.1, c.requires.aim.2, place)
-    (own.same, omega (arith, own.words, reach), may_store_state g.L.Law.meaning g.H.KeyHash.digest c.args.self.now.table.shared.key _ _ _ c.args.lock c.args.state c.args.pass.now.seat.me c.requires.lock c.requires.locked c.requires.state)
+    (own.same, omega (arith, own.words, reach), may_store_state g.L.Law.meaning g.H.KeyHash.digest c.args.self.now.table.shared.key _ _ _ c.args.lock c.args.state c.args.pass.now.seat.me own.place c.requires.lock c.requires.locked c.requires.state)

@@ -11,4 +11,4 @@ store-requires g c =
     = c.field_place-word.ensures ∙ ap (λ l. field_at l c.args.pool c.args.place c.args.field) (sym c.args.self.now.laid) in
     let reach = field_reach c.args.self.now.table.shared.key c.args.pool c.args.place c.args.field c.requires.place c.requires.field in
     rw (c.requires.aim.0, c.requires.aim.1, c.requires.aim.2, c.requires.aim.3, place)
-    (own.same, omega (arith, own.words, reach), may_store g.L.Law.meaning g.H.KeyHash.digest c.args.self.now.table.shared.key _ _ _ c.args.pool c.args.place c.args.field c.args.value c.args.pass.now.seat.me own.lives c.requires.place c.requires.field c.requires.may)
+    (own.same, omega (arith, own.words, reach), may_store g.L.Law.meaning g.H.KeyHash.digest c.args.self.now.table.shared.key _ _ _ c.args.pool c.args.place c.args.field c.args.value c.args.pass.now.seat.me own.lives own.place c.requires.place c.requires.field c.requires.may)

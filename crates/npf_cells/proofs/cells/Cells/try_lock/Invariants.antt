@@ -1,4 +1,5 @@
+use Rattle.npf_cells.specs.Telling.{untold}
 use Rattle.npf_cells.proofs.cells.Cells.try_lock.Given as goal
 
 abbrev pub ghosts-try_lock_as : goal.ghosts-try_lock_as
-ghosts-try_lock_as g a = record { layout = a.self.now.table.shared.key; lock = a.lock; state = 0 }
+ghosts-try_lock_as g a = record { told = record untold { layout = a.self.now.table.shared.key; lock = a.lock } }

@@ -11,4 +11,4 @@ compare_exchange-found-requires g c =
     = c.lock_place-word.ensures ∙ ap (λ l. lock_at l c.args.lock) (sym c.args.self.now.laid) in
     let reach = lock_reach c.args.self.now.table.shared.key c.args.lock c.requires.lock in
     rw (c.requires.aim.0, c.requires.aim.1, place)
-    (own.same, omega (arith, own.words, reach), may_lock g.L.Law.meaning g.H.KeyHash.digest c.args.self.now.table.shared.key _ _ _ c.args.lock c.args.pass.now.seat.me own.lives c.requires.lock)
+    (own.same, omega (arith, own.words, reach), may_lock g.L.Law.meaning g.H.KeyHash.digest c.args.self.now.table.shared.key _ _ _ c.args.lock c.args.pass.now.seat.me own.lives own.place c.requires.protected c.requires.lock)

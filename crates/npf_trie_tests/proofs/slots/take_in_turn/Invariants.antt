@@ -1,0 +1,10 @@
+use Rattle.npf_cells_rule.specs.Passes.{IsPassOf, IsProtected}
+use Rattle.npf_trie_tests.proofs.slots.take_in_turn.Given as goal
+
+abbrev pub invariant-loop-count : goal.invariant-loop-count
+invariant-loop-count g l = record {
+  own : IsPassOf l.cells.table.shared.key l.cells.table.shared.table_id l.pass.seat.table_id l.pass.readers.items l.pass.seat.me;
+  other_own : IsPassOf l.cells.table.shared.key l.cells.table.shared.table_id l.other.seat.table_id l.other.readers.items l.other.seat.me;
+  protected : IsProtected l.pass.seat.me.0.epochs.pin;
+  other_protected : IsProtected l.other.seat.me.0.epochs.pin;
+}
