@@ -1,6 +1,7 @@
 -- 48: what npf.conf(5) has and this project doesn't build, told at the statement: `set` of anything but `bpf.jit` with `on` or
--- `off`, `alg` of anything but "icmp", and a map's `algo` of anything but `netmap` and `npt66`.
-use Rattle.std.specs.Prelude.{Bool, true, false, not, ◌&&◌, ◌||◌, Option, Some, None, List, [], codes}
+-- `off`, and a parameter that has an effect with `on`, `off`, `1` or `0`; `alg` of anything but "icmp"; and a map's `algo` of
+-- anything but `netmap` and `npt66`.
+use Rattle.std.specs.Prelude.{Bool, true, false, not, ◌&&◌, ◌||◌, if◌then◌else◌, is_some, ℕ, Option, Some, None, List, [], codes}
 use Rattle.std.specs.List.{flat_map}
 use Rattle.std.specs.Str.{bytes_eq}
 use Rattle.npf_faults.specs.declared.fault.ConfFault.{ConfFault}
@@ -11,10 +12,20 @@ use Rattle.npf_syntax.specs.declared.stmt.Stmt.{Stmt}
 use Rattle.npf_syntax.specs.declared.stmt.Tree.{Tree}
 use Rattle.npf_syntax.specs.declared.word.Word.{Word}
 use Rattle.npf_faults.specs.First.{fault_if}
+use Rattle.npf_model.specs.Settings.{parameter_named, switch_number, switch_word}
+
+-- what sets a parameter on or off, by a word, or by a word or a number
+abbrev pub is_switch_word : Setting → Bool
+is_switch_word (Setting.Word word span) = is_some (switch_word word.text)
+is_switch_word (Setting.Number number span) = false
 
 abbrev pub is_switch : Setting → Bool
-is_switch (Setting.Word word span) = bytes_eq word.text (codes "on") || bytes_eq word.text (codes "off")
-is_switch (Setting.Number number span) = false
+is_switch (Setting.Word word span) = is_some (switch_word word.text)
+is_switch (Setting.Number number span) = is_some (switch_number number.value)
+
+abbrev pub is_built_setting : List ℕ → Setting → Bool
+is_built_setting name value =
+    if bytes_eq name (codes "bpf.jit") then is_switch_word value else is_some (parameter_named name) && is_switch value
 
 abbrev pub is_built_algo : Option Word → Bool
 is_built_algo None = true
@@ -25,7 +36,7 @@ is_built_kind (MapKind.Dynamic span) = true
 is_built_kind (MapKind.Static algo span) = is_built_algo algo
 
 abbrev pub unbuilt : Stmt → List ConfFault
-unbuilt (Stmt.Set name value span) = fault_if (not (bytes_eq name.text (codes "bpf.jit") && is_switch value)) span Unbuilt
+unbuilt (Stmt.Set name value span) = fault_if (not (is_built_setting name.text value)) span Unbuilt
 unbuilt (Stmt.Alg name span) = fault_if (not (bytes_eq name.text (codes "icmp"))) span Unbuilt
 unbuilt (Stmt.Map iface kind proto left arrow right pass span) = fault_if (not (is_built_kind kind)) span Unbuilt
 unbuilt _ = []

@@ -1,9 +1,10 @@
 // What isn't built of the language.
 ghost use Rattle.std.specs.Prelude.{◌≡◌};
 ghost use Rattle.npf_faults.specs.First.{first_fault};
-ghost use Rattle.npf_check.specs.Unbuilt.{is_built_algo, is_built_kind, is_switch, unbuilt, unbuilt_faults};
+ghost use Rattle.npf_check.specs.Unbuilt.{is_built_algo, is_built_kind, is_built_setting, is_switch, is_switch_word, unbuilt, unbuilt_faults};
 
 use npf_faults::{ConfFault, Fault, earlier, fault_if};
+use npf_model::{Parameter, switch_number, switch_word};
 use npf_syntax::{MapKind, Setting, Stmt, Tree, Word};
 
 /// The first `Unbuilt`.
@@ -22,7 +23,7 @@ fn unbuilt_stmt(stmt: &Stmt) -> Option<ConfFault>
 {
     match stmt {
         Stmt::Set { name, value, span } => {
-            let built = name.text.as_slice() == "bpf.jit".as_bytes() && is_switch(value);
+            let built = is_built_setting(name.text.as_slice(), value);
             fault_if(!built, *span, Fault::Unbuilt)
         }
         Stmt::Alg { name, span } => {
@@ -34,15 +35,30 @@ fn unbuilt_stmt(stmt: &Stmt) -> Option<ConfFault>
     }
 }
 
+fn is_built_setting(name: &[u8], value: &Setting) -> bool
+    ensures { result ≡ is_built_setting name.now value.now }
+{
+    if name == "bpf.jit".as_bytes() {
+        return is_switch_word(value);
+    }
+    Parameter::named(name).is_some() && is_switch(value)
+}
+
+fn is_switch_word(value: &Setting) -> bool
+    ensures { result ≡ is_switch_word value.now }
+{
+    match value {
+        Setting::Word { word, .. } => switch_word(word.text.as_slice()).is_some(),
+        Setting::Number { .. } => false,
+    }
+}
+
 fn is_switch(value: &Setting) -> bool
     ensures { result ≡ is_switch value.now }
 {
     match value {
-        Setting::Word { word, .. } => {
-            let text = word.text.as_slice();
-            text == "on".as_bytes() || text == "off".as_bytes()
-        }
-        Setting::Number { .. } => false,
+        Setting::Word { word, .. } => switch_word(word.text.as_slice()).is_some(),
+        Setting::Number { number, .. } => switch_number(number.value).is_some(),
     }
 }
 

@@ -1,5 +1,5 @@
 -- What is left of a text's statements, of which so many were read.
-use Rattle.std.proofs.Common.{◌≡◌, ◌≤◌, ◌<◌, ◌+◌, ℕ, None, false, List, [], ◌∷◌, ◌++◌, length, get_or, take, drop, refl, sym, ap, subst, ◌∙◌, append-nil, append_assoc}
+use Rattle.std.proofs.Common.{◌≡◌, ◌≤◌, ◌<◌, ◌+◌, ℕ, None, List, [], ◌∷◌, ◌++◌, length, get_or, take, drop, refl, sym, ap, subst, ◌∙◌, append-nil, append_assoc}
 use Rattle.std.specs.List.{flat_map}
 use Rattle.std.proofs.Math.Path.{fun_ext}
 use Rattle.std.proofs.lemmas.List.{drop_more, drop_all, take_more}
@@ -9,7 +9,6 @@ use Rattle.npf_model.specs.declared.group.Group.{Group}
 use Rattle.npf_model.specs.declared.iface.Iface.{Iface}
 use Rattle.npf_model.specs.declared.map.Map.{Map}
 use Rattle.npf_model.specs.declared.model.Model.{Model}
-use Rattle.npf_model.specs.Settings.{default_settings}
 use Rattle.npf_faults.specs.First.{earlier, first_fault}
 use Rattle.npf_faults.proofs.FirstLemmas.{earlier-assoc, earlier-none, first_fault-append, no_first_fault, none_of_earlier}
 use Rattle.npf_expand_values.specs.Atom.{Env}
@@ -22,6 +21,7 @@ use Rattle.npf_expand.specs.declared.met.Met.{Met}
 use Rattle.npf_expand.specs.Elaborates.{Elaborates, behind, default_group, gathered, maps_of, named_group, procedures_of, stmt_elements, stmt_faults, stmts_faults, tree_faults}
 use Rattle.npf_expand.specs.Group.{head_faults}
 use Rattle.npf_expand.specs.Map.{map_faults}
+use Rattle.npf_expand.specs.Settings.{asks_icmp, settings_of}
 use Rattle.npf_expand.specs.Step.{Adding, AddsToModel, IsStmtRead, env_behind}
 use Rattle.npf_expand.specs.Table.{tables_of}
 use Rattle.npf_expand.proofs.StepLemmas.{counted-more, items_faults-counted, passing_faults-counted}
@@ -178,12 +178,12 @@ model_in stmts ifaces =
       tables = flat_map tables_of stmts;
       maps = gathered ifaces declared (maps_of ifaces declared) [] stmts;
       procedures = flat_map procedures_of stmts;
-      settings = default_settings;
-      alg_icmp = false;
+      settings = settings_of stmts;
+      alg_icmp = asks_icmp stmts;
     }
 
 abbrev pub state_model : List Group → List Group → List Map → List Stmt → Model
-state_model groups defaults maps stmts = record { groups = groups ++ defaults; tables = flat_map tables_of stmts; maps = maps; procedures = flat_map procedures_of stmts; settings = default_settings; alg_icmp = false }
+state_model groups defaults maps stmts = record { groups = groups ++ defaults; tables = flat_map tables_of stmts; maps = maps; procedures = flat_map procedures_of stmts; settings = settings_of stmts; alg_icmp = asks_icmp stmts }
 
 module _ (tree : Tree) (ifaces known : List Iface) (declared : Declared) (stmts : List Stmt) (state : State) (same_ifaces : known ≡ ifaces)
     (same_names : declared ≡ declared_in stmts) (same_stmts : stmts ≡ tree.stmts) where

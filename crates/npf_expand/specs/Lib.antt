@@ -5,5 +5,6 @@ pub mod Map
 pub mod Meets
 pub mod Procedure
 pub mod Rule
+pub mod Settings
 pub mod Step
 pub mod Table

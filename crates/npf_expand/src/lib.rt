@@ -1,5 +1,5 @@
-// Elaboration: what the tree of a configuration means (npf.conf(5)), statement by statement: its rules, groups, maps, tables and
-// procedures, of the values that npf_expand_values says.
+// Elaboration: what the tree of a configuration means (npf.conf(5)), statement by statement: its settings, rules, groups, maps,
+// tables and procedures, of the values that npf_expand_values says.
 //
 // Values and faults are two total functions of the tree (specs/Elaborates). The contract of `expand`: a tree without a fault is
 // its model, and any other is refused with its first fault in the text, of two at one place with that of the smaller number.
@@ -14,6 +14,7 @@ mod map;
 mod met;
 mod procedure;
 mod rule;
+mod settings;
 mod table;
 mod text;
 

@@ -1,4 +1,4 @@
--- What the `set` statements of a configuration choose (npf.conf(5), "Parameters"): whether a reset has to stand in order, which it
+-- What the `set` statements of a configuration choose (npf.conf(5), "Settings"): whether a reset has to stand in order, which it
 -- needn't without a statement, and whether keys are bound to an interface, which they are without one.
 use Rattle.std.specs.Prelude.{ℕ, Bool, true, false, ◌==◌, if◌then◌else◌, Option, Some, None, List, [], ◌∷◌, codes}
 use Rattle.std.specs.Str.{bytes_eq}

@@ -2,7 +2,7 @@
 ghost use Rattle.std.specs.Prelude.{◌≡◌};
 ghost use Rattle.npf_model.specs.Settings.{parameter_name, parameter_named, set_in, switch_number, switch_word};
 
-/// What the `set` statements of a configuration choose (npf.conf(5), "Parameters").
+/// What the `set` statements of a configuration choose (npf.conf(5), "Settings").
 #[derive(Clone, Copy, Debug, PartialEq, Eq)]
 pub struct Settings {
     pub strict_rst: bool,

@@ -8,4 +8,5 @@ pub mod Model
 pub mod Piece
 pub mod Procedure
 pub mod Rule
+pub mod Setting
 pub mod Table

@@ -17,6 +17,7 @@ mod model;
 mod page;
 mod procedure;
 mod rule;
+mod setting;
 mod shown;
 mod table;
 

@@ -3,6 +3,7 @@ ghost use Rattle.npf_show.specs.Piece.{spelled};
 ghost use Rattle.npf_show.specs.Model.{model_pieces};
 
 use crate::page::Page;
+use crate::setting::{show_alg, show_settings};
 use crate::shown::show_each;
 use npf_model::Model;
 use npf_types::NoMemory;
@@ -13,6 +14,8 @@ pub fn show(alloc: Global, model: &Model) -> Result<Vec<u8>, NoMemory>
     ensures { IfOk result (λ text. text.items ≡ spelled (model_pieces model.now)) }
 {
     let mut page = Page::new(alloc);
+    show_settings(model.settings, &mut page)?;
+    show_alg(model.alg_icmp, &mut page)?;
     show_each(&model.tables, model, &mut page)?;
     show_each(&model.maps, model, &mut page)?;
     show_each(&model.procedures, model, &mut page)?;

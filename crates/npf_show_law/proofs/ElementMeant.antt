@@ -17,6 +17,7 @@ use Rattle.npf_syntax.specs.declared.value.Values.{Values}
 use Rattle.npf_model.specs.declared.group.Group.{Group}
 use Rattle.npf_model.specs.declared.iface.Iface.{Iface}
 use Rattle.npf_model.specs.declared.map.Map.{Map}
+use Rattle.npf_model.specs.Count.{listed, elements_of_ends, elements_of}
 use Rattle.npf_expand_values.specs.Address.{addresses_count, address_items, host_item, items_of}
 use Rattle.npf_expand_values.specs.Atom.{Atom, NumberAtom, RangeAtom, WordAtom, StringAtom, BlockAtom, TableAtom, AddressesAtom, Env}
 use Rattle.npf_expand_values.specs.Declarations.{Declared}
@@ -28,7 +29,7 @@ use Rattle.npf_expand.specs.Elaborates.{behind, default_group, filter_elements, 
 use Rattle.npf_expand.specs.Group.{group_of_tree, head_faults, item_elements, item_faults, item_of_tree, items_elements, items_faults}
 use Rattle.npf_expand.specs.Map.{map_faults, map_of_tree}
 use Rattle.npf_expand.specs.Rule.{ends_count, ends_of_written, filter_count, filter_rule, part_count, part_protocols, passing_faults, rule_faults, source_ends, destination_ends}
-use Rattle.npf_show_meaning.specs.Regular.{listed_length, ends_elements, rule_elements, entry_elements, pass_elements}
+use Rattle.npf_show_meaning.specs.Regular.{entry_elements, pass_elements}
 use Rattle.npf_show_law.proofs.Atoms.{front_none, back_none, untold}
 
 kept_one : {Y : Type 0} (kept : Option Y) (ys : List Y) (n m : ℕ) → ((y : Y) → kept ≡ Some y → 1 ≤ n) → length ys ≤ m → length (cons_option kept ys) ≤ n + m
@@ -76,12 +77,12 @@ items_few tables (atom ∷ atoms) =
     rw (sum_by-cons count_of atom atoms) (omega (arith, here, rest, both))
 
 module _ (ifaces : List Iface) (env : Env) (tables : List (List ℕ)) where
-  addresses_few : (addresses : Addresses) → listed_length (address_items ifaces env tables addresses) ≤ addresses_count ifaces env addresses
+  addresses_few : (addresses : Addresses) → listed (address_items ifaces env tables addresses) ≤ addresses_count ifaces env addresses
   addresses_few (Addresses.Any span) = omega arith
   addresses_few (Addresses.One value span) = items_few tables (spliced ifaces env (value ∷ []))
   addresses_few (Addresses.List list span) = items_few tables (spliced ifaces env list.values)
 
-  ports_few : (ports : Option Values) → listed_length (ports_of ifaces env ports) ≤ ports_count ifaces env ports
+  ports_few : (ports : Option Values) → listed (ports_of ifaces env ports) ≤ ports_count ifaces env ports
   ports_few None = omega arith
   ports_few (Some values) = kept_few atom_ports ports_counted (spliced ifaces env (listed_values values))
 
@@ -89,24 +90,24 @@ module _ (ifaces : List Iface) (env : Env) (tables : List (List ℕ)) where
   part_few None = omega arith
   part_few (Some part) = kept_few protocol_of protocol_counts (spliced_ones env part.protocols)
 
-  ends_few : (ends : Option WrittenEnds) → ends_elements (ends_of_written ifaces env tables ends) ≤ ends_count ifaces env ends
+  ends_few : (ends : Option WrittenEnds) → elements_of_ends (ends_of_written ifaces env tables ends) ≤ ends_count ifaces env ends
   ends_few None = omega arith
   ends_few (Some (WrittenEnds.Addresses addresses ports span)) =
       let of_addresses = addresses_few addresses in
       let of_ports = ports_few ports in
-      let both : listed_length (address_items ifaces env tables addresses) + listed_length (ports_of ifaces env ports) ≤ addresses_count ifaces env addresses + ports_count ifaces env ports = omega (arith, of_addresses, of_ports) in
+      let both : listed (address_items ifaces env tables addresses) + listed (ports_of ifaces env ports) ≤ addresses_count ifaces env addresses + ports_count ifaces env ports = omega (arith, of_addresses, of_ports) in
       both
   ends_few (Some (WrittenEnds.Ports ports span)) =
       let of_ports = ports_few (Some ports) in
-      let all : 0 + listed_length (ports_of ifaces env (Some ports)) ≤ ports_count ifaces env (Some ports) = omega (arith, of_ports) in
+      let all : 0 + listed (ports_of ifaces env (Some ports)) ≤ ports_count ifaces env (Some ports) = omega (arith, of_ports) in
       all
 
-  filter_few : (f : Filter) → rule_elements (filter_rule ifaces env tables f) ≤ filter_count ifaces env f
+  filter_few : (f : Filter) → elements_of (filter_rule ifaces env tables f) ≤ filter_count ifaces env f
   filter_few f =
       let of_part = part_few f.proto in
       let of_source = ends_few (source_ends f.ends) in
       let of_destination = ends_few (destination_ends f.ends) in
-      let all : length (part_protocols ifaces env f.proto) + ends_elements (ends_of_written ifaces env tables (source_ends f.ends)) + ends_elements (ends_of_written ifaces env tables (destination_ends f.ends))
+      let all : length (part_protocols ifaces env f.proto) + elements_of_ends (ends_of_written ifaces env tables (source_ends f.ends)) + elements_of_ends (ends_of_written ifaces env tables (destination_ends f.ends))
       ≤ part_count ifaces env f.proto + ends_count ifaces env (source_ends f.ends) + ends_count ifaces env (destination_ends f.ends) = omega (arith, of_part, of_source, of_destination) in
       all
 

@@ -39,6 +39,7 @@ use Rattle.npf_expand_values.specs.Protocol.{protocol_of, first_protocol, one_bi
 use Rattle.npf_expand_values.specs.Service.{services, protocols, number_named}
 use Rattle.npf_expand_values.specs.Use.{atoms_of}
 use Rattle.npf_expand_values.specs.Variable.{binding_of, own_faults}
+use Rattle.npf_expand_values.specs.Source.{declared_of}
 use Rattle.npf_expand.specs.Elaborates.{stmt_faults, named_group, default_group, maps_of, procedures_of}
 use Rattle.npf_expand.specs.Group.{item_of_tree, item_elements, item_faults, items_faults, head_faults, group_of_tree}
 use Rattle.npf_expand.specs.Map.{first_host, side_block, first_block, first_port, side_port_faults, side_faults, side_port, side_of, map_filter_faults, map_faults}
@@ -48,7 +49,7 @@ use Rattle.npf_expand.specs.Table.{tables_of}
 use Rattle.npf_show.specs.Rule.{name_of_procedure}
 use Rattle.npf_show_tokens.specs.Showable.{IsPlain, FitsByte, FitsAddr, IsShowablePrefix, IsShowableRange, IsShowableItem, IsShowableFilter, IsShowableRule, IsShowableEntry, IsShowableGroup, IsShowableSide, IsShowableMap, IsShowableProcedure, IsShowableTable}
 use Rattle.npf_show_tokens.specs.Tokens.{is_run_word}
-use Rattle.npf_show_meaning.specs.Regular.{IsOfText, names_of_model, IsForward, IsRegularItem, IsFilterAlone, IsRegularFilter, IsRegularSide, IsRegularOn, IsRegularRule, IsRegularEntry, IsRegularGroup, IsRegularMap, IsRegularDecl}
+use Rattle.npf_show_meaning.specs.Regular.{IsOfText, IsForward, IsRegularItem, IsFilterAlone, IsRegularFilter, IsRegularSide, IsRegularOn, IsRegularRule, IsRegularEntry, IsRegularGroup, IsRegularMap, IsRegularDecl}
 use Rattle.npf_show_law.proofs.Gives.{Every, IfThere}
 use Rattle.npf_show_law.proofs.Sound.{IsSoundValue, IsSoundPort, IsPlainStr, IsSoundFilter, IsSoundItem, IsSoundHead, IsSoundSide, IsSoundCall, IsSoundStmt}
 use Rattle.npf_show_law.proofs.Atoms.{IsSoundAtom, IsSoundEnv, front_none, back_none, untold, is_on, value_sound, iface_named, bound_atoms}
@@ -250,7 +251,7 @@ module _ (ifaces : List Iface) (fit : All (λ i. All FitsAddr i.addrs) ifaces) (
   module _ (model : Model) (declared : Declared) (p : List ℕ → Bool)
       (numbered : (name : List ℕ) → is_run_word name ≡ true → is_name name ≡ true → d name ≡ true → IsShowableItem model (InTable (table_number declared.tables name)) × IsRegularItem model (InTable (table_number declared.tables name)))
       (applied : (name : List ℕ) → p name ≡ true → IsPlain (name_of_procedure (slice_get model.procedures (table_number declared.procedures name)))
-      × (table_number (names_of_model model).procedures (name_of_procedure (slice_get model.procedures (table_number declared.procedures name))) ≡ table_number declared.procedures name)) where
+      × (table_number (declared_of model).procedures (name_of_procedure (slice_get model.procedures (table_number declared.procedures name))) ≡ table_number declared.procedures name)) where
     maybe_filter : (o : Option Filter) → IfThere IsSoundFilter o → map_filter_faults ifaces env o ≡ [] → tables_of_pass d o ≡ []
         → IfSome (option_map (filter_rule ifaces env declared.tables) o) (IsShowableFilter model) × IfSome (option_map (filter_rule ifaces env declared.tables) o) (λ rule. IsFilterAlone rule × IsRegularFilter model rule)
     maybe_filter None is none defined = (tt, tt)
@@ -260,7 +261,7 @@ module _ (ifaces : List Iface) (fit : All (λ i. All FitsAddr i.addrs) ifaces) (
 
     maybe_applied : (o : Option Str) → applied_faults p o ≡ []
         → IfSome (option_map (λ (s : Str). table_number declared.procedures s.text) o) (λ number. IsPlain (name_of_procedure (slice_get model.procedures number)))
-        × IfSome (option_map (λ (s : Str). table_number declared.procedures s.text) o) (λ number. table_number (names_of_model model).procedures (name_of_procedure (slice_get model.procedures number)) ≡ number)
+        × IfSome (option_map (λ (s : Str). table_number declared.procedures s.text) o) (λ number. table_number (declared_of model).procedures (name_of_procedure (slice_get model.procedures number)) ≡ number)
     maybe_applied None none = (tt, tt)
     maybe_applied (Some s) none = applied s.text (is_on (p s.text) (untold (not (p s.text)) s.span UnknownProcedure none))
 

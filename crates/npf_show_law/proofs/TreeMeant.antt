@@ -21,13 +21,14 @@ use Rattle.npf_check.specs.Undefined.{is_table_in, tables_of_stmt, procedures_of
 use Rattle.npf_expand_values.specs.Atom.{Env}
 use Rattle.npf_expand_values.specs.Declarations.{Declared, declared_in, table_name, table_names, table_number, procedure_names}
 use Rattle.npf_expand_values.specs.Variable.{Definition, env_of}
+use Rattle.npf_expand_values.specs.Source.{declared_of}
 use Rattle.npf_expand.specs.Elaborates.{behind, default_group, gathered, maps_of, model_of, named_group, procedures_of, stmt_elements, stmt_faults, stmts_faults, tree_faults}
 use Rattle.npf_expand.specs.Table.{tables_of}
 use Rattle.npf_show.specs.Ends.{name_of_table}
 use Rattle.npf_show.specs.Rule.{name_of_procedure}
 use Rattle.npf_show_tokens.specs.Showable.{IsPlain, FitsAddr, IsShowable, IsShowableItem, IsShowableGroup, IsShowableMap, IsShowableProcedure, IsShowableTable}
 use Rattle.npf_show_tokens.specs.Tokens.{is_run_word}
-use Rattle.npf_show_meaning.specs.Regular.{IsOfText, IsRegular, IsRegularItem, IsRegularDecl, IsRegularGroup, IsRegularMap, entry_elements, pass_elements, is_default, names_of_model}
+use Rattle.npf_show_meaning.specs.Regular.{IsOfText, IsRegular, IsRegularItem, IsRegularDecl, IsRegularGroup, IsRegularMap, entry_elements, pass_elements, is_default}
 use Rattle.npf_show_law.proofs.Gives.{Every}
 use Rattle.npf_show_law.proofs.Sound.{IsSoundStmt}
 use Rattle.npf_show_law.proofs.Atoms.{AreCleanDefinitions, env_sound, every_both, every_listed, front_none, back_none}
@@ -152,7 +153,7 @@ module _ (ifaces : List Iface) (fit : All (λ i. All FitsAddr i.addrs) ifaces) (
 
   procedure_meant : length (procedure_names tree.stmts) ≤ 64 → (name : List ℕ) → p name ≡ true
       → IsPlain (name_of_procedure (slice_get model.procedures (table_number (procedure_names tree.stmts) name)))
-      × (table_number (names_of_model model).procedures (name_of_procedure (slice_get model.procedures (table_number (procedure_names tree.stmts) name))) ≡ table_number (procedure_names tree.stmts) name)
+      × (table_number (declared_of model).procedures (name_of_procedure (slice_get model.procedures (table_number (procedure_names tree.stmts) name))) ≡ table_number (procedure_names tree.stmts) name)
   procedure_meant few name is = (plain_at model.procedures (table_number (procedure_names tree.stmts) name) procedures_good, ap₂ table_number (procedures_named tree.stmts) (procedure_at name few is))
 
   pub tree_meant : tree_faults tree ifaces ≡ [] → flat_map (tables_of_stmt (is_table_in tree.stmts)) tree.stmts ≡ [] → flat_map (procedures_of_stmt p) tree.stmts ≡ []

@@ -18,7 +18,7 @@ pub fn interfaces_fit()
     ensures { InterfacesFit }
 {}
 
-/// The model of an accepted text is showable and regular: its canonical text is read again.
+/// The model of an accepted text is showable and regular: its canonical text means it again, and is read again where it is short enough.
 pub fn accepted_is_shown()
     ensures { AcceptedIsShown }
 {}

@@ -22,6 +22,7 @@ use Rattle.npf_model.specs.declared.ends.AddrItem.TheVariants.{Net, InTable}
 use Rattle.npf_model.specs.declared.ends.Ends.{Ends}
 use Rattle.npf_model.specs.declared.iface.Iface.{Iface}
 use Rattle.npf_model.specs.declared.model.Model.{Model}
+use Rattle.npf_model.specs.Count.{elements_of_ends}
 use Rattle.npf_phrase.specs.Grammar.{meaning, optional, preceded}
 use Rattle.npf_parser_values.specs.Token.{quoted, span_of}
 use Rattle.npf_parser_values.specs.Value.{value, values, can_stand, is_port, is_port_end}
@@ -30,11 +31,12 @@ use Rattle.npf_expand_values.specs.Address.{items_of, addresses_faults, addresse
 use Rattle.npf_expand_values.specs.Atom.{Atom}
 use Rattle.npf_expand_values.specs.Port.{atom_ports, ports_faults, ports_count, ports_of}
 use Rattle.npf_expand_values.specs.Variable.{empty_list_at}
+use Rattle.npf_expand_values.specs.Source.{declared_of}
 use Rattle.npf_expand.specs.Rule.{ends_faults, ends_of_written, ends_count, source_ends, destination_ends}
 use Rattle.npf_show.specs.Ends.{name_of_table, item_pieces, range_pieces, ports_pieces, ends_pieces, is_said, where_pieces}
 use Rattle.npf_show.specs.Piece.{Piece, spaced, optional_pieces, list_pieces}
 use Rattle.npf_show.specs.Piece as Pieces
-use Rattle.npf_show_meaning.specs.Regular.{names_of_model, IsRegularItem, ends_elements}
+use Rattle.npf_show_meaning.specs.Regular.{IsRegularItem}
 use Rattle.npf_show_meaning.proofs.Goes.{Goes, Sees, HeadIn, make, turn, keep, pick_first, pick_second, said, absent, present, it_is, none_is, says_goes}
 use Rattle.npf_show_meaning.proofs.Lists.{onto, onto_both, Each}
 use Rattle.npf_show_meaning.proofs.Says.{nameless, address_list_faults, port_list_faults, IsElement, net_element, table_element, range_element, elements_faults, elements_give, elements_count}
@@ -65,7 +67,7 @@ end_behind ks (inr (inr (inr never))) = absurd never
 
 module _ (ifaces : List Iface) (model : Model) where
   abbrev tables : List (List ℕ)
-  tables = (names_of_model model).tables
+  tables = (declared_of model).tables
 
   abbrev IsItem : Value → AddrItem → Type 0
   IsItem = IsElement ifaces (address_list_faults ifaces) (flat_map (items_of tables))
@@ -185,7 +187,7 @@ module _ (ifaces : List Iface) (model : Model) where
   pub record SaysEnds (e : Ends) (o : Option WrittenEnds) : Type 0 where
     pub faults : ends_faults ifaces (nameless ifaces) o ≡ []
     pub gives : ends_of_written ifaces (nameless ifaces) tables o ≡ e
-    pub count : ends_count ifaces (nameless ifaces) o ≡ ends_elements e
+    pub count : ends_count ifaces (nameless ifaces) o ≡ elements_of_ends e
 
   pub record AreFine (e : Ends) : Type 0 where
     pub addrs : IfSome e.addrs (λ items. (0 < length items) × All (IsRegularItem model) items)

@@ -1,5 +1,5 @@
 -- The whole text, read again.
-use Rattle.std.proofs.Common.{◌≡◌, inl, inr, IfSome, List, [], ◌∷◌, ◌++◌, map, flat_map, codes, refl, sym, ap₂, ◌∙◌}
+use Rattle.std.proofs.Common.{◌≡◌, inl, inr, Bool, true, false, if◌then◌else◌, IfSome, List, [], ◌∷◌, ◌++◌, map, flat_map, codes, refl, sym, ap, ap₂, ◌∙◌}
 use Rattle.std.proofs.lemmas.Grind.{flat_map-append}
 use Rattle.std.proofs.lemmas.List.Folds.{flat_map-map}
 use Rattle.std.specs.List.{All}
@@ -20,6 +20,7 @@ use Rattle.npf_show.specs.Model.{model_pieces}
 use Rattle.npf_show.specs.Piece.{Piece, glued, line_end, closing_line, optional_pieces}
 use Rattle.npf_show.specs.Piece as Pieces
 use Rattle.npf_show.specs.Procedure.{log_line, normal_options, normalize_line, procedure_head, procedure_lines}
+use Rattle.npf_show.specs.Setting.{alg_line, set_line, shown_settings}
 use Rattle.npf_show.specs.Table.{table_line}
 use Rattle.npf_show_tokens.specs.Showable.{IsShowableProcedure}
 use Rattle.npf_show_meaning.specs.Regular.{IsRegularDecl, IsOfText}
@@ -27,23 +28,39 @@ use Rattle.npf_show_meaning.proofs.Goes.{Goes, HeadIn, token_goes, make, turn, p
 use Rattle.npf_show_meaning.proofs.Lists.{onto, onto_both, Each}
 use Rattle.npf_show_meaning.proofs.Values.{keyword}
 use Rattle.npf_show_meaning.proofs.Blocks.{feed, bare_goes}
-use Rattle.npf_show_meaning.proofs.Parts.{Part, OfTable, OfMap, OfProcedure, OfGroup, SaysPartOf}
+use Rattle.npf_show_meaning.proofs.Parts.{Part, OfSet, OfAlg, OfTable, OfMap, OfProcedure, OfGroup, SaysPartOf}
 use Rattle.npf_show_meaning.proofs.GroupStmt.{IsFineGroup, group_within, group_goes}
+use Rattle.npf_show_meaning.proofs.SettingStmt.{alg_goes, alg_within, set_goes, set_within}
 use Rattle.npf_show_meaning.proofs.TableStmt.{table_within, table_stmt_goes}
 use Rattle.npf_show_meaning.proofs.ProcedureStmt.{procedure_within, procedure_goes}
 use Rattle.npf_show_meaning.proofs.MapStmt.{IsFineMap, map_within, map_goes}
 
--- the parts of a model, in the order of its text
+-- the parts of a model, in the order of its text: what it sets, and what it declares
+abbrev pub alg_parts : Bool → List Part
+alg_parts is_asked = if is_asked then OfAlg ∷ [] else []
+
+abbrev pub setting_parts : Model → List Part
+setting_parts model = map OfSet (shown_settings model.settings) ++ alg_parts model.alg_icmp
+
+abbrev pub declared_parts : Model → List Part
+declared_parts model = map OfTable model.tables ++ map OfMap model.maps ++ map OfProcedure model.procedures ++ map OfGroup model.groups
+
 abbrev pub parts_of : Model → List Part
-parts_of model = map OfTable model.tables ++ map OfMap model.maps ++ map OfProcedure model.procedures ++ map OfGroup model.groups
+parts_of model = setting_parts model ++ declared_parts model
 
 abbrev end_of_text : List TokenKind
 end_of_text = Kind.End ∷ []
 
 -- what is gathered of each part
-pub parts_flat : {X : Type 0} (f : Part → List X) (model : Model) → flat_map f (parts_of model)
+pub settings_flat : {X : Type 0} (f : Part → List X) (model : Model)
+    → flat_map f (setting_parts model) ≡ flat_map (λ one. f (OfSet one)) (shown_settings model.settings) ++ flat_map f (alg_parts model.alg_icmp)
+settings_flat f model =
+    flat_map-append f (map OfSet (shown_settings model.settings)) (alg_parts model.alg_icmp)
+    ∙ ap (λ x. x ++ flat_map f (alg_parts model.alg_icmp)) (flat_map-map f OfSet (shown_settings model.settings))
+
+pub declared_flat : {X : Type 0} (f : Part → List X) (model : Model) → flat_map f (declared_parts model)
     ≡ flat_map (λ t. f (OfTable t)) model.tables ++ flat_map (λ m. f (OfMap m)) model.maps ++ flat_map (λ p. f (OfProcedure p)) model.procedures ++ flat_map (λ g. f (OfGroup g)) model.groups
-parts_flat f model =
+declared_flat f model =
     let t = map OfTable model.tables in
     let m = map OfMap model.maps in
     let p = map OfProcedure model.procedures in
@@ -55,12 +72,16 @@ parts_flat f model =
 
 module _ (ifaces : List Iface) (model : Model) where
   abbrev row : Part → List Piece
+  row (OfSet one) = set_line one
+  row OfAlg = alg_line true
   row (OfTable t) = table_line t
   row (OfMap m) = map_line model m
   row (OfProcedure p) = procedure_lines p
   row (OfGroup g) = group_lines model g
 
   abbrev within : Part → List Piece
+  within (OfSet one) = set_within ifaces model one
+  within OfAlg = alg_within ifaces model
   within (OfTable t) = table_within ifaces model t
   within (OfMap m) = map_within ifaces model m
   within (OfProcedure p) = procedure_within ifaces model p
@@ -70,6 +91,8 @@ module _ (ifaces : List Iface) (model : Model) where
   closed_row lines ks = onto_both lines closing_line ks ∙ sym (onto_both lines (glued (Pieces.Sign (codes "}"))) (feed ∷ ks))
 
   row_is : (part : Part) (ks : List TokenKind) → onto (row part) ks ≡ onto (within part) (feed ∷ ks)
+  row_is (OfSet one) ks = onto_both (set_within ifaces model one) line_end ks
+  row_is OfAlg ks = onto_both (alg_within ifaces model) line_end ks
   row_is (OfTable t) ks = onto_both (table_within ifaces model t) line_end ks
   row_is (OfMap m) ks = onto_both (map_within ifaces model m) line_end ks
   row_is (OfProcedure p) ks = closed_row (procedure_head p ++ optional_pieces log_line p.log ++ normalize_line (normal_options p)) ks
@@ -77,6 +100,8 @@ module _ (ifaces : List Iface) (model : Model) where
 
   -- what a part needs so that it is read again
   abbrev pub IsFinePart : Part → Type 0
+  IsFinePart (OfSet _) = Unit {0}
+  IsFinePart OfAlg = Unit {0}
   IsFinePart (OfTable t) = IsRegularDecl t
   IsFinePart (OfMap m) = IsFineMap ifaces model m
   IsFinePart (OfProcedure p) = IsShowableProcedure p × IfSome p.log IsOfText
@@ -87,6 +112,8 @@ module _ (ifaces : List Iface) (model : Model) where
 
   part_goes : (part : Part) → IsFinePart part → (ks : List TokenKind) → Goes stmt (λ tree. IsPartOf tree part) (onto (within part) (feed ∷ ks)) (feed ∷ ks)
   unfolding stmt set alg table the_map group procedure
+  part_goes (OfSet one) is ks = pick_first (it_is (λ s. refl)) (set_goes ifaces model one ks)
+  part_goes OfAlg is ks = pick_second (it_is (λ s. refl)) (pick_first (it_is (λ s. refl)) (alg_goes ifaces model ks))
   part_goes (OfTable t) is ks = pick_second (it_is (λ s. refl)) (pick_second (it_is (λ s. refl)) (pick_first (it_is (λ s. refl)) (table_stmt_goes ifaces model t is ks)))
   part_goes (OfMap m) is ks =
       pick_second (it_is (λ s. refl)) (pick_second (it_is (λ s. refl)) (pick_second (it_is (λ s. refl)) (pick_first (it_is (λ s. refl)) (map_goes ifaces model m is ks))))
@@ -96,13 +123,15 @@ module _ (ifaces : List Iface) (model : Model) where
       pick_second (it_is (λ s. refl)) (pick_second (it_is (λ s. refl)) (pick_second (it_is (λ s. refl)) (pick_second (it_is (λ s. refl)) (pick_second (it_is (λ s. refl)) (pick_first (it_is (λ s. refl)) (procedure_goes ifaces model p is.0 is.1 (feed ∷ ks)))))))
 
   abbrev first_words : List TokenKind
-  first_words = keyword (codes "table") ∷ keyword (codes "map") ∷ keyword (codes "group") ∷ keyword (codes "procedure") ∷ []
+  first_words = keyword (codes "set") ∷ keyword (codes "alg") ∷ keyword (codes "table") ∷ keyword (codes "map") ∷ keyword (codes "group") ∷ keyword (codes "procedure") ∷ []
 
   part_head : (part : Part) (ks : List TokenKind) → HeadIn first_words (onto (within part) ks)
-  part_head (OfTable t) ks = inl (_, refl)
-  part_head (OfMap m) ks = inr (inl (_, refl))
-  part_head (OfGroup g) ks = inr (inr (inl (_, refl)))
-  part_head (OfProcedure p) ks = inr (inr (inr (inl (_, refl))))
+  part_head (OfSet _) ks = inl (_, refl)
+  part_head OfAlg ks = inr (inl (_, refl))
+  part_head (OfTable t) ks = inr (inr (inl (_, refl)))
+  part_head (OfMap m) ks = inr (inr (inr (inl (_, refl))))
+  part_head (OfGroup g) ks = inr (inr (inr (inr (inl (_, refl)))))
+  part_head (OfProcedure p) ks = inr (inr (inr (inr (inr (inl (_, refl))))))
 
   stmts_go : (parts : List Part) → All IsFinePart parts → Goes stmts (λ trees. Each IsPartOf trees parts) (onto (flat_map row parts) end_of_text) end_of_text
   unfolding stmts stmt set setting alg table table_type the_map map_kind side arrow group head items item procedure calls call options opt log_name define rule action answer stateful direction ends_walk on the_filter family proto_part detail the_ends ends ports addresses protocols one_list ones one values value_list listed_values value written number_value address_value table_value function function_value iface
@@ -117,5 +146,11 @@ module _ (ifaces : List Iface) (model : Model) where
       make {P = λ a. Each IsPartOf a.0 parts × Unit {0}} (λ ts a q. q.0)
       (turn (stmts_go parts all) (pick_second (it_is (λ s. refl)) (token_goes _ _ (λ a. Unit {0}) Kind.End [] (λ s. s) (λ s. refl) (λ s. tt))))
 
+  alg_row : (is_asked : Bool) → flat_map row (alg_parts is_asked) ≡ alg_line is_asked
+  alg_row true = refl
+  alg_row false = refl
+
   pub model_rows : model_pieces model ≡ flat_map row (parts_of model)
-  model_rows = sym (parts_flat row model)
+  model_rows =
+      sym (flat_map-append row (setting_parts model) (declared_parts model)
+      ∙ ap₂ (λ x y. x ++ y) (settings_flat row model ∙ ap (λ x. flat_map set_line (shown_settings model.settings) ++ x) (alg_row model.alg_icmp)) (declared_flat row model))

@@ -25,6 +25,7 @@ use Rattle.npf_model.specs.declared.iface.Iface.{Iface}
 use Rattle.npf_model.specs.declared.model.Model.{Model}
 use Rattle.npf_model.specs.declared.rule.Rule.{Rule}
 use Rattle.npf_model.specs.declared.rule.StateOpt.TheVariants.{Not}
+use Rattle.npf_model.specs.Count.{elements_of}
 use Rattle.npf_phrase.specs.Grammar.{optional, preceded}
 use Rattle.npf_parser_values.specs.Token.{sign, number, number_to, flags, is_flag, quoted, span_of}
 use Rattle.npf_parser_values.specs.Value.{one, ones, one_list, protocols}
@@ -33,6 +34,7 @@ use Rattle.npf_expand_values.specs.Atom.{Atom, NumberAtom}
 use Rattle.npf_expand_values.specs.Protocol.{one_binding, protocol_of, protocol_faults, protocols_faults, spliced_ones, protocols_of}
 use Rattle.npf_expand_values.specs.Use.{element_count, atoms_of, count_of}
 use Rattle.npf_expand_values.specs.Variable.{alone_binding}
+use Rattle.npf_expand_values.specs.Source.{declared_of}
 use Rattle.npf_expand.specs.Rule.{is_inet6, flag_bits, flags_of_detail, icmp_of_detail, detail_of_part, part_faults, part_protocols, part_count, filter_faults, filter_rule, filter_count, as_byte}
 use Rattle.npf_show.specs.Ends.{where_pieces}
 use Rattle.npf_show.specs.Filter.{family_pieces, protocol_pieces, protocols_pieces, letters_of_bits, letter_if_set, flag_text, flags_pieces, code_pieces, icmp_pieces, filter_pieces}
@@ -40,7 +42,7 @@ use Rattle.npf_show.specs.Piece.{Piece, glued, spaced, optional_pieces, comma_li
 use Rattle.npf_show.specs.Piece as Pieces
 use Rattle.npf_show_tokens.specs.Showable.{FitsByte}
 use Rattle.npf_show_tokens.proofs.Values.{values_come_back_lem}
-use Rattle.npf_show_meaning.specs.Regular.{names_of_model, rule_elements, IsOneDetail}
+use Rattle.npf_show_meaning.specs.Regular.{IsOneDetail}
 use Rattle.npf_show_meaning.proofs.Goes.{Goes, HeadIn, token_goes, make, turn, keep, pick_first, pick_second, fit, said, signed, before, absent, present, it_is, none_is, says_goes, sign_goes}
 use Rattle.npf_show_meaning.proofs.Lists.{onto, onto_both, Each, list_goes}
 use Rattle.npf_show_meaning.proofs.Says.{nameless}
@@ -276,8 +278,8 @@ module _ (ifaces : List Iface) where
 
     pub record SaysFilter (rule : Rule) (tree : Filter) : Type 0 where
       pub faults : filter_faults ifaces (nameless ifaces) tree ≡ []
-      pub gives : filter_rule ifaces (nameless ifaces) (names_of_model model).tables tree ≡ alone rule
-      pub count : filter_count ifaces (nameless ifaces) tree ≡ rule_elements rule
+      pub gives : filter_rule ifaces (nameless ifaces) (declared_of model).tables tree ≡ alone rule
+      pub count : filter_count ifaces (nameless ifaces) tree ≡ elements_of rule
 
     -- what a rule needs so that its filter is read again
     pub record IsFineFilter (rule : Rule) : Type 0 where

@@ -1,5 +1,5 @@
 -- A model that can be shown and is as texts make it has what its parts need so that they are read again.
-use Rattle.std.proofs.Common.{◌<◌, ℕ, Option, Some, None, IfSome, List, [], ◌∷◌, ◌++◌, length, map}
+use Rattle.std.proofs.Common.{◌<◌, ℕ, Bool, true, false, Option, Some, None, IfSome, List, [], ◌∷◌, ◌++◌, length, map}
 use Rattle.std.proofs.lemmas.List.Elements.{All-append, All-cons, All-nil, All-head, All-tail}
 use Rattle.std.specs.List.{All}
 use Rattle.npf_model.specs.declared.ends.Ends.{Ends}
@@ -10,6 +10,8 @@ use Rattle.npf_model.specs.declared.iface.Iface.{Iface}
 use Rattle.npf_model.specs.declared.map.Map.{Map}
 use Rattle.npf_model.specs.declared.model.Model.{Model}
 use Rattle.npf_model.specs.declared.rule.Rule.{Rule}
+use Rattle.npf_model.specs.declared.settings.Parameter.{Parameter}
+use Rattle.npf_show.specs.Setting.{shown_settings}
 use Rattle.npf_show_tokens.specs.Showable.{IsShowable, IsShowableRange, AreShowableEnds, IsShowableFilter, IsShowableRule, IsShowableEntry, IsShowableGroup, IsShowableMap, IsShowableProcedure, IsShowableTable}
 use Rattle.npf_show_meaning.specs.Regular.{IsForward, IsRegular, AreRegularEnds, IsRegularFilter, IsRegularRule, IsRegularEntry, IsRegularGroup, IsRegularMap, IsRegularDecl, IsOfText, IsFilterAlone}
 use Rattle.npf_show_meaning.proofs.Values.{IsRange}
@@ -19,8 +21,8 @@ use Rattle.npf_show_meaning.proofs.RuleOf.{IsFineRule}
 use Rattle.npf_show_meaning.proofs.GroupOf.{IsFineEntry}
 use Rattle.npf_show_meaning.proofs.GroupStmt.{IsFineGroup}
 use Rattle.npf_show_meaning.proofs.MapStmt.{IsFineMap}
-use Rattle.npf_show_meaning.proofs.Parts.{OfTable, OfMap, OfProcedure, OfGroup}
-use Rattle.npf_show_meaning.proofs.FileOf.{parts_of, IsFinePart}
+use Rattle.npf_show_meaning.proofs.Parts.{OfSet, OfAlg, OfTable, OfMap, OfProcedure, OfGroup}
+use Rattle.npf_show_meaning.proofs.FileOf.{alg_parts, declared_parts, parts_of, setting_parts, IsFinePart}
 
 -- two facts of each element make a third
 all_both : {A B : Type 0} (P Q : A → Type 0) (R : B → Type 0) (f : A → B) → ((a : A) → P a → Q a → R (f a)) → (xs : List A) → All P xs → All Q xs → All R (map f xs)
@@ -81,8 +83,16 @@ module _ (ifaces : List Iface) (model : Model) where
         (λ r s q. (q.0, fine_filter r s q.1)) m.filter shows.filter regular.filter;
   }
 
-  pub fine_parts : IsShowable model → IsRegular ifaces model → All (IsFinePart ifaces model) (parts_of model)
-  fine_parts shows regular =
+  fine_sets : (sets : List (Parameter × Bool)) → All (IsFinePart ifaces model) (map OfSet sets)
+  fine_sets [] = All-nil (IsFinePart ifaces model)
+  fine_sets (one ∷ sets) = All-cons (IsFinePart ifaces model) (OfSet one) (map OfSet sets) tt (fine_sets sets)
+
+  fine_alg : (is_asked : Bool) → All (IsFinePart ifaces model) (alg_parts is_asked)
+  fine_alg true = All-cons (IsFinePart ifaces model) OfAlg [] tt (All-nil (IsFinePart ifaces model))
+  fine_alg false = All-nil (IsFinePart ifaces model)
+
+  fine_declared : IsShowable model → IsRegular ifaces model → All (IsFinePart ifaces model) (declared_parts model)
+  fine_declared shows regular =
       let Fine = IsFinePart ifaces model in
       let t = map OfTable model.tables in
       let m = map OfMap model.maps in
@@ -94,3 +104,10 @@ module _ (ifaces : List Iface) (model : Model) where
       (all_both (IsShowableMap model) (IsRegularMap ifaces model) Fine OfMap fine_map model.maps shows.maps regular.maps))
       (all_both IsShowableProcedure (λ procedure. IfSome procedure.log IsOfText) Fine OfProcedure (λ p s r. (s, r)) model.procedures shows.procedures regular.procedures))
       (all_both (IsShowableGroup model) (IsRegularGroup ifaces model) Fine OfGroup fine_group model.groups shows.groups regular.groups)
+
+  pub fine_parts : IsShowable model → IsRegular ifaces model → All (IsFinePart ifaces model) (parts_of model)
+  fine_parts shows regular =
+      let Fine = IsFinePart ifaces model in
+      All-append Fine (setting_parts model) (declared_parts model)
+      (All-append Fine (map OfSet (shown_settings model.settings)) (alg_parts model.alg_icmp) (fine_sets (shown_settings model.settings)) (fine_alg model.alg_icmp))
+      (fine_declared shows regular)

@@ -33,7 +33,7 @@ use Rattle.npf_expand.specs.Rule.{dir_of, filter_count, passing_faults}
 use Rattle.npf_show.specs.Bound.{dir_pieces, on_pieces}
 use Rattle.npf_show.specs.Group.{within_item, item_line}
 use Rattle.npf_show.specs.Piece.{line_end, optional_pieces}
-use Rattle.npf_show_meaning.specs.Regular.{names_of_model, entry_elements, IsRegularOn, IsOfText}
+use Rattle.npf_show_meaning.specs.Regular.{entry_elements, IsRegularOn, IsOfText}
 use Rattle.npf_show_meaning.proofs.Goes.{Goes, HeadIn, make, turn, pick_first, pick_second, said, it_is, none_is}
 use Rattle.npf_show_meaning.proofs.Lists.{onto, onto_both, Each}
 use Rattle.npf_show_meaning.proofs.Says.{nameless}
@@ -41,6 +41,7 @@ use Rattle.npf_show_meaning.proofs.Values.{keyword}
 use Rattle.npf_show_meaning.proofs.ValueLists.{close}
 use Rattle.npf_show_meaning.proofs.Blocks.{feed, opened_goes}
 use Rattle.npf_show_meaning.proofs.RuleOf.{IsText, name_goes, IsFineRule, SaysRule, OnBound, rule_goes, rule_head, bound_goes}
+use Rattle.npf_expand_values.specs.Source.{declared_of}
 
 both_off : (a b : Bool) → b ≡ false → (a && b) ≡ false
 both_off true b is = is
@@ -59,9 +60,9 @@ module _ (ifaces : List Iface) (model : Model) where
   IsFineEntry (Dynamic name dir on next_id rules) = IsOfText name × IfSome on (IsRegularOn ifaces model) × (next_id ≡ 1) × (rules ≡ [])
 
   pub record SaysItem (entry : Item) (tree : WrittenItem) : Type 0 where
-    pub faults : (counted : ℕ) → counted + entry_elements entry ≤ MAX_LIST_ELEMENTS → item_faults ifaces (nameless ifaces) (names_of_model model) counted tree ≡ []
-    pub gives : item_of_tree ifaces (nameless ifaces) (names_of_model model) tree ≡ entry
-    pub count : item_elements ifaces (nameless ifaces) (names_of_model model) tree ≡ entry_elements entry
+    pub faults : (counted : ℕ) → counted + entry_elements entry ≤ MAX_LIST_ELEMENTS → item_faults ifaces (nameless ifaces) (declared_of model) counted tree ≡ []
+    pub gives : item_of_tree ifaces (nameless ifaces) (declared_of model) tree ≡ entry
+    pub count : item_elements ifaces (nameless ifaces) (declared_of model) tree ≡ entry_elements entry
 
   abbrev pub IsItemOf : WrittenItem → Item → Type 0
   IsItemOf tree entry = SaysItem entry tree
@@ -118,26 +119,26 @@ module _ (ifaces : List Iface) (model : Model) where
 
   -- what the items of a group give
   pub items_clean : (trees : List WrittenItem) (entries : List Item) → Each IsItemOf trees entries → (counted : ℕ) → counted + sum_by entry_elements entries ≤ MAX_LIST_ELEMENTS
-      → items_faults ifaces (nameless ifaces) (names_of_model model) counted trees ≡ []
+      → items_faults ifaces (nameless ifaces) (declared_of model) counted trees ≡ []
   items_clean [] [] each counted few = refl
   items_clean (tree ∷ trees) (entry ∷ entries) (is, each) counted few =
       let sum = sum_by-cons entry_elements entry entries in
       let first : counted + entry_elements entry ≤ MAX_LIST_ELEMENTS = omega (arith, few, sum) in
       let count = is.count in
-      let onward : counted + item_elements ifaces (nameless ifaces) (names_of_model model) tree + sum_by entry_elements entries ≤ MAX_LIST_ELEMENTS = omega (arith, few, sum, count) in
-      rw (is.faults counted first, items_clean trees entries each (counted + item_elements ifaces (nameless ifaces) (names_of_model model) tree) onward) refl
+      let onward : counted + item_elements ifaces (nameless ifaces) (declared_of model) tree + sum_by entry_elements entries ≤ MAX_LIST_ELEMENTS = omega (arith, few, sum, count) in
+      rw (is.faults counted first, items_clean trees entries each (counted + item_elements ifaces (nameless ifaces) (declared_of model) tree) onward) refl
   items_clean [] (entry ∷ entries) each counted few = absurd each
   items_clean (tree ∷ trees) [] each counted few = absurd each
 
   pub items_counted : (trees : List WrittenItem) (entries : List Item) → Each IsItemOf trees entries
-      → items_elements ifaces (nameless ifaces) (names_of_model model) trees ≡ sum_by entry_elements entries
+      → items_elements ifaces (nameless ifaces) (declared_of model) trees ≡ sum_by entry_elements entries
   items_counted [] [] each = refl
   items_counted (tree ∷ trees) (entry ∷ entries) (is, each) =
       rw (is.count, items_counted trees entries each) (sym (sum_by-cons entry_elements entry entries))
   items_counted [] (entry ∷ entries) each = absurd each
   items_counted (tree ∷ trees) [] each = absurd each
 
-  pub items_given : (trees : List WrittenItem) (entries : List Item) → Each IsItemOf trees entries → map (item_of_tree ifaces (nameless ifaces) (names_of_model model)) trees ≡ entries
+  pub items_given : (trees : List WrittenItem) (entries : List Item) → Each IsItemOf trees entries → map (item_of_tree ifaces (nameless ifaces) (declared_of model)) trees ≡ entries
   items_given [] [] each = refl
   items_given (tree ∷ trees) (entry ∷ entries) (is, each) = rw (is.gives, items_given trees entries each) refl
   items_given [] (entry ∷ entries) each = absurd each

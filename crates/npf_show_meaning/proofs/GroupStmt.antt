@@ -20,7 +20,7 @@ use Rattle.npf_show.specs.Bound.{dir_pieces, on_pieces}
 use Rattle.npf_show.specs.Group.{item_line, head_pieces, group_head}
 use Rattle.npf_show.specs.Piece.{Piece, glued, spaced, line_end, closing_line, optional_pieces}
 use Rattle.npf_show.specs.Piece as Pieces
-use Rattle.npf_show_meaning.specs.Regular.{names_of_model, IsRegularOn, IsPlainHead}
+use Rattle.npf_show_meaning.specs.Regular.{IsRegularOn, IsPlainHead}
 use Rattle.npf_show_meaning.proofs.Goes.{Goes, make, turn, pick_first, pick_second, said, signed, before, it_is, says_goes}
 use Rattle.npf_show_meaning.proofs.Lists.{onto, onto_both, Each}
 use Rattle.npf_show_meaning.proofs.Says.{nameless}
@@ -30,6 +30,7 @@ use Rattle.npf_show_meaning.proofs.Blocks.{feed}
 use Rattle.npf_show_meaning.proofs.RuleOf.{IsText, string_goes, OnBound, bound_goes}
 use Rattle.npf_show_meaning.proofs.GroupOf.{IsFineEntry, IsItemOf, items_go, items_clean, items_counted, items_given}
 use Rattle.npf_show_meaning.proofs.Parts.{OfGroup, SaysPartOf}
+use Rattle.npf_expand_values.specs.Source.{declared_of}
 
 module _ (ifaces : List Iface) (model : Model) where
   -- what a group needs so that it is read again
@@ -59,7 +60,7 @@ module _ (ifaces : List Iface) (model : Model) where
       → SaysPartOf ifaces model (OfGroup g) (Stmt.Group h trees span)
   says_group true g is fine (GroupHead.Default s) trees span head each =
       let plain = fine.head is in
-      let given : group_of_tree ifaces (nameless ifaces) (names_of_model model) (GroupHead.Default s) trees ≡ g = rw (plain.name, plain.dir, plain.on, is, items_given ifaces model trees g.items each) refl in
+      let given : group_of_tree ifaces (nameless ifaces) (declared_of model) (GroupHead.Default s) trees ≡ g = rw (plain.name, plain.dir, plain.on, is, items_given ifaces model trees g.items each) refl in
       record {
         plain = λ older. refl;
         faults = λ counted few. items_clean ifaces model trees g.items each counted few;
@@ -71,9 +72,11 @@ module _ (ifaces : List Iface) (model : Model) where
         procedures = refl;
         table_names = refl;
         procedure_names = refl;
+        settings = refl;
+        algs = refl;
       }
   says_group false g is fine (GroupHead.Named name dir bound s) trees span head each =
-      let given : group_of_tree ifaces (nameless ifaces) (names_of_model model) (GroupHead.Named name dir bound s) trees ≡ g = rw (head.0, head.1, head.2.1, is, items_given ifaces model trees g.items each) refl in
+      let given : group_of_tree ifaces (nameless ifaces) (declared_of model) (GroupHead.Named name dir bound s) trees ≡ g = rw (head.0, head.1, head.2.1, is, items_given ifaces model trees g.items each) refl in
       record {
         plain = λ older. refl;
         faults = λ counted few. rw (head.2.0, items_clean ifaces model trees g.items each counted few) refl;
@@ -85,6 +88,8 @@ module _ (ifaces : List Iface) (model : Model) where
         procedures = refl;
         table_names = refl;
         procedure_names = refl;
+        settings = refl;
+        algs = refl;
       }
   says_group true g is fine (GroupHead.Named name dir bound s) trees span head each = absurd head
   says_group false g is fine (GroupHead.Default s) trees span head each = absurd head

@@ -11,6 +11,7 @@ pub mod GroupOf
 pub mod Parts
 pub mod GroupStmt
 pub mod TableStmt
+pub mod SettingStmt
 pub mod ProcedureStmt
 pub mod MapStmt
 pub mod FileOf

@@ -33,6 +33,7 @@ use Rattle.npf_parser.specs.Filter.{filter}
 use Rattle.npf_parser.specs.Map.{map_kind, arrow, side}
 use Rattle.npf_parser.specs.Stmt.{map}
 use Rattle.npf_expand_values.specs.Protocol.{one_protocol, one_protocol_faults}
+use Rattle.npf_expand_values.specs.Source.{declared_of}
 use Rattle.npf_expand.specs.Elaborates.{filter_elements}
 use Rattle.npf_expand.specs.Map.{algo_of, arrow_of_sign, side_faults, side_of, side_port, side_port_faults, map_filter_faults}
 use Rattle.npf_expand.specs.Rule.{filter_rule}
@@ -41,7 +42,7 @@ use Rattle.npf_show.specs.Map.{algo_pieces, one_proto_pieces, side_port_pieces, 
 use Rattle.npf_show.specs.Piece.{Piece, glued, spaced, optional_pieces}
 use Rattle.npf_show.specs.Piece as Pieces
 use Rattle.npf_show_tokens.specs.Showable.{FitsByte}
-use Rattle.npf_show_meaning.specs.Regular.{names_of_model, pass_elements, IsRegularOn, IsFilterAlone}
+use Rattle.npf_show_meaning.specs.Regular.{pass_elements, IsRegularOn, IsFilterAlone}
 use Rattle.npf_show_meaning.proofs.Goes.{Goes, HeadIn, make, turn, keep, pick_first, pick_second, said, absent, present, it_is, none_is, says_goes, sign_goes}
 use Rattle.npf_show_meaning.proofs.Lists.{onto, onto_both}
 use Rattle.npf_show_meaning.proofs.Says.{nameless, SaysNet, net_side, range_side}
@@ -146,8 +147,8 @@ module _ (ifaces : List Iface) (model : Model) where
 
   -- the filter of a map
   abbrev SaysPass : Option Rule → Option Filter → Type 0
-  SaysPass pass o = (map_filter_faults ifaces (nameless ifaces) o ≡ []) × (option_map (filter_rule ifaces (nameless ifaces) (names_of_model model).tables) o ≡ pass)
-      × (filter_elements ifaces (names_of_model model) (nameless ifaces) o ≡ pass_elements pass)
+  SaysPass pass o = (map_filter_faults ifaces (nameless ifaces) o ≡ []) × (option_map (filter_rule ifaces (nameless ifaces) (declared_of model).tables) o ≡ pass)
+      × (filter_elements ifaces (declared_of model) (nameless ifaces) o ≡ pass_elements pass)
 
   pass_goes : (pass : Option Rule) → IfSome pass (λ r. IsFilterAlone r × IsFineFilter ifaces model r) → (ks : List TokenKind)
       → Goes (optional (preceded (quoted (codes "pass")) filter)) (SaysPass pass) (onto (optional_pieces (pass_pieces model) pass) (feed ∷ ks)) (feed ∷ ks)
@@ -174,8 +175,8 @@ module _ (ifaces : List Iface) (model : Model) where
   says_map m i k p l a r pass span on algo proto left arrows right passes = record {
     plain = λ older. refl;
     faults = λ counted few.
-        let fewer : counted + filter_elements ifaces (names_of_model model) (nameless ifaces) pass ≤ MAX_LIST_ELEMENTS = subst (λ n. counted + n ≤ MAX_LIST_ELEMENTS) (sym passes.2) few in
-        rw (on.faults, proto.0, left.faults, right.faults, passes.0, few_elements counted (filter_elements ifaces (names_of_model model) (nameless ifaces) pass) span fewer) refl;
+        let fewer : counted + filter_elements ifaces (declared_of model) (nameless ifaces) pass ≤ MAX_LIST_ELEMENTS = subst (λ n. counted + n ≤ MAX_LIST_ELEMENTS) (sym passes.2) few in
+        rw (on.faults, proto.0, left.faults, right.faults, passes.0, few_elements counted (filter_elements ifaces (declared_of model) (nameless ifaces) pass) span fewer) refl;
     count = passes.2;
     named = refl;
     default = refl;
@@ -184,6 +185,8 @@ module _ (ifaces : List Iface) (model : Model) where
     procedures = refl;
     table_names = refl;
     procedure_names = refl;
+    settings = refl;
+    algs = refl;
   }
 
   -- the line of a map but for its end

@@ -1,5 +1,5 @@
 -- The statements of a canonical text, and what each says of the model.
-use Rattle.std.proofs.Common.{◌≡◌, ◌≤◌, ℕ, ◌+◌, if◌then◌else◌, List, [], ◌∷◌, map, sum_by}
+use Rattle.std.proofs.Common.{◌≡◌, ◌≤◌, ℕ, ◌+◌, Bool, if◌then◌else◌, List, [], ◌∷◌, codes, map, sum_by}
 use Rattle.npf_types.specs.declared.limits.TheConstants.{MAX_LIST_ELEMENTS}
 use Rattle.npf_types.specs.Name.{name_bytes}
 use Rattle.npf_syntax.specs.declared.stmt.Stmt.{Stmt}
@@ -8,20 +8,33 @@ use Rattle.npf_model.specs.declared.iface.Iface.{Iface}
 use Rattle.npf_model.specs.declared.map.Map.{Map}
 use Rattle.npf_model.specs.declared.model.Model.{Model}
 use Rattle.npf_model.specs.declared.procedure.Procedure.{Procedure}
+use Rattle.npf_model.specs.declared.settings.Parameter.{Parameter}
 use Rattle.npf_model.specs.declared.table.TableDecl.{TableDecl}
 use Rattle.npf_expand_values.specs.Declarations.{table_name, procedure_name}
 use Rattle.npf_expand_values.specs.Variable.{Definition}
+use Rattle.npf_expand_values.specs.Source.{declared_of}
 use Rattle.npf_expand.specs.Elaborates.{behind, stmt_elements, stmt_faults, named_group, default_group, maps_of, procedures_of}
+use Rattle.npf_expand.specs.Settings.{algs_in, settings_in}
 use Rattle.npf_expand.specs.Table.{tables_of}
 use Rattle.npf_show_meaning.specs.Law.{AreSameTables}
-use Rattle.npf_show_meaning.specs.Regular.{names_of_model, entry_elements, pass_elements}
+use Rattle.npf_show_meaning.specs.Regular.{entry_elements, pass_elements}
 use Rattle.npf_show_meaning.proofs.Says.{nameless}
 
 pub data Part : Type 0 where
+  OfSet : (one : Parameter × Bool) → Part
+  OfAlg : Part
   OfTable : (table : TableDecl) → Part
   OfMap : (m : Map) → Part
   OfProcedure : (procedure : Procedure) → Part
   OfGroup : (group : Group) → Part
+
+abbrev pub sets_in : Part → List (Parameter × Bool)
+sets_in (OfSet one) = one ∷ []
+sets_in _ = []
+
+abbrev pub gateways_in : Part → List (List ℕ)
+gateways_in OfAlg = codes "icmp" ∷ []
+gateways_in _ = []
 
 abbrev pub tables_in : Part → List TableDecl
 tables_in (OfTable table) = table ∷ []
@@ -52,12 +65,14 @@ module _ (ifaces : List Iface) (model : Model) where
   -- the statement is the part of the model, but for places
   pub record SaysPartOf (part : Part) (stmt : Stmt) : Type 0 where
     pub plain : (older : List Definition) → behind older stmt ≡ older
-    pub faults : (counted : ℕ) → counted + part_elements part ≤ MAX_LIST_ELEMENTS → stmt_faults ifaces (names_of_model model) (nameless ifaces) counted stmt ≡ []
-    pub count : stmt_elements ifaces (names_of_model model) (nameless ifaces) stmt ≡ part_elements part
-    pub named : named_group ifaces (names_of_model model) (nameless ifaces) stmt ≡ named_in part
-    pub default : default_group ifaces (names_of_model model) (nameless ifaces) stmt ≡ default_in part
-    pub maps : maps_of ifaces (names_of_model model) (nameless ifaces) stmt ≡ maps_in part
+    pub faults : (counted : ℕ) → counted + part_elements part ≤ MAX_LIST_ELEMENTS → stmt_faults ifaces (declared_of model) (nameless ifaces) counted stmt ≡ []
+    pub count : stmt_elements ifaces (declared_of model) (nameless ifaces) stmt ≡ part_elements part
+    pub named : named_group ifaces (declared_of model) (nameless ifaces) stmt ≡ named_in part
+    pub default : default_group ifaces (declared_of model) (nameless ifaces) stmt ≡ default_in part
+    pub maps : maps_of ifaces (declared_of model) (nameless ifaces) stmt ≡ maps_in part
     pub tables : AreSameTables (tables_in part) (tables_of stmt)
     pub procedures : procedures_of stmt ≡ procedures_in part
     pub table_names : table_name stmt ≡ map (λ table. name_bytes table.name) (tables_in part)
     pub procedure_names : procedure_name stmt ≡ map (λ procedure. procedure.name) (procedures_in part)
+    pub settings : settings_in stmt ≡ sets_in part
+    pub algs : algs_in stmt ≡ gateways_in part

@@ -268,6 +268,8 @@ module _ (ifaces : List Iface) (model : Model) where
         ap (λ p. p ∷ []) (ap (λ text. with_calls (base text) trees) same ∙ with_each_call trees (lines_of p) each (base p.name) ∙ made_by p.name p.min_ttl p.max_mss p.no_df p.log);
     table_names = refl;
     procedure_names = ap (λ text. text ∷ []) same;
+    settings = refl;
+    algs = refl;
   }
 
   -- the lines of a procedure but for the end of the last

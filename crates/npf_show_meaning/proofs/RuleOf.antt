@@ -25,19 +25,21 @@ use Rattle.npf_model.specs.declared.rule.OnIf.{OnIf}
 use Rattle.npf_model.specs.declared.rule.Rule.{Rule}
 use Rattle.npf_model.specs.declared.rule.StateOpt.{StateOpt}
 use Rattle.npf_model.specs.declared.rule.StateOpt.TheVariants.{Not, OnInterface, Everywhere}
+use Rattle.npf_model.specs.Count.{elements_of}
 use Rattle.npf_phrase.specs.Grammar.{meaning, optional, preceded, ◌&◌}
 use Rattle.npf_parser_values.specs.Token.{string, name_string, quoted, says, span_of}
 use Rattle.npf_parser_values.specs.Value.{iface}
 use Rattle.npf_parser.specs.Rule.{answer, action, stateful, direction, ends_walk, on, rule}
 use Rattle.npf_expand_values.specs.Declarations.{table_number}
 use Rattle.npf_expand_values.specs.Iface.{iface_faults, on_iface}
+use Rattle.npf_expand_values.specs.Source.{declared_of}
 use Rattle.npf_expand.specs.Rule.{return_of, decision_of, state_of_words, dir_of, filter_count, on_faults, rule_faults, rule_of_tree}
 use Rattle.npf_show.specs.Bound.{dir_pieces, on_pieces}
 use Rattle.npf_show.specs.Filter.{filter_pieces}
 use Rattle.npf_show.specs.Piece.{optional_pieces}
 use Rattle.npf_show.specs.Rule.{return_pieces, decision_pieces, state_pieces, final_pieces, name_of_procedure, apply_pieces, rule_pieces}
 use Rattle.std.specs.Prelude.{slice_get}
-use Rattle.npf_show_meaning.specs.Regular.{names_of_model, rule_elements, IsRegularOn}
+use Rattle.npf_show_meaning.specs.Regular.{IsRegularOn}
 use Rattle.npf_show_meaning.proofs.Goes.{Goes, Sees, HeadIn, token_goes, make, turn, keep, pick_first, pick_second, fit, said, absent, present, it_is, none_is, says_goes, pure_goes}
 use Rattle.npf_show_meaning.proofs.Lists.{onto, onto_both}
 use Rattle.npf_show_meaning.proofs.Says.{nameless}
@@ -156,10 +158,10 @@ module _ (ifaces : List Iface) (model : Model) where
   on_goes (Some bound) is ks lacks = present {g = on} (it_is (λ s. refl)) (said (keep (λ a says. (says.faults, ap Some says.gives)) (iface_goes bound is ks)))
 
   abbrev IsApplied : Option ℕ → Option Str → Type 0
-  IsApplied number o = option_map (λ s. table_number (names_of_model model).procedures s.text) o ≡ number
+  IsApplied number o = option_map (λ s. table_number (declared_of model).procedures s.text) o ≡ number
 
   abbrev IsNumbered : ℕ → Type 0
-  IsNumbered number = table_number (names_of_model model).procedures (name_of_procedure (slice_get model.procedures number)) ≡ number
+  IsNumbered number = table_number (declared_of model).procedures (name_of_procedure (slice_get model.procedures number)) ≡ number
 
   apply_goes : (number : Option ℕ) → IfSome number IsNumbered → (ks : List TokenKind)
       → Goes (optional (preceded (quoted (codes "apply")) string)) (IsApplied number) (onto (optional_pieces (apply_pieces model) number) (feed ∷ ks)) (feed ∷ ks)
@@ -167,7 +169,7 @@ module _ (ifaces : List Iface) (model : Model) where
   apply_goes (Some number) is ks =
       let name = name_of_procedure (slice_get model.procedures number) in
       present {g = preceded (quoted (codes "apply")) string} {P = IsApplied (Some number)} (it_is (λ s. refl))
-      (said (keep (λ s same. ap Some (ap (table_number (names_of_model model).procedures) same ∙ is)) (string_goes name (feed ∷ ks))))
+      (said (keep (λ s same. ap Some (ap (table_number (declared_of model).procedures) same ∙ is)) (string_goes name (feed ∷ ks))))
 
   -- what a rule needs so that it is read again
   pub record IsFineRule (r : Rule) : Type 0 where
@@ -177,8 +179,8 @@ module _ (ifaces : List Iface) (model : Model) where
 
   pub record SaysRule (r : Rule) (tree : RuleTree) : Type 0 where
     pub faults : rule_faults ifaces (nameless ifaces) tree ≡ []
-    pub gives : rule_of_tree ifaces (nameless ifaces) (names_of_model model) tree ≡ r
-    pub count : filter_count ifaces (nameless ifaces) tree.filter ≡ rule_elements r
+    pub gives : rule_of_tree ifaces (nameless ifaces) (declared_of model) tree ≡ r
+    pub count : filter_count ifaces (nameless ifaces) tree.filter ≡ elements_of r
 
   says_rule : (r : Rule) (tree : RuleTree) → decision_of tree.action ≡ r.decision → state_of_words tree.stateful ≡ r.state → option_map dir_of tree.dir ≡ r.dir → tree.last ≡ r.last
       → OnBound r.on tree.on → SaysFilter ifaces model r tree.filter → IsApplied r.procedure tree.apply → SaysRule r tree

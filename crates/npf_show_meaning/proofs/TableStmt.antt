@@ -32,7 +32,7 @@ use Rattle.npf_show_meaning.proofs.Blocks.{feed}
 use Rattle.npf_show_meaning.proofs.RuleOf.{string_goes}
 use Rattle.npf_show_meaning.proofs.Parts.{OfTable, SaysPartOf}
 
-abbrev IsWord : List ℕ → Word → Type 0
+abbrev pub IsWord : List ℕ → Word → Type 0
 IsWord text w = w.text ≡ text
 
 pub any_word_goes : (text : List ℕ) (ks : List TokenKind) → Goes word (IsWord text) (Kind.Word text ∷ ks) ks
@@ -80,6 +80,8 @@ module _ (ifaces : List Iface) (model : Model) where
     procedures = refl;
     table_names = ap (λ text. text ∷ []) name;
     procedure_names = refl;
+    settings = refl;
+    algs = refl;
   }
 
   -- the line of a table but for its end

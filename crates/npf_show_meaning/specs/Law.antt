@@ -31,6 +31,8 @@ pub record SameButSpans (one other : Model) : Type 0 where
   pub tables : AreSameTables one.tables other.tables
   pub maps : one.maps ≡ other.maps
   pub procedures : one.procedures ≡ other.procedures
+  pub settings : one.settings ≡ other.settings
+  pub alg_icmp : one.alg_icmp ≡ other.alg_icmp
 
 -- the text of a model is that of a tree which means the model again
 pub record MeansAgain (ifaces : List Iface) (model : Model) : Type 0 where

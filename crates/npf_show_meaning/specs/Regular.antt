@@ -1,7 +1,7 @@
 -- Models as texts make them: names are those of their bytes, interfaces have their numbers in the run, numbers of tables and procedures
 -- name the first of their name, what a filter says more stands beside protocols, no written list is empty, the default group is last, and
 -- all lists together have no more elements than a configuration may have.
-use Rattle.std.specs.Prelude.{◌≡◌, ◌<◌, ◌≤◌, ◌^◌, ℕ, ◌+◌, Bool, true, false, not, IfSome, is_some, Option, Some, None, List, [], ◌++◌, map, length, slice_get}
+use Rattle.std.specs.Prelude.{◌≡◌, ◌<◌, ◌≤◌, ◌^◌, ℕ, ◌+◌, Bool, true, false, not, IfSome, is_some, Option, Some, None, List, [], ◌++◌, length, slice_get}
 use Rattle.std.specs.List.{All, filter, sum_by}
 use Rattle.std.specs.Str.{is_utf8}
 use Rattle.npf_types.specs.declared.decision.Decision.TheVariants.{Pass}
@@ -24,8 +24,10 @@ use Rattle.npf_model.specs.declared.rule.OnIf.{OnIf}
 use Rattle.npf_model.specs.declared.rule.Rule.{Rule}
 use Rattle.npf_model.specs.declared.rule.StateOpt.TheVariants.{Not}
 use Rattle.npf_model.specs.declared.table.TableDecl.{TableDecl}
-use Rattle.npf_expand_values.specs.Declarations.{Declared, table_number}
+use Rattle.npf_model.specs.Count.{elements_of}
+use Rattle.npf_expand_values.specs.Declarations.{table_number}
 use Rattle.npf_expand_values.specs.Iface.{on_text}
+use Rattle.npf_expand_values.specs.Source.{declared_of}
 use Rattle.npf_show.specs.Ends.{name_of_table}
 use Rattle.npf_show.specs.Rule.{name_of_procedure}
 
@@ -33,17 +35,10 @@ use Rattle.npf_show.specs.Rule.{name_of_procedure}
 abbrev pub IsOfText : Name → Type 0
 IsOfText name = named (name_bytes name) ≡ name
 
--- the names that a model's text declares
-abbrev pub names_of_model : Model → Declared
-names_of_model model = record {
-  tables = map (λ table. name_bytes table.name) model.tables;
-  procedures = map (λ procedure. procedure.name) model.procedures;
-}
-
 -- the number is that of the table whose name it stands for
 pub record IsRegularTable (model : Model) (number : ℕ) : Type 0 where
   pub name : is_name (name_of_table (slice_get model.tables number)) ≡ true
-  pub place : table_number (names_of_model model).tables (name_of_table (slice_get model.tables number)) ≡ number
+  pub place : table_number (declared_of model).tables (name_of_table (slice_get model.tables number)) ≡ number
 
 abbrev pub IsRegularItem : Model → AddrItem → Type 0
 IsRegularItem model (Net prefix) = Unit {0}
@@ -86,24 +81,14 @@ pub record IsPlainHead (group : Group) : Type 0 where
 abbrev pub is_default : Group → Bool
 is_default group = group.default
 
--- how many elements the lists of a rule have
-abbrev pub listed_length : {A : Type 0} → Option (List A) → ℕ
-listed_length None = 0
-listed_length (Some elements) = length elements
-
-abbrev pub ends_elements : Ends → ℕ
-ends_elements ends = listed_length ends.addrs + listed_length ends.ports
-
-abbrev pub rule_elements : Rule → ℕ
-rule_elements rule = length rule.protos + ends_elements rule.from + ends_elements rule.to
-
+-- how many elements a text's entries, and filters, have
 abbrev pub entry_elements : Item → ℕ
-entry_elements (One rule) = rule_elements rule
+entry_elements (One rule) = elements_of rule
 entry_elements (Dynamic name dir on next_id rules) = 0
 
 abbrev pub pass_elements : Option Rule → ℕ
 pass_elements None = 0
-pass_elements (Some rule) = rule_elements rule
+pass_elements (Some rule) = elements_of rule
 
 abbrev pub model_elements : Model → ℕ
 model_elements model = sum_by (λ m. pass_elements m.filter) model.maps + sum_by (λ group. sum_by entry_elements group.items) model.groups
@@ -119,7 +104,7 @@ module _ (ifaces : List Iface) (model : Model) where
   pub record IsRegularRule (rule : Rule) : Type 0 where
     pub filter : IsRegularFilter model rule
     pub on : IfSome rule.on IsRegularOn
-    pub procedure : IfSome rule.procedure (λ number. table_number (names_of_model model).procedures (name_of_procedure (slice_get model.procedures number)) ≡ number)
+    pub procedure : IfSome rule.procedure (λ number. table_number (declared_of model).procedures (name_of_procedure (slice_get model.procedures number)) ≡ number)
 
   -- a ruleset is as it begins, without rules
   abbrev pub IsRegularEntry : Item → Type 0

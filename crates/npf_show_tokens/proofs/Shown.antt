@@ -30,19 +30,23 @@ use Rattle.npf_model.specs.declared.rule.OnIf.{OnIf}
 use Rattle.npf_model.specs.declared.rule.Rule.{Rule}
 use Rattle.npf_model.specs.declared.rule.StateOpt.{StateOpt}
 use Rattle.npf_model.specs.declared.rule.StateOpt.TheVariants.{Not, OnInterface, Everywhere}
+use Rattle.npf_model.specs.declared.settings.Parameter.{Parameter}
+use Rattle.npf_model.specs.declared.settings.Parameter.TheVariants.{StrictRst, KeyInterface}
 use Rattle.npf_model.specs.declared.table.Kind.{Kind}
 use Rattle.npf_model.specs.declared.table.Kind.TheVariants.{Ipset, Lpm, Const}
 use Rattle.npf_model.specs.declared.table.TableDecl.{TableDecl}
+use Rattle.npf_model.specs.Settings.{parameter_name}
 use Rattle.npf_show.specs.Bound.{dir_pieces, on_pieces}
 use Rattle.npf_show.specs.Ends.{angled, prefix_pieces, item_pieces, name_of_table, range_pieces, ports_pieces, ends_pieces, end_pieces, is_said, where_pieces}
 use Rattle.npf_show.specs.Filter.{family_pieces, protocol_pieces, protocols_pieces, flags_pieces, code_pieces, icmp_pieces, filter_pieces}
 use Rattle.npf_show.specs.Group.{within_item, item_line, head_pieces, group_head, group_lines}
 use Rattle.npf_show.specs.Map.{static_pieces, algo_pieces, one_proto_pieces, side_port_pieces, side_pieces, arrow_pieces, pass_pieces, map_line}
-use Rattle.npf_show.specs.Model.{model_pieces}
+use Rattle.npf_show.specs.Model.{declared_lines, model_pieces}
 use Rattle.npf_show.specs.Piece.{Piece, spelled, glued, spaced, line_end, indent, closing_line, optional_pieces, comma_list, list_pieces}
 use Rattle.npf_show.specs.Piece as Pieces
 use Rattle.npf_show.specs.Procedure.{log_line, normal_option, least_option, greatest_option, fragment_option, normal_options, normalize_line, procedure_head, procedure_lines}
 use Rattle.npf_show.specs.Rule.{return_pieces, decision_pieces, state_pieces, final_pieces, apply_pieces, rule_pieces, name_of_procedure}
+use Rattle.npf_show.specs.Setting.{alg_line, set_line, shown_settings, switch_text}
 use Rattle.npf_show.specs.Table.{kind_pieces, file_pieces, table_line}
 use Rattle.npf_show_tokens.specs.Showable.{IsPlain, FitsByte, IsShowableRange, IsShowableItem, AreShowableEnds, AreShowableFlags, IsShowableFilter, IsShowableRule, IsShowableEntry, IsShowableGroup, IsShowableSide, IsShowableMap, IsShowableProcedure, IsShowableTable, IsShowable, ShowsTokens}
 use Rattle.npf_show_tokens.specs.Tokens.{AreTold, is_run_word}
@@ -364,20 +368,54 @@ procedure_told procedure is =
     (normal_told procedure is))
     closes
 
-pub model_told : (model : Model) → IsShowable model → AreTold (model_pieces model)
-model_told model is =
+-- settings and the gateway
+parameter_follows : (parameter : Parameter) → Follows (spaced (Pieces.Word (parameter_name parameter)))
+parameter_follows StrictRst = word_follows (parameter_name StrictRst) refl
+parameter_follows KeyInterface = word_follows (parameter_name KeyInterface) refl
+
+switch_follows : (value : Bool) → Follows (spaced (Pieces.Word (switch_text value)))
+switch_follows true = word_follows (codes "on") refl
+switch_follows false = word_follows (codes "off") refl
+
+set_told : (one : Parameter × Bool) → Lines (set_line one)
+set_told one =
+    let word = glued (Pieces.Word (codes "set")) in
+    let name = spaced (Pieces.Word (parameter_name one.0)) in
+    let value = spaced (Pieces.Word (switch_text one.1)) in
+    opens_line (word ++ name ++ value)
+    (opens_more (word ++ name) value (opens_more word name (opens_word (codes "set") refl) (parameter_follows one.0)) (switch_follows one.1))
+
+sets_told : (sets : List (Parameter × Bool)) → Lines (flat_map set_line sets)
+sets_told [] = no_lines
+sets_told (one ∷ sets) = both_lines (set_line one) (flat_map set_line sets) (set_told one) (sets_told sets)
+
+alg_told : (is_asked : Bool) → Lines (alg_line is_asked)
+alg_told false = no_lines
+alg_told true =
+    let word = glued (Pieces.Word (codes "alg")) in
+    let name = spaced (Pieces.Quoted (codes "icmp")) in
+    opens_line (word ++ name) (opens_more word name (opens_word (codes "alg") refl) (quoted_follows (codes "icmp") refl))
+
+declared_told : (model : Model) → IsShowable model → Lines (declared_lines model)
+declared_told model is =
     let tables = flat_map table_line model.tables in
     let maps = flat_map (map_line model) model.maps in
     let procedures = flat_map procedure_lines model.procedures in
     let groups = flat_map (group_lines model) model.groups in
-    let lines : Lines (model_pieces model) =
     both_lines (tables ++ maps ++ procedures) groups
     (both_lines (tables ++ maps) procedures
     (both_lines tables maps
     (each_lines IsShowableTable table_line table_told model.tables is.tables)
     (each_lines (IsShowableMap model) (map_line model) (map_told model) model.maps is.maps))
     (each_lines IsShowableProcedure procedure_lines procedure_told model.procedures is.procedures))
-    (each_lines (IsShowableGroup model) (group_lines model) (group_told model) model.groups is.groups) in
+    (each_lines (IsShowableGroup model) (group_lines model) (group_told model) model.groups is.groups)
+
+pub model_told : (model : Model) → IsShowable model → AreTold (model_pieces model)
+model_told model is =
+    let settings = flat_map set_line (shown_settings model.settings) in
+    let alg = alg_line model.alg_icmp in
+    let lines : Lines (model_pieces model) =
+    both_lines (settings ++ alg) (declared_lines model) (both_lines settings alg (sets_told (shown_settings model.settings)) (alg_told model.alg_icmp)) (declared_told model is) in
     subst AreTold (append-nil (model_pieces model)) (lines [] tt)
 
 pub shows_tokens_lem : ShowsTokens

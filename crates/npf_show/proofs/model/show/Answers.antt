@@ -2,9 +2,10 @@ use Rattle.std.proofs.Common.{◌∙◌, ◌++◌, ap, List, ℕ}
 use Rattle.std.specs.List.{flat_map}
 use Rattle.npf_show.specs.Group.{group_lines}
 use Rattle.npf_show.specs.Map.{map_line}
-use Rattle.npf_show.specs.Model.{model_pieces}
+use Rattle.npf_show.specs.Model.{declared_lines, model_pieces}
 use Rattle.npf_show.specs.Piece.{spelled}
 use Rattle.npf_show.specs.Procedure.{procedure_lines}
+use Rattle.npf_show.specs.Setting.{alg_line, set_line, shown_settings}
 use Rattle.npf_show.specs.Table.{table_line}
 use Rattle.npf_show.proofs.PageLemmas.{also}
 use Rattle.npf_show.proofs.model.show.Goals as goal
@@ -12,12 +13,15 @@ use Rattle.npf_show.proofs.model.show.Goals as goal
 pub returns : goal.returns
 returns c =
     let model = c.args.model.now in
+    let settings = flat_map set_line (shown_settings model.settings) in
+    let alg = alg_line model.alg_icmp in
     let tables = flat_map table_line model.tables in
     let maps = flat_map (map_line model) model.maps in
     let procedures = flat_map procedure_lines model.procedures in
     let groups = flat_map (group_lines model) model.groups in
     c.into_text.ensures
-    ∙ also _ (tables ++ maps ++ procedures) groups
+    ∙ also _ (settings ++ alg) (declared_lines model) (also _ settings alg c.in_ok-show_settings.ensures c.in_ok-show_alg.ensures)
+    (also _ (tables ++ maps ++ procedures) groups
     (also _ (tables ++ maps) procedures
-    (also _ tables maps c.in_ok-show_each.ensures c.in_ok-show_each-2.ensures) c.in_ok-show_each-3.ensures) c.in_ok-show_each-4.ensures
+    (also _ tables maps c.in_ok-show_each.ensures c.in_ok-show_each-2.ensures) c.in_ok-show_each-3.ensures) c.in_ok-show_each-4.ensures)
     ∙ ap (λ (text : List ℕ). text ++ spelled (model_pieces model)) c.new-page.ensures
