@@ -3,8 +3,9 @@ use Rattle.std.proofs.Common.{◌≡◌, ◌≤◌, ℕ, Option, Result, Ok, Err
 use Rattle.std.specs.Global.{Global, Vec}
 use Rattle.std.specs.List.{flat_map}
 use Rattle.std.specs.Result.{IfOk}
+use Rattle.std.specs.Arc.{arc_value}
 use Rattle.std.specs.declared.sync.Arc.{Arc}
-use Rattle.std.proofs.lemmas.List.{length-append}
+use Rattle.std.proofs.lemmas.List.{length-append, length-map}
 use Rattle.std.proofs.lemmas.List.Elements.{All-append, All-cons, All-map, All-nil, All-weaker}
 use Rattle.npf_types.specs.declared.limits.TheConstants.{MAX_TABLES, MAX_TABLE_ENTRIES}
 use Rattle.npf_syntax.specs.declared.group.GroupHead.TheVariants as Head
@@ -25,15 +26,15 @@ use Rattle.npf_expand.specs.Elaborates.{behind, default_group, gathered, model_o
 use Rattle.npf_expand.specs.Group.{group_of_tree, item_of_tree}
 use Rattle.npf_expand.specs.Table.{tables_of}
 use Rattle.npf_ruleset.specs.declared.config.Config.{Config}
-use Rattle.npf_ruleset.specs.Configuration.{programs}
-use Rattle.npf_ruleset.specs.Refusal.{IsBuildable, IsWithinLimits}
+use Rattle.npf_ruleset.specs.Refusal.{HasTables}
 use Rattle.npf_ruleset.specs.Tables.{entries}
 use Rattle.npf_table.specs.declared.table.Table.{Table}
+use Rattle.npf_table.specs.Table.{kind_of}
 use Rattle.npf_outside.specs.Files.{Tree as FileTree}
 use Rattle.npf_config.specs.Loaded.{HasNextIds, IsLoaded, IsNextWithin}
 use Rattle.npf_config.specs.Tables.{AreFirstTables, HaveKinds, entry_count}
 use Rattle.npf_config.specs.Text.{Means}
-use Rattle.npf_config.proofs.BuildableLemmas.{buildable, few_tables, limits_kept}
+use Rattle.npf_config.proofs.BuildableLemmas.{few_tables, limits_kept}
 
 abbrev GroupWithin : ℕ → Group → Type 0
 GroupWithin most group = All (IsNextWithin most) group.items
@@ -117,23 +118,28 @@ few_declared ifaces text tree model means =
     let all = all_declared tree.stmts in
     subst (λ (m : Model). length m.tables ≤ MAX_TABLES) (sym means.elaborated.meant) (omega arith)
 
+-- there are as many tables as a text declares, and few
+pub has_tables : (ifaces : List Iface) (text : List ℕ) (tree : Tree) (model : Model) → Means ifaces text tree model → {Z : Type 0} (decls : List TableDecl) → decls ≡ model.tables
+    → (tables : List (Arc Table Z)) → HaveKinds decls tables → HasTables model tables
+has_tables ifaces text tree model means decls are tables kinds = record {
+  declared = sym (length-map (map arc_value tables) kind_of ∙ length-map tables arc_value) ∙ ap length kinds ∙ length-map decls (λ (decl : TableDecl). decl.kind) ∙ ap length are;
+  few = few_declared ifaces text tree model means;
+}
+
 module _ (ifaces : List Iface) (text : List ℕ) (contents : Option FileTree) (tree : Tree) (model : Model) (means : Means ifaces text tree model)
     (decls : List TableDecl) (are : decls ≡ model.tables) (tables : Vec (Arc Table Global))
     (first : AreFirstTables contents decls (entries tables.items)) (kinds : HaveKinds decls tables.items) where
-  pub is_loaded : (config : Config) → config.model ≡ model → config.tables ≡ tables → IsWithinLimits model (programs config) → IsLoaded config
-  is_loaded config of_model with_tables limits = record {
+  pub is_loaded : (config : Config) → config.model ≡ model → config.tables ≡ tables → IsLoaded config
+  is_loaded config of_model with_tables = record {
     kinds = subst (HaveKinds config.model.tables) (ap (λ (v : Vec (Arc Table Global)). v.items) (sym with_tables))
         (subst (λ (all : List TableDecl). HaveKinds all tables.items) (are ∙ ap (λ (m : Model). m.tables) (sym of_model)) kinds);
-    limits = subst (λ (m : Model). IsWithinLimits m (programs config)) (sym of_model) limits;
-    buildable = subst IsBuildable (sym of_model) (buildable ifaces text tree model means);
-    tables = subst (λ (m : Model). length m.tables ≤ MAX_TABLES) (sym of_model) (few_declared ifaces text tree model means);
     few = subst (λ (v : Vec (Arc Table Global)). entry_count (entries v.items) ≤ MAX_TABLE_ENTRIES) (sym with_tables) first.few;
   }
 
   pub all_loaded : {E : Type 0} (result : Result Config E) → IfOk result (λ config. config.model ≡ model) → IfOk result (λ config. config.tables ≡ tables)
-      → IfOk result (λ config. IsWithinLimits model (programs config)) → IfOk result IsLoaded
-  all_loaded (Ok config) of_model with_tables limits = is_loaded config of_model with_tables limits
-  all_loaded (Err fault) of_model with_tables limits = tt
+      → IfOk result IsLoaded
+  all_loaded (Ok config) of_model with_tables = is_loaded config of_model with_tables
+  all_loaded (Err fault) of_model with_tables = tt
 
   pub all_first_ids : {E : Type 0} (result : Result Config E) → IfOk result (λ config. config.model ≡ model) → IfOk result (λ config. HasNextIds 1 config.model)
   all_first_ids (Ok config) of_model = subst (HasNextIds 1) (sym of_model) (first_ids ifaces text tree model means)

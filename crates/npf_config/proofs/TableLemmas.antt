@@ -1,5 +1,5 @@
 -- What is read of tables so far, and where reading them stops.
-use Rattle.std.proofs.Common.{◌≡◌, ◌≢◌, ◌≤◌, ◌<◌, ◌+◌, ℕ, Option, Some, None, List, [], ◌∷◌, ◌++◌, length, get_or, take, drop, refl, sym, ap, subst, ◌∙◌, arith}
+use Rattle.std.proofs.Common.{◌≡◌, ◌≢◌, ◌≤◌, ◌<◌, ◌+◌, ℕ, Option, Some, None, List, [], ◌∷◌, ◌++◌, length, get_or, map, take, drop, refl, sym, ap, subst, ◌∙◌, arith}
 use Rattle.std.specs.List.{AllPairs, AllZip}
 use Rattle.std.specs.declared.sync.Arc.{Arc}
 use Rattle.std.specs.Arc.{arc_value}
@@ -19,7 +19,7 @@ use Rattle.npf_config.specs.declared.fault.LoadFault.TheVariants as Load
 use Rattle.npf_config.specs.Reading.{ComesTo, IsUnread, OnlyReads}
 use Rattle.npf_config.specs.Refusal.{IsPastLimit, bad_line, too_many}
 use Rattle.npf_config.specs.TableSteps.{IsReadTable, StopsAtLimit, StopsAtTable, StopsAtTables}
-use Rattle.npf_config.specs.Tables.{AreFirstEntries, AreFirstTables, HaveKinds, IsTableText, entry_count}
+use Rattle.npf_config.specs.Tables.{AreFirstEntries, AreFirstTables, HaveKinds, IsTableText, declared_kinds, entry_count}
 
 pub no_reads : (moment : FilesMoment) → OnlyReads moment moment
 no_reads moment = record {
@@ -74,7 +74,7 @@ pub record ReadSoFar {Z : Type 0} (first now : FilesMoment) (decls : List TableD
 pub none_read : {Z : Type 0} (moment : FilesMoment) → ReadSoFar {Z = Z} moment moment [] [] 0
 none_read moment = record {
   read = record { each = tt; few = omega arith };
-  kinds = tt;
+  kinds = refl;
   counted = refl;
   reads = no_reads moment;
   faultless = record { all = refl; each = λ name. refl };
@@ -104,7 +104,9 @@ module _ {Z : Type 0} (first now next : FilesMoment) (decls : List TableDecl) (d
               (pairs_push (AreFirstEntries first.contents) decls (entries tables) decl (prefixes (arc_value more)) so_far.read.each (first_entries (arc_value more) is once));
           few = omega arith;
         };
-        kinds = pairs_push (λ decl (table : Arc Table Z). kind_of (arc_value table) ≡ decl.kind) decls tables decl more so_far.kinds is.read.of_kind;
+        kinds = ap (map kind_of) (map-append arc_value tables (more ∷ [])) ∙ map-append kind_of (map arc_value tables) (arc_value more ∷ [])
+            ∙ ap (λ kinds. kinds ++ kind_of (arc_value more) ∷ []) so_far.kinds ∙ ap (λ kind. declared_kinds decls ++ kind ∷ []) is.read.of_kind
+            ∙ sym (map-append (λ (decl : TableDecl). decl.kind) decls (decl ∷ []));
         counted = omega arith;
         reads = reads_after first now next so_far.reads reads;
         faultless = faultless_after first now next so_far.faultless faultless;

@@ -1,5 +1,5 @@
 -- The tables with which a configuration begins: each has the entries of its file, or none where it has no file.
-use Rattle.std.specs.Prelude.{◌≡◌, ◌≢◌, ℕ, ◌≤◌, Option, Some, None, List, [], length, unwrap_or, IfSome}
+use Rattle.std.specs.Prelude.{◌≡◌, ◌≢◌, ℕ, ◌≤◌, Option, Some, None, List, [], length, map, unwrap_or, IfSome}
 use Rattle.std.specs.List.{AllPairs, AllZip, sum_by}
 use Rattle.std.specs.Str.{IsUtf8}
 use Rattle.std.specs.declared.sync.Arc.{Arc}
@@ -7,6 +7,7 @@ use Rattle.std.specs.Arc.{arc_value}
 use Rattle.npf_types.specs.declared.limits.TheConstants.{MAX_TABLE_ENTRIES, MAX_TEXT_BYTES}
 use Rattle.npf_types.specs.declared.prefix.Prefix.{Prefix}
 use Rattle.npf_types.specs.declared.span.Span.{Span}
+use Rattle.npf_model.specs.declared.table.Kind.{Kind}
 use Rattle.npf_model.specs.declared.table.TableDecl.{TableDecl}
 use Rattle.npf_model.specs.Describes.{Tables}
 use Rattle.npf_table.specs.declared.table.Table.{Table}
@@ -40,9 +41,16 @@ module _ (contents : Option FileTree) where
     pub each : AllZip AreFirstEntries decls tables
     pub few : entry_count tables ≤ MAX_TABLE_ENTRIES
 
+-- the kinds of tables, and those that are declared
+abbrev pub table_kinds : {Z : Type 0} → List (Arc Table Z) → List Kind
+table_kinds tables = map kind_of (map arc_value tables)
+
+abbrev pub declared_kinds : List TableDecl → List Kind
+declared_kinds decls = map (λ decl. decl.kind) decls
+
 -- each table has the kind that its declaration says
 abbrev pub HaveKinds : {Z : Type 0} → List TableDecl → List (Arc Table Z) → Type 0
-HaveKinds decls tables = AllZip (λ decl table. kind_of (arc_value table) ≡ decl.kind) decls tables
+HaveKinds decls tables = table_kinds tables ≡ declared_kinds decls
 
 -- the name of the file is text, if there is one
 abbrev pub HasTextName : TableDecl → Type 0

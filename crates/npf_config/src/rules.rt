@@ -1,8 +1,7 @@
 // The compiled rules of a configuration.
 ghost use Rattle.std.specs.Prelude.{◌≡◌, IfOk, IfErr, length};
 ghost use Rattle.npf_model.specs.Verdict.{all_rules};
-ghost use Rattle.npf_ruleset.specs.Configuration.{programs};
-ghost use Rattle.npf_ruleset.specs.Refusal.{IsBuildable, IsFirstHeavy, IsWithinLimits};
+ghost use Rattle.npf_ruleset.specs.Refusal.{HasTables, IsBuildable, IsFirstHeavy};
 ghost use Rattle.npf_config.specs.Refusal.{RefusesRules};
 ghost use Rattle.npf_config.specs.RulePlaces.{inspected_places};
 ghost use Rattle.npf_config.specs.Stage.{IfConf};
@@ -26,10 +25,10 @@ pub(crate) fn compile_rules(
     tables: Vec<Arc<Table>>,
 ) -> Result<Config, LoadFault>
     requires buildable { IsBuildable model }
+    requires tables { HasTables model tables.items }
     requires places { length (inspected_places tree.now.stmts) ≡ length (all_rules model.groups) }
     ensures model { IfOk result (λ config. config.model ≡ model) }
     ensures tables { IfOk result (λ config. config.tables ≡ tables) }
-    ensures limits { IfOk result (λ config. IsWithinLimits model (programs config)) }
     ensures refuses { IfErr result (IfConf (RefusesRules tree.now model)) }
 {
     match build(alloc, model, tables) {

@@ -1,13 +1,9 @@
 -- A rule that is added: what it means can be compiled, and the limits are kept or passed.
-use Rattle.std.proofs.Common.{◌≡◌, ◌≤◌, ◌<◌, ◌+◌, ℕ, Bool, true, false, Option, Some, None, Result, Ok, Err, List, [], ◌∷◌, ◌++◌, All, length, slice_get, take, refl, sym, ap, subst, ◌∙◌, arith}
+use Rattle.std.proofs.Common.{◌≡◌, ◌≤◌, ◌<◌, ◌+◌, ℕ, Bool, true, false, Result, Ok, Err, List, [], ◌∷◌, ◌++◌, All, length, refl, sym, subst, arith}
 use Rattle.std.specs.Prelude.{if◌then◌else◌}
-use Rattle.std.specs.List.{AllZip, sum_by}
-use Rattle.std.specs.Option.{option_map}
 use Rattle.std.specs.Result.{IfErr, IfOk}
 use Rattle.std.proofs.lemmas.List.{length-map}
 use Rattle.std.proofs.lemmas.List.Elements.{All-map, All-weaker}
-use Rattle.std.proofs.lemmas.List.Sums.{sum_by-cons, sum_by_more}
-use Rattle.std.proofs.lemmas.Option.{get_or_from_slice_get, same_Some, slice_get_within}
 use Rattle.npf_types.specs.declared.limits.TheConstants.{MAX_INSTRUCTIONS, MAX_LIST_ELEMENTS, MAX_RULES, MAX_RULE_WEIGHT}
 use Rattle.npf_types.specs.declared.name.Name.{Name}
 use Rattle.npf_types.specs.declared.span.Span.{Span}
@@ -21,11 +17,9 @@ use Rattle.npf_model.specs.declared.iface.Iface.{Iface}
 use Rattle.npf_model.specs.declared.model.Model.{Model}
 use Rattle.npf_model.specs.declared.rule.Rule.{Rule}
 use Rattle.npf_model.specs.declared.table.TableDecl.{TableDecl}
-use Rattle.npf_model.specs.Count.{elements_of}
 use Rattle.npf_model.specs.Verdict.{PlacedRule, all_rules}
 use Rattle.npf_bpf.specs.declared.insn.Insn.{Insn}
 use Rattle.npf_bpfgen.specs.Condition.{HasTableNumbers}
-use Rattle.npf_bpfgen.specs.ProgramLength.{program_length}
 use Rattle.npf_bpfgen.specs.RuleWeight.{HasShortLists, weight_of}
 use Rattle.npf_expand_values.specs.Source.{declared_of}
 use Rattle.npf_expand_values.specs.Variable.{env_of}
@@ -36,38 +30,27 @@ use Rattle.npf_types.specs.Stages.{goes_on, stops}
 use Rattle.npf_ruleset.specs.declared.config.Config.{Config}
 use Rattle.npf_ruleset.specs.Flat.{IsCompiled, instructions, instructions_of}
 use Rattle.npf_ruleset.specs.Refusal.{AreProgramsOf}
-use Rattle.npf_config.specs.Loaded.{HasNextIds, IsLoaded, IsNextWithin}
+use Rattle.npf_ruleset.proofs.CompileLemmas.{instructions_counted}
+use Rattle.npf_config.specs.Loaded.{HasNextIds, IsNextWithin}
 use Rattle.npf_config.proofs.TableNameLemmas.{env_defined, rule_numbers}
 use Rattle.npf_config_changes.specs.declared.fault.ChangeFault.{ChangeFault}
-use Rattle.npf_config_changes.specs.Additions.{KeepsCounts, KeepsLimits, MeansRule, meant, model_elements}
+use Rattle.npf_config_changes.specs.Additions.{KeepsCounts, KeepsLimits, MeansRule, meant}
+use Rattle.npf_config_changes.specs.Elements.{model_elements}
 use Rattle.npf_config_changes.specs.Kept.{Serves}
 use Rattle.npf_config_changes.specs.Rulesets.{are_one_name, group_with_ruleset, item_with_ruleset, model_with_ruleset, with_rule_added}
 use Rattle.npf_config_changes.specs.Told.{EndsUnlessMemory, too_many}
 use Rattle.npf_config_changes.proofs.AskLemmas.{keeps_limit, passes_limit}
-
--- programs have as many instructions together as their rules ask for
-counted : (rules : List PlacedRule) (programs : List (List Insn)) → AllZip (λ (placed : PlacedRule). IsCompiled placed.rule) rules programs
-    → instructions programs ≡ instructions_of rules
-counted [] [] are = refl
-counted (placed ∷ rules) (program ∷ programs) are =
-    let here = are.0.count in
-    let rest = counted rules programs are.1 in
-    let longer = sum_by-cons length program programs in
-    let more = sum_by-cons (λ (one : PlacedRule). program_length one.rule) placed rules in
-    omega (arith, here, rest, longer, more)
-counted [] (program ∷ programs) are = absurd are
-counted (placed ∷ rules) [] are = absurd are
 
 front : {X : Type 0} (xs ys : List X) → xs ++ ys ≡ [] → xs ≡ []
 front [] ys none = refl
 front (x ∷ xs) ys none = cc
 
 -- the tables of a rule without faults are the configuration's
-pub rule_tables : (config : Config) → IsLoaded config → (ifaces : List Iface) (tree : RuleTree) (rule : Rule) → MeansRule ifaces config.model tree (Ok rule) → HasTableNumbers rule
-rule_tables config loaded ifaces tree rule (meant means clean) =
+pub rule_tables : (config : Config) → (ifaces : List Iface) (tree : RuleTree) (rule : Rule) → MeansRule ifaces config.model tree (Ok rule) → HasTableNumbers rule
+rule_tables config ifaces tree rule (meant means clean) =
     let names = (declared_of config.model).tables in
     let len = length-map config.model.tables (λ (table : TableDecl). name_bytes table.name) in
-    let most = loaded.tables in
+    let most = config.declared.few in
     let few_names : length names ≤ 64 = omega arith in
     let tables = tables_of_where (is_table_of config.model) tree.filter.ends in
     let procedures = applied_faults (is_procedure_of config.model) tree.apply in
@@ -116,7 +99,7 @@ module _ (span : Span) (next : Model) where
 
     module _ (elements : model_elements next ≤ MAX_LIST_ELEMENTS) (programs : List (List Insn)) (are : AreProgramsOf (all_rules next.groups) programs) where
       count_is : instructions programs ≡ instructions_of (all_rules next.groups)
-      count_is = counted (all_rules next.groups) programs are.each
+      count_is = instructions_counted (all_rules next.groups) programs are
 
       pub instructions_over : MAX_INSTRUCTIONS < instructions programs → EndsUnlessMemory (KeepsCounts span next) (too_many span Instructions (instructions programs))
       instructions_over over =
@@ -138,19 +121,6 @@ module _ (span : Span) (next : Model) where
 
   pub limits_kept : (rule : Rule) → weight_of rule ≤ MAX_RULE_WEIGHT → KeepsCounts span next (Ok tt) → KeepsLimits span rule next (Ok tt)
   limits_kept rule light counts = goes_on (keeps_limit _ MAX_RULE_WEIGHT _ light) counts
-
-rule_there : (there : Option PlacedRule) (rule : Rule) → option_map (λ placed. placed.rule) there ≡ Some rule → (placed : PlacedRule) × (there ≡ Some placed) × (placed.rule ≡ rule)
-rule_there None rule is = absurd (let none : None ≡ Some rule = is in cc)
-rule_there (Some placed) rule is = (placed, refl, same_Some placed.rule rule is)
-
--- the elements of the rules up to one, and its own
-pub rule_sum : (all : List PlacedRule) (i : ℕ) (rule : Rule) → option_map (λ placed. placed.rule) (slice_get all i) ≡ Some rule
-    → sum_by (λ (placed : PlacedRule). elements_of placed.rule) (take (i + 1) all) ≡ sum_by (λ (placed : PlacedRule). elements_of placed.rule) (take i all) + elements_of rule
-rule_sum all i rule is =
-    let found = rule_there (slice_get all i) rule is in
-    let count : PlacedRule → ℕ = λ (placed : PlacedRule). elements_of placed.rule in
-    sum_by_more count all i found.0 (slice_get_within all i found.0 found.1)
-    ∙ ap (λ n. sum_by count (take i all) + n) (ap count (get_or_from_slice_get all i found.0 found.0 found.1) ∙ ap elements_of found.2)
 
 -- what holds of a light rule's configuration holds with its weight
 module _ (span : Span) (rule : Rule) (light : weight_of rule ≤ MAX_RULE_WEIGHT) where

@@ -1,7 +1,5 @@
 -- What a change of one table makes of a configuration.
 use Rattle.std.proofs.Common.{◌≡◌, ◌≤◌, ◌<◌, ◌+◌, ℕ, suc, Some, Ok, Err, List, [], ◌∷◌, ◌++◌, length, get_or, map, set, take, drop, slice_get, refl, sym, ap, subst, ◌∙◌, arith}
-use Rattle.std.proofs.lemmas.Slice.Zip.{AllZip-long}
-use Rattle.std.specs.List.{AllZip}
 use Rattle.std.specs.Arc.{arc_value}
 use Rattle.std.specs.Global.{Global}
 use Rattle.std.specs.Option.{option_map}
@@ -13,7 +11,7 @@ use Rattle.npf_types.specs.declared.limits.TheConstants.{MAX_TABLE_ENTRIES}
 use Rattle.npf_types.specs.declared.name.Name.{Name}
 use Rattle.npf_types.specs.declared.prefix.Prefix.{Prefix}
 use Rattle.npf_model.specs.declared.table.Kind.{Kind}
-use Rattle.npf_model.specs.declared.table.TableDecl.{TableDecl}
+use Rattle.npf_model.specs.declared.model.Model.{Model}
 use Rattle.npf_model.specs.Configuration.{Configuration}
 use Rattle.npf_model.specs.Verdict.{first_where}
 use Rattle.npf_faults.specs.declared.fault.Excess.TheVariants.{Entries}
@@ -23,37 +21,20 @@ use Rattle.npf_table.specs.declared.fault.TableFault.{TableFault}
 use Rattle.npf_table.specs.declared.fault.TableFault.TheVariants as Tables
 use Rattle.npf_table.specs.Table.{MayChange, RefusesAddition, RefusesRemoval, kind_of, prefixes}
 use Rattle.npf_ruleset.specs.declared.config.Config.{Config}
-use Rattle.npf_ruleset.specs.Configuration.{configuration, programs}
-use Rattle.npf_ruleset.specs.Refusal.{IsBuildable}
+use Rattle.npf_ruleset.specs.Configuration.{configuration}
 use Rattle.npf_ruleset.specs.Tables.{entries}
-use Rattle.npf_ruleset.proofs.PairLemmas.{drop_here, zip_each}
 use Rattle.npf_config.specs.Loaded.{IsLoaded}
-use Rattle.npf_config.specs.Tables.{HaveKinds, entry_count}
+use Rattle.npf_config.specs.Tables.{declared_kinds, entry_count, table_kinds}
 use Rattle.npf_config_changes.specs.Entries.{AddsEntry, GainsEntry, IsTableAt, LosesEntry, RemovesEntry, TableAt, absent, allowed, beginning, found, present, read_only, with_entries, wrong_kind}
 use Rattle.npf_config_changes.specs.Rulesets.{are_one_name}
 use Rattle.npf_config_changes.proofs.AskLemmas.{keeps_limit, passes_limit}
-use Rattle.npf_config_changes.specs.Told.{EndsUnlessMemory, told_of_table, too_many}
+use Rattle.npf_config_changes.specs.Told.{EndsUnlessMemory, told_count, told_of_table, too_many}
 
 module _ {Z : Type 0} where
   -- what tables show, by the values that they share
   pub entries_of_values : (tables : List (Arc Table Z)) → entries tables ≡ map prefixes (map arc_value tables)
   entries_of_values [] = refl
   entries_of_values (table ∷ tables) = ap (λ rest. prefixes (arc_value table) ∷ rest) (entries_of_values tables)
-
-  abbrev pub HasKind : TableDecl → Arc Table Z → Type 0
-  HasKind decl table = kind_of (arc_value table) ≡ decl.kind
-
-  pub kinds_last : (decls : List TableDecl) (tables others : List (Arc Table Z)) → map kind_of (map arc_value others) ≡ map kind_of (map arc_value tables)
-      → AllZip HasKind decls tables → AllZip HasKind decls others
-  kinds_last [] [] [] same kinds = tt
-  kinds_last (decl ∷ decls) (table ∷ tables) (other ∷ others) same kinds = (
-    ap (λ (all : List Kind). get_or all 0 (kind_of (arc_value other))) same ∙ kinds.0,
-    kinds_last decls tables others (ap (drop 1) same) kinds.1,
-  )
-  kinds_last [] [] (other ∷ others) same kinds = cc
-  kinds_last (decl ∷ decls) (table ∷ tables) [] same kinds = cc
-  kinds_last [] (table ∷ tables) others same kinds = absurd kinds
-  kinds_last (decl ∷ decls) [] others same kinds = absurd kinds
 
 -- the entries of the table at a place are changed
 module _ (all : List (List Prefix)) (at : ℕ) (was new : List Prefix) (there : slice_get all at ≡ Some was) where
@@ -70,6 +51,10 @@ module _ (all : List (List Prefix)) (at : ℕ) (was new : List Prefix) (there : 
 
 pub had_entries : (config : Config) (at : ℕ) (was : Arc Table Global) → slice_get config.tables.items at ≡ Some was → slice_get (entries config.tables.items) at ≡ Some (prefixes (arc_value was))
 had_entries config at was there = slice_get-map (λ table. prefixes (arc_value table)) config.tables.items at ∙ ap (option_map (λ table. prefixes (arc_value table))) there
+
+pub had_kind : (config : Config) (at : ℕ) (was : Arc Table Global) → slice_get config.tables.items at ≡ Some was → slice_get (table_kinds config.tables.items) at ≡ Some (kind_of (arc_value was))
+had_kind config at was there =
+    slice_get-map kind_of (map arc_value config.tables.items) at ∙ ap (option_map kind_of) (slice_get-map arc_value config.tables.items at ∙ ap (option_map arc_value) there)
 
 -- the table at a place is changed
 module _ (config next : Config) (at : ℕ) (was : Arc Table Global) (new : Table) (there : slice_get config.tables.items at ≡ Some was)
@@ -91,34 +76,23 @@ module _ (config next : Config) (at : ℕ) (was : Arc Table Global) (new : Table
       ap (λ all. entry_count all + length (prefixes (arc_value was))) next_split
       ∙ count_there (entries config.tables.items) at (prefixes (arc_value was)) (prefixes new) (had_entries config at was there)
 
-  pub next_loaded : IsLoaded config → programs next ≡ programs config → kind_of new ≡ kind_of (arc_value was) → entry_count (entries next.tables.items) ≤ MAX_TABLE_ENTRIES → IsLoaded next
-  next_loaded loaded same_programs same_kind few =
-      let kinds = map kind_of (map arc_value config.tables.items) in
-      let old_kind : get_or kinds at (kind_of new) ≡ kind_of (arc_value was) =
-      get_or_from_slice_get kinds at (kind_of (arc_value was)) (kind_of new)
-      (slice_get-map kind_of (map arc_value config.tables.items) at ∙ ap (option_map kind_of) (slice_get-map arc_value config.tables.items at ∙ ap (option_map arc_value) there)) in
-      let same_kinds : map kind_of (map arc_value next.tables.items) ≡ kinds =
+  pub next_loaded : IsLoaded config → kind_of new ≡ kind_of (arc_value was) → entry_count (entries next.tables.items) ≤ MAX_TABLE_ENTRIES → IsLoaded next
+  next_loaded loaded same_kind few =
+      let kinds = table_kinds config.tables.items in
+      let old_kind : get_or kinds at (kind_of new) ≡ kind_of (arc_value was) = get_or_from_slice_get kinds at (kind_of (arc_value was)) (kind_of new) (had_kind config at was there) in
+      let same_kinds : table_kinds next.tables.items ≡ kinds =
       ap (map kind_of) tables ∙ map-set kind_of (map arc_value config.tables.items) at new ∙ ap (set kinds at) (same_kind ∙ sym old_kind) ∙ set-get_or kinds at (kind_of new) in
-      record {
-        kinds = subst (λ (decls : List TableDecl). HaveKinds decls next.tables.items) (ap (λ m. m.tables) (sym of_model))
-            (kinds_last config.model.tables config.tables.items next.tables.items same_kinds loaded.kinds);
-        limits = rw (of_model, same_programs) loaded.limits;
-        buildable = subst IsBuildable (sym of_model) loaded.buildable;
-        tables = rw of_model loaded.tables;
-        few = few;
-      }
+      record { kinds = same_kinds ∙ loaded.kinds ∙ ap declared_kinds (ap (λ (m : Model). m.tables) (sym of_model)); few = few }
 
 -- a declaration's place is that of a table
-pub place_within : (config : Config) → IsLoaded config → (at : ℕ) → at < length config.model.tables → at < length config.tables.items
-place_within config loaded at below =
-    let len = AllZip-long HasKind config.model.tables config.tables.items loaded.kinds in
-    omega (arith, len, below)
+pub place_within : (config : Config) (at : ℕ) → at < length config.model.tables → at < length config.tables.items
+place_within config at below = let len = config.declared.declared in omega (arith, len, below)
 
 -- the table at the place of its declaration
-pub there_at : (config : Config) → IsLoaded config → (at : ℕ) → at < length config.model.tables → (tables : List (Arc Table Global)) → tables ≡ config.tables.items
+pub there_at : (config : Config) (at : ℕ) → at < length config.model.tables → (tables : List (Arc Table Global)) → tables ≡ config.tables.items
     → (was : Arc Table Global) → was ≡ get_or tables at was → slice_get config.tables.items at ≡ Some was
-there_at config loaded at below tables are was is =
-    let within : at < length config.tables.items = place_within config loaded at below in
+there_at config at below tables are was is =
+    let within : at < length config.tables.items = place_within config at below in
     slice_get_read config.tables.items (length config.tables.items) at was refl within (subst (λ all. was ≡ get_or all at was) are is)
 
 -- what a list of tables has at a place
@@ -129,26 +103,19 @@ entry_at tables i table below is =
     (slice_get-map (λ one. prefixes (arc_value one)) tables i ∙ ap (option_map (λ one. prefixes (arc_value one))) (slice_get_read tables (length tables) i table refl below is))
 
 -- the table that a name names
-module _ (config : Config) (name : Name) (at : ℕ) (was : Arc Table Global) (there : slice_get config.tables.items at ≡ Some was) (loaded : IsLoaded config)
+module _ (config : Config) (name : Name) (at : ℕ) (was : Arc Table Global) (there : slice_get config.tables.items at ≡ Some was)
     (first : first_where (λ other. are_one_name other.name name) 0 config.model.tables ≡ Some at) where
   abbrev pub table_at : TableAt
   table_at = record { place = at; kind = kind_of (arc_value was); entries = prefixes (arc_value was) }
 
-  pub is_table_at : IsTableAt name (configuration config) table_at
-  is_table_at =
-      let len = AllZip-long HasKind config.model.tables config.tables.items loaded.kinds in
-      let within = slice_get_within config.tables.items at was there in
-      let decl = drop_here config.model.tables at (omega arith) in
-      record {
-        decl = decl.0;
-        first = first;
-        there = decl.2;
-        kind = zip_each HasKind config.model.tables config.tables.items loaded.kinds at decl.0 was decl.2 there;
-        entries = had_entries config at was there;
-      }
+  abbrev pub kinds : List Kind
+  kinds = table_kinds config.tables.items
+
+  pub is_table_at : IsTableAt name kinds (configuration config) table_at
+  is_table_at = record { first = first; kind = had_kind config at was there; entries = had_entries config at was there }
 
   module _ (prefix : Prefix) where
-    pub addition_refused : (fault : TableFault) → RefusesAddition (arc_value was) prefix fault → EndsUnlessMemory (AddsEntry (configuration config) name prefix) (told_of_table fault)
+    pub addition_refused : (fault : TableFault) → RefusesAddition (arc_value was) prefix fault → EndsUnlessMemory (AddsEntry kinds (configuration config) name prefix) (told_of_table fault)
     addition_refused Tables.ReadOnly refused = λ _. goes_on (found is_table_at) (stops (read_only refused))
     addition_refused Tables.WrongKind refused = λ _. goes_on (found is_table_at) (stops (wrong_kind refused.0 refused.1))
     addition_refused Tables.Present refused = λ _. goes_on (found is_table_at) (goes_on (allowed refused.0) (stops (present refused.1)))
@@ -156,7 +123,7 @@ module _ (config : Config) (name : Name) (at : ℕ) (was : Arc Table Global) (th
     addition_refused Tables.Absent refused = absurd refused
     addition_refused (Tables.BadLine line) refused = absurd refused
 
-    pub removal_refused : (fault : TableFault) → RefusesRemoval (arc_value was) prefix fault → EndsUnlessMemory (RemovesEntry (configuration config) name prefix) (told_of_table fault)
+    pub removal_refused : (fault : TableFault) → RefusesRemoval (arc_value was) prefix fault → EndsUnlessMemory (RemovesEntry kinds (configuration config) name prefix) (told_of_table fault)
     removal_refused Tables.ReadOnly refused = λ _. goes_on (found is_table_at) (stops (read_only refused))
     removal_refused Tables.WrongKind refused = λ _. goes_on (found is_table_at) (stops (wrong_kind refused.0 refused.1))
     removal_refused Tables.Absent refused = λ _. goes_on (found is_table_at) (goes_on (allowed refused.0) (stops (absent refused.1)))
@@ -167,18 +134,19 @@ module _ (config : Config) (name : Name) (at : ℕ) (was : Arc Table Global) (th
     module _ (new : Table) (may : MayChange (kind_of (arc_value was)) prefix) where
       -- the prefix is added, and the entries are few or too many
       pub adds : GainsEntry (prefixes (arc_value was)) prefix (Ok (prefixes new)) → (next : Config) → configuration next ≡ with_entries at (prefixes new) (configuration config)
-          → entry_count (entries next.tables.items) ≤ MAX_TABLE_ENTRIES → AddsEntry (configuration config) name prefix (Ok (configuration next))
+          → entry_count (entries next.tables.items) ≤ MAX_TABLE_ENTRIES → AddsEntry kinds (configuration config) name prefix (Ok (configuration next))
       adds gains next is few =
           let kept = subst (λ (config : Configuration). entry_count config.tables ≤ MAX_TABLE_ENTRIES) is few in
           goes_on (found is_table_at) (goes_on (allowed may) (goes_on gains (goes_on (keeps_limit _ MAX_TABLE_ENTRIES _ kept) (ap Ok is))))
 
       pub passes : GainsEntry (prefixes (arc_value was)) prefix (Ok (prefixes new)) → (count : ℕ)
-          → entry_count (with_entries at (prefixes new) (configuration config)).tables ≡ count → MAX_TABLE_ENTRIES < count
-          → AddsEntry (configuration config) name prefix (Err (too_many beginning Entries count))
+          → told_count (entry_count (with_entries at (prefixes new) (configuration config)).tables) ≡ count → MAX_TABLE_ENTRIES < count
+          → AddsEntry kinds (configuration config) name prefix (Err (too_many beginning Entries count))
       passes gains count counted over =
-          subst (λ n. AddsEntry (configuration config) name prefix (Err (too_many beginning Entries n))) counted
-          (goes_on (found is_table_at) (goes_on (allowed may) (goes_on gains (stops (passes_limit _ MAX_TABLE_ENTRIES _ (subst (λ n. MAX_TABLE_ENTRIES < n) (sym counted) over))))))
+          let many : MAX_TABLE_ENTRIES < entry_count (with_entries at (prefixes new) (configuration config)).tables = omega (arith, counted, over) in
+          subst (λ n. AddsEntry kinds (configuration config) name prefix (Err (too_many beginning Entries n))) counted
+          (goes_on (found is_table_at) (goes_on (allowed may) (goes_on gains (stops (passes_limit _ MAX_TABLE_ENTRIES _ many)))))
 
       pub removes : LosesEntry (prefixes (arc_value was)) prefix (Ok (prefixes new)) → (next : Config) → configuration next ≡ with_entries at (prefixes new) (configuration config)
-          → RemovesEntry (configuration config) name prefix (Ok (configuration next))
+          → RemovesEntry kinds (configuration config) name prefix (Ok (configuration next))
       removes loses next is = goes_on (found is_table_at) (goes_on (allowed may) (goes_on loses (ap Ok is)))

@@ -10,7 +10,6 @@ use Rattle.npf_types.specs.Stages.{Stage, ◌andthen◌, asks_that, gives, goes_
 use Rattle.npf_faults.specs.declared.fault.Excess.TheVariants.{Entries}
 use Rattle.npf_model.specs.declared.table.Kind.{Kind}
 use Rattle.npf_model.specs.declared.table.Kind.TheVariants.{Const, Ipset}
-use Rattle.npf_model.specs.declared.table.TableDecl.{TableDecl}
 use Rattle.npf_model.specs.Configuration.{Configuration}
 use Rattle.npf_config_changes.specs.declared.fault.ChangeFault.{ChangeFault}
 use Rattle.npf_config_changes.specs.declared.fault.ChangeFault.TheVariants.{UnknownRule}
@@ -18,7 +17,7 @@ use Rattle.npf_config_changes.specs.ChangeLaws.{HasOneResult}
 use Rattle.npf_config_changes.specs.Changes.{FlushesRules, RemovesRule, found_ruleset, with_ruleset, FindsRuleset}
 use Rattle.npf_config_changes.specs.Entries.{AddsEntry, AllowsChange, FindsTable, beginning, GainsEntry, IsTableAt, LosesEntry, RemovesEntry, TableAt, absent, allowed, found, gained, lost, present, read_only, unknown, with_entries, wrong_kind}
 use Rattle.npf_config_changes.specs.Rulesets.{Ruleset, has_rule, rulesets_named, with_rule_removed, with_rules_flushed}
-use Rattle.npf_config_changes.specs.Told.{too_many}
+use Rattle.npf_config_changes.specs.Told.{told_count, too_many}
 use Rattle.npf_config_changes.proofs.EntryLemmas.{count_there}
 
 -- stages come to one result where the first does, and the next ones do
@@ -49,21 +48,20 @@ module _ (old : Configuration) (name : Name) where
   one_flush = one_after finds _ (one_told (found_ruleset (rulesets_named name old.model))) (λ _. one_told (Ok (with_ruleset name with_rules_flushed old)))
 
 -- the table of a name is one
-module _ (old : Configuration) (name : Name) where
-  one_table : (one two : TableAt) → IsTableAt name old one → IsTableAt name old two → one ≡ two
+module _ (kinds : List Kind) (old : Configuration) (name : Name) where
+  one_table : (one two : TableAt) → IsTableAt name kinds old one → IsTableAt name kinds old two → one ≡ two
   one_table one two is other =
       let place : one.place ≡ two.place = same_Some one.place two.place (sym is.first ∙ other.first) in
-      let decls : is.decl ≡ other.decl = same_Some is.decl other.decl (sym is.there ∙ ap (slice_get old.model.tables) place ∙ other.there) in
-      let kinds : one.kind ≡ two.kind = is.kind ∙ ap (λ (decl : TableDecl). decl.kind) decls ∙ sym other.kind in
+      let kind : one.kind ≡ two.kind = same_Some one.kind two.kind (sym is.kind ∙ ap (slice_get kinds) place ∙ other.kind) in
       let entries : one.entries ≡ two.entries = same_Some one.entries two.entries (sym is.entries ∙ ap (slice_get old.tables) place ∙ other.entries) in
       ap (λ at. record { place = at; kind = one.kind; entries = one.entries }) place
-      ∙ ap (λ (kind : Kind). record { place = two.place; kind = kind; entries = one.entries }) kinds
+      ∙ ap (λ (kind : Kind). record { place = two.place; kind = kind; entries = one.entries }) kind
       ∙ ap (λ (all : List Prefix). record { place = two.place; kind = two.kind; entries = all }) entries
 
-  table_found : (table : TableAt) → FindsTable name old (Ok table) → IsTableAt name old table
+  table_found : (table : TableAt) → FindsTable name kinds old (Ok table) → IsTableAt name kinds old table
   table_found table (found is) = is
 
-  table_settled : AreSettled (FindsTable name old) (FindsTable name old)
+  table_settled : AreSettled (FindsTable name kinds old) (FindsTable name kinds old)
   table_settled one two (found _) (found _) = tt
   table_settled one two (found is) (unknown none) = let first = is.first in cc
   table_settled one two (unknown none) (found is) = let first = is.first in cc
@@ -96,7 +94,7 @@ gained_one : (entries new : List Prefix) (prefix : Prefix) → GainsEntry entrie
 gained_one entries new prefix (gained _ _ _ count) = count
 
 abbrev asks : ℕ → Stage (Unit {0}) ChangeFault
-asks count = asks_that (nat_le count MAX_TABLE_ENTRIES) (too_many beginning Entries count)
+asks count = asks_that (nat_le count MAX_TABLE_ENTRIES) (too_many beginning Entries (told_count count))
 
 -- as many entries are few in both, or too many in both
 kept_settled : (count more : ℕ) (a b : Configuration) → count ≡ more → AreSettled (asks count andthen λ _. gives a) (asks more andthen λ _. gives b)
@@ -108,19 +106,19 @@ kept_settled count more a b same one two (goes_on _ is) (goes_on _ there) = rw (
 given_settled : (a b : Configuration) → AreSettled {F = ChangeFault} (gives a) (gives b)
 given_settled a b one two is there = rw (is, there) tt
 
-module _ (old : Configuration) (name : Name) (prefix : Prefix) where
+module _ (kinds : List Kind) (old : Configuration) (name : Name) (prefix : Prefix) where
   -- what is made of a table that may be changed settles the change
   changed : (change : TableAt → Stage Configuration ChangeFault)
       → ((table : TableAt) → slice_get old.tables table.place ≡ Some table.entries → AreSettled (change table) (change table))
-      → AreSettled (FindsTable name old andthen λ table. AllowsChange table.kind prefix andthen λ _. change table)
-      (FindsTable name old andthen λ table. AllowsChange table.kind prefix andthen λ _. change table)
-  changed change settled = andthen_settled (FindsTable name old) _ (table_settled old name) (λ table other is there.
-      let found = table_found old name table is in
+      → AreSettled (FindsTable name kinds old andthen λ table. AllowsChange table.kind prefix andthen λ _. change table)
+      (FindsTable name kinds old andthen λ table. AllowsChange table.kind prefix andthen λ _. change table)
+  changed change settled = andthen_settled (FindsTable name kinds old) _ (table_settled kinds old name) (λ table other is there.
+      let found = table_found kinds old name table is in
       subst (λ (other : TableAt). AreSettled (AllowsChange table.kind prefix andthen λ _. change table) (AllowsChange other.kind prefix andthen λ _. change other))
-      (one_table old name table other found (table_found old name other there))
+      (one_table kinds old name table other found (table_found kinds old name other there))
       (andthen_settled (AllowsChange table.kind prefix) _ (permission_settled table.kind prefix) (λ _ _ _ _. settled table found.entries)))
 
-  pub settled_addition : AreSettled (AddsEntry old name prefix) (AddsEntry old name prefix)
+  pub settled_addition : AreSettled (AddsEntry kinds old name prefix) (AddsEntry kinds old name prefix)
   settled_addition = changed _ (λ table there. andthen_settled (GainsEntry table.entries prefix) _ (gains_settled table.entries prefix)
       (λ one other is also. kept_settled _ _ _ _ (omega (
         arith,
@@ -130,5 +128,5 @@ module _ (old : Configuration) (name : Name) (prefix : Prefix) where
         count_there old.tables table.place table.entries other there,
       ))))
 
-  pub settled_removal : AreSettled (RemovesEntry old name prefix) (RemovesEntry old name prefix)
+  pub settled_removal : AreSettled (RemovesEntry kinds old name prefix) (RemovesEntry kinds old name prefix)
   settled_removal = changed _ (λ table _. andthen_settled (LosesEntry table.entries prefix) _ (loses_settled table.entries prefix) (λ one other _ _. given_settled (with_entries table.place one old) (with_entries table.place other old)))

@@ -1,9 +1,10 @@
 mod AdditionLemmas
 mod AnswerLemmas
 mod AskLemmas
+mod ElementLemmas
 mod EntryLemmas
 mod FindLemmas
 mod KeptLemmas
 mod LawLemmas
+mod NextLemmas
 mod ReadLemmas
-mod RemovalLemmas

@@ -1,8 +1,6 @@
 -- A rule added to a ruleset while a run goes on: the next configuration and the rule's number, or why it is refused. All else of
 -- the configuration stays.
-use Rattle.std.specs.Prelude.{◌≡◌, ℕ, ◌+◌, nat_le, Result, Ok, Err, List, [], length, unwrap_or}
-use Rattle.std.specs.List.{sum_by}
-use Rattle.std.specs.Option.{option_map}
+use Rattle.std.specs.Prelude.{◌≡◌, ℕ, ◌+◌, nat_le, Result, Ok, Err, List, [], length}
 use Rattle.npf_types.specs.Reading.{IsOnly}
 use Rattle.npf_types.specs.declared.limits.TheConstants.{MAX_INSTRUCTIONS, MAX_LIST_ELEMENTS, MAX_RULES, MAX_RULE_WEIGHT}
 use Rattle.npf_types.specs.declared.name.Name.{Name}
@@ -19,11 +17,9 @@ use Rattle.npf_parser.specs.Parse.{Means as Parses, HaltsAt}
 use Rattle.npf_parser.specs.Stmt.{lone_rule}
 use Rattle.npf_faults.specs.First.{IsFirstFaultOf}
 use Rattle.npf_model.specs.declared.iface.Iface.{Iface}
-use Rattle.npf_model.specs.declared.map.Map.{Map}
 use Rattle.npf_model.specs.declared.model.Model.{Model}
 use Rattle.npf_model.specs.declared.rule.Rule.{Rule}
 use Rattle.npf_model.specs.Configuration.{Configuration}
-use Rattle.npf_model.specs.Count.{elements_of}
 use Rattle.npf_model.specs.Verdict.{all_rules}
 use Rattle.npf_bpfgen.specs.RuleWeight.{weight_of}
 use Rattle.npf_expand_values.specs.Source.{declared_of}
@@ -33,15 +29,9 @@ use Rattle.npf_ruleset.specs.Flat.{instructions_of}
 use Rattle.npf_config_changes.specs.declared.fault.ChangeFault.{ChangeFault}
 use Rattle.npf_config_changes.specs.declared.fault.ChangeFault.TheVariants.{Conf}
 use Rattle.npf_config_changes.specs.Changes.{FindsRuleset, with_ruleset}
+use Rattle.npf_config_changes.specs.Elements.{model_elements}
 use Rattle.npf_config_changes.specs.Told.{too_many}
 use Rattle.npf_config_changes.specs.Rulesets.{with_rule_added}
-
--- how many elements the lists of a model have: those of its rules, and of its maps' filters
-abbrev pub filter_elements_of : Map → ℕ
-filter_elements_of m = unwrap_or (option_map elements_of m.filter) 0
-
-abbrev pub model_elements : Model → ℕ
-model_elements model = sum_by (λ placed. elements_of placed.rule) (all_rules model.groups) + sum_by filter_elements_of model.maps
 
 -- the text is one rule, or the first fault of its tokens or of the grammar
 pub data ReadsRule (text : List ℕ) : Result RuleTree ChangeFault → Type 0 where

@@ -7,6 +7,7 @@ use Rattle.npf_types.specs.Settled.{AreSettled}
 use Rattle.npf_faults.specs.declared.fault.ConfFault.{ConfFault}
 use Rattle.npf_faults.specs.Fault.{fault_number}
 use Rattle.npf_model.specs.declared.iface.Iface.{Iface}
+use Rattle.npf_model.specs.declared.table.Kind.{Kind}
 use Rattle.npf_config_changes.specs.declared.fault.ChangeFault.{ChangeFault}
 use Rattle.npf_config_changes.specs.declared.fault.ChangeFault.TheVariants.{Conf}
 use Rattle.npf_config_changes.specs.Additions.{AddsRule}
@@ -28,11 +29,13 @@ OneFlush = (old : Configuration) (name : Name) → HasOneResult (FlushesRules ol
 
 -- an entry is added, or it is refused for one fault, and never both; the tables that come of it aren't compared
 abbrev pub SettledAddition : Type 0
-SettledAddition = (old : Configuration) (name : Name) (prefix : Prefix) → AreSettled (AddsEntry old name prefix) (AddsEntry old name prefix)
+SettledAddition = (kinds : List Kind) (old : Configuration) (name : Name) (prefix : Prefix) →
+    AreSettled (AddsEntry kinds old name prefix) (AddsEntry kinds old name prefix)
 
 -- and so is one that is taken out
 abbrev pub SettledRemoval : Type 0
-SettledRemoval = (old : Configuration) (name : Name) (prefix : Prefix) → AreSettled (RemovesEntry old name prefix) (RemovesEntry old name prefix)
+SettledRemoval = (kinds : List Kind) (old : Configuration) (name : Name) (prefix : Prefix) →
+    AreSettled (RemovesEntry kinds old name prefix) (RemovesEntry kinds old name prefix)
 
 -- two refusals are one, or are faults of the text at one place with one number
 pub data AreToldAlike : ChangeFault → ChangeFault → Type 0 where

@@ -10,7 +10,6 @@ use Rattle.npf_faults.specs.declared.fault.Excess.TheVariants.{Entries}
 use Rattle.npf_types.specs.Stages.{Stage, ◌andthen◌, gives, asks_that}
 use Rattle.npf_model.specs.declared.table.Kind.{Kind}
 use Rattle.npf_model.specs.declared.table.Kind.TheVariants.{Const, Ipset}
-use Rattle.npf_model.specs.declared.table.TableDecl.{TableDecl}
 use Rattle.npf_model.specs.Configuration.{Configuration}
 use Rattle.npf_model.specs.Verdict.{first_where}
 use Rattle.npf_lpm.specs.Lpm.{Gains, Loses}
@@ -21,7 +20,7 @@ use Rattle.npf_config.specs.Tables.{entry_count}
 use Rattle.npf_config_changes.specs.declared.fault.ChangeFault.{ChangeFault}
 use Rattle.npf_config_changes.specs.declared.fault.ChangeFault.TheVariants.{UnknownTable, Table}
 use Rattle.npf_config_changes.specs.Rulesets.{are_one_name}
-use Rattle.npf_config_changes.specs.Told.{too_many}
+use Rattle.npf_config_changes.specs.Told.{told_count, too_many}
 
 -- a table of a configuration: its place, its kind and its entries
 pub record TableAt : Type 0 where
@@ -29,17 +28,15 @@ pub record TableAt : Type 0 where
   pub kind : Kind
   pub entries : List Prefix
 
--- the table of this name is there
-pub record IsTableAt (name : Name) (config : Configuration) (found : TableAt) : Type 0 where
-  pub decl : TableDecl
+-- the table of this name is there; of all tables these are the kinds
+pub record IsTableAt (name : Name) (kinds : List Kind) (config : Configuration) (found : TableAt) : Type 0 where
   pub first : first_where (λ other. are_one_name other.name name) 0 config.model.tables ≡ Some found.place
-  pub there : slice_get config.model.tables found.place ≡ Some decl
-  pub kind : found.kind ≡ decl.kind
+  pub kind : slice_get kinds found.place ≡ Some found.kind
   pub entries : slice_get config.tables found.place ≡ Some found.entries
 
-pub data FindsTable (name : Name) (config : Configuration) : Result TableAt ChangeFault → Type 0 where
-  found : {table : TableAt} → IsTableAt name config table → FindsTable name config (Ok table)
-  unknown : first_where (λ other. are_one_name other.name name) 0 config.model.tables ≡ None → FindsTable name config (Err UnknownTable)
+pub data FindsTable (name : Name) (kinds : List Kind) (config : Configuration) : Result TableAt ChangeFault → Type 0 where
+  found : {table : TableAt} → IsTableAt name kinds config table → FindsTable name kinds config (Ok table)
+  unknown : first_where (λ other. are_one_name other.name name) 0 config.model.tables ≡ None → FindsTable name kinds config (Err UnknownTable)
 
 -- the kind of a table leaves it to be changed by this prefix: a const table never changes, and an ipset one has single addresses only
 pub data AllowsChange (kind : Kind) (prefix : Prefix) : Result (Unit {0}) ChangeFault → Type 0 where
@@ -67,15 +64,16 @@ with_entries place entries old = record old { tables = take place old.tables ++ 
 abbrev pub beginning : Span
 beginning = record { line = 1; col = 1; at = 0; len = 0 }
 
--- the tables have so few entries as they may have
+-- the tables have so few entries as they may have; more are told as they are counted
 abbrev pub KeepsEntries : Configuration → Stage (Unit {0}) ChangeFault
-KeepsEntries next = asks_that (nat_le (entry_count next.tables) MAX_TABLE_ENTRIES) (too_many beginning Entries (entry_count next.tables))
+KeepsEntries next = asks_that (nat_le (entry_count next.tables) MAX_TABLE_ENTRIES) (too_many beginning Entries (told_count (entry_count next.tables)))
 
-module _ (old : Configuration) (name : Name) (prefix : Prefix) where
+-- the tables of the configuration are of these kinds
+module _ (kinds : List Kind) (old : Configuration) (name : Name) (prefix : Prefix) where
   -- the prefix is added to the table
   abbrev pub AddsEntry : Stage Configuration ChangeFault
   AddsEntry =
-      FindsTable name old andthen λ table.
+      FindsTable name kinds old andthen λ table.
       AllowsChange table.kind prefix andthen λ _.
       GainsEntry table.entries prefix andthen λ entries.
       let next = with_entries table.place entries old in
@@ -84,6 +82,6 @@ module _ (old : Configuration) (name : Name) (prefix : Prefix) where
   -- the prefix is taken out of the table
   abbrev pub RemovesEntry : Stage Configuration ChangeFault
   RemovesEntry =
-      FindsTable name old andthen λ table.
+      FindsTable name kinds old andthen λ table.
       AllowsChange table.kind prefix andthen λ _.
       LosesEntry table.entries prefix andthen λ entries. gives (with_entries table.place entries old)

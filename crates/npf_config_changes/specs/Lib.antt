@@ -1,6 +1,7 @@
 pub mod Additions
 pub mod ChangeLaws
 pub mod Changes
+pub mod Elements
 pub mod Entries
 pub mod Found
 pub mod Kept

@@ -1,5 +1,5 @@
 -- How the refusals of what a change calls are told, and what a fault says of a change.
-use Rattle.std.specs.Prelude.{◌≢◌, ℕ, Err}
+use Rattle.std.specs.Prelude.{◌≢◌, ◌-◌, ◌^◌, ℕ, Err, min}
 use Rattle.npf_types.specs.declared.span.Span.{Span}
 use Rattle.npf_faults.specs.declared.fault.Excess.{Excess}
 use Rattle.npf_faults.specs.declared.fault.Fault.TheVariants.{TooMany}
@@ -18,6 +18,10 @@ told_of_text Text.NoMemory = NoMemory
 abbrev pub told_of_table : TableFault → ChangeFault
 told_of_table OfTable.NoMemory = NoMemory
 told_of_table fault = Table fault
+
+-- a count as it is told: one that passes 64 bits stands still at their end
+abbrev pub told_count : ℕ → ℕ
+told_count count = min count (2 ^ 64 - 1)
 
 -- a limit is passed, told at this place
 abbrev pub too_many : Span → Excess → ℕ → ChangeFault

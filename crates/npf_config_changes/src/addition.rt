@@ -1,28 +1,30 @@
 // A rule added to a dynamic ruleset.
-ghost use Rattle.std.specs.Prelude.{◌≡◌, ◌≤◌, ◌+◌, ℕ, Ok, IfOk, IfErr, length};
+ghost use Rattle.std.specs.Prelude.{◌≡◌, ◌≤◌, ◌+◌, ℕ, Ok, IfOk, IfErr, OnOk, length};
+ghost use Rattle.std.specs.List.{AllZip};
+ghost use Rattle.npf_model.specs.Verdict.{all_rules};
 ghost use Rattle.npf_bpfgen.specs.Condition.{HasTableNumbers};
 ghost use Rattle.npf_ruleset.specs.Configuration.{configuration};
+ghost use Rattle.npf_ruleset.specs.Flat.{instructions};
 ghost use Rattle.npf_config.specs.Loaded.{HasNextIds, IsLoaded};
 ghost use Rattle.npf_config_changes.specs.Additions.{AddsRule, KeepsCounts, KeepsLimits};
 ghost use Rattle.npf_config_changes.specs.Changes.{with_ruleset};
 ghost use Rattle.npf_config_changes.specs.Rulesets.{with_rule_added};
-ghost use Rattle.npf_config_changes.specs.Kept.{IsServed};
+ghost use Rattle.npf_config_changes.specs.Kept.{IsServed, Serves};
 ghost use Rattle.npf_config_changes.specs.Told.{EndsUnlessMemory, too_many};
 
-use crate::change::{Change, changed_model};
+use crate::change::Change;
 use crate::fault::ChangeFault;
 use crate::finding::find_ruleset;
 use crate::limit::{has_short_lists, model_elements};
-use crate::programs::changed_programs;
+use crate::next::{changed, with_model};
 use crate::reading::{mean_rule, read_rule};
-use crate::shared::shared;
 use npf_bpf::Program;
 use npf_bpfgen::{GenFault, compile, weight};
 use npf_faults::{Excess, Fault};
-use npf_model::{Ifaces, Rule};
-use npf_ruleset::{Config, assemble, instructions};
+use npf_model::{Ifaces, Model, Rule};
+use npf_ruleset::{Config, instructions};
 use npf_types::limits::{
-    MAX_INSTRUCTIONS, MAX_LIST_ELEMENTS, MAX_RULE_WEIGHT, MAX_RULES, MAX_TEXT_BYTES,
+    MAX_INSTRUCTIONS, MAX_LIST_ELEMENTS, MAX_MAPS, MAX_RULE_WEIGHT, MAX_RULES, MAX_TEXT_BYTES,
 };
 use npf_types::{Name, Span};
 use std::alloc::Global;
@@ -39,12 +41,11 @@ pub fn rule_add(
     text: &[u8],
     ifaces: &Ifaces,
 ) -> Result<(Config, u32), ChangeFault>
-    requires loaded { IsLoaded config.now }
     requires text { length text.now ≤ MAX_TEXT_BYTES }
     requires ids { HasNextIds 4294967294 config.now.model }
     ensures ok { IfOk result (λ added. AddsRule (configuration config.now) name ifaces.now.list text.now (Ok (configuration added.0, added.1))) }
     ensures err { IfErr result (EndsUnlessMemory (AddsRule (configuration config.now) name ifaces.now.list text.now)) }
-    ensures loaded { IfOk result (λ added. IsLoaded added.0) }
+    ensures loaded { IsLoaded config.now → IfOk result (λ added. IsLoaded added.0) }
     ensures ids { (most : ℕ) → HasNextIds most config.now.model → IfOk result (λ added. HasNextIds (most + 1) added.0.model) }
 {
     let Some(found) = find_ruleset(config.model().groups.as_slice(), &name) else {
@@ -64,13 +65,12 @@ fn with_rule(
     span: Span,
     rule: &Rule,
 ) -> Result<Config, ChangeFault>
-    requires loaded { IsLoaded config.now }
     requires ids { HasNextIds 4294967294 config.now.model }
     requires tables { HasTableNumbers rule.now }
     ensures is { IfOk result (λ next. configuration next ≡ with_ruleset name.now (with_rule_added rule.now) (configuration config.now)) }
     ensures limits { IfOk result (λ next. KeepsLimits span rule.now next.model (Ok tt)) }
     ensures err { IfErr result (EndsUnlessMemory (KeepsLimits span rule.now (with_ruleset name.now (with_rule_added rule.now) (configuration config.now)).model)) }
-    ensures loaded { IfOk result IsLoaded }
+    ensures loaded { IsLoaded config.now → IfOk result IsLoaded }
     ensures ids { (most : ℕ) → HasNextIds most config.now.model → IfOk result (λ next. HasNextIds (most + 1) next.model) }
 {
     if !has_short_lists(rule) {
@@ -97,37 +97,45 @@ fn with_program(
     rule: &Rule,
     program: &Program,
 ) -> Result<Config, ChangeFault>
-    requires loaded { IsLoaded config.now }
     requires ids { HasNextIds 4294967294 config.now.model }
     requires served { IsServed (Change.Added rule program) }
     ensures is { IfOk result (λ next. configuration next ≡ with_ruleset name.now (with_rule_added rule.now) (configuration config.now)) }
     ensures limits { IfOk result (λ next. KeepsCounts span next.model (Ok tt)) }
     ensures err { IfErr result (EndsUnlessMemory (KeepsCounts span (with_ruleset name.now (with_rule_added rule.now) (configuration config.now)).model)) }
-    ensures loaded { IfOk result IsLoaded }
+    ensures loaded { IsLoaded config.now → IfOk result IsLoaded }
     ensures ids { (most : ℕ) → HasNextIds most config.now.model → IfOk result (λ next. HasNextIds (most + 1) next.model) }
 {
     let change = Change::Added { rule, program };
-    let groups = config.model().groups.as_slice();
-    let programs = changed_programs(alloc, groups, config.rules(), name, change)?;
+    let (model, programs) = changed(alloc, config, name, change)?;
+    keep_counts(span, &model, &programs)?;
+    Ok(with_model(alloc, config, model, programs)?)
+}
+
+/// Whether all rules together keep their limits, told at the rule that is added.
+fn keep_counts(span: Span, model: &Model, programs: &[Program]) -> Result<(), ChangeFault>
+    requires serve { AllZip Serves (all_rules model.now.groups) programs.now }
+    requires maps { length model.now.maps ≤ MAX_MAPS }
+    ensures kept { OnOk result (KeepsCounts span model.now (Ok tt)) }
+    ensures few { OnOk result (length (all_rules model.now.groups) ≤ MAX_RULES) }
+    ensures short { OnOk result (instructions programs.now ≤ MAX_INSTRUCTIONS) }
+    ensures passed { IfErr result (EndsUnlessMemory (KeepsCounts span model.now)) }
+{
     let count = programs.len();
     if count > MAX_RULES {
         let many_rules = past(span, Excess::Rules, MAX_RULES as u64 + 1);
         return Err(many_rules);
     }
-    let total = instructions(&programs);
-    let model = changed_model(alloc, config.model(), name, change)?;
-    let tables = shared(alloc, config.tables())?;
-    let next = assemble(alloc, model, tables, programs)?;
-    let elements = model_elements(&next);
+    let elements = model_elements(model);
     if elements > MAX_LIST_ELEMENTS as u128 {
         let many_elements = past(span, Excess::Elements, MAX_LIST_ELEMENTS as u64 + 1);
         return Err(many_elements);
     }
+    let total = instructions(programs);
     if total > MAX_INSTRUCTIONS as u64 {
         let many_instructions = past(span, Excess::Instructions, total);
         return Err(many_instructions);
     }
-    Ok(next)
+    Ok(())
 }
 
 fn past(span: Span, excess: Excess, count: u64) -> ChangeFault

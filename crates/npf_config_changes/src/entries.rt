@@ -1,14 +1,14 @@
 // The entries of a table added and taken out.
-ghost use Rattle.std.specs.Prelude.{◌≡◌, ◌≢◌, ◌≤◌, ◌<◌, ℕ, Ok, IfOk, IfErr, length, map, set};
+ghost use Rattle.std.specs.Prelude.{◌≡◌, ◌≢◌, ◌<◌, ℕ, Ok, IfOk, IfErr, length, map, set};
 ghost use Rattle.std.specs.Arc.{arc_value};
 ghost use Rattle.std.specs.List.{AllPairs};
 ghost use Rattle.npf_table.specs.Table.{prefixes};
 ghost use Rattle.npf_ruleset.specs.Configuration.{configuration, programs};
 ghost use Rattle.npf_ruleset.specs.Tables.{entries};
 ghost use Rattle.npf_config.specs.Loaded.{HasNextIds, IsLoaded};
-ghost use Rattle.npf_config.specs.Tables.{entry_count};
+ghost use Rattle.npf_config.specs.Tables.{entry_count, table_kinds};
 ghost use Rattle.npf_config_changes.specs.Entries.{AddsEntry, RemovesEntry, beginning};
-ghost use Rattle.npf_config_changes.specs.Told.{EndsUnlessMemory};
+ghost use Rattle.npf_config_changes.specs.Told.{EndsUnlessMemory, told_count};
 
 use crate::fault::ChangeFault;
 use crate::finding::table_place;
@@ -23,17 +23,19 @@ use std::sync::Arc;
 
 /// The configuration in which the table of this name has the prefix too. Refused, in this order: `UnknownTable`; `Table` with
 /// `ReadOnly`, `WrongKind` or `Present`, as the table refuses it; `Conf` with the entries of all tables, where they would pass
-/// `MAX_TABLE_ENTRIES` (49); or for want of memory.
+/// `MAX_TABLE_ENTRIES` (49); or for want of memory. A table's kind is its own, which in a loaded
+/// configuration is the declared one.
 pub fn table_add(
     alloc: Global,
     config: &Config,
     name: Name,
     prefix: Prefix,
 ) -> Result<Config, ChangeFault>
-    requires { IsLoaded config.now }
-    ensures ok { IfOk result (λ next. AddsEntry (configuration config.now) name prefix (Ok (configuration next))) }
-    ensures err { IfErr result (EndsUnlessMemory (AddsEntry (configuration config.now) name prefix)) }
-    ensures loaded { IfOk result IsLoaded }
+    ensures ok { IfOk result (λ next.
+        AddsEntry (table_kinds config.now.tables.items) (configuration config.now) name prefix (Ok (configuration next))) }
+    ensures err { IfErr result (EndsUnlessMemory
+        (AddsEntry (table_kinds config.now.tables.items) (configuration config.now) name prefix)) }
+    ensures loaded { IsLoaded config.now → IfOk result IsLoaded }
     ensures ids { (most : ℕ) → HasNextIds most config.now.model → IfOk result (λ next. HasNextIds most next.model) }
 {
     let Some(at) = table_place(config.model().tables.as_slice(), &name) else {
@@ -42,7 +44,7 @@ pub fn table_add(
     let mut table = config.tables()[at].copy(alloc)?;
     table.add(prefix)?;
     each_once(&table);
-    let count = entry_count(config.tables()) + 1;
+    let count = entry_count(config.tables()).saturating_add(1);
     if count > MAX_TABLE_ENTRIES as u64 {
         let fault = Fault::TooMany(Excess::Entries, count);
         return Err(ChangeFault::at(beginning(), fault));
@@ -58,10 +60,11 @@ pub fn table_rem(
     name: Name,
     prefix: Prefix,
 ) -> Result<Config, ChangeFault>
-    requires { IsLoaded config.now }
-    ensures ok { IfOk result (λ next. RemovesEntry (configuration config.now) name prefix (Ok (configuration next))) }
-    ensures err { IfErr result (EndsUnlessMemory (RemovesEntry (configuration config.now) name prefix)) }
-    ensures loaded { IfOk result IsLoaded }
+    ensures ok { IfOk result (λ next.
+        RemovesEntry (table_kinds config.now.tables.items) (configuration config.now) name prefix (Ok (configuration next))) }
+    ensures err { IfErr result (EndsUnlessMemory
+        (RemovesEntry (table_kinds config.now.tables.items) (configuration config.now) name prefix)) }
+    ensures loaded { IsLoaded config.now → IfOk result IsLoaded }
     ensures ids { (most : ℕ) → HasNextIds most config.now.model → IfOk result (λ next. HasNextIds most next.model) }
 {
     let Some(at) = table_place(config.model().tables.as_slice(), &name) else {
@@ -85,14 +88,13 @@ fn beginning() -> Span
     }
 }
 
-/// How many entries tables have together, of which there are at most `MAX_TABLE_ENTRIES`.
+/// How many entries tables have together. A count past 64 bits stands still at their end.
 fn entry_count(tables: &[Arc<Table>]) -> u64
-    requires { entry_count (entries tables.now) ≤ MAX_TABLE_ENTRIES }
-    ensures { result ≡ entry_count (entries tables.now) }
+    ensures { result ≡ told_count (entry_count (entries tables.now)) }
 {
-    let mut count = 0;
+    let mut count: u64 = 0;
     for table in tables {
-        count += table.len();
+        count = count.saturating_add(table.len());
     }
     count
 }

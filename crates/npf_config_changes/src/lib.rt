@@ -3,8 +3,8 @@
 // walked; the tables that don't change are shared with it, and no rule that stays is compiled again.
 //
 // `finding` finds what a name names. `entries` changes a table; `addition` and `removal` change a ruleset: `reading` reads a rule's
-// text, `limit` counts for the limits, `change` says what becomes of the rules, in a copy of the model, and `programs` keeps the
-// programs of those that stay. `shared` shares the tables. `laws`: each change comes to one answer.
+// text, `limit` counts for the limits, `change` says what becomes of the rules, in a copy of the model, `programs` keeps the
+// programs of those that stay, and `next` lays both out. `shared` shares the tables. `laws`: each change comes to one answer.
 //
 // The contract in words: a change gives exactly the configuration that specs/Entries, specs/Additions and specs/Changes say, in which
 // all else is as it was, or is refused for the first of its stages that has a fault; want of memory says nothing.
@@ -17,6 +17,7 @@ mod fault;
 mod finding;
 pub mod laws;
 mod limit;
+mod next;
 mod programs;
 mod reading;
 mod removal;

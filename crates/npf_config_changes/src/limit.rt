@@ -1,14 +1,12 @@
 // How many elements the lists of rules have.
-ghost use Rattle.std.specs.Prelude.{◌≡◌, ◌≤◌, IsTrue, length};
+ghost use Rattle.std.specs.Prelude.{◌≡◌, ◌≤◌, ◌^◌, IsTrue, length};
 ghost use Rattle.std.specs.List.{sum_by};
 ghost use Rattle.npf_model.specs.Count.{elements_of, listed};
-ghost use Rattle.npf_model.specs.Verdict.{all_rules};
 ghost use Rattle.npf_bpfgen.specs.RuleWeight.{HasShortEnds, HasShortLists};
 ghost use Rattle.npf_ruleset.specs.Refusal.{IsBuildable};
-ghost use Rattle.npf_config_changes.specs.Additions.{filter_elements_of, model_elements};
+ghost use Rattle.npf_config_changes.specs.Elements.{filter_elements_of, group_elements, item_elements, model_elements};
 
-use npf_model::{Ends, Map, Rule};
-use npf_ruleset::Config;
+use npf_model::{Ends, Group, Item, Map, Model, Rule};
 use npf_types::List;
 
 /// No memory holds a list of so many elements, and the weight of shorter ones is a number of 64 bits.
@@ -38,24 +36,54 @@ fn count<T>(list: &Option<List<T>>) -> usize
     }
 }
 
-/// How many elements the lists of a configuration have.
-pub(crate) fn model_elements(config: &Config) -> u128
-    requires buildable { IsBuildable config.now.model }
-    requires rules { length config.now.rules ≡ length (all_rules config.now.model.groups) }
-    ensures { result ≡ model_elements config.now.model }
+/// How many elements the lists of a model have.
+pub(crate) fn model_elements(model: &Model) -> u128
+    requires { IsBuildable model.now }
+    ensures { result ≡ model_elements model.now }
 {
-    rules_elements(config) + maps_elements(config.model().maps.as_slice())
+    groups_elements(model.groups.as_slice()) + maps_elements(model.maps.as_slice())
 }
 
-fn rules_elements(config: &Config) -> u128
-    requires few { length (all_rules config.now.model.groups) ≤ 4096 }
-    requires rules { length config.now.rules ≡ length (all_rules config.now.model.groups) }
-    ensures value { result ≡ sum_by (λ placed. elements_of placed.rule) (all_rules config.now.model.groups) }
-    ensures bound { result ≤ 377789318629571617095680 }
+fn groups_elements(groups: &[Group]) -> u128
+    requires { sum_by group_elements groups.now ≤ 2 ^ 80 }
+    ensures value { result ≡ sum_by group_elements groups.now }
+    ensures bound { result ≤ 2 ^ 80 }
 {
     let mut total = 0;
-    for at in 0..config.rules().len() {
-        total += rule_elements(config.rule(at as u32));
+    for group in groups {
+        total += items_elements(group.items.as_slice());
+    }
+    total
+}
+
+fn items_elements(items: &[Item]) -> u128
+    requires { sum_by item_elements items.now ≤ 2 ^ 80 }
+    ensures { result ≡ sum_by item_elements items.now }
+{
+    let mut total = 0;
+    for item in items {
+        total += item_elements(item);
+    }
+    total
+}
+
+fn item_elements(item: &Item) -> u128
+    requires { item_elements item.now ≤ 2 ^ 80 }
+    ensures { result ≡ item_elements item.now }
+{
+    match item {
+        Item::One(rule) => rule_elements(rule),
+        Item::Dynamic { rules, .. } => numbered_elements(rules.as_slice()),
+    }
+}
+
+fn numbered_elements(rules: &[(u32, Rule)]) -> u128
+    requires { sum_by (λ numbered. elements_of numbered.1) rules.now ≤ 2 ^ 80 }
+    ensures { result ≡ sum_by (λ numbered. elements_of numbered.1) rules.now }
+{
+    let mut total = 0;
+    for numbered in rules {
+        total += rule_elements(&numbered.1);
     }
     total
 }

@@ -6,22 +6,20 @@ ghost use Rattle.npf_config_changes.specs.Changes.{FlushesRules, RemovesRule, wi
 ghost use Rattle.npf_config_changes.specs.Kept.{TakesOut, ruleset_change};
 ghost use Rattle.npf_config_changes.specs.Told.{EndsUnlessMemory};
 
-use crate::change::{Change, changed_model};
+use crate::change::Change;
 use crate::fault::ChangeFault;
 use crate::finding::find_ruleset;
-use crate::programs::changed_programs;
-use crate::shared::shared;
-use npf_ruleset::{Config, assemble};
+use crate::next::{changed, with_model};
+use npf_ruleset::Config;
 use npf_types::{Name, NoMemory};
 use std::alloc::Global;
 
 /// The configuration in which the ruleset of this name hasn't the rule of this number. Refused, in this order: `UnknownRuleset`,
 /// `UnknownRule`; or for want of memory.
 pub fn rule_rem(alloc: Global, config: &Config, name: Name, id: u32) -> Result<Config, ChangeFault>
-    requires { IsLoaded config.now }
     ensures ok { IfOk result (λ next. RemovesRule (configuration config.now) name id (Ok (configuration next))) }
     ensures err { IfErr result (EndsUnlessMemory (RemovesRule (configuration config.now) name id)) }
-    ensures loaded { IfOk result IsLoaded }
+    ensures loaded { IsLoaded config.now → IfOk result IsLoaded }
     ensures ids { (most : ℕ) → HasNextIds most config.now.model → IfOk result (λ next. HasNextIds most next.model) }
 {
     let Some(found) = find_ruleset(config.model().groups.as_slice(), &name) else {
@@ -36,10 +34,9 @@ pub fn rule_rem(alloc: Global, config: &Config, name: Name, id: u32) -> Result<C
 /// The configuration in which the ruleset of this name has no rules; its next number stays. Refused with `UnknownRuleset`, or
 /// for want of memory.
 pub fn rule_flush(alloc: Global, config: &Config, name: Name) -> Result<Config, ChangeFault>
-    requires { IsLoaded config.now }
     ensures ok { IfOk result (λ next. FlushesRules (configuration config.now) name (Ok (configuration next))) }
     ensures err { IfErr result (EndsUnlessMemory (FlushesRules (configuration config.now) name)) }
-    ensures loaded { IfOk result IsLoaded }
+    ensures loaded { IsLoaded config.now → IfOk result IsLoaded }
     ensures ids { (most : ℕ) → HasNextIds most config.now.model → IfOk result (λ next. HasNextIds most next.model) }
 {
     let Some(_) = find_ruleset(config.model().groups.as_slice(), &name) else {
@@ -55,15 +52,11 @@ fn without(
     name: &Name,
     change: Change<'_>,
 ) -> Result<Config, NoMemory>
-    requires loaded { IsLoaded config.now }
-    requires takes { TakesOut change }
+    requires { TakesOut change }
     ensures is { IfOk result (λ next. configuration next ≡ with_ruleset name.now (ruleset_change change.entry) (configuration config.now)) }
-    ensures loaded { IfOk result IsLoaded }
+    ensures loaded { IsLoaded config.now → IfOk result IsLoaded }
     ensures ids { (most : ℕ) → HasNextIds most config.now.model → IfOk result (λ next. HasNextIds most next.model) }
 {
-    let groups = config.model().groups.as_slice();
-    let programs = changed_programs(alloc, groups, config.rules(), name, change)?;
-    let model = changed_model(alloc, config.model(), name, change)?;
-    let tables = shared(alloc, config.tables())?;
-    assemble(alloc, model, tables, programs)
+    let (model, programs) = changed(alloc, config, name, change)?;
+    with_model(alloc, config, model, programs)
 }

@@ -118,10 +118,10 @@ module _ (groups : List Group) (places : List Place) (are : ArePlacesOf groups p
       omega arith
 
   -- one rule more is laid out
-  pub laid_more : (placed : PlacedRule) → slice_get (all_rules groups) (length flats) ≡ Some placed → (flat : FlatRule) → (IsCompiled placed.rule program → IsLight placed → IsFlatRule groups placed flat)
+  pub laid_more : (placed : PlacedRule) → slice_get (all_rules groups) (length flats) ≡ Some placed → (flat : FlatRule) → (IsCompiled placed.rule program → IsFlatRule groups placed flat)
       → AllZip (IsFlatRule groups) (take (length flats) (all_rules groups)) flats → AllZip (IsFlatRule groups) (take (length (flats ++ flat ∷ [])) (all_rules groups)) (flats ++ flat ∷ [])
   laid_more placed here flat is laid =
-      let stands = is (zip_each (λ (placed : PlacedRule). IsCompiled placed.rule) (all_rules groups) programs compiled.each (length flats) placed program here next_program) (all_at IsLight (all_rules groups) (length flats) placed compiled.light here) in
+      let stands = is (zip_each (λ (placed : PlacedRule). IsCompiled placed.rule) (all_rules groups) programs compiled.each (length flats) placed program here next_program) in
       subst (λ k. AllZip (IsFlatRule groups) (take k (all_rules groups)) (flats ++ flat ∷ [])) (sym (length-append flats (flat ∷ [])))
       (subst (λ front. AllZip (IsFlatRule groups) front (flats ++ flat ∷ [])) (sym (up_to (all_rules groups) (length flats) placed here))
       (zip_append (IsFlatRule groups) (take (length flats) (all_rules groups)) (placed ∷ []) flats (flat ∷ []) laid (stands, tt)))

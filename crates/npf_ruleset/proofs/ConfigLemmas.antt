@@ -2,32 +2,31 @@
 use Rattle.std.proofs.Common.{◌≡◌, ◌<◌, ℕ, Some, length, get_or, slice_get, refl, sym, subst, ap, ◌∙◌, arith}
 use Rattle.std.specs.Prelude.{unwrap_or}
 use Rattle.std.specs.Option.{option_map}
-use Rattle.std.proofs.lemmas.Option.{slice_get_read, slice_get_within}
+use Rattle.std.proofs.lemmas.Option.{slice_get-map, slice_get_read, slice_get_within}
 use Rattle.npf_model.specs.Verdict.{PlacedRule, all_rules}
-use Rattle.npf_bpf.specs.Validity.{IsValid}
-use Rattle.npf_bpfgen.proofs.ProgramLengthLemmas.{length_weighs}
 use Rattle.npf_ruleset.specs.declared.config.Config.{Config}
 use Rattle.npf_ruleset.specs.declared.flat.FlatRule.{FlatRule}
-use Rattle.npf_ruleset.specs.Flat.{IsCompiled, IsFlatRule}
+use Rattle.npf_ruleset.specs.Flat.{IsCompiled, IsFlatRule, programs_of}
 use Rattle.npf_ruleset.specs.Place.{IsPlaceOfRule, placed_at}
 use Rattle.npf_ruleset.specs.RuleAt.{IsProgramAt, rule_at}
-use Rattle.npf_ruleset.proofs.PairLemmas.{drop_here}
+use Rattle.npf_ruleset.proofs.PairLemmas.{drop_here, zip_each}
 
 module _ (config : Config) (i : ℕ) (flat : FlatRule) (within : i < length (all_rules config.model.groups)) (is : flat ≡ get_or config.rules i flat) where
   there : (placed : PlacedRule) × (slice_get (all_rules config.model.groups) i ≡ Some placed)
   there = let found = drop_here (all_rules config.model.groups) i within in (found.0, found.2)
 
-  stands : IsFlatRule config.model.groups there.0 flat
-  stands =
-      let len = config.flat.rule_count in
-      config.flat.each_rule i there.0 flat there.1 (slice_get_read config.rules (length config.rules) i flat refl (omega arith) is)
+  read : slice_get config.rules i ≡ Some flat
+  read = let len = config.flat.rule_count in slice_get_read config.rules (length config.rules) i flat refl (omega arith) is
 
-  pub has_program : IsValid flat.program → IsProgramAt config.model i flat.program
-  has_program valid = λ rule at.
+  stands : IsFlatRule config.model.groups there.0 flat
+  stands = config.flat.each_rule i there.0 flat there.1 read
+
+  pub has_program : IsProgramAt config.model i flat.program
+  has_program = λ rule at.
       let same : there.0.rule ≡ rule = ap (λ o. unwrap_or o there.0.rule) (sym (ap (option_map (λ placed. placed.rule)) there.1) ∙ at) in
-      let weighs = length_weighs there.0.rule in
-      let count = stands.count in
-      subst (λ r. IsCompiled r flat.program) same (record { value = stands.value; valid = valid; count = count; size = omega arith })
+      let here = slice_get-map (λ (one : FlatRule). one.program) config.rules i ∙ ap (option_map (λ (one : FlatRule). one.program)) read in
+      subst (λ r. IsCompiled r flat.program) same
+      (zip_each (λ (placed : PlacedRule). IsCompiled placed.rule) (all_rules config.model.groups) (programs_of config.rules) config.limits.compiled.each i there.0 flat.program there.1 here)
 
   pub is_placed : IsPlaceOfRule config.model.groups flat.place
   is_placed = slice_get_within _ flat.place.number there.0 stands.place

@@ -1,5 +1,5 @@
 mod BindingLemmas
-mod CompileLemmas
+pub mod CompileLemmas
 mod ConfigLemmas
 mod DescribesLemmas
 mod FinalLemmas

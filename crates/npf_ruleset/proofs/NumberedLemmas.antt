@@ -1,26 +1,31 @@
 -- The flat rules of a configuration whose interfaces' numbers are set anew.
-use Rattle.std.proofs.Common.{◌≡◌, ℕ, ◌||◌, List, [], ◌∷◌, ◌++◌, Option, Some, None, length, map, flat_map, option_and_then, slice_get, refl, sym, subst, ap, ◌∙◌}
+use Rattle.std.proofs.Common.{◌≡◌, ◌≤◌, ℕ, All, ◌||◌, List, [], ◌∷◌, ◌++◌, Option, Some, None, length, map, flat_map, option_and_then, slice_get, refl, sym, subst, ap, ◌∙◌}
 use Rattle.std.specs.List.{AllZip, list_any}
 use Rattle.std.specs.Option.{option_map}
 use Rattle.std.proofs.lemmas.List.{length-map, map-append}
 use Rattle.std.proofs.lemmas.List.Concat.{flat_map-cons}
+use Rattle.std.proofs.lemmas.List.Elements.{All-map, All-weaker}
 use Rattle.std.proofs.lemmas.Option.{slice_get-map}
 use Rattle.std.proofs.lemmas.Slice.Zip.{AllZip-long}
 use Rattle.npf_types.specs.declared.direction.Dir.{Dir}
+use Rattle.npf_types.specs.declared.limits.TheConstants.{MAX_MAPS, MAX_RULES}
 use Rattle.npf_model.specs.declared.group.Group.{Group}
 use Rattle.npf_model.specs.declared.group.Item.{Item}
 use Rattle.npf_model.specs.declared.group.Item.TheVariants.{One, Dynamic}
 use Rattle.npf_model.specs.declared.iface.Iface.{Iface}
+use Rattle.npf_model.specs.declared.model.Model.{Model}
 use Rattle.npf_model.specs.declared.rule.OnIf.{OnIf}
 use Rattle.npf_model.specs.declared.rule.Rule.{Rule}
-use Rattle.npf_model.specs.Numbering.{numbered_entry, numbered_group, numbered_item, numbered_on, numbered_rule}
+use Rattle.npf_model.specs.Numbering.{numbered, numbered_entry, numbered_group, numbered_item, numbered_map, numbered_on, numbered_rule}
 use Rattle.npf_model.specs.Verdict.{PlacedRule, all_rules, rules_at, rules_of}
+use Rattle.npf_bpf.specs.declared.insn.Insn.{Insn}
 use Rattle.npf_ruleset.specs.declared.flat.FlatGroup.{FlatGroup}
 use Rattle.npf_ruleset.specs.declared.flat.FlatRule.{FlatRule}
 use Rattle.npf_ruleset.specs.declared.place.Place.{Place}
-use Rattle.npf_ruleset.specs.Flat.{IsFlat, IsFlatGroup, IsFlatRule, item_has_final, programs_of}
+use Rattle.npf_ruleset.specs.Flat.{IsCompiled, IsFlat, IsFlatGroup, IsFlatRule, item_has_final, programs_of}
 use Rattle.npf_ruleset.specs.Numbered.{numbered_flat_group, numbered_flat_rule}
 use Rattle.npf_ruleset.specs.Place.{placed_at, rules_in}
+use Rattle.npf_ruleset.specs.Refusal.{IsBuildable, IsCompilable, IsLight, IsWithinLimits}
 use Rattle.npf_ruleset.proofs.PairLemmas.{zip_each, zip_of}
 
 module _ (ifaces : List Iface) where
@@ -84,8 +89,6 @@ module _ (ifaces : List Iface) where
       last = is.last;
       row = is.row;
       value = is.value;
-      count = is.count;
-      weight = is.weight;
     }
 
     rules_numbered : (rules : List PlacedRule) (flats : List FlatRule) → AllZip (IsFlatRule groups) rules flats
@@ -144,3 +147,47 @@ module _ (ifaces : List Iface) where
   pub programs_numbered : (rules : List FlatRule) → programs_of (map (numbered_flat_rule ifaces) rules) ≡ programs_of rules
   programs_numbered [] = refl
   programs_numbered (rule ∷ rules) = ap (λ rest. rule.program ∷ rest) (programs_numbered rules)
+
+  -- the programs of rules are those of the rules with other numbers
+  compiled_stay : (rules : List PlacedRule) (code : List (List Insn)) → AllZip (λ (placed : PlacedRule). IsCompiled placed.rule) rules code
+      → AllZip (λ (placed : PlacedRule). IsCompiled placed.rule) (map (numbered_placed ifaces) rules) code
+  unfolding numbered_placed
+  compiled_stay [] [] are = tt
+  compiled_stay (placed ∷ rules) (program ∷ code) are =
+      (record { value = are.0.value; valid = are.0.valid; count = are.0.count; size = are.0.size }, compiled_stay rules code are.1)
+  compiled_stay [] (program ∷ code) are = absurd are
+  compiled_stay (placed ∷ rules) [] are = absurd are
+
+  light_stays : (placed : PlacedRule) → IsLight placed → IsLight (numbered_placed ifaces placed)
+  unfolding numbered_placed
+  light_stays placed light = light
+
+  compilable_stays : (placed : PlacedRule) → IsCompilable placed → IsCompilable (numbered_placed ifaces placed)
+  unfolding numbered_placed
+  compilable_stays placed is = record {
+    lists = record { protos = is.lists.protos; from = is.lists.from; to = is.lists.to };
+    tables = record { from = is.tables.from; to = is.tables.to };
+  }
+
+  all_stay : (P : PlacedRule → Type 0) → ((placed : PlacedRule) → P placed → P (numbered_placed ifaces placed)) → (groups : List Group) → All P (all_rules groups)
+      → All P (all_rules (map (numbered_group ifaces) groups))
+  all_stay P stays groups all =
+      subst (All P) (sym (in_all groups))
+      (All-map P (numbered_placed ifaces) (all_rules groups) (All-weaker P (λ placed. P (numbered_placed ifaces placed)) stays (all_rules groups) all))
+
+  pub limits_numbered : (model : Model) (code : List (List Insn)) → IsWithinLimits model code → IsWithinLimits (numbered ifaces model) code
+  limits_numbered model code limits = record {
+    compiled = record {
+      each = subst (λ (rules : List PlacedRule). AllZip (λ (placed : PlacedRule). IsCompiled placed.rule) rules code) (sym (in_all model.groups))
+          (compiled_stay (all_rules model.groups) code limits.compiled.each);
+      light = all_stay IsLight light_stays model.groups limits.compiled.light;
+    };
+    few = limits.few;
+  }
+
+  pub buildable_numbered : (model : Model) → IsBuildable model → IsBuildable (numbered ifaces model)
+  buildable_numbered model is = record {
+    rules = subst (λ n. n ≤ MAX_RULES) (sym (ap length (in_all model.groups) ∙ length-map (all_rules model.groups) (numbered_placed ifaces))) is.rules;
+    maps = subst (λ n. n ≤ MAX_MAPS) (sym (length-map model.maps (numbered_map ifaces))) is.maps;
+    compilable = all_stay IsCompilable compilable_stays model.groups is.compilable;
+  }

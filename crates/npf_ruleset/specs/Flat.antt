@@ -20,7 +20,7 @@ use Rattle.npf_ruleset.specs.Row.{IsRowOf}
 -- the program is a valid one of the rule, and has as many instructions as the rule's parts ask for, which the rule's weight bounds
 pub record IsCompiled (rule : Rule) (program : List Insn) : Type 0 where
   pub value : IsProgramOf rule program
-  pub valid : IsValid program
+  pub valid : ∥ IsValid program ∥₁
   pub count : length program ≡ program_length rule
   pub size : length program ≤ weight_of rule
 
@@ -31,8 +31,6 @@ pub record IsFlatRule (groups : List Group) (placed : PlacedRule) (flat : FlatRu
   pub last : flat.last ≡ placed.rule.last
   pub row : IsRowOf placed.rule flat.row
   pub value : IsProgramOf placed.rule flat.program
-  pub count : length flat.program ≡ program_length placed.rule
-  pub weight : weight_of placed.rule ≤ 4096
 
 -- whether a rule of a ruleset, at an item's place, or of a group is `final`
 abbrev pub rules_have_final : List (ℕ × Rule) → Bool

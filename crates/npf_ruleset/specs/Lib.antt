@@ -1,6 +1,7 @@
 pub mod Binding
 pub mod Configuration
 pub mod Flat
+pub mod Invariant
 pub mod Layout
 pub mod Numbered
 pub mod Packet

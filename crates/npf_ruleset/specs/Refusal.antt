@@ -1,10 +1,12 @@
 -- Which models are laid out, and for what one is refused.
 use Rattle.std.specs.Prelude.{◌≡◌, ℕ, ◌≤◌, ◌<◌, List, ◌∷◌, ◌++◌, length, All}
 use Rattle.std.specs.List.{AllZip}
-use Rattle.npf_types.specs.declared.limits.TheConstants.{MAX_INSTRUCTIONS, MAX_MAPS, MAX_RULES, MAX_RULE_WEIGHT}
+use Rattle.std.specs.declared.sync.Arc.{Arc}
+use Rattle.npf_types.specs.declared.limits.TheConstants.{MAX_INSTRUCTIONS, MAX_MAPS, MAX_RULES, MAX_RULE_WEIGHT, MAX_TABLES}
 use Rattle.npf_model.specs.declared.model.Model.{Model}
 use Rattle.npf_model.specs.Verdict.{PlacedRule, all_rules}
 use Rattle.npf_bpf.specs.declared.insn.Insn.{Insn}
+use Rattle.npf_table.specs.declared.table.Table.{Table}
 use Rattle.npf_bpfgen.specs.Condition.{HasTableNumbers}
 use Rattle.npf_bpfgen.specs.RuleWeight.{HasShortLists, weight_of}
 use Rattle.npf_ruleset.specs.declared.fault.BuildFault.{BuildFault}
@@ -20,6 +22,11 @@ pub record IsBuildable (model : Model) : Type 0 where
   pub rules : length (all_rules model.groups) ≤ MAX_RULES
   pub maps : length model.maps ≤ MAX_MAPS
   pub compilable : All IsCompilable (all_rules model.groups)
+
+-- as many tables as the model declares, and few
+pub record HasTables {Z : Type 0} (model : Model) (tables : List (Arc Table Z)) : Type 0 where
+  pub declared : length tables ≡ length model.tables
+  pub few : length model.tables ≤ MAX_TABLES
 
 abbrev pub IsLight : PlacedRule → Type 0
 IsLight placed = weight_of placed.rule ≤ MAX_RULE_WEIGHT

@@ -3,7 +3,7 @@ ghost use Rattle.std.specs.Prelude.{◌≡◌, ◌≤◌, IfOk, IfErr, length};
 ghost use Rattle.npf_model.specs.Verdict.{all_rules};
 ghost use Rattle.npf_ruleset.specs.Configuration.{programs};
 ghost use Rattle.npf_ruleset.specs.Flat.{instructions};
-ghost use Rattle.npf_ruleset.specs.Refusal.{AreProgramsOf, IsBuildable, IsWithinLimits, RefusesModel};
+ghost use Rattle.npf_ruleset.specs.Refusal.{AreProgramsOf, HasTables, IsBuildable, IsWithinLimits, RefusesModel};
 
 use crate::compiling::{compile_all, lay_out};
 use crate::config::Config;
@@ -21,9 +21,11 @@ use std::sync::Arc;
 /// model declares them. Refused for the first rule, in the order of inspection, whose weight passes
 /// 4,096; then where all programs together have more than `MAX_INSTRUCTIONS` instructions; or for
 /// want of memory. The model has at most 4,096 rules and 256 maps, each list of a rule has fewer
-/// than 2^56 elements, and each table's number is below 2^31.
+/// than 2^56 elements, each table's number is below 2^31, and there are as many tables as the model
+/// declares, at most 64.
 pub fn build(alloc: Global, model: Model, tables: Vec<Arc<Table>>) -> Result<Config, BuildFault>
-    requires { IsBuildable model }
+    requires buildable { IsBuildable model }
+    requires tables { HasTables model tables.items }
     ensures model { IfOk result (λ config. config.model ≡ model) }
     ensures tables { IfOk result (λ config. config.tables ≡ tables) }
     ensures accepts { IfOk result (λ config. IsWithinLimits model (programs config)) }
@@ -50,7 +52,8 @@ fn compiled(alloc: Global, model: &Model) -> Result<Vec<Program>, BuildFault>
 }
 
 /// Lays a model out flat with the programs of its rules, in the order of inspection, and its tables.
-/// Nothing is compiled.
+/// Nothing is compiled. What `build` asks of a model and its tables is asked here too, and of the
+/// programs that they keep the limits.
 pub fn assemble(
     alloc: Global,
     model: Model,
@@ -58,7 +61,8 @@ pub fn assemble(
     compiled: Vec<Program>,
 ) -> Result<Config, NoMemory>
     requires buildable { IsBuildable model }
-    requires programs { AreProgramsOf (all_rules model.groups) compiled.items }
+    requires programs { IsWithinLimits model compiled.items }
+    requires tables { HasTables model tables.items }
     ensures model { IfOk result (λ config. config.model ≡ model) }
     ensures tables { IfOk result (λ config. config.tables ≡ tables) }
     ensures programs { IfOk result (λ config. programs config ≡ compiled.items) }

@@ -5,7 +5,7 @@ ghost use Rattle.npf_model.specs.Verdict.{PlacedRule, all_rules};
 ghost use Rattle.npf_ruleset.specs.Flat.{IsCompiled, IsFlatRule, programs_of};
 ghost use Rattle.npf_ruleset.specs.Layout.{ArePlacesOf, fault_there};
 ghost use Rattle.npf_ruleset.specs.Place.{IsPlaceOfRule, placed_at};
-ghost use Rattle.npf_ruleset.specs.Refusal.{AreProgramsOf, IsCompilable, IsLight, RefusesAllRules};
+ghost use Rattle.npf_ruleset.specs.Refusal.{AreProgramsOf, IsCompilable, RefusesAllRules};
 
 use crate::binding::Binding;
 use crate::fault::BuildFault;
@@ -73,7 +73,7 @@ pub(crate) fn lay_out(
 
 fn flat_rule(groups: &[Group], place: Place, program: Program) -> FlatRule
     requires { IsPlaceOfRule groups.now place }
-    ensures stands { (placed : PlacedRule) → placed_at groups.now place ≡ Some placed → IsCompiled placed.rule program → IsLight placed → IsFlatRule groups.now placed result }
+    ensures stands { (placed : PlacedRule) → placed_at groups.now place ≡ Some placed → IsCompiled placed.rule program → IsFlatRule groups.now placed result }
     ensures program { result.program ≡ program }
 {
     let placed = placed_at(groups, place);

@@ -1,6 +1,7 @@
 // The flat configuration.
-ghost use Rattle.std.specs.Prelude.{◌≤◌, length};
-ghost use Rattle.npf_ruleset.specs.Flat.{IsFlat};
+ghost use Rattle.npf_ruleset.specs.Flat.{IsFlat, programs_of};
+ghost use Rattle.npf_ruleset.specs.Invariant.{IsBuildable-prop, IsWithinLimits-prop};
+ghost use Rattle.npf_ruleset.specs.Refusal.{HasTables, IsBuildable, IsWithinLimits};
 
 use crate::flat::{FlatGroup, FlatRule};
 use crate::place::placed_at;
@@ -10,7 +11,8 @@ use npf_table::Table;
 use npf_types::List;
 use std::sync::Arc;
 
-/// A model laid out flat, with its tables.
+/// A model laid out flat, with as many tables as it declares. Each rule has its program, and there
+/// is no more of anything than `build` takes.
 #[derive(Drop)]
 pub struct Config {
     pub(crate) model: Model,
@@ -18,8 +20,9 @@ pub struct Config {
     pub(crate) groups: List<FlatGroup>,
     pub(crate) rules: List<FlatRule>,
     ghost flat: { IsFlat model.groups groups rules },
-    ghost few_rules: { length rules ≤ 4096 },
-    ghost few_maps: { length model.maps ≤ 256 },
+    ghost buildable: { IsBuildable model } by { IsBuildable-prop model },
+    ghost limits: { IsWithinLimits model (programs_of rules) } by { IsWithinLimits-prop model (programs_of rules) },
+    ghost declared: { HasTables model tables.items },
 }
 
 impl Config {
@@ -54,10 +57,7 @@ impl Config {
         ensures value { slice_get (programs self.now) i ≡ Some result.now }
         ensures describes { IsProgramAt self.now.model i result.now }
     {
-        let program = &self.rules.as_slice()[i as usize].program;
-        // whose contract says that every program is valid
-        let _insns = program.insns();
-        program
+        &self.rules.as_slice()[i as usize].program
     }
 
     /// The model that was laid out, with the interfaces' numbers that were set since.

@@ -1,5 +1,5 @@
 // Copies of what is laid out flat, each equal to what was copied.
-ghost use Rattle.std.specs.Prelude.{◌≡◌, IfOk};
+ghost use Rattle.std.specs.Prelude.{◌≡◌, IfOk, length};
 
 use crate::config::Config;
 use crate::flat::FlatRule;
@@ -33,8 +33,9 @@ fn copy_rules(alloc: Global, rules: &[FlatRule]) -> Result<Vec<FlatRule>, NoMemo
 impl Config {
     ghost use Rattle.npf_ruleset.specs.Configuration.{programs};
 
-    /// The same configuration with these tables in place of its own.
+    /// The same configuration with these tables in place of its own, as many as there were.
     pub fn with_tables(&self, alloc: Global, tables: Vec<Arc<Table>>) -> Result<Config, NoMemory>
+        requires { length tables.items ≡ length self.now.tables.items }
         ensures model { IfOk result (λ config. config.model ≡ self.now.model) }
         ensures tables { IfOk result (λ config. config.tables ≡ tables) }
         ensures programs { IfOk result (λ config. programs config ≡ programs self.now) }

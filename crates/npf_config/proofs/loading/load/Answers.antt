@@ -4,7 +4,7 @@ use Rattle.npf_ruleset.specs.Tables.{entries}
 use Rattle.npf_config.specs.Tables.{HasTextName}
 use Rattle.npf_config.proofs.BuildableLemmas.{buildable, places, text_names}
 use Rattle.npf_config.proofs.LoadLemmas.{rules_stop, tables_stop, text_stops}
-use Rattle.npf_config.proofs.LoadedLemmas.{all_first_ids, all_loaded}
+use Rattle.npf_config.proofs.LoadedLemmas.{all_first_ids, all_loaded, has_tables}
 use Rattle.npf_config.proofs.loading.load.Goals as goal
 
 pub returns-in_err-tree-clause-refuses : goal.returns-in_err-tree-clause-refuses
@@ -29,6 +29,11 @@ returns-in_err-tables-clause-refuses g c =
 pub compile_rules-requires-clause-buildable : goal.compile_rules-requires-clause-buildable
 compile_rules-requires-clause-buildable g c = buildable c.args.ifaces.now.list c.args.text.now c.in_ok-tree.tree c.in_ok-tree.model c.in_ok-tree.ensures.ok
 
+pub compile_rules-requires-clause-tables : goal.compile_rules-requires-clause-tables
+compile_rules-requires-clause-tables g c =
+    has_tables c.args.ifaces.now.list c.args.text.now c.in_ok-tree.tree c.in_ok-tree.model c.in_ok-tree.ensures.ok
+    c.as_slice.result.now c.as_slice.ensures c.in_ok-tables.tables.items c.in_ok-tables.ensures.kinds
+
 pub compile_rules-requires-clause-places : goal.compile_rules-requires-clause-places
 compile_rules-requires-clause-places g c = places c.args.ifaces.now.list c.args.text.now c.in_ok-tree.tree c.in_ok-tree.model c.in_ok-tree.ensures.ok
 
@@ -42,7 +47,7 @@ pub returns-clause-loaded : goal.returns-clause-loaded
 returns-clause-loaded g c =
     all_loaded c.args.ifaces.now.list c.args.text.now ((g.F.Files.moment c.args.files.now).contents) c.in_ok-tree.tree c.in_ok-tree.model c.in_ok-tree.ensures.ok
     c.as_slice.result.now c.as_slice.ensures c.in_ok-tables.tables c.in_ok-tables.ensures.ok c.in_ok-tables.ensures.kinds
-    c.compile_rules.result c.compile_rules.ensures.model c.compile_rules.ensures.tables c.compile_rules.ensures.limits
+    c.compile_rules.result c.compile_rules.ensures.model c.compile_rules.ensures.tables
 
 pub returns-clause-ids : goal.returns-clause-ids
 returns-clause-ids g c =

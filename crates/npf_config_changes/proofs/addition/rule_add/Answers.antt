@@ -48,7 +48,7 @@ pub with_rule-requires-clause-tables : goal.with_rule-requires-clause-tables
 with_rule-requires-clause-tables c =
     let means : MeansRule c.args.ifaces.now.list c.args.config.now.model c.in_ok-tree.tree (Ok c.in_ok-rule.rule) =
     subst (λ (m : Model). MeansRule c.args.ifaces.now.list m c.in_ok-tree.tree (Ok c.in_ok-rule.rule)) c.model-2.ensures c.in_ok-rule.ensures.ok in
-    rule_tables c.args.config.now c.requires.loaded c.args.ifaces.now.list c.in_ok-tree.tree c.in_ok-rule.rule means
+    rule_tables c.args.config.now c.args.ifaces.now.list c.in_ok-tree.tree c.in_ok-rule.rule means
 
 pub returns-in_err-next-clause-err : goal.returns-in_err-next-clause-err
 returns-in_err-next-clause-err c =

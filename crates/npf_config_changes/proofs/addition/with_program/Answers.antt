@@ -1,239 +1,64 @@
-use Rattle.std.proofs.Common.{◌≡◌, ◌≤◌, ◌+◌, [], Ok, List, length, map, sym, ap, subst, ◌∙◌, arith}
-use Rattle.std.proofs.lemmas.Slice.Zip.{AllZip-long}
-use Rattle.std.specs.List.{AllZip}
-use Rattle.std.specs.Arc.{arc_value}
-use Rattle.npf_types.specs.declared.limits.TheConstants.{MAX_RULES}
-use Rattle.npf_faults.specs.declared.fault.Excess.TheVariants.{Instructions}
-use Rattle.npf_model.specs.declared.group.Group.{Group}
+use Rattle.std.proofs.Common.{◌≡◌, ◌≤◌, ◌+◌, Ok, Err, length, rules, sym, ap, subst, ◌∙◌}
 use Rattle.npf_model.specs.declared.model.Model.{Model}
+use Rattle.npf_model.specs.Configuration.{Configuration}
 use Rattle.npf_model.specs.Verdict.{all_rules}
-use Rattle.npf_ruleset.specs.declared.flat.FlatRule.{FlatRule}
-use Rattle.npf_ruleset.specs.Flat.{instructions, programs_of}
-use Rattle.npf_ruleset.specs.Refusal.{AreProgramsOf, IsBuildable}
+use Rattle.npf_ruleset.specs.Configuration.{configuration}
+use Rattle.npf_ruleset.specs.Flat.{instructions}
 use Rattle.npf_config.specs.Loaded.{HasNextIds}
 use Rattle.npf_config_changes.specs.declared.change.Change.{Change}
 use Rattle.npf_config_changes.specs.declared.change.Change.TheVariants.{Added}
-use Rattle.npf_config_changes.specs.Additions.{KeepsCounts, model_elements}
-use Rattle.npf_config_changes.specs.Kept.{Keeps, Serves}
-use Rattle.npf_config_changes.specs.Rulesets.{group_with_ruleset, model_with_ruleset, with_rule_added}
-use Rattle.npf_config_changes.specs.Told.{EndsUnlessMemory, too_many}
-use Rattle.npf_config_changes.proofs.AdditionLemmas.{added_ids, counts_kept, elements_over, instructions_over, rules_over}
-use Rattle.npf_config_changes.proofs.RemovalLemmas.{are_programs, next_buildable, next_is, next_loaded, old_serve}
+use Rattle.npf_config_changes.specs.Additions.{KeepsCounts}
+use Rattle.npf_config_changes.specs.Told.{EndsUnlessMemory}
+use Rattle.npf_config_changes.proofs.AdditionLemmas.{added_ids}
+use Rattle.npf_config_changes.proofs.NextLemmas.{kept_serve, next_buildable, next_limits}
 use Rattle.npf_config_changes.proofs.addition.with_program.Goals as goal
 
-pub changed_programs-requires-clause-serve : goal.changed_programs-requires-clause-serve
-changed_programs-requires-clause-serve c =
-    let config = c.args.config.now in
-    let groups_are : c.as_slice-groups.result.now ≡ config.model.groups = c.as_slice-groups.ensures ∙ ap (λ m. m.groups) c.model.ensures in
-    subst (λ (groups : List Group). AllZip Serves (all_rules groups) (programs_of c.rules.result.now)) (sym groups_are)
-    (subst (λ (flats : List FlatRule). AllZip Serves (all_rules config.model.groups) (programs_of flats)) (sym c.rules.ensures) (old_serve config c.requires.loaded))
-
-pub returns-then-count-gt-MAX_RULES-clause-err : goal.returns-then-count-gt-MAX_RULES-clause-err
-returns-then-count-gt-MAX_RULES-clause-err c =
-    let config = c.args.config.now in
-    let name = c.args.name.now in
-    let rule = c.args.rule.now in
+pub keep_counts-requires-clause-serve : goal.keep_counts-requires-clause-serve
+keep_counts-requires-clause-serve c =
     let change : Change = Added c.args.rule c.args.program in
-    let ps = c.in_ok-programs.programs.items in
-    let groups_are : c.as_slice-groups.result.now ≡ config.model.groups = c.as_slice-groups.ensures ∙ ap (λ m. m.groups) c.model.ensures in
-    let keeps = subst (λ (flats : List FlatRule). Keeps change (all_rules (map (group_with_ruleset name (with_rule_added rule)) config.model.groups)) flats [] [] ps) c.rules.ensures
-    (subst (λ (groups : List Group). Keeps change (all_rules (map (group_with_ruleset name (with_rule_added rule)) groups)) c.rules.result.now [] [] ps) groups_are c.in_ok-programs.ensures) in
-    let serve : AllZip Serves (all_rules (model_with_ruleset name (with_rule_added rule) config.model).groups) ps = subst (AllZip Serves (all_rules (model_with_ruleset name (with_rule_added rule) config.model).groups)) (sym keeps.are) keeps.each in
-    let counted : c.len-count.result ≡ length ps = c.len-count.ensures ∙ c.in_ok-programs.programs.ok.0 in
-    let len = AllZip-long Serves (all_rules (model_with_ruleset name (with_rule_added rule) config.model).groups) ps serve in
-    let over = c.if-count-gt-MAX_RULES.true in
-    subst (EndsUnlessMemory (KeepsCounts c.args.span (model_with_ruleset name (with_rule_added rule) config.model))) (sym c.past-many_rules.ensures) (rules_over c.args.span (model_with_ruleset name (with_rule_added rule) config.model) (omega arith))
+    let model = c.in_ok-model.model in
+    rw c.deref.ensures.value (kept_serve c.args.config.now change (all_rules model.groups) c.in_ok-model.programs.items c.in_ok-model.ensures.keeps)
 
-pub changed_model-requires : goal.changed_model-requires
-changed_model-requires c = subst (λ (m : Model). HasNextIds 4294967294 m) (sym c.model-2.ensures) c.requires.ids
+pub keep_counts-requires-clause-maps : goal.keep_counts-requires-clause-maps
+keep_counts-requires-clause-maps c = subst (λ (m : Model). length m.maps ≤ 256) (sym c.in_ok-model.ensures.model) c.args.config.now.buildable.maps
 
-pub assemble-requires-clause-buildable : goal.assemble-requires-clause-buildable
-assemble-requires-clause-buildable c =
-    let config = c.args.config.now in
-    let name = c.args.name.now in
-    let rule = c.args.rule.now in
+pub returns-in_err-keep_counts-clause-err : goal.returns-in_err-keep_counts-clause-err
+returns-in_err-keep_counts-clause-err c =
+    let fault = c.in_err-keep_counts.field-0.0 in
+    let same : c.from_residual-in_err-keep_counts.result ≡ Err fault = search rules in
+    let ends = subst (λ (m : Model). EndsUnlessMemory (KeepsCounts c.args.span m) fault) c.in_ok-model.ensures.model c.in_err-keep_counts.ensures.passed in
+    rw same ends
+
+pub with_model-requires-clause-buildable : goal.with_model-requires-clause-buildable
+with_model-requires-clause-buildable c =
     let change : Change = Added c.args.rule c.args.program in
-    let ps = c.in_ok-programs.programs.items in
-    let groups_are : c.as_slice-groups.result.now ≡ config.model.groups = c.as_slice-groups.ensures ∙ ap (λ m. m.groups) c.model.ensures in
-    let keeps = subst (λ (flats : List FlatRule). Keeps change (all_rules (map (group_with_ruleset name (with_rule_added rule)) config.model.groups)) flats [] [] ps) c.rules.ensures
-    (subst (λ (groups : List Group). Keeps change (all_rules (map (group_with_ruleset name (with_rule_added rule)) groups)) c.rules.result.now [] [] ps) groups_are c.in_ok-programs.ensures) in
-    let serve : AllZip Serves (all_rules (model_with_ruleset name (with_rule_added rule) config.model).groups) ps = subst (AllZip Serves (all_rules (model_with_ruleset name (with_rule_added rule) config.model).groups)) (sym keeps.are) keeps.each in
-    let counted : c.len-count.result ≡ length ps = c.len-count.ensures ∙ c.in_ok-programs.programs.ok.0 in
-    let len = AllZip-long Serves (all_rules (model_with_ruleset name (with_rule_added rule) config.model).groups) ps serve in
-    let few_rules = c.if-count-gt-MAX_RULES.false in
-    let few : length (all_rules (model_with_ruleset name (with_rule_added rule) config.model).groups) ≤ MAX_RULES = omega arith in
-    let of_model : c.in_ok-model.model ≡ model_with_ruleset name (with_rule_added rule) config.model = c.in_ok-model.ensures ∙ ap (model_with_ruleset name (with_rule_added rule)) c.model-2.ensures in
-    subst IsBuildable (sym of_model) (next_buildable config c.requires.loaded change name ps serve few)
+    let model = c.in_ok-model.model in
+    let kept = c.in_ok-model.programs.items in
+    next_buildable model kept (kept_serve c.args.config.now change (all_rules model.groups) kept c.in_ok-model.ensures.keeps) c.in_ok-keep_counts.ensures.few
+    (subst (λ (m : Model). length m.maps ≤ 256) (sym c.in_ok-model.ensures.model) c.args.config.now.buildable.maps)
 
-pub assemble-requires-clause-programs : goal.assemble-requires-clause-programs
-assemble-requires-clause-programs c =
-    let config = c.args.config.now in
-    let name = c.args.name.now in
-    let rule = c.args.rule.now in
+pub with_model-requires-clause-limits : goal.with_model-requires-clause-limits
+with_model-requires-clause-limits c =
     let change : Change = Added c.args.rule c.args.program in
-    let ps = c.in_ok-programs.programs.items in
-    let groups_are : c.as_slice-groups.result.now ≡ config.model.groups = c.as_slice-groups.ensures ∙ ap (λ m. m.groups) c.model.ensures in
-    let keeps = subst (λ (flats : List FlatRule). Keeps change (all_rules (map (group_with_ruleset name (with_rule_added rule)) config.model.groups)) flats [] [] ps) c.rules.ensures
-    (subst (λ (groups : List Group). Keeps change (all_rules (map (group_with_ruleset name (with_rule_added rule)) groups)) c.rules.result.now [] [] ps) groups_are c.in_ok-programs.ensures) in
-    let serve : AllZip Serves (all_rules (model_with_ruleset name (with_rule_added rule) config.model).groups) ps = subst (AllZip Serves (all_rules (model_with_ruleset name (with_rule_added rule) config.model).groups)) (sym keeps.are) keeps.each in
-    let counted : c.len-count.result ≡ length ps = c.len-count.ensures ∙ c.in_ok-programs.programs.ok.0 in
-    let len = AllZip-long Serves (all_rules (model_with_ruleset name (with_rule_added rule) config.model).groups) ps serve in
-    let of_model : c.in_ok-model.model ≡ model_with_ruleset name (with_rule_added rule) config.model = c.in_ok-model.ensures ∙ ap (model_with_ruleset name (with_rule_added rule)) c.model-2.ensures in
-    subst (λ (m : Model). AreProgramsOf (all_rules m.groups) ps) (sym of_model) (are_programs (all_rules (model_with_ruleset name (with_rule_added rule) config.model).groups) ps serve)
+    let model = c.in_ok-model.model in
+    let kept = c.in_ok-model.programs.items in
+    next_limits model kept (kept_serve c.args.config.now change (all_rules model.groups) kept c.in_ok-model.ensures.keeps)
+    (subst (λ all. instructions all ≤ 524288) c.deref.ensures.value c.in_ok-keep_counts.ensures.short)
 
-pub model_elements-elements-requires-clause-buildable : goal.model_elements-elements-requires-clause-buildable
-model_elements-elements-requires-clause-buildable c =
-    let config = c.args.config.now in
-    let name = c.args.name.now in
-    let rule = c.args.rule.now in
-    let change : Change = Added c.args.rule c.args.program in
-    let ps = c.in_ok-programs.programs.items in
-    let groups_are : c.as_slice-groups.result.now ≡ config.model.groups = c.as_slice-groups.ensures ∙ ap (λ m. m.groups) c.model.ensures in
-    let keeps = subst (λ (flats : List FlatRule). Keeps change (all_rules (map (group_with_ruleset name (with_rule_added rule)) config.model.groups)) flats [] [] ps) c.rules.ensures
-    (subst (λ (groups : List Group). Keeps change (all_rules (map (group_with_ruleset name (with_rule_added rule)) groups)) c.rules.result.now [] [] ps) groups_are c.in_ok-programs.ensures) in
-    let serve : AllZip Serves (all_rules (model_with_ruleset name (with_rule_added rule) config.model).groups) ps = subst (AllZip Serves (all_rules (model_with_ruleset name (with_rule_added rule) config.model).groups)) (sym keeps.are) keeps.each in
-    let counted : c.len-count.result ≡ length ps = c.len-count.ensures ∙ c.in_ok-programs.programs.ok.0 in
-    let len = AllZip-long Serves (all_rules (model_with_ruleset name (with_rule_added rule) config.model).groups) ps serve in
-    let few_rules = c.if-count-gt-MAX_RULES.false in
-    let few : length (all_rules (model_with_ruleset name (with_rule_added rule) config.model).groups) ≤ MAX_RULES = omega arith in
-    let of_model : c.in_ok-model.model ≡ model_with_ruleset name (with_rule_added rule) config.model = c.in_ok-model.ensures ∙ ap (model_with_ruleset name (with_rule_added rule)) c.model-2.ensures in
-    subst IsBuildable (sym (c.in_ok-next.ensures.model ∙ of_model)) (next_buildable config c.requires.loaded change name ps serve few)
-
-pub returns-then-elements-clause-err : goal.returns-then-elements-clause-err
-returns-then-elements-clause-err c =
-    let config = c.args.config.now in
-    let name = c.args.name.now in
-    let rule = c.args.rule.now in
-    let change : Change = Added c.args.rule c.args.program in
-    let ps = c.in_ok-programs.programs.items in
-    let groups_are : c.as_slice-groups.result.now ≡ config.model.groups = c.as_slice-groups.ensures ∙ ap (λ m. m.groups) c.model.ensures in
-    let keeps = subst (λ (flats : List FlatRule). Keeps change (all_rules (map (group_with_ruleset name (with_rule_added rule)) config.model.groups)) flats [] [] ps) c.rules.ensures
-    (subst (λ (groups : List Group). Keeps change (all_rules (map (group_with_ruleset name (with_rule_added rule)) groups)) c.rules.result.now [] [] ps) groups_are c.in_ok-programs.ensures) in
-    let serve : AllZip Serves (all_rules (model_with_ruleset name (with_rule_added rule) config.model).groups) ps = subst (AllZip Serves (all_rules (model_with_ruleset name (with_rule_added rule) config.model).groups)) (sym keeps.are) keeps.each in
-    let counted : c.len-count.result ≡ length ps = c.len-count.ensures ∙ c.in_ok-programs.programs.ok.0 in
-    let len = AllZip-long Serves (all_rules (model_with_ruleset name (with_rule_added rule) config.model).groups) ps serve in
-    let few_rules = c.if-count-gt-MAX_RULES.false in
-    let few : length (all_rules (model_with_ruleset name (with_rule_added rule) config.model).groups) ≤ MAX_RULES = omega arith in
-    let of_model : c.in_ok-model.model ≡ model_with_ruleset name (with_rule_added rule) config.model = c.in_ok-model.ensures ∙ ap (model_with_ruleset name (with_rule_added rule)) c.model-2.ensures in
-    let next_model : c.in_ok-next.next.model ≡ (model_with_ruleset name (with_rule_added rule) config.model) = c.in_ok-next.ensures.model ∙ of_model in
-    let elements : c.model_elements-elements.result ≡ model_elements (model_with_ruleset name (with_rule_added rule) config.model) = c.model_elements-elements.ensures ∙ ap model_elements next_model in
-    let over = c.if-elements.true in
-    subst (EndsUnlessMemory (KeepsCounts c.args.span (model_with_ruleset name (with_rule_added rule) config.model))) (sym c.past-many_elements.ensures) (elements_over c.args.span (model_with_ruleset name (with_rule_added rule) config.model) few (omega arith))
-
-pub returns-then-total-clause-err : goal.returns-then-total-clause-err
-returns-then-total-clause-err c =
-    let config = c.args.config.now in
-    let name = c.args.name.now in
-    let rule = c.args.rule.now in
-    let change : Change = Added c.args.rule c.args.program in
-    let ps = c.in_ok-programs.programs.items in
-    let groups_are : c.as_slice-groups.result.now ≡ config.model.groups = c.as_slice-groups.ensures ∙ ap (λ m. m.groups) c.model.ensures in
-    let keeps = subst (λ (flats : List FlatRule). Keeps change (all_rules (map (group_with_ruleset name (with_rule_added rule)) config.model.groups)) flats [] [] ps) c.rules.ensures
-    (subst (λ (groups : List Group). Keeps change (all_rules (map (group_with_ruleset name (with_rule_added rule)) groups)) c.rules.result.now [] [] ps) groups_are c.in_ok-programs.ensures) in
-    let serve : AllZip Serves (all_rules (model_with_ruleset name (with_rule_added rule) config.model).groups) ps = subst (AllZip Serves (all_rules (model_with_ruleset name (with_rule_added rule) config.model).groups)) (sym keeps.are) keeps.each in
-    let counted : c.len-count.result ≡ length ps = c.len-count.ensures ∙ c.in_ok-programs.programs.ok.0 in
-    let len = AllZip-long Serves (all_rules (model_with_ruleset name (with_rule_added rule) config.model).groups) ps serve in
-    let few_rules = c.if-count-gt-MAX_RULES.false in
-    let few : length (all_rules (model_with_ruleset name (with_rule_added rule) config.model).groups) ≤ MAX_RULES = omega arith in
-    let of_model : c.in_ok-model.model ≡ model_with_ruleset name (with_rule_added rule) config.model = c.in_ok-model.ensures ∙ ap (model_with_ruleset name (with_rule_added rule)) c.model-2.ensures in
-    let next = c.in_ok-next.next in
-    let next_model : next.model ≡ model_with_ruleset name (with_rule_added rule) config.model = c.in_ok-next.ensures.model ∙ of_model in
-    let elements : c.model_elements-elements.result ≡ model_elements (model_with_ruleset name (with_rule_added rule) config.model) = c.model_elements-elements.ensures ∙ ap model_elements next_model in
-    let total : c.instructions-total.result ≡ instructions ps = c.instructions-total.ensures ∙ ap instructions c.deref.ensures.value in
-    let programs = are_programs (all_rules (model_with_ruleset name (with_rule_added rule) config.model).groups) ps serve in
-    let within = c.if-elements.false in
-    let over = c.if-total.true in
-    subst (EndsUnlessMemory (KeepsCounts c.args.span (model_with_ruleset name (with_rule_added rule) config.model))) (sym (c.past-many_instructions.ensures ∙ ap (too_many c.args.span Instructions) total))
-    (instructions_over c.args.span (model_with_ruleset name (with_rule_added rule) config.model) few (omega arith) ps programs (omega arith))
+pub with_model-requires-clause-tables : goal.with_model-requires-clause-tables
+with_model-requires-clause-tables c = ap (λ (m : Model). m.tables) c.in_ok-model.ensures.model
 
 pub returns-clause-is : goal.returns-clause-is
 returns-clause-is c =
-    let config = c.args.config.now in
-    let name = c.args.name.now in
-    let rule = c.args.rule.now in
-    let change : Change = Added c.args.rule c.args.program in
-    let ps = c.in_ok-programs.programs.items in
-    let groups_are : c.as_slice-groups.result.now ≡ config.model.groups = c.as_slice-groups.ensures ∙ ap (λ m. m.groups) c.model.ensures in
-    let keeps = subst (λ (flats : List FlatRule). Keeps change (all_rules (map (group_with_ruleset name (with_rule_added rule)) config.model.groups)) flats [] [] ps) c.rules.ensures
-    (subst (λ (groups : List Group). Keeps change (all_rules (map (group_with_ruleset name (with_rule_added rule)) groups)) c.rules.result.now [] [] ps) groups_are c.in_ok-programs.ensures) in
-    let serve : AllZip Serves (all_rules (model_with_ruleset name (with_rule_added rule) config.model).groups) ps = subst (AllZip Serves (all_rules (model_with_ruleset name (with_rule_added rule) config.model).groups)) (sym keeps.are) keeps.each in
-    let counted : c.len-count.result ≡ length ps = c.len-count.ensures ∙ c.in_ok-programs.programs.ok.0 in
-    let len = AllZip-long Serves (all_rules (model_with_ruleset name (with_rule_added rule) config.model).groups) ps serve in
-    let few_rules = c.if-count-gt-MAX_RULES.false in
-    let few : length (all_rules (model_with_ruleset name (with_rule_added rule) config.model).groups) ≤ MAX_RULES = omega arith in
-    let of_model : c.in_ok-model.model ≡ model_with_ruleset name (with_rule_added rule) config.model = c.in_ok-model.ensures ∙ ap (model_with_ruleset name (with_rule_added rule)) c.model-2.ensures in
-    let next = c.in_ok-next.next in
-    let next_model : next.model ≡ model_with_ruleset name (with_rule_added rule) config.model = c.in_ok-next.ensures.model ∙ of_model in
-    let elements : c.model_elements-elements.result ≡ model_elements (model_with_ruleset name (with_rule_added rule) config.model) = c.model_elements-elements.ensures ∙ ap model_elements next_model in
-    let total : c.instructions-total.result ≡ instructions ps = c.instructions-total.ensures ∙ ap instructions c.deref.ensures.value in
-    let programs = are_programs (all_rules (model_with_ruleset name (with_rule_added rule) config.model).groups) ps serve in
-    let shared : map arc_value next.tables.items ≡ map arc_value config.tables.items =
-    ap (λ tables. map arc_value tables.items) c.in_ok-next.ensures.tables ∙ c.in_ok-tables.ensures ∙ ap (map arc_value) c.tables.ensures in
-    next_is config c.requires.loaded change name ps serve next next_model shared
+    let config = configuration c.args.config.now in
+    c.in_ok-with_model.ensures.is ∙ ap (λ (m : Model). record config { model = m }) c.in_ok-model.ensures.model
 
 pub returns-clause-limits : goal.returns-clause-limits
 returns-clause-limits c =
-    let config = c.args.config.now in
-    let name = c.args.name.now in
-    let rule = c.args.rule.now in
-    let change : Change = Added c.args.rule c.args.program in
-    let ps = c.in_ok-programs.programs.items in
-    let groups_are : c.as_slice-groups.result.now ≡ config.model.groups = c.as_slice-groups.ensures ∙ ap (λ m. m.groups) c.model.ensures in
-    let keeps = subst (λ (flats : List FlatRule). Keeps change (all_rules (map (group_with_ruleset name (with_rule_added rule)) config.model.groups)) flats [] [] ps) c.rules.ensures
-    (subst (λ (groups : List Group). Keeps change (all_rules (map (group_with_ruleset name (with_rule_added rule)) groups)) c.rules.result.now [] [] ps) groups_are c.in_ok-programs.ensures) in
-    let serve : AllZip Serves (all_rules (model_with_ruleset name (with_rule_added rule) config.model).groups) ps = subst (AllZip Serves (all_rules (model_with_ruleset name (with_rule_added rule) config.model).groups)) (sym keeps.are) keeps.each in
-    let counted : c.len-count.result ≡ length ps = c.len-count.ensures ∙ c.in_ok-programs.programs.ok.0 in
-    let len = AllZip-long Serves (all_rules (model_with_ruleset name (with_rule_added rule) config.model).groups) ps serve in
-    let few_rules = c.if-count-gt-MAX_RULES.false in
-    let few : length (all_rules (model_with_ruleset name (with_rule_added rule) config.model).groups) ≤ MAX_RULES = omega arith in
-    let of_model : c.in_ok-model.model ≡ model_with_ruleset name (with_rule_added rule) config.model = c.in_ok-model.ensures ∙ ap (model_with_ruleset name (with_rule_added rule)) c.model-2.ensures in
-    let next = c.in_ok-next.next in
-    let next_model : next.model ≡ model_with_ruleset name (with_rule_added rule) config.model = c.in_ok-next.ensures.model ∙ of_model in
-    let elements : c.model_elements-elements.result ≡ model_elements (model_with_ruleset name (with_rule_added rule) config.model) = c.model_elements-elements.ensures ∙ ap model_elements next_model in
-    let total : c.instructions-total.result ≡ instructions ps = c.instructions-total.ensures ∙ ap instructions c.deref.ensures.value in
-    let programs = are_programs (all_rules (model_with_ruleset name (with_rule_added rule) config.model).groups) ps serve in
-    let within = c.if-elements.false in
-    let short = c.if-total.false in
-    subst (λ (m : Model). KeepsCounts c.args.span m (Ok tt)) (sym next_model) (counts_kept c.args.span (model_with_ruleset name (with_rule_added rule) config.model) few (omega arith) ps programs (omega arith))
-
-pub returns-clause-loaded : goal.returns-clause-loaded
-returns-clause-loaded c =
-    let config = c.args.config.now in
-    let name = c.args.name.now in
-    let rule = c.args.rule.now in
-    let change : Change = Added c.args.rule c.args.program in
-    let ps = c.in_ok-programs.programs.items in
-    let groups_are : c.as_slice-groups.result.now ≡ config.model.groups = c.as_slice-groups.ensures ∙ ap (λ m. m.groups) c.model.ensures in
-    let keeps = subst (λ (flats : List FlatRule). Keeps change (all_rules (map (group_with_ruleset name (with_rule_added rule)) config.model.groups)) flats [] [] ps) c.rules.ensures
-    (subst (λ (groups : List Group). Keeps change (all_rules (map (group_with_ruleset name (with_rule_added rule)) groups)) c.rules.result.now [] [] ps) groups_are c.in_ok-programs.ensures) in
-    let serve : AllZip Serves (all_rules (model_with_ruleset name (with_rule_added rule) config.model).groups) ps = subst (AllZip Serves (all_rules (model_with_ruleset name (with_rule_added rule) config.model).groups)) (sym keeps.are) keeps.each in
-    let counted : c.len-count.result ≡ length ps = c.len-count.ensures ∙ c.in_ok-programs.programs.ok.0 in
-    let len = AllZip-long Serves (all_rules (model_with_ruleset name (with_rule_added rule) config.model).groups) ps serve in
-    let few_rules = c.if-count-gt-MAX_RULES.false in
-    let few : length (all_rules (model_with_ruleset name (with_rule_added rule) config.model).groups) ≤ MAX_RULES = omega arith in
-    let of_model : c.in_ok-model.model ≡ model_with_ruleset name (with_rule_added rule) config.model = c.in_ok-model.ensures ∙ ap (model_with_ruleset name (with_rule_added rule)) c.model-2.ensures in
-    let next = c.in_ok-next.next in
-    let next_model : next.model ≡ model_with_ruleset name (with_rule_added rule) config.model = c.in_ok-next.ensures.model ∙ of_model in
-    let elements : c.model_elements-elements.result ≡ model_elements (model_with_ruleset name (with_rule_added rule) config.model) = c.model_elements-elements.ensures ∙ ap model_elements next_model in
-    let total : c.instructions-total.result ≡ instructions ps = c.instructions-total.ensures ∙ ap instructions c.deref.ensures.value in
-    let programs = are_programs (all_rules (model_with_ruleset name (with_rule_added rule) config.model).groups) ps serve in
-    let shared : map arc_value next.tables.items ≡ map arc_value config.tables.items =
-    ap (λ tables. map arc_value tables.items) c.in_ok-next.ensures.tables ∙ c.in_ok-tables.ensures ∙ ap (map arc_value) c.tables.ensures in
-    let short = c.if-total.false in
-    next_loaded config c.requires.loaded change name ps serve next next_model shared c.in_ok-next.ensures.programs few (omega arith)
+    let model = ap (λ (config : Configuration). config.model) c.in_ok-with_model.ensures.is in
+    subst (λ (m : Model). KeepsCounts c.args.span m (Ok tt)) (sym model) c.in_ok-keep_counts.ensures.kept
 
 pub returns-clause-ids : goal.returns-clause-ids
 returns-clause-ids c = λ most within.
-    let config = c.args.config.now in
-    let name = c.args.name.now in
-    let rule = c.args.rule.now in
-    let change : Change = Added c.args.rule c.args.program in
-    let ps = c.in_ok-programs.programs.items in
-    let groups_are : c.as_slice-groups.result.now ≡ config.model.groups = c.as_slice-groups.ensures ∙ ap (λ m. m.groups) c.model.ensures in
-    let keeps = subst (λ (flats : List FlatRule). Keeps change (all_rules (map (group_with_ruleset name (with_rule_added rule)) config.model.groups)) flats [] [] ps) c.rules.ensures
-    (subst (λ (groups : List Group). Keeps change (all_rules (map (group_with_ruleset name (with_rule_added rule)) groups)) c.rules.result.now [] [] ps) groups_are c.in_ok-programs.ensures) in
-    let serve : AllZip Serves (all_rules (model_with_ruleset name (with_rule_added rule) config.model).groups) ps = subst (AllZip Serves (all_rules (model_with_ruleset name (with_rule_added rule) config.model).groups)) (sym keeps.are) keeps.each in
-    let counted : c.len-count.result ≡ length ps = c.len-count.ensures ∙ c.in_ok-programs.programs.ok.0 in
-    let len = AllZip-long Serves (all_rules (model_with_ruleset name (with_rule_added rule) config.model).groups) ps serve in
-    let of_model : c.in_ok-model.model ≡ model_with_ruleset name (with_rule_added rule) config.model = c.in_ok-model.ensures ∙ ap (model_with_ruleset name (with_rule_added rule)) c.model-2.ensures in
-    subst (HasNextIds (most + 1)) (sym (c.in_ok-next.ensures.model ∙ of_model)) (added_ids rule name most config.model within)
+    let model = ap (λ (config : Configuration). config.model) c.in_ok-with_model.ensures.is ∙ c.in_ok-model.ensures.model in
+    subst (HasNextIds (most + 1)) (sym model) (added_ids c.args.rule.now c.args.name.now most c.args.config.now.model within)

@@ -17,7 +17,7 @@ returns-then-weight-clause-err c =
 pub with_program-requires-clause-served : goal.with_program-requires-clause-served
 with_program-requires-clause-served c =
     let light : weight_of c.args.rule.now ≤ 4096 = (let within = c.if-weight.false in let weighs = c.weight-weight.ensures in omega arith) in
-    serves_as c.args.rule.now c.in-Ok.program (record { value = c.in-Ok.ensures.value; valid = c.in-Ok.ensures.valid; count = c.in-Ok.ensures.count; size = c.in-Ok.ensures.size }) light (search rules) c.requires.tables
+    serves_as c.args.rule.now c.in-Ok.program (record { value = c.in-Ok.ensures.value; valid = ∣ c.in-Ok.ensures.valid ∣₁; count = c.in-Ok.ensures.count; size = c.in-Ok.ensures.size }) light (search rules) c.requires.tables
 
 pub returns-in-Ok-clause-limits : goal.returns-in-Ok-clause-limits
 returns-in-Ok-clause-limits c =

@@ -1,26 +1,11 @@
 use Rattle.std.proofs.Common.{◌≡◌, ◌<◌, length, ap, ◌∙◌, arith}
 use Rattle.std.specs.Arc.{arc_value}
 use Rattle.std.proofs.lemmas.List.{length-map}
-use Rattle.std.proofs.lemmas.List.Sums.{sum_by_more, sum_by_more_le}
+use Rattle.std.proofs.lemmas.List.Sums.{sum_by_more}
 use Rattle.npf_table.specs.Table.{prefixes}
 use Rattle.npf_ruleset.specs.Tables.{entries}
 use Rattle.npf_config_changes.proofs.EntryLemmas.{entry_at}
 use Rattle.npf_config_changes.proofs.entries.entry_count.Goals as goal
-
-pub overflow_add-count : goal.overflow_add-count
-overflow_add-count c =
-    let all = entries c.args.tables.now in
-    let i = c.loop-table.table-index in
-    let here = prefixes (arc_value c.table-item.result) in
-    let same = length-map c.args.tables.now (λ table. prefixes (arc_value table)) in
-    let test = c.loop-table-test.true in
-    let below : i < length all = omega arith in
-    let at = ap length (entry_at c.args.tables.now i c.table-item.result c.loop-table-test.true c.table-item.is) in
-    let len : c.len-count.result ≡ length here = c.len-count.ensures.value ∙ ap (λ table. length (prefixes table)) c.deref.ensures in
-    let more = sum_by_more_le length all i here below in
-    let so_far = c.loop-table.invariant in
-    let few = c.requires in
-    omega arith
 
 pub loop-table-preserved : goal.loop-table-preserved
 loop-table-preserved c =
@@ -31,7 +16,8 @@ loop-table-preserved c =
     let test = c.loop-table-test.true in
     let below : i < length all = omega arith in
     let at = ap length (entry_at c.args.tables.now i c.table-item.result c.loop-table-test.true c.table-item.is) in
-    let len : c.len-count.result ≡ length here = c.len-count.ensures.value ∙ ap (λ table. length (prefixes table)) c.deref.ensures in
+    let len : c.len.result ≡ length here = c.len.ensures.value ∙ ap (λ table. length (prefixes table)) c.deref.ensures in
     let more = sum_by_more length all i here below in
     let so_far = c.loop-table.invariant in
+    let sum = c.saturating_add-count.ensures in
     omega arith

@@ -18,13 +18,13 @@ bounds-tables-at c =
     let config = c.args.config.now in
     let decls : c.as_slice.result.now ≡ config.model.tables = c.as_slice.ensures ∙ ap (λ m. m.tables) c.model.ensures in
     subst (λ (all : List (Arc Table Global)). c.in-Some.at < length all) (sym c.tables.ensures)
-    (place_within config c.requires c.in-Some.at (subst (λ (all : List TableDecl). c.in-Some.at < length all) decls c.in-Some.ensures.bound))
+    (place_within config c.in-Some.at (subst (λ (all : List TableDecl). c.in-Some.at < length all) decls c.in-Some.ensures.bound))
 
 pub with_table-requires : goal.with_table-requires
 with_table-requires c =
     let config = c.args.config.now in
     let decls : c.as_slice.result.now ≡ config.model.tables = c.as_slice.ensures ∙ ap (λ m. m.tables) c.model.ensures in
-    place_within config c.requires c.in-Some.at (subst (λ (all : List TableDecl). c.in-Some.at < length all) decls c.in-Some.ensures.bound)
+    place_within config c.in-Some.at (subst (λ (all : List TableDecl). c.in-Some.at < length all) decls c.in-Some.ensures.bound)
 
 pub returns-in_default-clause-err : goal.returns-in_default-clause-err
 returns-in_default-clause-err c = λ _.
@@ -39,11 +39,11 @@ returns-in_err-remove-clause-err c =
     let decls : c.as_slice.result.now ≡ config.model.tables = c.as_slice.ensures ∙ ap (λ m. m.tables) c.model.ensures in
     let first : first_where (λ (other : TableDecl). are_one_name other.name c.args.name) 0 config.model.tables ≡ Some at =
     ap (first_where (λ (other : TableDecl). are_one_name other.name c.args.name) 0) (sym decls) ∙ sym c.table_place.ensures.place ∙ c.in-Some.is in
-    let there = there_at config c.requires at (subst (λ (all : List TableDecl). at < length all) decls c.in-Some.ensures.bound) c.tables.result.now c.tables.ensures was c.index-tables-at.is in
+    let there = there_at config at (subst (λ (all : List TableDecl). at < length all) decls c.in-Some.ensures.bound) c.tables.result.now c.tables.ensures was c.index-tables-at.is in
     let same : c.in_ok-table.table ≡ arc_value was = c.in_ok-table.ensures ∙ c.deref.ensures in
     let fault = c.in_err-remove.field-0.0 in
     let p = err_from_is_err_and c.from_residual-in_err-remove.result c.from_residual-in_err-remove.ensures.1 in
-    rw (p.1, p.2) (removal_refused config c.args.name at was there c.requires first c.args.prefix fault (subst (λ (t : Table). RefusesRemoval t c.args.prefix fault) same c.in_err-remove.ensures.refused))
+    rw (p.1, p.2) (removal_refused config c.args.name at was there first c.args.prefix fault (subst (λ (t : Table). RefusesRemoval t c.args.prefix fault) same c.in_err-remove.ensures.refused))
 
 pub returns-clause-ok : goal.returns-clause-ok
 returns-clause-ok c =
@@ -55,25 +55,25 @@ returns-clause-ok c =
     let decls : c.as_slice.result.now ≡ config.model.tables = c.as_slice.ensures ∙ ap (λ m. m.tables) c.model.ensures in
     let first : first_where (λ (other : TableDecl). are_one_name other.name c.args.name) 0 config.model.tables ≡ Some at =
     ap (first_where (λ (other : TableDecl). are_one_name other.name c.args.name) 0) (sym decls) ∙ sym c.table_place.ensures.place ∙ c.in-Some.is in
-    let there = there_at config c.requires at (subst (λ (all : List TableDecl). at < length all) decls c.in-Some.ensures.bound) c.tables.result.now c.tables.ensures was c.index-tables-at.is in
+    let there = there_at config at (subst (λ (all : List TableDecl). at < length all) decls c.in-Some.ensures.bound) c.tables.result.now c.tables.ensures was c.index-tables-at.is in
     let same : c.in_ok-table.table ≡ arc_value was = c.in_ok-table.ensures ∙ c.deref.ensures in
     let gains = subst (λ (t : Table). LosesEntry (prefixes t) c.args.prefix (Ok (prefixes new))) same
     (lost c.in_ok-remove.ensures.was_there c.in_ok-remove.ensures.loses c.each_once.ensures c.in_ok-remove.ensures.len) in
-    removes config c.args.name at was there c.requires first c.args.prefix new (subst (λ (t : Table). MayChange (kind_of t) c.args.prefix) same c.in_ok-remove.ensures.may) gains next
+    removes config c.args.name at was there first c.args.prefix new (subst (λ (t : Table). MayChange (kind_of t) c.args.prefix) same c.in_ok-remove.ensures.may) gains next
     (next_is config next at was new there c.in_ok-with_table.ensures.model c.in_ok-with_table.ensures.tables)
 
 pub returns-clause-loaded : goal.returns-clause-loaded
-returns-clause-loaded c =
+returns-clause-loaded c = λ loaded.
     let config = c.args.config.now in
     let at = c.in-Some.at in
     let was = c.index-tables-at.result in
     let new = c.remove.new.self in
     let next = c.in_ok-with_table.field-0 in
     let decls : c.as_slice.result.now ≡ config.model.tables = c.as_slice.ensures ∙ ap (λ m. m.tables) c.model.ensures in
-    let there = there_at config c.requires at (subst (λ (all : List TableDecl). at < length all) decls c.in-Some.ensures.bound) c.tables.result.now c.tables.ensures was c.index-tables-at.is in
+    let there = there_at config at (subst (λ (all : List TableDecl). at < length all) decls c.in-Some.ensures.bound) c.tables.result.now c.tables.ensures was c.index-tables-at.is in
     let same : c.in_ok-table.table ≡ arc_value was = c.in_ok-table.ensures ∙ c.deref.ensures in
     let len : length (prefixes new) + 1 ≡ length (prefixes (arc_value was)) = subst (λ (t : Table). length (prefixes new) + 1 ≡ length (prefixes t)) same c.in_ok-remove.ensures.len in
     let sum = next_count config next at was new there c.in_ok-with_table.ensures.model c.in_ok-with_table.ensures.tables in
-    let few = c.requires.few in
-    next_loaded config next at was new there c.in_ok-with_table.ensures.model c.in_ok-with_table.ensures.tables c.requires c.in_ok-with_table.ensures.programs
+    let few = loaded.few in
+    next_loaded config next at was new there c.in_ok-with_table.ensures.model c.in_ok-with_table.ensures.tables loaded
     (c.in_ok-remove.ensures.kind ∙ ap kind_of same) (omega arith)

@@ -1,9 +1,11 @@
-use Rattle.std.proofs.Common.{List, subst, sym, arith}
+use Rattle.std.proofs.Common.{List, subst, sym}
 use Rattle.std.specs.List.{AllZip}
 use Rattle.std.proofs.lemmas.Slice.Zip.{AllZip-long}
 use Rattle.npf_model.specs.declared.group.Group.{Group}
 use Rattle.npf_model.specs.Verdict.{all_rules}
-use Rattle.npf_ruleset.specs.Flat.{IsFlatGroup, IsFlatRule}
+use Rattle.npf_ruleset.specs.declared.flat.FlatRule.{FlatRule}
+use Rattle.npf_ruleset.specs.Flat.{IsFlatGroup, IsFlatRule, programs_of}
+use Rattle.npf_ruleset.specs.Refusal.{IsWithinLimits}
 use Rattle.npf_ruleset.proofs.PairLemmas.{zip_each}
 use Rattle.npf_ruleset.proofs.building.assemble.Goals as goal
 
@@ -18,8 +20,6 @@ invariant_of-result c =
     subst (AllZip (IsFlatRule groups) (all_rules groups)) (sym c.of_vec-2.ensures)
     (subst (λ (all : List Group). AllZip (IsFlatRule all) (all_rules all) c.in_ok-rules.rules.items) c.as_slice-2.ensures c.in_ok-rules.ensures.rules) in
     let count = AllZip-long (IsFlatRule groups) (all_rules groups) rules for_rules in
-    let few_rules = c.requires.buildable.rules in
-    let few_maps = c.requires.buildable.maps in
     record {
       flat = record {
         group_count = AllZip-long IsFlatGroup groups flat_groups for_groups;
@@ -27,6 +27,8 @@ invariant_of-result c =
         rule_count = count;
         each_rule = zip_each (IsFlatRule groups) (all_rules groups) rules for_rules;
       };
-      few_rules = omega arith;
-      few_maps = few_maps;
+      buildable = c.requires.buildable;
+      limits = subst (λ (all : List FlatRule). IsWithinLimits c.args.model (programs_of all)) (sym c.of_vec-2.ensures)
+          (subst (IsWithinLimits c.args.model) (sym c.in_ok-rules.ensures.programs) c.requires.programs);
+      declared = c.requires.tables;
     }

@@ -1,6 +1,8 @@
-use Rattle.std.proofs.Common.{◌≡◌, ◌≤◌, length, subst, sym, ap, ◌∙◌, arith}
+use Rattle.std.proofs.Common.{◌≡◌, ◌≤◌, length, subst, ap, ◌∙◌, arith}
 use Rattle.std.proofs.lemmas.Slice.Zip.{AllZip-long}
+use Rattle.npf_model.specs.declared.model.Model.{Model}
 use Rattle.npf_model.specs.Verdict.{PlacedRule, all_rules}
+use Rattle.npf_ruleset.specs.Configuration.{programs}
 use Rattle.npf_ruleset.specs.Flat.{IsCompiled, instructions}
 use Rattle.npf_ruleset.specs.Refusal.{IsWithinLimits}
 use Rattle.npf_ruleset.proofs.CompileLemmas.{instructions_counted}
@@ -19,12 +21,16 @@ instructions-total-requires c =
     let programs = c.in_ok-programs.programs.items in
     let same : length c.deref.result.now ≡ length programs = ap length c.deref.ensures.value in
     let many = AllZip-long (λ (placed : PlacedRule). IsCompiled placed.rule) (all_rules c.args.model.groups) programs c.in_ok-programs.ensures.ok.each in
-    let few = c.requires.rules in
+    let few = c.requires.buildable.rules in
     omega arith
+
+pub assemble-requires-clause-programs : goal.assemble-requires-clause-programs
+assemble-requires-clause-programs c = record {
+  compiled = c.in_ok-programs.ensures.ok;
+  few = subst (λ rules. instructions rules ≤ 524288) c.deref.ensures.value (subst (λ n. n ≤ 524288) c.instructions-total.ensures c.if-total.false);
+}
 
 pub returns-clause-accepts : goal.returns-clause-accepts
 returns-clause-accepts c =
-    subst (IsWithinLimits c.args.model) (sym c.in_ok-assemble.ensures.programs) (record {
-      compiled = c.in_ok-programs.ensures.ok;
-      few = subst (λ rules. instructions rules ≤ 524288) c.deref.ensures.value (subst (λ n. n ≤ 524288) c.instructions-total.ensures c.if-total.false);
-    })
+    let config = c.in_ok-assemble.field-0 in
+    subst (λ (m : Model). IsWithinLimits m (programs config)) c.in_ok-assemble.ensures.model config.limits

@@ -47,7 +47,7 @@ loop-at-preserved c =
     let rule = is_rule groups c.args.places.now c.requires.places c.loop-at.at _ (slice_get-get_or c.args.places.now c.loop-at.at _ c.loop-at-test.true) placed c.placed_at.ensures in
     subst (AreProgramsOf (take (c.loop-at.at + 1) (all_rules groups))) (sym c.in_ok-push-in-Ok.ensures.items)
     (compiled_more (all_rules groups) c.loop-at.at placed rule c.loop-at.programs.items c.in-Ok.program c.loop-at.invariant
-    (record { value = c.in-Ok.ensures.value; valid = c.in-Ok.ensures.valid; count = c.in-Ok.ensures.count; size = c.in-Ok.ensures.size }) (fits _ (λ over. true≢false (ap is_ok (c.in-Ok.ensures.too_long.1 over)))))
+    (record { value = c.in-Ok.ensures.value; valid = ∣ c.in-Ok.ensures.valid ∣₁; count = c.in-Ok.ensures.count; size = c.in-Ok.ensures.size }) (fits _ (λ over. true≢false (ap is_ok (c.in-Ok.ensures.too_long.1 over)))))
 
 pub fault_at-requires : goal.fault_at-requires
 fault_at-requires c =

@@ -1,4 +1,4 @@
--- A configuration out of which rules were taken is one that can be changed.
+-- The next configuration: the programs that serve its rules, what it keeps, and what of the last one stays.
 use Rattle.std.proofs.Common.{◌≡◌, ◌≤◌, ℕ, suc, Bool, true, false, Result, Ok, Err, List, [], ◌∷◌, All, length, map, refl, sym, ap, subst, ◌∙◌, arith}
 use Rattle.std.proofs.lemmas.Slice.Zip.{AllZip-long}
 use Rattle.std.specs.List.{AllZip}
@@ -7,9 +7,8 @@ use Rattle.std.specs.Arc.{arc_value}
 use Rattle.std.specs.Global.{Global, Vec}
 use Rattle.std.specs.Result.{IfOk}
 use Rattle.std.specs.declared.sync.Arc.{Arc}
-use Rattle.std.proofs.lemmas.List.{length-map}
 use Rattle.std.proofs.lemmas.List.Elements.{All-cons, All-map, All-weaker}
-use Rattle.npf_types.specs.declared.limits.TheConstants.{MAX_INSTRUCTIONS, MAX_RULES}
+use Rattle.npf_types.specs.declared.limits.TheConstants.{MAX_INSTRUCTIONS, MAX_MAPS, MAX_RULES}
 use Rattle.npf_types.specs.declared.name.Name.{Name}
 use Rattle.npf_model.specs.declared.group.Group.{Group}
 use Rattle.npf_model.specs.declared.group.Item.{Item}
@@ -20,18 +19,17 @@ use Rattle.npf_table.specs.declared.table.Table.{Table}
 use Rattle.npf_table.specs.Table.{kind_of, prefixes}
 use Rattle.npf_bpf.specs.declared.insn.Insn.{Insn}
 use Rattle.npf_ruleset.specs.declared.config.Config.{Config}
-use Rattle.npf_ruleset.specs.declared.flat.FlatRule.{FlatRule}
-use Rattle.npf_ruleset.specs.Configuration.{configuration, programs}
+use Rattle.npf_ruleset.specs.Configuration.{configuration}
 use Rattle.npf_ruleset.specs.Flat.{IsCompiled, instructions, programs_of}
-use Rattle.npf_ruleset.specs.Refusal.{AreProgramsOf, IsBuildable, IsCompilable, IsLight}
+use Rattle.npf_ruleset.specs.Refusal.{AreProgramsOf, IsBuildable, IsCompilable, IsLight, IsWithinLimits}
 use Rattle.npf_ruleset.specs.Tables.{entries}
 use Rattle.npf_config.specs.Loaded.{HasNextIds, IsLoaded, IsNextWithin}
+use Rattle.npf_config.specs.Tables.{declared_kinds}
 use Rattle.npf_config_changes.specs.declared.change.Change.{Change}
 use Rattle.npf_config_changes.specs.declared.change.Change.TheVariants.{Added, Removed, Flushed}
-use Rattle.npf_config_changes.specs.Changes.{with_ruleset}
 use Rattle.npf_config_changes.specs.Kept.{AddsNone, HasNumbersLeft, IsServed, Keeps, Serves, TakesOut, ruleset_change}
 use Rattle.npf_config_changes.specs.Rulesets.{are_one_name, group_with_ruleset, item_with_ruleset, model_with_ruleset}
-use Rattle.npf_config_changes.proofs.EntryLemmas.{entries_of_values, kinds_last}
+use Rattle.npf_config_changes.proofs.EntryLemmas.{entries_of_values}
 
 pub no_more : (change : Change) → TakesOut change → (before after : ℕ) → AddsNone change before after → after ≤ before
 no_more (Added rule program) takes before after fewer = absurd takes
@@ -114,57 +112,54 @@ module _ (change : Change) (takes : TakesOut change) (name : Name) (most : ℕ) 
       All-map (IsNextWithin most) (item_with_ruleset name (ruleset_change change)) group.items
       (All-weaker (IsNextWithin most) (λ (item : Item). IsNextWithin most (item_with_ruleset name (ruleset_change change) item)) same_next group.items items)) model.groups within)
 
-module _ (config : Config) (loaded : IsLoaded config) where
-  pub old_serve : AllZip Serves (all_rules config.model.groups) (programs_of config.rules)
-  old_serve = all_serve (all_rules config.model.groups) (programs_of config.rules) loaded.limits.compiled loaded.buildable.compilable
+-- the programs of a configuration serve its rules
+pub old_serve : (config : Config) → AllZip Serves (all_rules config.model.groups) (programs_of config.rules)
+old_serve config = all_serve (all_rules config.model.groups) (programs_of config.rules) config.limits.compiled config.buildable.compilable
 
-  module _ (change : Change) (name : Name) where
-    abbrev pub next_model : Model
-    next_model = model_with_ruleset name (ruleset_change change) config.model
+-- the configuration that has another model with the same tables
+module _ (config next : Config) (model : Model) (of_model : next.model ≡ model) (tables : map arc_value next.tables.items ≡ map arc_value config.tables.items) where
+  same_entries : entries next.tables.items ≡ entries config.tables.items
+  same_entries = entries_of_values next.tables.items ∙ ap (map prefixes) tables ∙ sym (entries_of_values config.tables.items)
 
-    module _ (kept : List (List Insn)) (serve : AllZip Serves (all_rules next_model.groups) kept) where
-      pub next_buildable : length (all_rules next_model.groups) ≤ MAX_RULES → IsBuildable next_model
-      next_buildable few = record { rules = few; maps = loaded.buildable.maps; compilable = are_compilable (all_rules next_model.groups) kept serve }
+  pub next_is : configuration next ≡ record (configuration config) { model = model }
+  next_is = rw (of_model, same_entries) refl
 
-      module _ (next : Config) (of_model : next.model ≡ next_model) (tables : map arc_value next.tables.items ≡ map arc_value config.tables.items) where
-        same_entries : entries next.tables.items ≡ entries config.tables.items
-        same_entries = entries_of_values next.tables.items ∙ ap (map prefixes) tables ∙ sym (entries_of_values config.tables.items)
+  pub next_loaded : model.tables ≡ config.model.tables → IsLoaded config → IsLoaded next
+  next_loaded declared loaded = record {
+    kinds = ap (map kind_of) tables ∙ loaded.kinds ∙ ap declared_kinds (sym (ap (λ (m : Model). m.tables) of_model ∙ declared));
+    few = rw same_entries loaded.few;
+  }
 
-        pub next_is : configuration next ≡ with_ruleset name (ruleset_change change) (configuration config)
-        next_is = rw (of_model, same_entries) refl
+-- the programs that are kept, of a model whose rules they serve
+module _ (model : Model) (kept : List (List Insn)) (serve : AllZip Serves (all_rules model.groups) kept) where
+  pub next_buildable : length (all_rules model.groups) ≤ MAX_RULES → length model.maps ≤ MAX_MAPS → IsBuildable model
+  next_buildable rules maps = record { rules = rules; maps = maps; compilable = are_compilable (all_rules model.groups) kept serve }
 
-        pub next_loaded : programs next ≡ kept → length (all_rules next_model.groups) ≤ MAX_RULES → instructions kept ≤ MAX_INSTRUCTIONS → IsLoaded next
-        next_loaded are few short = record {
-          kinds = rw of_model (kinds_last config.model.tables config.tables.items next.tables.items (ap (map kind_of) tables) loaded.kinds);
-          limits = rw (of_model, are) (record { compiled = are_programs (all_rules next_model.groups) kept serve; few = short });
-          buildable = rw of_model (next_buildable few);
-          tables = rw of_model loaded.tables;
-          few = rw same_entries loaded.few;
-        }
+  pub next_limits : instructions kept ≤ MAX_INSTRUCTIONS → IsWithinLimits model kept
+  next_limits few = record { compiled = are_programs (all_rules model.groups) kept serve; few = few }
 
-    -- where nothing is added there are no more rules and instructions
-    module _ (takes : TakesOut change) (kept : List (List Insn)) (keeps : Keeps change (all_rules next_model.groups) config.rules [] [] kept) where
-      pub kept_serve : AllZip Serves (all_rules next_model.groups) kept
-      kept_serve = subst (AllZip Serves (all_rules next_model.groups)) (sym keeps.are) keeps.each
+module _ (config : Config) (change : Change) (rules : List PlacedRule) (kept : List (List Insn)) (keeps : Keeps change rules config.rules [] [] kept) where
+  pub kept_serve : AllZip Serves rules kept
+  kept_serve = subst (AllZip Serves rules) (sym keeps.are) keeps.each
 
-      pub no_more_rules : length (all_rules next_model.groups) ≤ MAX_RULES
-      no_more_rules =
-          let fewer = no_more change takes _ _ keeps.fewer in
-          let many = AllZip-long Serves (all_rules next_model.groups) kept kept_serve in
-          let were = AllZip-long Serves (all_rules config.model.groups) (programs_of config.rules) old_serve in
-          let same = length-map config.rules (λ (flat : FlatRule). flat.program) in
-          let few = loaded.buildable.rules in
-          omega arith
+  -- where nothing is added there are no more rules and instructions
+  module _ (takes : TakesOut change) where
+    pub no_more_rules : length rules ≤ MAX_RULES
+    no_more_rules =
+        let fewer = no_more change takes _ _ keeps.fewer in
+        let many = AllZip-long Serves rules kept kept_serve in
+        let were = config.flat.rule_count in
+        let few = config.buildable.rules in
+        omega arith
 
-      pub no_more_instructions : instructions kept ≤ MAX_INSTRUCTIONS
-      no_more_instructions =
-          let shorter = no_more change takes _ _ keeps.shorter in
-          let few = loaded.limits.few in
-          omega arith
+    pub no_more_instructions : instructions kept ≤ MAX_INSTRUCTIONS
+    no_more_instructions =
+        let shorter = no_more change takes _ _ keeps.shorter in
+        let few = config.limits.few in
+        omega arith
 
 -- what is said of what is assembled, together
-pub assembled : {E : Type 0} (result : Result Config E) (model : Model) (tables : Vec (Arc Table Global)) (kept : List (List Insn)) → IfOk result (λ config. config.model ≡ model)
-    → IfOk result (λ config. config.tables ≡ tables) → IfOk result (λ config. programs config ≡ kept)
-    → IfOk result (λ config. (config.model ≡ model) × (config.tables ≡ tables) × (programs config ≡ kept))
-assembled (Ok config) model tables kept of_model with_tables are = (of_model, with_tables, are)
-assembled (Err fault) model tables kept of_model with_tables are = tt
+pub assembled : {E : Type 0} (result : Result Config E) (model : Model) (tables : Vec (Arc Table Global)) → IfOk result (λ config. config.model ≡ model)
+    → IfOk result (λ config. config.tables ≡ tables) → IfOk result (λ config. (config.model ≡ model) × (config.tables ≡ tables))
+assembled (Ok config) model tables of_model with_tables = (of_model, with_tables)
+assembled (Err fault) model tables of_model with_tables = tt
