@@ -1,7 +1,6 @@
 // What is said of a configuration's rules: how many there are, and the program of each.
 ghost use Rattle.std.specs.Prelude.{◌≡◌, ◌++◌, IfOk, OnOk};
 ghost use Rattle.std.specs.Fmt.{decimal};
-ghost use Rattle.npf_config.specs.Loaded.{IsLoaded};
 ghost use Rattle.npf_ruleset.specs.Configuration.{programs};
 ghost use Rattle.npf_ctl.specs.Texts.{insn_text, program_text, programs_text, valid_text};
 
@@ -13,7 +12,6 @@ use std::alloc::Global;
 
 /// How many rules the configuration has, with those of its rulesets.
 pub(crate) fn count_text(alloc: Global, config: &Config) -> Result<Vec<u8>, NoMemory>
-    requires { IsLoaded config.now }
     ensures { IfOk result (λ text. text.items ≡ valid_text config.now.model) }
 {
     let mut text = Vec::new(alloc);

@@ -1,6 +1,5 @@
 // The commands that only look at a configuration.
-ghost use Rattle.std.specs.Prelude.{◌≡◌, ℕ, List, IfOk};
-ghost use Rattle.npf_config.specs.Loaded.{IsLoaded};
+ghost use Rattle.std.specs.Prelude.{ℕ, List, IfOk};
 ghost use Rattle.npf_outside.specs.Files.{SameFiles};
 ghost use Rattle.npf_connections.specs.Pass.{Pass};
 ghost use Rattle.npf_engine.specs.Histories.{FlowEntry};
@@ -49,7 +48,6 @@ pub(crate) fn look_at<F: Files, O: Sink>(
 }
 
 fn look_text(alloc: Global, look: Look, config: &Config) -> Result<Vec<u8>, NoMemory>
-    requires { IsLoaded config.now }
     ensures { IfOk result (λ text. IsLookText look config.now.model text.items) }
 {
     match look {

@@ -5,6 +5,7 @@ use Rattle.npf_types.specs.Stages.{Stage, ◌andthen◌, gives, ◌told_by◌}
 use Rattle.npf_model.specs.declared.iface.Iface.{Iface}
 use Rattle.npf_model.specs.Configuration.{Configuration}
 use Rattle.npf_outside.specs.Files.{FilesMoment}
+use Rattle.npf_config.specs.Tables.{declared_kinds}
 use Rattle.npf_config_changes.specs.declared.fault.ChangeFault.{ChangeFault}
 use Rattle.npf_config_changes.specs.declared.fault.ChangeFault.TheVariants as Change
 use Rattle.npf_config_changes.specs.Additions.{AddsRule}
@@ -38,8 +39,8 @@ module _ (before after : FilesMoment) (ifaces : List Iface) (script : List ℕ) 
   MakesNext old (line, Said.RuleAdd name text) = AddsRuleAlone old name ifaces text told_by told_at_line script line
   MakesNext old (line, Said.RuleRem name id) = RemovesRule old name id told_by told_at_line script line
   MakesNext old (line, Said.RuleFlush name) = FlushesRules old name told_by told_at_line script line
-  MakesNext old (line, Said.TableAdd name prefix) = AddsEntry old name prefix told_by told_at_line script line
-  MakesNext old (line, Said.TableRem name prefix) = RemovesEntry old name prefix told_by told_at_line script line
+  MakesNext old (line, Said.TableAdd name prefix) = AddsEntry (declared_kinds old.model.tables) old name prefix told_by told_at_line script line
+  MakesNext old (line, Said.TableRem name prefix) = RemovesEntry (declared_kinds old.model.tables) old name prefix told_by told_at_line script line
   MakesNext old (line, _) = gives old
 
   -- the configurations of a run: those that were made, of which this is the last, and behind them one for each line that makes a change

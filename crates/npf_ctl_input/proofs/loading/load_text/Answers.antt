@@ -11,7 +11,7 @@ returns-in-Ok-clause-comes g c = λ before after around.
     let old = g.F.Files.moment c.args.files.now in
     let new = g.F.Files.moment c.load.new.files in
     text_lasts old new before after (meets_around before old new after around) c.args.ifaces.now.list c.args.file.now c.args.text.now
-    (Ok (configuration c.in-Ok.config)) (loaded {programs = programs c.in-Ok.config} c.in-Ok.ensures.first c.in-Ok.ensures.loaded.limits)
+    (Ok (configuration c.in-Ok.config)) (loaded {programs = programs c.in-Ok.config} c.in-Ok.ensures.first c.in-Ok.config.limits)
 
 pub returns-in_ok-told_fault-in-Err-clause-comes : goal.returns-in_ok-told_fault-in-Err-clause-comes
 returns-in_ok-told_fault-in-Err-clause-comes g c = λ before after around.

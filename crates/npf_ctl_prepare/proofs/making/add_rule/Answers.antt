@@ -9,3 +9,6 @@ returns-in_err-next-clause-err c =
 
 pub returns-clause-ok : goal.returns-clause-ok
 returns-clause-ok c = goes_on c.in_ok-next.ensures.ok refl
+
+pub returns-clause-loaded : goal.returns-clause-loaded
+returns-clause-loaded c = c.in_ok-next.ensures.loaded c.requires.last.loaded

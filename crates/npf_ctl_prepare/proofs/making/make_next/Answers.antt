@@ -1,6 +1,8 @@
 use Rattle.std.proofs.Common.{List, refl, subst, sym, ℕ}
 use Rattle.npf_types.specs.Stages.{◌told_by◌}
+use Rattle.npf_model.specs.declared.table.Kind.{Kind}
 use Rattle.npf_ruleset.specs.Configuration.{configuration}
+use Rattle.npf_config.specs.Tables.{table_kinds}
 use Rattle.npf_config_changes.specs.Changes.{FlushesRules, RemovesRule}
 use Rattle.npf_config_changes.specs.Entries.{AddsEntry, RemovesEntry}
 use Rattle.npf_ctl_script.specs.declared.script.ScriptLine.{ScriptLine}
@@ -40,7 +42,7 @@ returns-in-RuleRem-clause-answers g c = λ before after around.
     subst (λ (said : ScriptLine). AnswersChange before after ifaces c.args.script.now last (n, said) c.told-in-RuleRem.result) (sym c.in-RuleRem.is)
     (change_answers before after ifaces c.args.script.now last n (Said.RuleRem c.in-RuleRem.name c.in-RuleRem.id)
     (RemovesRule (configuration c.args.last.now) c.in-RuleRem.name c.in-RuleRem.id) c.rule_rem.result c.told-in-RuleRem.result (λ result is. is)
-    refl c.rule_rem.ensures.ok c.rule_rem.ensures.err c.rule_rem.ensures.loaded (ids_kept last c.rule_rem.result c.rule_rem.ensures.ids) c.told-in-RuleRem.ensures)
+    refl c.rule_rem.ensures.ok c.rule_rem.ensures.err (c.rule_rem.ensures.loaded c.requires.last.loaded) (ids_kept last c.rule_rem.result c.rule_rem.ensures.ids) c.told-in-RuleRem.ensures)
 
 pub returns-in-RuleFlush-clause-answers : goal.returns-in-RuleFlush-clause-answers
 returns-in-RuleFlush-clause-answers g c = λ before after around.
@@ -50,7 +52,7 @@ returns-in-RuleFlush-clause-answers g c = λ before after around.
     subst (λ (said : ScriptLine). AnswersChange before after ifaces c.args.script.now last (n, said) c.told-in-RuleFlush.result) (sym c.in-RuleFlush.is)
     (change_answers before after ifaces c.args.script.now last n (Said.RuleFlush c.in-RuleFlush.name)
     (FlushesRules (configuration c.args.last.now) c.in-RuleFlush.name) c.rule_flush.result c.told-in-RuleFlush.result (λ result is. is)
-    refl c.rule_flush.ensures.ok c.rule_flush.ensures.err c.rule_flush.ensures.loaded (ids_kept last c.rule_flush.result c.rule_flush.ensures.ids) c.told-in-RuleFlush.ensures)
+    refl c.rule_flush.ensures.ok c.rule_flush.ensures.err (c.rule_flush.ensures.loaded c.requires.last.loaded) (ids_kept last c.rule_flush.result c.rule_flush.ensures.ids) c.told-in-RuleFlush.ensures)
 
 pub returns-in-TableAdd-clause-answers : goal.returns-in-TableAdd-clause-answers
 returns-in-TableAdd-clause-answers g c = λ before after around.
@@ -59,8 +61,9 @@ returns-in-TableAdd-clause-answers g c = λ before after around.
     let ifaces = c.args.ifaces.now.list in
     subst (λ (said : ScriptLine). AnswersChange before after ifaces c.args.script.now last (n, said) c.told-in-TableAdd.result) (sym c.in-TableAdd.is)
     (change_answers before after ifaces c.args.script.now last n (Said.TableAdd c.in-TableAdd.name c.in-TableAdd.prefix)
-    (AddsEntry (configuration c.args.last.now) c.in-TableAdd.name c.in-TableAdd.prefix) c.table_add.result c.told-in-TableAdd.result (λ result is. is)
-    refl c.table_add.ensures.ok c.table_add.ensures.err c.table_add.ensures.loaded (ids_kept last c.table_add.result c.table_add.ensures.ids) c.told-in-TableAdd.ensures)
+    (AddsEntry (table_kinds last.tables.items) (configuration last) c.in-TableAdd.name c.in-TableAdd.prefix) c.table_add.result c.told-in-TableAdd.result
+    (λ result is. subst (λ (kinds : List Kind). (AddsEntry kinds (configuration last) c.in-TableAdd.name c.in-TableAdd.prefix told_by told_at_line c.args.script.now n) result) c.requires.last.loaded.kinds is)
+    refl c.table_add.ensures.ok c.table_add.ensures.err (c.table_add.ensures.loaded c.requires.last.loaded) (ids_kept last c.table_add.result c.table_add.ensures.ids) c.told-in-TableAdd.ensures)
 
 pub returns-in-TableRem-clause-answers : goal.returns-in-TableRem-clause-answers
 returns-in-TableRem-clause-answers g c = λ before after around.
@@ -69,8 +72,9 @@ returns-in-TableRem-clause-answers g c = λ before after around.
     let ifaces = c.args.ifaces.now.list in
     subst (λ (said : ScriptLine). AnswersChange before after ifaces c.args.script.now last (n, said) c.told-in-TableRem.result) (sym c.in-TableRem.is)
     (change_answers before after ifaces c.args.script.now last n (Said.TableRem c.in-TableRem.name c.in-TableRem.prefix)
-    (RemovesEntry (configuration c.args.last.now) c.in-TableRem.name c.in-TableRem.prefix) c.table_rem.result c.told-in-TableRem.result (λ result is. is)
-    refl c.table_rem.ensures.ok c.table_rem.ensures.err c.table_rem.ensures.loaded (ids_kept last c.table_rem.result c.table_rem.ensures.ids) c.told-in-TableRem.ensures)
+    (RemovesEntry (table_kinds last.tables.items) (configuration last) c.in-TableRem.name c.in-TableRem.prefix) c.table_rem.result c.told-in-TableRem.result
+    (λ result is. subst (λ (kinds : List Kind). (RemovesEntry kinds (configuration last) c.in-TableRem.name c.in-TableRem.prefix told_by told_at_line c.args.script.now n) result) c.requires.last.loaded.kinds is)
+    refl c.table_rem.ensures.ok c.table_rem.ensures.err (c.table_rem.ensures.loaded c.requires.last.loaded) (ids_kept last c.table_rem.result c.table_rem.ensures.ids) c.told-in-TableRem.ensures)
 
 pub returns-in_default-clause-answers : goal.returns-in_default-clause-answers
 returns-in_default-clause-answers g c = λ before after around.
