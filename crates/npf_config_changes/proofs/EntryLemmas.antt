@@ -86,7 +86,7 @@ module _ (config next : Config) (at : ℕ) (was : Arc Table Global) (new : Table
 
 -- a declaration's place is that of a table
 pub place_within : (config : Config) (at : ℕ) → at < length config.model.tables → at < length config.tables.items
-place_within config at below = let len = config.declared.declared in omega arith
+place_within config at below = let len = config.declared.declared in omega (arith, len, below)
 
 -- the table at the place of its declaration
 pub there_at : (config : Config) (at : ℕ) → at < length config.model.tables → (tables : List (Arc Table Global)) → tables ≡ config.tables.items
@@ -143,7 +143,7 @@ module _ (config : Config) (name : Name) (at : ℕ) (was : Arc Table Global) (th
           → told_count (entry_count (with_entries at (prefixes new) (configuration config)).tables) ≡ count → MAX_TABLE_ENTRIES < count
           → AddsEntry kinds (configuration config) name prefix (Err (too_many beginning Entries count))
       passes gains count counted over =
-          let many : MAX_TABLE_ENTRIES < entry_count (with_entries at (prefixes new) (configuration config)).tables = omega arith in
+          let many : MAX_TABLE_ENTRIES < entry_count (with_entries at (prefixes new) (configuration config)).tables = omega (arith, counted, over) in
           subst (λ n. AddsEntry kinds (configuration config) name prefix (Err (too_many beginning Entries n))) counted
           (goes_on (found is_table_at) (goes_on (allowed may) (goes_on gains (stops (passes_limit _ MAX_TABLE_ENTRIES _ many)))))
 

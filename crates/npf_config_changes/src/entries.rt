@@ -23,16 +23,18 @@ use std::sync::Arc;
 
 /// The configuration in which the table of this name has the prefix too. Refused, in this order: `UnknownTable`; `Table` with
 /// `ReadOnly`, `WrongKind` or `Present`, as the table refuses it; `Conf` with the entries of all tables, where they would pass
-/// `MAX_TABLE_ENTRIES` (49); or for want of memory. A table's kind is its own, which in a configuration that was loaded is the
-/// declared one.
+/// `MAX_TABLE_ENTRIES` (49); or for want of memory. A table's kind is its own, which in a loaded
+/// configuration is the declared one.
 pub fn table_add(
     alloc: Global,
     config: &Config,
     name: Name,
     prefix: Prefix,
 ) -> Result<Config, ChangeFault>
-    ensures ok { IfOk result (λ next. AddsEntry (table_kinds config.now.tables.items) (configuration config.now) name prefix (Ok (configuration next))) }
-    ensures err { IfErr result (EndsUnlessMemory (AddsEntry (table_kinds config.now.tables.items) (configuration config.now) name prefix)) }
+    ensures ok { IfOk result (λ next.
+        AddsEntry (table_kinds config.now.tables.items) (configuration config.now) name prefix (Ok (configuration next))) }
+    ensures err { IfErr result (EndsUnlessMemory
+        (AddsEntry (table_kinds config.now.tables.items) (configuration config.now) name prefix)) }
     ensures loaded { IsLoaded config.now → IfOk result IsLoaded }
     ensures ids { (most : ℕ) → HasNextIds most config.now.model → IfOk result (λ next. HasNextIds most next.model) }
 {
@@ -58,8 +60,10 @@ pub fn table_rem(
     name: Name,
     prefix: Prefix,
 ) -> Result<Config, ChangeFault>
-    ensures ok { IfOk result (λ next. RemovesEntry (table_kinds config.now.tables.items) (configuration config.now) name prefix (Ok (configuration next))) }
-    ensures err { IfErr result (EndsUnlessMemory (RemovesEntry (table_kinds config.now.tables.items) (configuration config.now) name prefix)) }
+    ensures ok { IfOk result (λ next.
+        RemovesEntry (table_kinds config.now.tables.items) (configuration config.now) name prefix (Ok (configuration next))) }
+    ensures err { IfErr result (EndsUnlessMemory
+        (RemovesEntry (table_kinds config.now.tables.items) (configuration config.now) name prefix)) }
     ensures loaded { IsLoaded config.now → IfOk result IsLoaded }
     ensures ids { (most : ℕ) → HasNextIds most config.now.model → IfOk result (λ next. HasNextIds most next.model) }
 {

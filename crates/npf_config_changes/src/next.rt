@@ -1,8 +1,8 @@
-// The next configuration: the rules of a ruleset changed, each with its program, laid out with the tables that stay.
-ghost use Rattle.std.specs.Prelude.{◌≡◌, [], All, IfOk, map};
-ghost use Rattle.std.specs.Arc.{arc_value};
+// The next configuration: the rules of a ruleset changed, each with its program, laid out with the
+// tables that stay.
+ghost use Rattle.std.specs.Prelude.{◌≡◌, [], All, IfOk};
 ghost use Rattle.npf_model.specs.Verdict.{all_rules};
-ghost use Rattle.npf_ruleset.specs.Configuration.{configuration, programs};
+ghost use Rattle.npf_ruleset.specs.Configuration.{configuration};
 ghost use Rattle.npf_ruleset.specs.Refusal.{IsBuildable, IsWithinLimits};
 ghost use Rattle.npf_config.specs.Loaded.{IsLoaded};
 ghost use Rattle.npf_config_changes.specs.Kept.{HasNumbersLeft, IsServed, Keeps, ruleset_change};
@@ -26,8 +26,10 @@ pub(crate) fn changed(
 ) -> Result<(Model, Vec<Program>), NoMemory>
     requires served { IsServed change }
     requires room { All (λ group. All (HasNumbersLeft change) group.items) config.now.model.groups }
-    ensures model { IfOk result (λ next. next.0 ≡ model_with_ruleset name.now (ruleset_change change.entry) config.now.model) }
-    ensures keeps { IfOk result (λ next. Keeps change.entry (all_rules next.0.groups) config.now.rules [] [] next.1.items) }
+    ensures model { IfOk result (λ next.
+        next.0 ≡ model_with_ruleset name.now (ruleset_change change.entry) config.now.model) }
+    ensures keeps { IfOk result (λ next.
+        Keeps change.entry (all_rules next.0.groups) config.now.rules [] [] next.1.items) }
 {
     let groups = config.model().groups.as_slice();
     let programs = changed_programs(alloc, groups, config.rules(), name, change)?;
@@ -35,7 +37,8 @@ pub(crate) fn changed(
     Ok((model, programs))
 }
 
-/// The configuration with this model and the programs of its rules, which shares the tables of the old one.
+/// The configuration with this model and the programs of its rules, which shares the tables of the
+/// old one.
 pub(crate) fn with_model(
     alloc: Global,
     config: &Config,
@@ -45,7 +48,8 @@ pub(crate) fn with_model(
     requires buildable { IsBuildable model }
     requires limits { IsWithinLimits model programs.items }
     requires tables { model.tables ≡ config.now.model.tables }
-    ensures is { IfOk result (λ next. configuration next ≡ record (configuration config.now) { model = model }) }
+    ensures is { IfOk result (λ next.
+        configuration next ≡ record (configuration config.now) { model = model }) }
     ensures loaded { IsLoaded config.now → IfOk result IsLoaded }
 {
     let tables = shared(alloc, config.tables())?;

@@ -58,5 +58,5 @@ fn without(
     ensures ids { (most : ℕ) → HasNextIds most config.now.model → IfOk result (λ next. HasNextIds most next.model) }
 {
     let (model, programs) = changed(alloc, config, name, change)?;
-    Ok(with_model(alloc, config, model, programs)?)
+    with_model(alloc, config, model, programs)
 }

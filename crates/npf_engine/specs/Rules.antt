@@ -19,6 +19,7 @@ use Rattle.npf_model.specs.Configuration.{Configuration, verdict_of, map_place_o
 use Rattle.npf_nat.specs.declared.map_plan.MapPlan.{MapPlan}
 use Rattle.npf_nat.specs.declared.map_plan.MapPlan.TheVariants.{Fixed, Draw}
 use Rattle.npf_nat.specs.MapPlan.{plan}
+use Rattle.npf_proc.specs.Action.{procedure_action}
 use Rattle.npf_engine_opening.specs.declared.attempt.Attempt.{Attempt}
 use Rattle.npf_ruleset.specs.RuleAt.{rule_at}
 use Rattle.npf_engine.specs.declared.rules.Mapping.{Mapping}
@@ -30,14 +31,13 @@ use Rattle.npf_engine.specs.Arrival.{Arrival, any_interface, arg_of}
 abbrev pub no_action : Action
 no_action = record { min_ttl = None; max_mss = None; no_df = false; log = None }
 
-abbrev pub procedure_action : Option Procedure → Action
-procedure_action None = no_action
-procedure_action (Some procedure) =
-    record { min_ttl = procedure.min_ttl; max_mss = procedure.max_mss; no_df = procedure.no_df; log = procedure.log }
+abbrev pub action_by : Option Procedure → Action
+action_by None = no_action
+action_by (Some procedure) = procedure_action procedure
 
 -- a rule's action is that of its procedure, and empty without one
 abbrev pub action_of : Model → Rule → Action
-action_of model rule = procedure_action (option_and_then (slice_get model.procedures) rule.procedure)
+action_of model rule = action_by (option_and_then (slice_get model.procedures) rule.procedure)
 
 abbrev pub ruling : Model → ℕ → Rule → Ruling
 ruling model place rule = record { place = place; decision = rule.decision; state = rule.state; action = action_of model rule }

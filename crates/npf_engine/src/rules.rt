@@ -3,10 +3,10 @@ ghost use Rattle.std.specs.Prelude.{◌≡◌, ◌↔◌, IsTrue, Some};
 ghost use Rattle.npf_packet.specs.declared.decoded.Decoded.TheVariants.{Ip};
 ghost use Rattle.npf_packet.specs.Decoding.{Decodes};
 ghost use Rattle.npf_ruleset.specs.Configuration.{configuration};
-ghost use Rattle.npf_engine.specs.Rules.{OpensOne, action_of, static_change, key_interface, mapping, mapping_of, no_action, plan_of, procedure_action, ruling_of, unchanged};
+ghost use Rattle.npf_engine.specs.Rules.{OpensOne, action_of, static_change, key_interface, mapping, mapping_of, no_action, plan_of, ruling_of, unchanged};
 
 use crate::crossing::Crossing;
-use npf_model::{Algo, Model, Procedure, Rule, StateOpt};
+use npf_model::{Algo, Model, Rule, StateOpt};
 use npf_nat::{MapPlan, plan};
 use npf_packet::decoded_is_packet;
 use npf_ruleset::{Config, map_for, walk};
@@ -71,15 +71,9 @@ fn action_of(model: &Model, rule: &Rule) -> Action
         return NO_ACTION;
     };
     match model.procedures.as_slice().get(place as usize) {
-        Some(procedure) => procedure_action(procedure),
+        Some(procedure) => npf_proc::action_of(procedure),
         None => NO_ACTION,
     }
-}
-
-fn procedure_action(procedure: &Procedure) -> Action
-    ensures { result ≡ procedure_action (Some procedure.now) }
-{
-    npf_proc::action_of(procedure)
 }
 
 /// The map that translates the packet, if one does.

@@ -1,11 +1,10 @@
 ghost use Rattle.std.specs.Prelude.{◌≡◌, ◌<◌, ◌*◌, ◌++◌, ◌^◌, IfOk, OnOk};
-ghost use Rattle.byteorder.specs.Endian.{little_bytes};
 ghost use Rattle.npf_pcap.specs.Spelling.{capture_bytes, record_bytes};
 ghost use Rattle.npf_gen.specs.Workload.{configuration_text, script_text, packet_count, generated_records, sent_at};
 
 use crate::datagram::Datagram;
 use crate::draw::Draws;
-use npf_pcap::write_capture;
+use npf_pcap::{append_record, write_capture};
 use npf_types::{List, NoMemory, Text};
 use std::alloc::Global;
 
@@ -18,7 +17,7 @@ const SCRIPT: &str =
 const PACKET_COUNT: usize = 20_000;
 
 // The bytes of a packet, and of its record in a capture.
-const PACKET_LEN: u32 = 28;
+const PACKET_LEN: usize = 28;
 
 const RECORD_LEN: usize = 44;
 
@@ -61,25 +60,26 @@ fn capture_of(alloc: Global, number: u64) -> Result<Vec<u8>, NoMemory>
         let port = draws.draw();
         let server = draws.draw();
         let datagram = Datagram::of_draws(host, port, server);
-        write_record(&mut capture, (i + 1) * NANOSECONDS_BETWEEN, &datagram)?;
+        write_record(
+            &mut capture,
+            alloc,
+            (i + 1) * NANOSECONDS_BETWEEN,
+            &datagram,
+        )?;
     }
     Ok(capture)
 }
 
-fn write_record(out: &mut Vec<u8>, time: u64, datagram: &Datagram) -> Result<(), NoMemory>
+fn write_record(
+    out: &mut Vec<u8>,
+    alloc: Global,
+    time: u64,
+    datagram: &Datagram,
+) -> Result<(), NoMemory>
     requires { time < 2 ^ 32 * 10 ^ 9 }
     ensures { OnOk result (out.new.items ≡ out.old.items ++ record_bytes (sent_at time datagram.now)) }
 {
-    write_u32(out, (time / 1_000_000_000) as u32)?;
-    write_u32(out, (time % 1_000_000_000) as u32)?;
-    write_u32(out, PACKET_LEN)?;
-    write_u32(out, PACKET_LEN)?;
-    datagram.write(out)
-}
-
-fn write_u32(out: &mut Vec<u8>, number: u32) -> Result<(), NoMemory>
-    ensures { OnOk result (out.new.items ≡ out.old.items ++ little_bytes 4 number) }
-{
-    out.extend_from_slice(&number.to_le_bytes())?;
-    Ok(())
+    let mut bytes = Vec::with_capacity(alloc, PACKET_LEN)?;
+    datagram.write(&mut bytes)?;
+    append_record(out, time, bytes.as_slice())
 }

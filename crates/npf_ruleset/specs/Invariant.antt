@@ -1,12 +1,12 @@
 -- What a configuration keeps holds in one way, as is asked of a fact that a structure keeps.
-use Rattle.std.specs.Prelude.{◌≡◌, Option, Some, None, List, [], ◌∷◌}
+use Rattle.std.specs.Prelude.{Option, Some, None, List, [], ◌∷◌}
 use Rattle.std.specs.Coded.{×_prop, Unit-prop, le_prop}
 use Rattle.std.specs.List.{AllZip}
 use denote.Struct.Props as logic
 use Rattle.npf_model.specs.declared.ends.AddrItem.{AddrItem}
 use Rattle.npf_model.specs.declared.ends.AddrItem.TheVariants.{Net, InTable}
 use Rattle.npf_model.specs.declared.model.Model.{Model}
-use Rattle.npf_model.specs.Verdict.{PlacedRule, all_rules}
+use Rattle.npf_model.specs.Verdict.{PlacedRule}
 use Rattle.npf_bpf.specs.declared.insn.Insn.{Insn}
 use Rattle.npf_bpfgen.specs.Condition.{HasItemNumber, HasItemNumbers}
 use Rattle.npf_ruleset.specs.Flat.{IsCompiled}

@@ -5,7 +5,7 @@ ghost use Rattle.npf_model.specs.Verdict.{PlacedRule, all_rules};
 ghost use Rattle.npf_ruleset.specs.Flat.{IsCompiled, IsFlatRule, programs_of};
 ghost use Rattle.npf_ruleset.specs.Layout.{ArePlacesOf, fault_there};
 ghost use Rattle.npf_ruleset.specs.Place.{IsPlaceOfRule, placed_at};
-ghost use Rattle.npf_ruleset.specs.Refusal.{AreProgramsOf, IsCompilable, IsLight, RefusesAllRules};
+ghost use Rattle.npf_ruleset.specs.Refusal.{AreProgramsOf, IsCompilable, RefusesAllRules};
 
 use crate::binding::Binding;
 use crate::fault::BuildFault;

@@ -11,8 +11,8 @@ use npf_table::Table;
 use npf_types::List;
 use std::sync::Arc;
 
-/// A model laid out flat, with as many tables as it declares. Each rule has its program, and no more
-/// of anything is there than `build` takes.
+/// A model laid out flat, with as many tables as it declares. Each rule has its program, and there
+/// is no more of anything than `build` takes.
 #[derive(Drop)]
 pub struct Config {
     pub(crate) model: Model,

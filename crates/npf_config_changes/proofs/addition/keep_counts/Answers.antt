@@ -13,7 +13,6 @@ pub returns-then-count-gt-MAX_RULES-clause-passed : goal.returns-then-count-gt-M
 returns-then-count-gt-MAX_RULES-clause-passed c =
     let model = c.args.model.now in
     let many = AllZip-long Serves (all_rules model.groups) c.args.programs.now c.requires.serve in
-    let count = c.len-count.ensures in
     let over = c.if-count-gt-MAX_RULES.true in
     subst (EndsUnlessMemory (KeepsCounts c.args.span model)) (sym c.past-many_rules.ensures) (rules_over c.args.span model (omega arith))
 
@@ -21,7 +20,6 @@ pub model_elements-elements-requires : goal.model_elements-elements-requires
 model_elements-elements-requires c =
     let model = c.args.model.now in
     let many = AllZip-long Serves (all_rules model.groups) c.args.programs.now c.requires.serve in
-    let count = c.len-count.ensures in
     let within = c.if-count-gt-MAX_RULES.false in
     next_buildable model c.args.programs.now c.requires.serve (omega arith) c.requires.maps
 
@@ -29,7 +27,6 @@ pub returns-then-elements-clause-passed : goal.returns-then-elements-clause-pass
 returns-then-elements-clause-passed c =
     let model = c.args.model.now in
     let many = AllZip-long Serves (all_rules model.groups) c.args.programs.now c.requires.serve in
-    let count = c.len-count.ensures in
     let within = c.if-count-gt-MAX_RULES.false in
     let few : length (all_rules model.groups) ≤ 4096 = omega arith in
     let elements = c.model_elements-elements.ensures in
@@ -40,7 +37,6 @@ pub returns-then-total-clause-passed : goal.returns-then-total-clause-passed
 returns-then-total-clause-passed c =
     let model = c.args.model.now in
     let many = AllZip-long Serves (all_rules model.groups) c.args.programs.now c.requires.serve in
-    let count = c.len-count.ensures in
     let within = c.if-count-gt-MAX_RULES.false in
     let few : length (all_rules model.groups) ≤ 4096 = omega arith in
     let elements = c.model_elements-elements.ensures in
@@ -54,7 +50,6 @@ pub returns-clause-kept : goal.returns-clause-kept
 returns-clause-kept c =
     let model = c.args.model.now in
     let many = AllZip-long Serves (all_rules model.groups) c.args.programs.now c.requires.serve in
-    let count = c.len-count.ensures in
     let within = c.if-count-gt-MAX_RULES.false in
     let few : length (all_rules model.groups) ≤ 4096 = omega arith in
     let elements = c.model_elements-elements.ensures in
@@ -66,6 +61,5 @@ returns-clause-kept c =
 pub returns-clause-few : goal.returns-clause-few
 returns-clause-few c =
     let many = AllZip-long Serves (all_rules c.args.model.now.groups) c.args.programs.now c.requires.serve in
-    let count = c.len-count.ensures in
     let within = c.if-count-gt-MAX_RULES.false in
     omega arith

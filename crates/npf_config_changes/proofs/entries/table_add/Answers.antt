@@ -66,7 +66,7 @@ returns-then-count-clause-err c = λ _.
     (gained c.in_ok-add.ensures.was_absent c.in_ok-add.ensures.adds c.each_once.ensures c.in_ok-add.ensures.len) in
     let len : length (prefixes new) ≡ length (prefixes (arc_value was)) + 1 = subst (λ (t : Table). length (prefixes new) ≡ length (prefixes t) + 1) same c.in_ok-add.ensures.len in
     let sum = count_there (entries config.tables.items) at (prefixes (arc_value was)) (prefixes new) (had_entries config at was there) in
-    let old : c.entry_count-count.result ≡ told_count (entry_count (entries config.tables.items)) = c.entry_count-count.ensures ∙ ap (λ (all : List (Arc Table Global)). told_count (entry_count (entries all))) c.tables-2.ensures in
+    let old : c.entry_count.result ≡ told_count (entry_count (entries config.tables.items)) = c.entry_count.ensures ∙ ap (λ (all : List (Arc Table Global)). told_count (entry_count (entries all))) c.tables-2.ensures in
     let one = c.saturating_add-count.ensures in
     let counted : told_count (entry_count (with_entries at (prefixes new) (configuration config)).tables) ≡ c.saturating_add-count.result = omega arith in
     subst (λ (fault : ChangeFault). AddsEntry (table_kinds config.tables.items) (configuration config) c.args.name c.args.prefix (Err fault)) (sym (c.at.ensures ∙ ap (λ span. too_many span Entries c.saturating_add-count.result) c.beginning.ensures))
@@ -88,7 +88,7 @@ returns-clause-ok c =
     (gained c.in_ok-add.ensures.was_absent c.in_ok-add.ensures.adds c.each_once.ensures c.in_ok-add.ensures.len) in
     let len : length (prefixes new) ≡ length (prefixes (arc_value was)) + 1 = subst (λ (t : Table). length (prefixes new) ≡ length (prefixes t) + 1) same c.in_ok-add.ensures.len in
     let sum = next_count config next at was new there c.in_ok-with_table.ensures.model c.in_ok-with_table.ensures.tables in
-    let old : c.entry_count-count.result ≡ told_count (entry_count (entries config.tables.items)) = c.entry_count-count.ensures ∙ ap (λ (all : List (Arc Table Global)). told_count (entry_count (entries all))) c.tables-2.ensures in
+    let old : c.entry_count.result ≡ told_count (entry_count (entries config.tables.items)) = c.entry_count.ensures ∙ ap (λ (all : List (Arc Table Global)). told_count (entry_count (entries all))) c.tables-2.ensures in
     let one = c.saturating_add-count.ensures in
     let few = c.if-count.false in
     adds config c.args.name at was there first c.args.prefix new (subst (λ (t : Table). MayChange (kind_of t) c.args.prefix) same c.in_ok-add.ensures.may) gains next
@@ -106,7 +106,7 @@ returns-clause-loaded c = λ loaded.
     let same : c.in_ok-table.table ≡ arc_value was = c.in_ok-table.ensures ∙ c.deref.ensures in
     let len : length (prefixes new) ≡ length (prefixes (arc_value was)) + 1 = subst (λ (t : Table). length (prefixes new) ≡ length (prefixes t) + 1) same c.in_ok-add.ensures.len in
     let sum = next_count config next at was new there c.in_ok-with_table.ensures.model c.in_ok-with_table.ensures.tables in
-    let old : c.entry_count-count.result ≡ told_count (entry_count (entries config.tables.items)) = c.entry_count-count.ensures ∙ ap (λ (all : List (Arc Table Global)). told_count (entry_count (entries all))) c.tables-2.ensures in
+    let old : c.entry_count.result ≡ told_count (entry_count (entries config.tables.items)) = c.entry_count.ensures ∙ ap (λ (all : List (Arc Table Global)). told_count (entry_count (entries all))) c.tables-2.ensures in
     let one = c.saturating_add-count.ensures in
     let few = c.if-count.false in
     next_loaded config next at was new there c.in_ok-with_table.ensures.model c.in_ok-with_table.ensures.tables loaded

@@ -5,7 +5,7 @@ use Rattle.npf_model.specs.declared.model.Model.{Model}
 use Rattle.npf_model.specs.Verdict.{all_rules}
 use Rattle.npf_ruleset.specs.declared.flat.FlatRule.{FlatRule}
 use Rattle.npf_ruleset.specs.Flat.{programs_of}
-use Rattle.npf_config_changes.specs.Kept.{HasNumbersLeft, Keeps, Serves, ruleset_change}
+use Rattle.npf_config_changes.specs.Kept.{Keeps, Serves, ruleset_change}
 use Rattle.npf_config_changes.specs.Rulesets.{group_with_ruleset, model_with_ruleset}
 use Rattle.npf_config_changes.proofs.NextLemmas.{old_serve}
 use Rattle.npf_config_changes.proofs.next.changed.Goals as goal

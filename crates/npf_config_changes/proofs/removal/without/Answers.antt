@@ -1,4 +1,5 @@
 use Rattle.std.proofs.Common.{◌≡◌, ◌≤◌, length, sym, ap, subst, ◌∙◌}
+use Rattle.std.proofs.lemmas.Result.{IfOk-weaker}
 use Rattle.npf_model.specs.declared.model.Model.{Model}
 use Rattle.npf_model.specs.Configuration.{Configuration}
 use Rattle.npf_model.specs.Verdict.{all_rules}
@@ -38,9 +39,10 @@ with_model-requires-clause-tables c = ap (λ (m : Model). m.tables) c.in_ok-mode
 pub returns-clause-is : goal.returns-clause-is
 returns-clause-is c =
     let config = configuration c.args.config.now in
-    c.in_ok-with_model.ensures.is ∙ ap (λ (m : Model). record config { model = m }) c.in_ok-model.ensures.model
+    IfOk-weaker c.with_model.result _ _ (λ next is. is ∙ ap (λ (m : Model). record config { model = m }) c.in_ok-model.ensures.model) c.with_model.ensures.is
 
 pub returns-clause-ids : goal.returns-clause-ids
 returns-clause-ids c = λ most within.
-    let model = ap (λ (config : Configuration). config.model) c.in_ok-with_model.ensures.is ∙ c.in_ok-model.ensures.model in
-    subst (HasNextIds most) (sym model) (same_ids c.args.change c.requires c.args.name.now most c.args.config.now.model within)
+    let stay = same_ids c.args.change c.requires c.args.name.now most c.args.config.now.model within in
+    IfOk-weaker c.with_model.result _ _ (λ next is.
+    subst (HasNextIds most) (sym (ap (λ (config : Configuration). config.model) is ∙ c.in_ok-model.ensures.model)) stay) c.with_model.ensures.is

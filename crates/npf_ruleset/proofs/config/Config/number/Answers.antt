@@ -2,7 +2,7 @@ use Rattle.std.proofs.Common.{◌≡◌, map, refl, subst, sym, ap, ◌∙◌}
 use Rattle.npf_model.specs.declared.model.Model.{Model}
 use Rattle.npf_model.specs.Numbering.{numbered, numbered_group}
 use Rattle.npf_ruleset.specs.Flat.{IsFlat, programs_of}
-use Rattle.npf_ruleset.specs.Numbered.{numbered_flat_group, numbered_flat_rule}
+use Rattle.npf_ruleset.specs.Numbered.{numbered_flat_group}
 use Rattle.npf_ruleset.specs.Refusal.{IsBuildable, IsWithinLimits}
 use Rattle.npf_ruleset.proofs.NumberedLemmas.{buildable_numbered, flat_numbered, limits_numbered, programs_numbered}
 use Rattle.npf_ruleset.proofs.config.Config.number.Goals as goal
