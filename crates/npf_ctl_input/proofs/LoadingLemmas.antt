@@ -42,7 +42,7 @@ module _ (old new before after : FilesMoment) (meets : MeetsAll old new before a
       too_many decl tables entries (comes_last decls decl tables comes) (subst (λ (contents : Option Tree). AreFirstEntries contents decl entries) meets.contents are) many
 
   unread_lasts : (name : List ℕ) (fault : FileFault) → IsUnread name old new fault → IsUnread name before after fault
-  unread_lasts name IsFile.Failed is = (meets.unread name is.1 is.0, meets.failed name is.1)
+  unread_lasts name IsFile.Failed is = (meets.unread is.0, meets.failed name is.1 is.0)
   unread_lasts name IsFile.Long is = meets.longer name MAX_TEXT_BYTES is
   unread_lasts name IsFile.NoMemory is = is
 

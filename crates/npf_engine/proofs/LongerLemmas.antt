@@ -103,7 +103,7 @@ module _ (n : ℕ) where
       at_test false is none = (is, none)
 
   -- a front without the packet's number has no entry of it
-  none_in_front : (xs ys : History) → carried n xs ≡ [] → entries_after n [] (xs ++ ys) ≡ entries_after n [] ys
+  pub none_in_front : (xs ys : History) → carried n xs ≡ [] → entries_after n [] (xs ++ ys) ≡ entries_after n [] ys
   none_in_front [] ys none = refl
   none_in_front (x ∷ xs) ys none =
       let first = first_carries_none x xs none in

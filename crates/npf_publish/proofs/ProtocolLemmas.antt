@@ -1,5 +1,5 @@
 -- The rule survives each step: a change that doesn't lower the number nor passes the last one, and what seats learn and tell.
-use Rattle.std.proofs.Common.{◌≡◌, ℕ, ◌≤◌, ◌≢◌, max, List, [], ◌∷◌, ◌++◌, zero-le, fold, set, refl, subst, sym, ⊎_elim, le_refl, le_trans, arith}
+use Rattle.std.proofs.Common.{◌≡◌, ℕ, ◌+◌, ◌≤◌, ◌≢◌, max, List, [], ◌∷◌, ◌++◌, zero-le, fold, set, refl, subst, sym, ⊎_elim, le_refl, le_trans, arith}
 use mathlib.Core.Option.{some}
 use lib.ListN.{get_elem?}
 use Rattle.left_right.specs.Register.{Admits, TurnsAt, Forks, Merges}
@@ -52,9 +52,9 @@ forks seat view shown views rule at =
     let known = rule.known seat view at in
     seated shown (set views seat view) view (changed shown shown views seat view (stays shown views rule) rule known) known
 
-pub merges : (seat : ℕ) (view : SeatView) (other : ℕ) (told : SeatView) → Merges NeverFalls seat view other told (record { seen = max view.seen told.seen; last = told.last }) unseated
+pub merges : (seat : ℕ) (view : SeatView) (other : ℕ) (told : SeatView) → Merges NeverFalls seat view other told (record { seen = max view.seen told.seen; last = told.last; looks = view.looks }) unseated
 merges seat view other told shown views rule at apart there =
-    let both : SeatView = record { seen = max view.seen told.seen; last = told.last } in
+    let both : SeatView = record { seen = max view.seen told.seen; last = told.last; looks = view.looks } in
     let known : IsKnown shown told = ⊎_elim (λ (t : (other ≡ seat) × (both ≡ told)). absurd (apart t.0)) (λ (t : (other ≢ seat) × (get_elem? views other ≡ some told)). rule.known other told t.1) (at_set views seat other both told there) in
     let own = (rule.known seat view at).seen in
     let heard = known.seen in
@@ -65,11 +65,11 @@ merges seat view other told shown views rule at apart there =
 looks : (seat : ℕ) (view : SeatView) (shown next : Published) → Follows shown next → TurnsAt NeverFalls seat view shown next SeesNumber
 looks seat view shown next follows views rule at =
     let known = rule.known seat view at in
-    let own : SeatView = record { seen = next.number; last = view.last } in
+    let own : SeatView = record { seen = next.number; last = view.last; looks = view.looks + 1 } in
     let below : next.last ≤ view.last = subst (λ (n : ℕ). n ≤ view.last) (sym follows.same) known.last in (
       own,
       changed shown next views seat own follows rule (record { seen = le_refl next.number; last = below }),
-      record { seen = known.seen; last = le_trans follows.within below; now = refl; same = refl },
+      record { seen = known.seen; last = le_trans follows.within below; now = refl; same = refl; looks = refl },
     )
 
 -- a reader's look
@@ -81,7 +81,7 @@ pub first_look : (seat : ℕ) (view : SeatView) (shown next : Published) (number
 first_look seat view shown next numbers none is =
     let same : next ≡ shown = subst (λ (ns : List ℕ). next ≡ fold renumbered shown ns) none is in
     subst (λ (y : Published). TurnsAt NeverFalls seat view shown y SeesFirst) (sym same) (λ views rule at.
-    let own : SeatView = record { seen = shown.number; last = shown.last } in (
+    let own : SeatView = record { seen = shown.number; last = shown.last; looks = view.looks + 1 } in (
       own,
       changed shown shown views seat own (stays shown views rule) rule (record { seen = le_refl shown.number; last = le_refl shown.last }),
       record { now = refl; last = refl },

@@ -13,28 +13,28 @@ use std::sync::Wait;
 #[derive(Drop)]
 pub struct ConfReader {
     pub(crate) reader: Reader<Published, SeatView, Rule>,
-    // The last number that it read, or the first one.
+    // The last number that it was shown.
     pub(crate) seen: u64,
     // The greatest number that it was told, or the first one.
     pub(crate) told: u64,
     pub(crate) range: NumberRange,
-    ghost knows: { (seen ≤ (view reader.place).seen) × ((view reader.place).last ≡ range.last) },
+    ghost knows: { ((view reader.place).seen ≡ seen) × ((view reader.place).last ≡ range.last) },
     pub ghost seen_within: { IsInRange seen range },
     pub ghost told_within: { IsInRange told range },
 }
 
 impl ConfReader {
-    ghost use Rattle.std.specs.Prelude.{IfSome, IfNone, max};
-    ghost use Rattle.npf_publish.specs.ConfReader.{reader_range, least_number, Reads};
+    ghost use Rattle.std.specs.Prelude.{◌<◌, IfSome, IfNone, max};
+    ghost use Rattle.npf_publish.specs.ConfReader.{reader_range, looks_made, least_number, Reads, SeesNone};
     ghost use Rattle.npf_publish.specs.Told.{told_number};
 
-    /// A number that was published, in the publisher's range and no less than what this reader read before or was told; it then
-    /// counts as read. Once it has read the last number it reads that one. Before that it waits only for a number that it was told, and
-    /// for ever once its publisher is closed.
+    /// The number that is published now, in the publisher's range and no less than what this reader read before or was told. Once it was
+    /// shown the last number it reads that one without a look. Before that it waits only for a number that it was told, and for ever once
+    /// its publisher is closed.
     pub fn read<R: Wait>(&mut self, rt: &R) -> u64
         ensures { Reads self.old self.new result }
     {
-        // No number comes behind the last one, so what is shown need not be read.
+        // No number comes behind the last one, so what is shown need not be read again.
         if self.seen == self.range.last {
             return self.seen;
         }
@@ -55,11 +55,11 @@ impl ConfReader {
         unreachable!()
     }
 
-    // One look. None where the publisher is closed, or what it shows is below what the reader was told.
+    // One look. None where the publisher is closed and no look was made, or what it shows is below what the reader was told.
     pub(crate) fn look(self) -> (ConfReader, Option<u64>)
-        ensures range { reader_range result.0 ≡ reader_range self }
         ensures read { IfSome result.1 (Reads self result.0) }
-        ensures same { IfNone result.1 (least_number result.0 ≡ least_number self) }
+        ensures looks { IfSome result.1 (λ _. looks_made self < looks_made result.0) }
+        ensures none { IfNone result.1 (SeesNone self result.0) }
     {
         let ConfReader {
             reader,
@@ -74,7 +74,6 @@ impl ConfReader {
             }
             Err(same) => (same, None),
         };
-        let number = number.filter(|number| told <= *number);
         if let Some(number) = number {
             seen = number;
         }
@@ -85,7 +84,7 @@ impl ConfReader {
                 told,
                 range,
             },
-            number,
+            number.filter(|number| told <= *number),
         )
     }
 

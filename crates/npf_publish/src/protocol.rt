@@ -29,10 +29,12 @@ impl Absorb<u64> for Published {
     }
 }
 
-/// What a seat knows: a number that was shown, and the last number or one above it. No value of it is made.
+/// What a seat knows: the number that it saw shown last, the last number or one above it, and how often it has looked. No value of it
+/// is made.
 pub struct SeatView {
     pub seen: u64,
     pub last: u64,
+    pub looks: u64,
 }
 
 pub struct Rule;
@@ -70,7 +72,7 @@ impl Split<SeatView> for Copied {
 pub struct Combined;
 
 impl Join<SeatView> for Combined {
-    ghost both = { λ view told. record { seen = max view.seen told.seen; last = told.last } };
+    ghost both = { λ view told. record { seen = max view.seen told.seen; last = told.last; looks = view.looks } };
 
     ghost spent = { unseated };
 }

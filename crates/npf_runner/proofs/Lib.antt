@@ -17,4 +17,5 @@ pub mod RunningLemmas
 pub mod ShowLemmas
 pub mod SourceLemmas
 pub mod SweepLemmas
+pub mod TurnLemmas
 pub mod WorksLemmas

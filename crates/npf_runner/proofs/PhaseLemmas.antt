@@ -34,7 +34,7 @@ use Rattle.npf_runner.specs.Crew.{jobs_of, jobs_of_lane, done_of_lane, worker_of
 use Rattle.npf_runner.specs.Job.{Handled, Job, numbered_from}
 use Rattle.npf_runner.specs.Lanes.{HasWorked}
 use Rattle.npf_runner.specs.Played.{outcomes_of, outputs_of}
-use Rattle.npf_runner.specs.Plays.{AreAnswered, AreFresh, GivesBack, IsExpiry, IsOfPacket, IsPhase, LeavesNoDue, PlaysPhase, published_by}
+use Rattle.npf_runner.specs.Plays.{AreAnswered, AreFresh, AreInTurn, GivesBack, IsExpiry, IsOfPacket, IsPhase, LeavesNoDue, PlaysPhase, published_by}
 use Rattle.npf_runner.specs.Running.{RunsPhase}
 use Rattle.npf_runner.proofs.AnswerLemmas.{somes, asked_by_lane, reads_between, reads_rise, IsShown, answers_zip, all_between, are_answered}
 use Rattle.npf_runner.proofs.CarryLemmas.{CarryNone, in_filter}
@@ -44,9 +44,11 @@ use Rattle.npf_runner.proofs.LaneLemmas.{Zips, Merges, merges}
 use Rattle.npf_runner.proofs.PairLemmas.{at_all}
 use Rattle.npf_runner.proofs.RegatherLemmas.{AtPlace, at_place, of_none}
 use Rattle.npf_runner.proofs.RunningLemmas.{All-workers}
-use Rattle.npf_runner.proofs.ShowLemmas.{InPhase, freed_is, phase_adds, lane_jobs, lane_done, lane_in_phase, lane_answers}
+use Rattle.npf_runner.proofs.ShowLemmas.{InPhase, freed_is, phase_adds, lane_jobs, lane_done, lane_in_phase, lane_answers, lane_in_turn}
 use Rattle.npf_runner.proofs.SourceLemmas.{OfLane, shown, of_last, lane_went, source}
-use Rattle.npf_runner.proofs.WorksLemmas.{SaysOwn, TellsInLonger, ReadsOn, numbers_of, own_entry}
+use Rattle.npf_runner.proofs.JobLemmas.{numbered_length}
+use Rattle.npf_runner.proofs.TurnLemmas.{turns_of_lanes}
+use Rattle.npf_runner.proofs.WorksLemmas.{SaysOwn, TellsInLonger, ReadsOn, InTurn, numbers_of, own_entry}
 
 module _ (says : SaysOwn) (tells : TellsInLonger) {P : Type 0} (view : P → Pass FlowEntry) (configs : List Configuration) (workers : ℕ) (spread : Spread) (old new : Pass FlowEntry)
     (first last : ℕ) (commands : List Command) (packets : List Packet) (dones : List Handled)
@@ -108,6 +110,22 @@ module _ (says : SaysOwn) (tells : TellsInLonger) {P : Type 0} (view : P → Pas
     each = all_between says configs old.slots history new.history last (last + published_by commands) (numbered_from first packets) merged.ys dones merged.zips;
     rises = λ worker. subst (λ ns. IsNonDecreasing ns) (sym (asked_by_lane worker r.order merged.ys ∙ ap somes (merged.each worker))) (lane_shows worker).rise;
   }
+
+  lane_turns : (w : ℕ) → InTurn history (numbers_of (of_lane w r.order (numbered_from first packets)))
+  lane_turns w = ⊎_elim near beyond (at_place (HasWorked view configs) r.ran.begun r.ran.ended w r.ran.worked)
+    where
+      near : AtPlace r.ran.begun r.ran.ended w → InTurn history (numbers_of (of_lane w r.order (numbered_from first packets)))
+      near p = subst (λ js. InTurn history (numbers_of js)) (lane_jobs says view configs workers spread old new first last commands packets dones r w p.left p.right p.at)
+          (lane_in_turn says view configs workers spread old new first last commands packets dones r legal_new all history behind goes_on legal before after w p.left p.right p.at tells)
+
+      beyond : length r.ran.begun ≤ w → InTurn history (numbers_of (of_lane w r.order (numbered_from first packets)))
+      beyond far =
+          let size : length (map jobs_of r.crew) ≡ length r.ran.begun = length-map r.crew jobs_of ∙ (ap length (sym r.ran.workers) ∙ length-map r.ran.begun worker_of_lane) in
+          let out : length (map jobs_of r.crew) ≤ w = omega (arith, size, far) in
+          subst (λ js. InTurn history (numbers_of js)) (sym (of_none (length (map jobs_of r.crew)) w r.order (numbered_from first packets) r.dealt.fits out)) tt
+
+  pub phase_in_turn : AreInTurn history first r.order
+  phase_in_turn = turns_of_lanes history r.order first packets (sym (numbered_length first packets) ∙ r.dealt.count) lane_turns
 
   -- nothing is left Dead
   pub phase_clean : (final : Pass FlowEntry) → new.epoch ≤ final.epoch → final.epoch < last_epoch → ¬ ClaimsLast new.history → HasNoDead (state_of flow_law new.history)
@@ -225,6 +243,7 @@ module _ (says : SaysOwn) (tells : TellsInLonger) {P : Type 0} (view : P → Pas
       answered = subst (λ n. AreAnswered configs workers spread n final.history new.history first packets r.order phase_asked (outcomes_of dones) (outputs_of dones)) (sym sized)
           (subst (λ (es : History). AreAnswered configs workers spread old.slots es new.history first packets r.order phase_asked (outcomes_of dones) (outputs_of dones)) (sym whole) phase_answered);
       fresh = subst (λ cs. AreFresh last (last + published_by cs) r.order phase_asked) (sym same) phase_fresh;
+      in_turn = subst (λ (es : History). AreInTurn es first r.order) (sym whole) phase_in_turn;
       made = subst (λ (es : History). IsPhase es old.history new.history first phase) (sym whole) (phase_made phase count same);
       clean = phase_clean final epoch;
     }

@@ -1,10 +1,9 @@
 -- Phases that ran one after the other play.
-use Rattle.std.proofs.Common.{◌≡◌, ℕ, ◌≤◌, ◌+◌, true, List, [], ◌∷◌, ◌++◌, map, length, take, drop, refl, sym, ap, subst, ◌∙◌, ⊎_elim, arith}
+use Rattle.std.proofs.Common.{◌≡◌, ℕ, ◌≤◌, ◌+◌, true, List, [], ◌∷◌, ◌++◌, map, length, take, drop, refl, sym, ap, subst, ◌∙◌, ⊎_elim, inr, arith}
 use Rattle.std.specs.List.{Contains}
 use Rattle.std.proofs.lemmas.List.{append_assoc, append-nil, drop_at, length-drop, length-map, length-take-le, map-append, take-map, take_at}
 use Rattle.std.proofs.lemmas.List.Elements.{Contains-append_cases}
 use Rattle.npf_core.specs.History.{Legal}
-use Rattle.npf_core.proofs.HistoryLemmas.{IsPrefix-trans}
 use Rattle.npf_connections.specs.Entries.{free_entries}
 use Rattle.npf_connections.specs.Pass.{Pass, IsPass, all_places}
 use Rattle.npf_flow.specs.Flows.{flow_law}
@@ -18,7 +17,7 @@ use Rattle.npf_runner.specs.declared.phase.Spread.{Spread}
 use Rattle.npf_runner.specs.Job.{Handled, numbered_from}
 use Rattle.npf_runner.specs.Played.{outcomes_of, outputs_of}
 use Rattle.npf_runner.specs.Plays.{IsUnnumbered, PlaysPhases, PlaysPhase, PlaysFrom, packets_in, published_by}
-use Rattle.npf_runner.specs.Running.{RunsPhase, RunsPhases}
+use Rattle.npf_runner.specs.Running.{LeavesNoDead, RunsPhase, RunsPhases}
 use Rattle.npf_runner.proofs.CarryLemmas.{CarryNone, not_true, not_both}
 use Rattle.npf_runner.proofs.CommandLemmas.{frees_say}
 use Rattle.npf_runner.proofs.JobLemmas.{packets_first, numbered_length}
@@ -43,6 +42,9 @@ drop_map f n xs ys e = ap (drop n) (map-append f xs ys) ∙ drop_at (map f xs) (
 
 pub left_length : {X : Type 0} (n : ℕ) (xs : List X) → n ≤ length xs → n + length (drop n xs) ≡ length xs
 left_length n xs e = let left = length-drop n xs in omega (arith, left, e)
+
+pub no_dead_more : (old mid new : Pass FlowEntry) → LeavesNoDead old mid → LeavesNoDead mid new → LeavesNoDead old new
+no_dead_more old mid new p q = ⊎_elim (λ (same : new ≡ mid). subst (λ (pass : Pass FlowEntry). LeavesNoDead old pass) (sym same) p) (λ clean. inr clean) q
 
 module _ (says : SaysOwn) (tells : TellsInLonger) {P : Type 0} (view : P → Pass FlowEntry) (configs : List Configuration) (workers : ℕ) (spread : Spread) where
   -- one phase adds entries of its packets' numbers alone
@@ -152,6 +154,7 @@ module _ (says : SaysOwn) (tells : TellsInLonger) {P : Type 0} (view : P → Pas
       old.places ≡ all_places → IsPass flow_law old → IsPass flow_law new → packets_in phases ≡ length packets → IsUnnumbered (length packets) old.history →
       PlaysPhases configs workers spread old new phases packets (outputs_of dones) (outcomes_of dones)
   plays old new phases packets dones runs all legal_old legal_new count unnumbered = record {
+    legal = subst (λ n. Legal flow_law n new.history) (later phases old new 1 0 packets dones runs all count).slots legal_new.legal;
     phased = plays_from old new phases old 1 0 packets dones runs refl all legal_old legal_new count
         (λ entry n c is. unnumbered n entry is.0 (let h = is.1 in omega (arith, h)) c);
     sweeps = run_sweeps phases old new 1 0 packets dones runs;

@@ -30,7 +30,7 @@ use Rattle.npf_runner.proofs.CommandLemmas.{commands_carry_none, frees_say}
 use Rattle.npf_runner.proofs.NumberingLemmas.{in_phase, apart_in_lane, in_one_lane}
 use Rattle.npf_runner.proofs.PairLemmas.{At, at_zip, at_all, at_left, at_right, at_same}
 use Rattle.npf_runner.proofs.SourceLemmas.{shown, of_lane_at, lane_went, source, OfLane}
-use Rattle.npf_runner.proofs.WorksLemmas.{SaysOwn, TellsInLonger, WentOn, Shows, Answers, Covers, numbers_of, ReadsOn, own_entry, answers, Apart}
+use Rattle.npf_runner.proofs.WorksLemmas.{SaysOwn, TellsInLonger, WentOn, Shows, Answers, Covers, numbers_of, ReadsOn, own_entry, answers, Apart, InTurn, takes_in_turn}
 
 -- the phase's numbers
 abbrev pub InPhase : ℕ → List Packet → ℕ → Type 0
@@ -172,5 +172,15 @@ module _ (says : SaysOwn) {P : Type 0} (view : P → Pass FlowEntry) (configs : 
             let given = at_all (λ (lane : Lane P). IsGiven old (shown view lane)) r.ran.begun r.ran.ended i b e r.ran.given at in
             let pass = at_all (λ (lane : Lane P). IsPass flow_law (shown view lane)) r.ran.begun r.ran.ended i b e r.ran.legal at in
             answers says configs tells old.slots history new.history (shown view b).number (shown view b) (shown view e) b.worker.reader e.worker.reader (jobs_of_lane b) (done_of_lane e) h.works
+            pass (ap (λ (p : Pass FlowEntry). p.slots) given.rests) refl
+            (subst (λ js. Apart (numbers_of js)) (sym (lane_jobs i b e at)) (apart_in_lane r.order first packets i)) shows none_before
+
+        -- they are taken in turn
+        pub lane_in_turn : TellsInLonger → InTurn history (numbers_of (jobs_of_lane b))
+        lane_in_turn tells =
+            let h = at_zip (HasWorked view configs) r.ran.begun r.ran.ended i b e r.ran.worked at in
+            let given = at_all (λ (lane : Lane P). IsGiven old (shown view lane)) r.ran.begun r.ran.ended i b e r.ran.given at in
+            let pass = at_all (λ (lane : Lane P). IsPass flow_law (shown view lane)) r.ran.begun r.ran.ended i b e r.ran.legal at in
+            takes_in_turn says configs tells old.slots history new.history (shown view b).number (shown view b) (shown view e) b.worker.reader e.worker.reader (jobs_of_lane b) (done_of_lane e) h.works
             pass (ap (λ (p : Pass FlowEntry). p.slots) given.rests) refl
             (subst (λ js. Apart (numbers_of js)) (sym (lane_jobs i b e at)) (apart_in_lane r.order first packets i)) shows none_before

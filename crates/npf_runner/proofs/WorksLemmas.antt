@@ -6,7 +6,7 @@ use Rattle.std.specs.Prelude.{not}
 use Rattle.std.proofs.lemmas.List.Elements.{Contains-append_cases, Contains-append_left, Contains-append_right}
 use Rattle.npf_core.specs.History.{Legal, IsPrefix, by}
 use Rattle.npf_core.specs.declared.act.Act.TheVariants.{Claim, Look, Hold, Start, Step, Kill, Unhold, Free}
-use Rattle.npf_core.proofs.HistoryLemmas.{IsPrefix-trans, by-append}
+use Rattle.npf_core.proofs.HistoryLemmas.{IsPrefix-self, IsPrefix-trans, Legal-prefix, by-append}
 use Rattle.npf_connections.specs.Pass.{Pass, IsPass}
 use Rattle.npf_connections.specs.Said.{under}
 use Rattle.npf_flow.specs.Flows.{flow_law}
@@ -20,11 +20,12 @@ use Rattle.npf_engine.specs.declared.outcome.Outcome.{Outcome}
 use Rattle.npf_engine.specs.Arrival.{Arrival}
 use Rattle.npf_engine.specs.Explains.{Explains, Sight}
 use Rattle.npf_engine.specs.Handles.{Asks, Handles, IsExplained, CarryHereAlone}
-use Rattle.npf_engine.specs.Histories.{FlowAct, FlowEntry, History, carries, entries_of, is_unhold, told}
+use Rattle.npf_engine.specs.Histories.{FlowAct, FlowEntry, History, carries, entries_after, entries_of, is_unhold, told}
 use Rattle.npf_engine.specs.Outcome.{passes, sent_of}
+use Rattle.npf_engine.proofs.LongerLemmas.{none_in_front}
 use Rattle.npf_runner_passes.proofs.NumberLemmas.{in_none, first_of, later_of, first_or_later, stands_by}
 use Rattle.npf_runner.specs.Job.{Handled, Job, job_arrival}
-use Rattle.npf_runner.specs.Plays.{GivesBack}
+use Rattle.npf_runner.specs.Plays.{GivesBack, IsBefore}
 use Rattle.npf_runner.specs.Works.{IsHandled, WorksThrough}
 use Rattle.npf_runner.proofs.CarryLemmas.{CarryNone, none_carried, not_true, not_both, IsUnder, is_under, stands_in_filter}
 
@@ -35,6 +36,11 @@ numbers_of = map (λ (job : Job). job.number)
 abbrev pub Apart : List ℕ → Type 0
 Apart [] = Unit {0}
 Apart (n ∷ ns) = ¬ Contains ns n × Apart ns
+
+-- of each two of these numbers the earlier one's packet stands before the later one's
+abbrev pub InTurn : History → List ℕ → Type 0
+InTurn history [] = Unit {0}
+InTurn history (n ∷ ns) = ((m : ℕ) → Contains ns m → IsBefore history n m) × InTurn history ns
 
 -- a reader whose least number is this one read these numbers, in order
 abbrev pub ReadsOn : NumberRange → ℕ → List (Option ℕ) → Type 0
@@ -255,6 +261,28 @@ module _ (says : SaysOwn) (configs : List Configuration) where
           (tells configs old mid reader between (job_arrival job) done.outcome (sent_of done.outcome done.packet.bytes) history end legal h.rested.legal
           (subst (λ n. Legal flow_law n history) (sym sized) s.legal) (alone before) mid_within s.ends h.handles))
 
+      -- where the pass is done with the packet, all the packet's entries stand
+      done_by_mid : IsPass flow_law old → old.slots ≡ slots → CarryNone (Contains (job.number ∷ numbers_of jobs)) old.history →
+          entries_of job.number mid.history ≡ entries_of job.number history
+      done_by_mid legal sized before =
+          let here = alone before in
+          let at_mid = tells configs old mid reader between (job_arrival job) done.outcome (sent_of done.outcome done.packet.bytes) mid.history mid.history legal h.rested.legal
+          (Legal-prefix flow_law old.slots mid.history history (record { rest = here.later; goes_on = here.goes_on }) (subst (λ n. Legal flow_law n history) (sym sized) s.legal))
+          (record { later = []; goes_on = sym (append-nil mid.history); before = here.before; behind = refl; others = here.others })
+          (IsPrefix-self mid.history) (IsPrefix-self mid.history) h.handles in
+          at_mid.entries ∙ (ap (λ n. under n (told h.handles.said)) own ∙ sym (tells_here legal sized before).entries)
+
+      -- and none of the later ones'
+      before_later : IsPass flow_law old → old.slots ≡ slots → CarryNone (Contains (job.number ∷ numbers_of jobs)) old.history →
+          (m : ℕ) → Contains (numbers_of jobs) m → IsBefore history job.number m
+      before_later legal sized before m c = record {
+        point = mid.history;
+        begins = record { rest = (alone before).later; goes_on = (alone before).goes_on };
+        done = done_by_mid legal sized before;
+        none_yet = subst (λ (es : History). entries_after m [] es ≡ []) (append-nil mid.history)
+            (none_in_front m mid.history [] (none_carried (Contains (numbers_of jobs)) mid.history m (before_next before) c));
+      }
+
       answer : IsPass flow_law old → old.slots ≡ slots → CarryNone (Contains (job.number ∷ numbers_of jobs)) old.history → Answer slots history end seat job h.handles.asked done
       answer legal sized before = record {
         said = h.handles.said;
@@ -299,4 +327,19 @@ module _ (says : SaysOwn) (configs : List Configuration) where
           (here, later.1),
           reads_more reader w.1 h.handles.asked later.0 h.handles.asks later.2,
           covers_more old mid new reader w.1 job (numbers_of jobs) done h own (tells_here old mid new reader w.1 next job jobs done dones h rest s own apart.0 legal sized before) later.3,
+        )
+
+    -- a worker's packets are taken in turn
+    pub takes_in_turn : (old new : Pass FlowEntry) (reader next : ConfReader) (jobs : List Job) (dones : List Handled) → WorksThrough configs old reader jobs new next dones →
+        IsPass flow_law old → old.slots ≡ slots → old.number ≡ seat → Apart (numbers_of jobs) → Shows slots history end seat (numbers_of jobs) new →
+        CarryNone (Contains (numbers_of jobs)) old.history → InTurn history (numbers_of jobs)
+    takes_in_turn old new reader next [] dones w legal sized own apart s before = tt
+    takes_in_turn old new reader next (job ∷ jobs) [] w legal sized own apart s before = absurd w
+    takes_in_turn old new reader next (job ∷ jobs) (done ∷ dones) w legal sized own apart s before =
+        let mid = w.0 in
+        let h = w.2 in
+        let rest = went_on mid w.1 jobs new next dones w.3 in (
+          before_later old mid new reader w.1 next job jobs done dones h rest s own apart.0 legal sized before,
+          takes_in_turn mid new w.1 next jobs dones w.3 h.rested.legal (h.rested.later.slots ∙ sized) (h.rested.later.number ∙ own) apart.1
+              (fewer job.number (numbers_of jobs) new s) (before_next old mid new reader w.1 next job jobs done dones h rest s own apart.0 before),
         )

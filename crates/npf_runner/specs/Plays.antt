@@ -1,11 +1,11 @@
 -- What a run does, whatever the interleaving of its workers and of its control task.
-use Rattle.std.specs.Prelude.{◌≡◌, ◌≤◌, ◌<◌, ◌⊎◌, ◌+◌, ℕ, false, ◌==◌, if◌then◌else◌, List, [], ◌∷◌, ◌++◌, Option, Some, None, All, map, length, take, drop, filter, sum, Contains}
+use Rattle.std.specs.Prelude.{◌≡◌, ◌≤◌, ◌<◌, ◌⊎◌, ◌+◌, ℕ, false, ◌==◌, if◌then◌else◌, List, [], ◌∷◌, ◌++◌, Option, Some, None, All, map, length, take, drop, filter, sum, slice_index, Contains}
 use Rattle.std.specs.List.Sorted.{IsNonDecreasing}
 use Rattle.npf_types.specs.declared.key.Way.{Way}
 use Rattle.npf_core.specs.declared.act.Act.TheVariants.{Kill, Unhold, Free}
 use Rattle.npf_core.specs.declared.act.Why.TheVariants.{Expired}
 use Rattle.npf_core.specs.declared.conn_id.ConnId.{ConnId}
-use Rattle.npf_core.specs.History.{state_of}
+use Rattle.npf_core.specs.History.{IsPrefix, Legal, state_of}
 use Rattle.npf_core.specs.Machine.{stage_of, IsLive, IsAlive}
 use Rattle.npf_connections.specs.Collecting.{HasNoDead}
 use Rattle.npf_connections.specs.Expiring.{WasNotDue}
@@ -89,6 +89,20 @@ pub record AreFresh (first last : ℕ) (workers : List ℕ) (asked : List (Optio
   pub each : All (AsksBetween first last) asked
   pub rises : (worker : ℕ) → IsNonDecreasing (asked_by worker workers asked)
 
+-- at some point of the history all entries of the earlier packet stand, and none of the later one
+pub record IsBefore (history : History) (earlier later : ℕ) : Type 0 where
+  pub point : History
+  pub begins : IsPrefix point history
+  pub done : entries_of earlier point ≡ entries_of earlier history
+  pub none_yet : entries_of later point ≡ []
+
+-- Each worker takes its packets in order: of two that went to one worker the earlier one stands before the later one, where the packets
+-- are numbered from `first` on and went to these workers.
+abbrev pub AreInTurn : History → ℕ → List ℕ → Type 0
+AreInTurn history first workers =
+    (i j : ℕ) → i < j → j < length workers → slice_index workers i ≡ slice_index workers j →
+    IsBefore history (first + i) (first + j)
+
 module _ (configs : List Configuration) (workers : ℕ) (spread : Spread) (slots : ℕ) (history : History) where
   -- The packet goes to this worker, asked this configuration if any, and has this outcome, in a phase that ends at this point. It is as it
   -- was but for its bytes, which changed only if it passed.
@@ -148,6 +162,7 @@ module _ (configs : List Configuration) (workers : ℕ) (spread : Spread) (old n
     pub asked : List (Option ℕ)
     pub answered : AreAnswered configs workers spread old.slots new.history end first packets dealt asked outcomes outputs
     pub fresh : AreFresh last (last + published_by phase.commands) dealt asked
+    pub in_turn : AreInTurn new.history first dealt
     pub made : IsPhase new.history start end first phase
     pub clean : new.epoch < last_epoch → ¬ ClaimsLast end → HasNoDead (state_of flow_law end)
 
@@ -161,8 +176,9 @@ module _ (configs : List Configuration) (workers : ℕ) (spread : Spread) (old n
       × PlaysFrom end (first + phase.packets) (last + published_by phase.commands) phases
       (drop phase.packets packets) (drop phase.packets outputs) (drop phase.packets outcomes)
 
-  -- All phases, from the history at entry on. For each packet that the table had no node for, the count of sweeps rose by at
-  -- least one.
+  -- A run: its history is legal, and its phases follow one another from the history at entry on. For each packet that the table had no
+  -- node for, the count of sweeps rose by at least one.
   pub record PlaysPhases (phases : List Phase) (packets outputs : List Packet) (outcomes : List Outcome) : Type 0 where
+    pub legal : Legal flow_law old.slots new.history
     pub phased : PlaysFrom old.history 1 0 phases packets outputs outcomes
     pub sweeps : old.sweeps + length (filter lacks_node outcomes) ≤ new.sweeps

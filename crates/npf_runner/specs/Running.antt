@@ -1,6 +1,8 @@
 -- What a phase did, in terms of its passes.
-use Rattle.std.specs.Prelude.{◌≡◌, ℕ, ◌≤◌, ◌+◌, ◌++◌, List, [], ◌∷◌, All, map, take, drop}
+use Rattle.std.specs.Prelude.{◌≡◌, ◌⊎◌, ℕ, ◌+◌, ◌++◌, List, [], ◌∷◌, All, map, take, drop}
 use Rattle.std.specs.List.{AllZip}
+use Rattle.npf_core.specs.History.{state_of}
+use Rattle.npf_connections.specs.Collecting.{HasNoDead, IsWorn}
 use Rattle.npf_connections.specs.Pass.{Pass, IsPass}
 use Rattle.npf_connections.specs.Stay.{IsLater}
 use Rattle.npf_flow.specs.Flows.{flow_law}
@@ -23,6 +25,10 @@ use Rattle.npf_runner.specs.Job.{Handled, Job, job_arrival, numbered_from}
 use Rattle.npf_runner.specs.Lanes.{HasWorked}
 use Rattle.npf_runner.specs.Plays.{published_by}
 use Rattle.npf_runner.specs.Works.{IsRested}
+
+-- the pass is as it was, or shows no Dead connection, unless it is worn
+abbrev pub LeavesNoDead : Pass FlowEntry → Pass FlowEntry → Type 0
+LeavesNoDead old new = (new ≡ old) ⊎ (¬ IsWorn new → HasNoDead (state_of flow_law new.history))
 
 -- Each worker handled its packets with a pass of its own, beside the control task's commands. The pass was split for them, took all in
 -- again, and collected.

@@ -26,6 +26,7 @@ pub fn control<R: Wait, C: Connections<FlowLaw>>(
     ensures out { IsOut flow_law (C.fits conns.now) C.view result.0 }
     ensures rested { IsRested (C.view pass) (C.view result.0) }
     ensures runs { OnOk result.1 (Runs commands.now (C.view pass) (C.view result.0)) }
+    ensures published { OnOk result.1 (published_number publisher.new ≡ published_number publisher.old + published_by commands.now) }
 {
     for command in commands {
         if obey(rt, conns, &mut pass, *command, publisher).is_err() {

@@ -4,6 +4,7 @@ ghost use Rattle.npf_connections.specs.Stay.{IsLater, IsOut};
 ghost use Rattle.npf_flow.specs.Flows.{flow_law};
 ghost use Rattle.npf_engine.specs.Handles.{configurations};
 ghost use Rattle.npf_runner.specs.Plays.{PlaysPhases, IsUnnumbered, AreInOrder, packets_in};
+ghost use Rattle.npf_runner.specs.Running.{LeavesNoDead};
 ghost use Rattle.npf_traffic.specs.Packet.{IsShortPacket};
 
 use crate::gate::Gate;
@@ -28,8 +29,8 @@ use std::thread::Threads;
 /// Each packet has 262,144 bytes at most. The phases' packets sum up to the packets, and their publications name the places 1, 2 and so on
 /// of `configs`, which isn't empty.
 ///
-/// Want of memory may come before, between and after the phases, or at a publication: then the pass is whole, its history has grown by
-/// what was done, and there are no outcomes.
+/// Want of memory may come before, between and after the phases, or at a publication: then the pass is whole, its history begins with
+/// what it was, and there are no outcomes. Where anything was done, no connection is Dead, unless the pass is worn.
 pub fn play<'a, R: Threads + Wait + Sync, C: Connections<FlowLaw>, G: Gate>(
     rt: &R,
     alloc: Global,
@@ -51,6 +52,7 @@ pub fn play<'a, R: Threads + Wait + Sync, C: Connections<FlowLaw>, G: Gate>(
     requires publications { AreInOrder (length configs.now) phases.now }
     ensures out { IsOut flow_law (C.fits conns.now) C.view pass.new }
     ensures later { IsLater (C.view pass.old) (C.view pass.new) }
+    ensures clean { LeavesNoDead (C.view pass.old) (C.view pass.new) }
     ensures plays { IfOk result (λ played. PlaysPhases (configurations configs.now) workers spread (C.view pass.old) (C.view pass.new) phases.now packets.entry.items played.packets played.outcomes) }
 {
     let mut all = Answers {

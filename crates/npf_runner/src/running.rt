@@ -14,7 +14,7 @@ ghost use Rattle.npf_runner.specs.Job.{job_arrival, numbered_from};
 ghost use Rattle.npf_runner.specs.Played.{outcomes_of, outputs_of};
 ghost use Rattle.npf_runner.specs.Plays.{published_by};
 ghost use Rattle.npf_traffic.specs.Packet.{IsShortPacket};
-ghost use Rattle.npf_runner.specs.Running.{RunsCrew, RunsPhase};
+ghost use Rattle.npf_runner.specs.Running.{LeavesNoDead, RunsCrew, RunsPhase};
 
 use crate::crew::{Queues, Room, apart, lanes_with, workers_with};
 use crate::gate::Gate;
@@ -75,6 +75,7 @@ pub fn run_phase<'a, R: Threads + Wait + Sync, C: Connections<FlowLaw>, G: Gate>
     requires for_packets { vec_len all.packets + vec_len task.packets ≤ vec_capacity all.packets }
     ensures out { IsOut flow_law (C.fits conns.now) C.view pass.new }
     ensures later { IsLater (C.view pass.old) (C.view pass.new) }
+    ensures clean { LeavesNoDead (C.view pass.old) (C.view pass.new) }
     ensures runs { IfOk result (λ done. (dones : List _) × (done.outcomes.items ≡ all.entry.outcomes.items ++ outcomes_of dones) × (done.packets.items ≡ all.entry.packets.items ++ outputs_of dones) × RunsPhase C.view (configurations configs.now) task.entry.workers task.entry.spread (C.view pass.old) (C.view pass.new) task.entry.last commands.now (numbered_from task.entry.first task.entry.packets.items) dones) }
     ensures outcomes_capacity { IfOk result (λ done. vec_capacity all.entry.outcomes ≤ vec_capacity done.outcomes) }
     ensures packets_capacity { IfOk result (λ done. vec_capacity all.entry.packets ≤ vec_capacity done.packets) }
@@ -176,6 +177,7 @@ fn run_crew<'a, R: Threads + Wait + Sync, C: Connections<FlowLaw>, G: Gate>(
     requires room { HasRoomFor (vec_len crew) room }
     ensures out { IsOut flow_law (C.fits conns.now) C.view pass.new }
     ensures later { IsLater (C.view pass.old) (C.view pass.new) }
+    ensures clean { LeavesNoDead (C.view pass.old) (C.view pass.new) }
     ensures runs { IfOk result (λ queues. (dones : List (List _)) × AreQueuesOf dones queues × RunsCrew C.view (configurations configs.now) (C.view pass.old) (C.view pass.new) commands.now crew.entry.items dones) }
 {
     let mut passes = split_off(rt, alloc, conns, pass, crew.len() as u32 + 1)?;

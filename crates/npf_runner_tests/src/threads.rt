@@ -1,6 +1,6 @@
 // Workers are on threads of their own, and meet in one table.
 use crate::answers::{put, same};
-use crate::gates::HoldUntil;
+use crate::gates::{HoldUntil, Notes};
 use crate::meeting::Meeting;
 use crate::packets::{datagrams, syns};
 use crate::run::{SLOTS, run};
@@ -88,5 +88,27 @@ false
 ByConn { id: ConnId { slot: 0, inc: 1 }, opener: 1, place: 1, pass: true, log: None }]
 ",
     );
+    Ok(())
+}
+
+// Packets 1 and 2 go to workers 0 and 1. Each tells the gate before its packet and after it, once.
+#[test]
+fn gate_is_told_of_each_packet_by_its_worker(rt: HostRuntime) -> Result<(), Fail> {
+    let alloc = rt.alloc();
+    let gate = Notes::new();
+    let (conns, mut pass) = OneTurn::<FlowLaw>::new(alloc, SLOTS)?;
+    let text = "group default { pass all }\n";
+    run(
+        &rt,
+        alloc,
+        text,
+        datagrams(alloc)?,
+        &conns,
+        &mut pass,
+        &gate,
+    )?;
+    let mut told = String::new(alloc);
+    put(&mut told, &gate.noted())?;
+    same(&rt, told.as_str(), "(12, 34)\n");
     Ok(())
 }

@@ -1,4 +1,4 @@
-use Rattle.std.proofs.Common.{◌≤◌, ◌+◌, drop}
+use Rattle.std.proofs.Common.{◌≡◌, ◌≤◌, ◌+◌, drop}
 use Rattle.npf_connections.specs.Stay.{IsOut}
 use Rattle.npf_flow.specs.Flows.{flow_law}
 use Rattle.npf_publish.specs.Publisher.{published_number, publisher_range}
@@ -12,4 +12,5 @@ invariant-loop-command g l =
     IsOut flow_law (g.C.Connections.fits l.conns) g.C.Connections.view l.pass
     × IsRested (g.C.Connections.view l.initial.pass) (g.C.Connections.view l.pass)
     × (published_number l.publisher + published_by (drop l.command-index l.commands) ≤ (publisher_range l.publisher).last)
+    × (published_number l.publisher + published_by (drop l.command-index l.commands) ≡ published_number l.initial.publisher + published_by l.commands)
     × ((new : _) → Runs (drop l.command-index l.commands) (g.C.Connections.view l.pass) new → Runs l.commands (g.C.Connections.view l.initial.pass) new)

@@ -6,7 +6,7 @@ use Rattle.npf_engine.specs.Handles.{configurations}
 use Rattle.npf_runner.specs.Played.{handled}
 use Rattle.npf_runner.specs.Plays.{PhasesPublishFrom, packets_in}
 use Rattle.npf_traffic.specs.Packet.{IsShortPacket}
-use Rattle.npf_runner.specs.Running.{RunsPhases}
+use Rattle.npf_runner.specs.Running.{LeavesNoDead, RunsPhases}
 use Rattle.npf_runner.proofs.playing.play.Given as goal
 
 abbrev pub invariant-loop-phase : goal.invariant-loop-phase
@@ -14,6 +14,7 @@ invariant-loop-phase g l =
     IsOut flow_law (g.C.Connections.fits l.conns) g.C.Connections.view l.pass
     × ((g.C.Connections.view l.pass).places ≡ all_places)
     × IsLater (g.C.Connections.view l.initial.pass) (g.C.Connections.view l.pass)
+    × LeavesNoDead (g.C.Connections.view l.initial.pass) (g.C.Connections.view l.pass)
     × (packets_in (drop l.phase-index l.phases) ≡ length l.left.items)
     × (l.first + length l.left.items ≡ 1 + length l.fn.packets.items)
     × (1 ≤ l.first)

@@ -1,4 +1,4 @@
-use Rattle.std.proofs.Common.{rules, ◌≡◌, ◌<◌, ◌+◌, [], ◌∷◌, ◌++◌, All, map, length, refl, ap, ◌∙◌, Some}
+use Rattle.std.proofs.Common.{rules, ◌≡◌, ◌<◌, ◌+◌, [], ◌∷◌, ◌++◌, All, map, length, refl, ap, ◌∙◌, inr, Some}
 use Rattle.std.proofs.lemmas.List.{length-append, length-map}
 use Rattle.std.proofs.lemmas.List.Elements.{All-pop, All-weaker}
 use Rattle.npf_connections.specs.Pass.{IsPass}
@@ -103,6 +103,11 @@ returns-in_err-published-clause-later g c =
     let collects : Collects (V c.take_in.new.pass) (V c.collect.new.pass) = record { frees = c.collect.ensures.adds; clean = c.collect.ensures.clean; view = c.collect.ensures.view } in
     is_back old (V c.take_in.new.pass) (V c.collect.new.pass) (map (λ (lane : Lane _). V lane.pass) ended ++ V controlled ∷ []) whole collects
 
+pub returns-in_err-published-clause-clean : goal.returns-in_err-published-clause-clean
+returns-in_err-published-clause-clean g c =
+    let all = returns-in_err-published-clause-later g c in
+    inr (c.collect.ensures.clean (all.places ∙ c.requires.places))
+
 pub returns : goal.returns
 returns g c =
     let V = g.C.Connections.view in
@@ -124,9 +129,12 @@ returns g c =
     let whole = crew_whole V configs old passes left c.args.crew.items begun ended control controlled is (V c.split_off.new.pass) (V c.take_in.new.pass) others
     c.in_ok-passes.ensures.spreads c.take_in.ensures.gathers same counted c.requires.places c.take_in.ensures.out.legal in
     let collects : Collects (V c.take_in.new.pass) (V c.collect.new.pass) = record { frees = c.collect.ensures.adds; clean = c.collect.ensures.clean; view = c.collect.ensures.view } in
+    let back = is_back old (V c.take_in.new.pass) (V c.collect.new.pass) (map (λ (lane : Lane _). V lane.pass) ended ++ V controlled ∷ []) whole collects in
     record {
-      out = c.collect.ensures.out;
-      later = is_back old (V c.take_in.new.pass) (V c.collect.new.pass) (map (λ (lane : Lane _). V lane.pass) ended ++ V controlled ∷ []) whole collects;
+      own = search rules;
+      legal = search rules;
+      back = back;
+      clean = inr (c.collect.ensures.clean (back.places ∙ c.requires.places));
       runs = (
         map done_of_lane ended,
         are_queues_of V configs begun ended c.apart-queues.result is.worked c.apart-queues.ensures.outcomes c.apart-queues.ensures.packets,
