@@ -65,9 +65,9 @@ fn attempt_of(crossing: &Crossing, arg: &FlowArg, passed: &Passed) -> Attempt
     Attempt {
         packet: crossing.number,
         facts: *crossing.facts,
-        ifid: key_interface(passed.ruling.state, crossing.ifid),
+        ifid: key_interface(passed.ruling.settings, passed.ruling.state, crossing.ifid),
         arg: *arg,
-        strict: false,
+        strict: passed.ruling.settings.strict_rst,
         action: passed.ruling.action,
         plan: plan_of(&passed.mapping),
     }

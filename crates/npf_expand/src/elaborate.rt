@@ -1,9 +1,10 @@
 // The elaboration of a whole configuration, statement by statement.
-ghost use Rattle.std.specs.Prelude.{◌≡◌, ◌++◌, ℕ, [], IfErr, IfOk, List, None, OnOk};
+ghost use Rattle.std.specs.Prelude.{◌≡◌, ◌++◌, ℕ, [], false, IfErr, IfOk, List, None, OnOk};
 ghost use Rattle.std.specs.List.{flat_map};
 ghost use Rattle.npf_types.specs.declared.span.Span.{Span};
 ghost use Rattle.npf_syntax.specs.declared.stmt.Stmt.{Stmt};
 ghost use Rattle.npf_faults.specs.First.{first_fault};
+ghost use Rattle.npf_model.specs.Settings.{default_settings};
 ghost use Rattle.npf_expand_values.specs.Kept.{AreSound, env_in};
 ghost use Rattle.npf_expand_values.specs.Source.{declared_by};
 ghost use Rattle.npf_expand.specs.Elaborates.{Elaborates, RefusesTree, procedures_of, stmts_faults};
@@ -17,7 +18,7 @@ use crate::procedure::procedure_of;
 use crate::table::table_of;
 use npf_expand_values::{Declarations, Interfaces, Scope, Variables};
 use npf_faults::Refused;
-use npf_model::{Group, Ifaces, Map, Model, Procedure, TableDecl};
+use npf_model::{Group, Ifaces, Map, Model, Procedure, Settings, TableDecl};
 use npf_syntax::{GroupHead, Item, Stmt, Tree, Values, Var};
 use npf_types::{List, NoMemory, Span};
 use std::alloc::Global;
@@ -227,6 +228,8 @@ impl<'a> State<'a> {
           tables = flat_map tables_of stmts.now;
           maps = self.entry.maps.items;
           procedures = flat_map procedures_of stmts.now;
+          settings = default_settings;
+          alg_icmp = false;
         }) }
     {
         let tables = tables_of_each(alloc, stmts)?;
@@ -243,6 +246,8 @@ impl<'a> State<'a> {
             tables: List::of_vec(tables),
             maps: List::of_vec(maps),
             procedures: List::of_vec(procedures),
+            settings: Settings::DEFAULT,
+            alg_icmp: false,
         })
     }
 }

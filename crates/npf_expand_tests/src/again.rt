@@ -61,8 +61,12 @@ fn all_but_places(alloc: Global, model: &Model) -> Result<String, AllocError> {
         tables,
         maps,
         procedures,
+        settings,
+        alg_icmp,
     } = model;
-    let mut parts = format!(in alloc; "{groups:?} {maps:?} {procedures:?}")?;
+    let mut parts = format!(in alloc;
+        "{groups:?} {maps:?} {procedures:?} {settings:?} {alg_icmp}"
+    )?;
     for table in tables.as_slice() {
         let has_file = table.file_span.is_some();
         write!(

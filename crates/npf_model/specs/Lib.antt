@@ -4,4 +4,5 @@ pub mod Describes
 pub mod MapOf
 pub mod Numbering
 pub mod Place
+pub mod Settings
 pub mod Verdict

@@ -16,7 +16,7 @@ impl Model {
     pub fn copy(&self, alloc: Global) -> Result<Model, NoMemory>
         ensures { IfOk result (λ copy. copy ≡ self.now) }
     {
-        self.duplicate(alloc)
+        self.with_groups(alloc, self.groups.duplicate(alloc)?)
     }
 
     /// A model with these groups, and with lists of its own that are equal to the others.
@@ -28,6 +28,8 @@ impl Model {
             tables: self.tables.duplicate(alloc)?,
             maps: self.maps.duplicate(alloc)?,
             procedures: self.procedures.duplicate(alloc)?,
+            settings: self.settings,
+            alg_icmp: self.alg_icmp,
         })
     }
 }
@@ -186,17 +188,6 @@ impl Duplicate for Procedure {
             max_mss: self.max_mss,
             no_df: self.no_df,
             log: self.log,
-        })
-    }
-}
-
-impl Duplicate for Model {
-    fn duplicate(&self, alloc: Global) -> Result<Model, NoMemory> {
-        Ok(Model {
-            groups: self.groups.duplicate(alloc)?,
-            tables: self.tables.duplicate(alloc)?,
-            maps: self.maps.duplicate(alloc)?,
-            procedures: self.procedures.duplicate(alloc)?,
         })
     }
 }

@@ -2,9 +2,10 @@
 //
 // The types say no more than their fields. Beside them stand the definitions that every layer above cites, apart from
 // any code: which packets a rule describes (specs/Describes), which rule decides (specs/Verdict), which map applies
-// (specs/MapOf), what the number of an interface is (specs/Numbering), and a configuration as data (specs/Configuration).
+// (specs/MapOf), what the number of an interface is (specs/Numbering), what settings are chosen (specs/Settings), and a
+// configuration as data (specs/Configuration).
 //
-// The contract: a copy is equal to what was copied.
+// The contract: a copy is equal to what was copied, and the names and values of settings are those of specs/Settings.
 #![tactic(auto)]
 
 mod copy;
@@ -15,6 +16,7 @@ mod map;
 mod model;
 mod procedure;
 mod rule;
+mod settings;
 mod table;
 
 pub use ends::{AddrItem, Ends};
@@ -24,4 +26,5 @@ pub use map::{Algo, Arrow, Map, Side};
 pub use model::Model;
 pub use procedure::Procedure;
 pub use rule::{OnIf, Rule, StateOpt};
+pub use settings::{Parameter, Settings, switch_number, switch_word};
 pub use table::{Kind, TableDecl};
