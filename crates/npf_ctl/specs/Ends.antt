@@ -1,7 +1,6 @@
 -- How the work on a command ends, and what is left of the pass of the table of connections.
-use Rattle.std.specs.Prelude.{◌≡◌, ◌≤◌, ℕ, ⊤, false, Result, Ok, Err, List, []}
-use Rattle.npf_connections.specs.Pass.{IsPass, Pass, all_places}
-use Rattle.npf_flow.specs.Flows.{flow_law}
+use Rattle.std.specs.Prelude.{◌≡◌, ℕ, ⊤, Result, Ok, Err, List, []}
+use Rattle.npf_connections.specs.Pass.{Pass, all_places}
 use Rattle.npf_engine.specs.declared.outcome.Outcome.{Outcome}
 use Rattle.npf_engine.specs.Histories.{FlowEntry}
 use Rattle.npf_ctl_messages.specs.declared.fault.CommandFault.{CommandFault}
@@ -26,20 +25,8 @@ use Rattle.npf_ctl.specs.Top.{DoesWords}
 
 -- a pass that owns all of its table, which nothing was asked yet
 pub record IsFresh (pass : Pass FlowEntry) : Type 0 where
-  pub legal : IsPass flow_law pass
-  pub out : pass.entered ≡ false
   pub places : pass.places ≡ all_places
   pub first : pass.history ≡ []
-
--- what is left of it: its history, its sweeps and its epoch went on
-pub record IsLaterPass (old new : Pass FlowEntry) : Type 0 where
-  pub legal : IsPass flow_law new
-  pub out : new.entered ≡ false
-  pub places : new.places ≡ all_places
-  pub slots : new.slots ≡ old.slots
-  pub number : new.number ≡ old.number
-  pub sweeps : old.sweeps ≤ new.sweeps
-  pub epoch : old.epoch ≤ new.epoch
 
 -- why a plan isn't reported: memory ran out before it was played, and nothing was put; or its report wasn't put whole
 pub data FailsReport (plan : RunPlan) (workers : ℕ) (spread : Spread) (old new : Pass FlowEntry) (before after : SinkMoment) : CommandFault → Type 0 where

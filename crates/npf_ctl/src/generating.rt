@@ -4,7 +4,9 @@ ghost use Rattle.npf_outside.specs.Files.{FilesMoment};
 ghost use Rattle.npf_ctl_prepare.specs.Playable.{IsPlayable};
 ghost use Rattle.npf_ctl_words.specs.declared.command.Command.{Command as CommandType};
 ghost use Rattle.npf_ctl_words.specs.CommandLine.{SaysCommand};
-ghost use Rattle.npf_ctl.specs.Ends.{EndsIn, IsLaterPass, IsFresh, PreparesGenerated};
+ghost use Rattle.npf_connections.specs.Stay.{IsLater, IsOut};
+ghost use Rattle.npf_flow.specs.Flows.{flow_law};
+ghost use Rattle.npf_ctl.specs.Ends.{EndsIn, IsFresh, PreparesGenerated};
 ghost use Rattle.npf_ctl.specs.Running.{moment};
 
 use crate::generated_files::GeneratedFiles;
@@ -31,12 +33,12 @@ pub(crate) fn run_generated<R: Threads + Wait + Sync, O: Sink, C: Connections<Fl
     pass: &mut C::Pass,
     gate: &G,
 ) -> Result<(), CommandFault>
-    requires own { C.fits conns.now pass.old }
+    requires out { IsOut flow_law (C.fits conns.now) C.view pass.old }
     requires fresh { IsFresh (C.view pass.old) }
     ensures ends { (texts : List (List ℕ)) (files : FilesMoment) → SaysCommand texts (CommandType.Gen number) → EndsIn texts
         (moment files (O.moment out.old) (C.view pass.old)) (moment files (O.moment out.new) (C.view pass.new)) result }
-    ensures own { C.fits conns.now pass.new }
-    ensures goes_on { IsLaterPass (C.view pass.old) (C.view pass.new) }
+    ensures out { IsOut flow_law (C.fits conns.now) C.view pass.new }
+    ensures later { IsLater (C.view pass.old) (C.view pass.new) }
 {
     let mut captures = Captures::new(alloc);
     let prepared = prepare_generated(alloc, number, &mut captures)?;

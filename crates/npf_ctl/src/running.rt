@@ -15,7 +15,9 @@ ghost use Rattle.npf_ctl_words.specs.declared.command.Command.{Command as Comman
 ghost use Rattle.npf_ctl_words.specs.CommandLine.{SaysCommand};
 ghost use Rattle.npf_ctl_messages.specs.declared.fault.CommandFault.{CommandFault as FaultType};
 ghost use Rattle.npf_ctl.specs.Commands.{spread_said};
-ghost use Rattle.npf_ctl.specs.Ends.{EndsIn, FailsReport, IsLaterPass, HasReadOn, IsFresh, IsUnwritten};
+ghost use Rattle.npf_connections.specs.Stay.{IsLater, IsOut};
+ghost use Rattle.npf_flow.specs.Flows.{flow_law};
+ghost use Rattle.npf_ctl.specs.Ends.{EndsIn, FailsReport, HasReadOn, IsFresh, IsUnwritten};
 ghost use Rattle.npf_ctl.specs.Running.{IsWrittenTo, moment};
 ghost use Rattle.npf_ctl.specs.Top.{KeepsOtherFiles};
 
@@ -46,15 +48,15 @@ pub(crate) fn run<R: Threads + Wait + Sync, F: Files, O: Sink, C: Connections<Fl
     pass: &mut C::Pass,
     gate: &G,
 ) -> Result<(), CommandFault>
-    requires own { C.fits conns.now pass.old }
+    requires out { IsOut flow_law (C.fits conns.now) C.view pass.old }
     requires fresh { IsFresh (C.view pass.old) }
     requires workers { (1 ≤ words.workers) × (words.workers ≤ 64) }
     ensures ends { (texts : List (List ℕ)) → SaysCommand texts (CommandType.Run words.entry) → EndsIn texts
         (moment (F.moment files.old) (O.moment out.old) (C.view pass.old)) (moment (F.moment files.new) (O.moment out.new) (C.view pass.new)) result }
     ensures files { (texts : List (List ℕ)) → SaysCommand texts (CommandType.Run words.entry)
         → KeepsOtherFiles texts (F.moment files.old).contents (F.moment files.new).contents }
-    ensures own { C.fits conns.now pass.new }
-    ensures goes_on { IsLaterPass (C.view pass.old) (C.view pass.new) }
+    ensures out { IsOut flow_law (C.fits conns.now) C.view pass.new }
+    ensures later { IsLater (C.view pass.old) (C.view pass.new) }
 {
     let names = RunFiles {
         conf: words.conf,
@@ -87,7 +89,7 @@ fn report_run<'a, R: Threads + Wait + Sync, O: Sink, C: Connections<FlowLaw>, G:
     pass: &mut C::Pass,
     gate: &G,
 ) -> Result<Played<'a>, CommandFault>
-    requires own { C.fits conns.now pass.old }
+    requires out { IsOut flow_law (C.fits conns.now) C.view pass.old }
     requires fresh { IsFresh (C.view pass.old) }
     requires workers { (1 ≤ words.workers) × (words.workers ≤ 64) }
     requires playable { IsPlayable prepared }
@@ -99,8 +101,8 @@ fn report_run<'a, R: Threads + Wait + Sync, O: Sink, C: Connections<FlowLaw>, G:
     ensures flushed { OnOk result ((O.moment out.new).waiting ≡ 0) }
     ensures fails { IfErr result (FailsReport (run_plan_of prepared.entry) words.entry.workers (spread_said words.entry.spread)
         (C.view pass.old) (C.view pass.new) (O.moment out.old) (O.moment out.new)) }
-    ensures own { C.fits conns.now pass.new }
-    ensures goes_on { IsLaterPass (C.view pass.old) (C.view pass.new) }
+    ensures out { IsOut flow_law (C.fits conns.now) C.view pass.new }
+    ensures later { IsLater (C.view pass.old) (C.view pass.new) }
 {
     let Prepared {
         ifaces,

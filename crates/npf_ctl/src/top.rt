@@ -1,6 +1,7 @@
 // The top call of the program: its words, the files and both sinks, the table of connections, and the status.
-ghost use Rattle.std.specs.Prelude.{◌≡◌, ◌≢◌, ◌≤◌, ◌⊎◌, ℕ, Some, false, []};
-ghost use Rattle.npf_connections.specs.Pass.{IsPass, all_places};
+ghost use Rattle.std.specs.Prelude.{◌≡◌, ◌≢◌, ◌⊎◌, ℕ, Some, false, []};
+ghost use Rattle.npf_connections.specs.Pass.{all_places};
+ghost use Rattle.npf_connections.specs.Stay.{IsLater, IsOut};
 ghost use Rattle.npf_flow.specs.Flows.{flow_law};
 ghost use Rattle.npf_ctl_messages.specs.declared.fault.CommandFault.{CommandFault as FaultType};
 ghost use Rattle.npf_ctl_messages.specs.Message.{status_of_fault};
@@ -9,7 +10,7 @@ ghost use Rattle.npf_outside.specs.Files.{SameFiles, Tree};
 ghost use Rattle.npf_outside.specs.Sink.{Appends};
 ghost use Rattle.npf_ctl_words.specs.CommandLine.{is_command_line, word_texts};
 ghost use Rattle.npf_ctl_input.specs.File.{ReadsWell};
-ghost use Rattle.npf_ctl.specs.Ends.{EndsIn, IsLaterPass, AnswersWords, IsFresh, SaysFault};
+ghost use Rattle.npf_ctl.specs.Ends.{EndsIn, AnswersWords, IsFresh, SaysFault};
 ghost use Rattle.npf_ctl.specs.Faults.{IsFaulted};
 ghost use Rattle.npf_ctl.specs.Running.{moment};
 ghost use Rattle.npf_ctl.specs.Top.{HasStatus, CanDo, DoesWords, IsQuiet, KeepsOtherFiles, MustRefuse};
@@ -58,9 +59,7 @@ pub fn npfctl_top<
     pass: &mut C::Pass,
     gate: &G,
 ) -> Status
-    requires own { C.fits conns.now pass.old }
-    requires legal { IsPass flow_law (C.view pass.old) }
-    requires out { (C.view pass.old).entered ≡ false }
+    requires out { IsOut flow_law (C.fits conns.now) C.view pass.old }
     requires places { (C.view pass.old).places ≡ all_places }
     requires first { (C.view pass.old).history ≡ [] }
 
@@ -91,15 +90,9 @@ pub fn npfctl_top<
     ensures idle { IsQuiet result → C.view pass.new ≡ C.view pass.old }
     ensures files { KeepsOtherFiles (word_texts words.now) (F.moment files.old).contents (F.moment files.new).contents }
 
-    // The pass isn't entered, owns all places, and has its number and slots; its sweeps and its epoch don't fall.
-    ensures own { C.fits conns.now pass.new }
-    ensures legal { IsPass flow_law (C.view pass.new) }
-    ensures out { (C.view pass.new).entered ≡ false }
-    ensures places { (C.view pass.new).places ≡ all_places }
-    ensures slots { (C.view pass.new).slots ≡ (C.view pass.old).slots }
-    ensures number { (C.view pass.new).number ≡ (C.view pass.old).number }
-    ensures sweeps { (C.view pass.old).sweeps ≤ (C.view pass.new).sweeps }
-    ensures epoch { (C.view pass.old).epoch ≤ (C.view pass.new).epoch }
+    // The pass is outside again, owns all places, and has its number and slots; its history goes on, and its sweeps and its epoch don't fall.
+    ensures out { IsOut flow_law (C.fits conns.now) C.view pass.new }
+    ensures later { IsLater (C.view pass.old) (C.view pass.new) }
 {
     one_command();
     npf_ctl_input::laws::contents_decide();
@@ -119,14 +112,14 @@ fn answer<R: Threads + Wait + Sync, F: Files, O: Sink, E: Sink, C: Connections<F
     pass: &mut C::Pass,
     gate: &G,
 ) -> Status
-    requires own { C.fits conns.now pass.old }
+    requires out { IsOut flow_law (C.fits conns.now) C.view pass.old }
     requires fresh { IsFresh (C.view pass.old) }
     ensures answered { AnswersWords (word_texts words.now)
         (moment (F.moment files.old) (O.moment out.old) (C.view pass.old)) (moment (F.moment files.new) (O.moment out.new) (C.view pass.new))
         (E.moment err.old) (E.moment err.new) result }
     ensures files { KeepsOtherFiles (word_texts words.now) (F.moment files.old).contents (F.moment files.new).contents }
-    ensures own { C.fits conns.now pass.new }
-    ensures goes_on { IsLaterPass (C.view pass.old) (C.view pass.new) }
+    ensures out { IsOut flow_law (C.fits conns.now) C.view pass.new }
+    ensures later { IsLater (C.view pass.old) (C.view pass.new) }
 {
     match do_words(rt, alloc, words, files, out, conns, pass, gate) {
         Ok(()) => 0,
@@ -145,13 +138,13 @@ fn do_words<R: Threads + Wait + Sync, F: Files, O: Sink, C: Connections<FlowLaw>
     pass: &mut C::Pass,
     gate: &G,
 ) -> Result<(), CommandFault>
-    requires own { C.fits conns.now pass.old }
+    requires out { IsOut flow_law (C.fits conns.now) C.view pass.old }
     requires fresh { IsFresh (C.view pass.old) }
     ensures ends { EndsIn (word_texts words.now)
         (moment (F.moment files.old) (O.moment out.old) (C.view pass.old)) (moment (F.moment files.new) (O.moment out.new) (C.view pass.new)) result }
     ensures files { KeepsOtherFiles (word_texts words.now) (F.moment files.old).contents (F.moment files.new).contents }
-    ensures own { C.fits conns.now pass.new }
-    ensures goes_on { IsLaterPass (C.view pass.old) (C.view pass.new) }
+    ensures out { IsOut flow_law (C.fits conns.now) C.view pass.new }
+    ensures later { IsLater (C.view pass.old) (C.view pass.new) }
 {
     let command = match read_words(alloc, words) {
         Ok(command) => command,

@@ -1,6 +1,6 @@
 -- What a configuration makes of a packet that no connection took: the rule that decides, what its procedure does, and the map that
 -- translates (npf.conf(5)). All are values: what is asked of connections then depends on these alone.
-use Rattle.std.specs.Prelude.{◌⊎◌, ℕ, false, Option, Some, None, slice_get, option_and_then}
+use Rattle.std.specs.Prelude.{◌⊎◌, ℕ, Bool, true, false, Option, Some, None, slice_get, option_and_then}
 use Rattle.std.specs.Option.{option_map}
 use Rattle.npf_types.specs.declared.action.Action.{Action}
 use Rattle.npf_types.specs.declared.change.Change.{Change}
@@ -15,6 +15,7 @@ use Rattle.npf_model.specs.declared.procedure.Procedure.{Procedure}
 use Rattle.npf_model.specs.declared.rule.Rule.{Rule}
 use Rattle.npf_model.specs.declared.rule.StateOpt.{StateOpt}
 use Rattle.npf_model.specs.declared.rule.StateOpt.TheVariants.{Not, OnInterface, Everywhere}
+use Rattle.npf_model.specs.declared.settings.Settings.{Settings}
 use Rattle.npf_model.specs.Configuration.{Configuration, verdict_of, map_place_of}
 use Rattle.npf_nat.specs.declared.map_plan.MapPlan.{MapPlan}
 use Rattle.npf_nat.specs.declared.map_plan.MapPlan.TheVariants.{Fixed, Draw}
@@ -40,7 +41,13 @@ abbrev pub action_of : Model → Rule → Action
 action_of model rule = action_by (option_and_then (slice_get model.procedures) rule.procedure)
 
 abbrev pub ruling : Model → ℕ → Rule → Ruling
-ruling model place rule = record { place = place; decision = rule.decision; state = rule.state; action = action_of model rule }
+ruling model place rule = record {
+  place = place;
+  decision = rule.decision;
+  state = rule.state;
+  settings = model.settings;
+  action = action_of model rule;
+}
 
 -- the rule that decides on the packet, if one does
 abbrev pub ruling_of : Configuration → Facts → IfId → Dir → Option Ruling
@@ -98,20 +105,26 @@ IsDynamic (Dynamic made) = Unit {0}
 abbrev pub OpensOne : Ruling → Mapping → Type 0
 OpensOne ruled mapped = IsStateful ruled.state ⊎ IsDynamic mapped
 
--- the interface of the keys: that of every interface exactly where the rule is `stateful-all`
-abbrev pub key_interface : StateOpt → IfId → IfId
-key_interface Not ifid = ifid
-key_interface OnInterface ifid = ifid
-key_interface Everywhere ifid = any_interface
+-- a key is bound to its interface or is every interface's
+abbrev pub bound_interface : Bool → IfId → IfId
+bound_interface true ifid = ifid
+bound_interface false ifid = any_interface
 
--- what the packet would open, which isn't strict about resets
+-- the interface of the keys (npf.conf(5), "Parameters" and "Stateful"): that of every interface exactly where the rule is
+-- `stateful-all`, or the configuration binds no key to its interface
+abbrev pub key_interface : Settings → StateOpt → IfId → IfId
+key_interface settings Not ifid = bound_interface settings.key_interface ifid
+key_interface settings OnInterface ifid = bound_interface settings.key_interface ifid
+key_interface settings Everywhere ifid = any_interface
+
+-- what the packet would open; whether that is strict about resets the configuration says
 abbrev pub attempt_of : Arrival → Facts → Ruling → Mapping → Attempt
 attempt_of arrival facts ruled mapped = record {
   packet = arrival.number;
   facts = facts;
-  ifid = key_interface ruled.state arrival.ifid;
+  ifid = key_interface ruled.settings ruled.state arrival.ifid;
   arg = arg_of arrival.time facts;
-  strict = false;
+  strict = ruled.settings.strict_rst;
   action = ruled.action;
   plan = plan_of mapped;
 }

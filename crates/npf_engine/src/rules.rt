@@ -3,21 +3,23 @@ ghost use Rattle.std.specs.Prelude.{◌≡◌, ◌↔◌, IsTrue, Some};
 ghost use Rattle.npf_packet.specs.declared.decoded.Decoded.TheVariants.{Ip};
 ghost use Rattle.npf_packet.specs.Decoding.{Decodes};
 ghost use Rattle.npf_ruleset.specs.Configuration.{configuration};
-ghost use Rattle.npf_engine.specs.Rules.{OpensOne, action_of, static_change, key_interface, mapping, mapping_of, no_action, plan_of, ruling_of, unchanged};
+ghost use Rattle.npf_engine.specs.Rules.{OpensOne, action_of, bound_interface, static_change, key_interface, mapping, mapping_of, no_action, plan_of, ruling_of, unchanged};
 
 use crate::crossing::Crossing;
-use npf_model::{Algo, Model, Rule, StateOpt};
+use npf_model::{Algo, Model, Rule, Settings, StateOpt};
 use npf_nat::{MapPlan, plan};
 use npf_packet::decoded_is_packet;
 use npf_ruleset::{Config, map_for, walk};
 use npf_types::{Action, Change, Decision, IfId};
 
-/// What the rule at a place, counted from 0 in the order of inspection, makes of a packet; `action` is that of its procedure.
+/// What the rule at a place, counted from 0 in the order of inspection, makes of a packet; `action` is that of its procedure,
+/// and `settings` are those of its configuration.
 #[derive(Clone, Copy, Debug, PartialEq, Eq)]
 pub struct Ruling {
     pub place: u32,
     pub decision: Decision,
     pub state: StateOpt,
+    pub settings: Settings,
     pub action: Action,
 }
 
@@ -59,6 +61,7 @@ pub(crate) fn ruling_of(config: &Config, crossing: &Crossing) -> Option<Ruling>
         place,
         decision: rule.decision,
         state: rule.state,
+        settings: config.model().settings,
         action: action_of(config.model(), rule),
     })
 }
@@ -135,12 +138,19 @@ pub(crate) fn opens_one(ruling: &Ruling, mapping: &Mapping) -> bool
     ruling.state != StateOpt::Not || matches!(mapping, Mapping::Dynamic(_))
 }
 
-/// The interface of the keys: that of every interface exactly where the rule is `stateful-all`.
-pub(crate) fn key_interface(state: StateOpt, ifid: IfId) -> IfId
-    ensures { result ≡ key_interface state ifid }
+/// The interface of the keys: that of every interface exactly where the rule is `stateful-all`, or the configuration binds no
+/// key to its interface.
+pub(crate) fn key_interface(settings: Settings, state: StateOpt, ifid: IfId) -> IfId
+    ensures { result ≡ key_interface settings state ifid }
 {
     match state {
-        StateOpt::Not | StateOpt::OnInterface => ifid,
+        StateOpt::Not | StateOpt::OnInterface => bound_interface(settings.key_interface, ifid),
         StateOpt::Everywhere => IfId(0),
     }
+}
+
+fn bound_interface(is_bound: bool, ifid: IfId) -> IfId
+    ensures { result ≡ bound_interface is_bound ifid }
+{
+    if is_bound { ifid } else { IfId(0) }
 }

@@ -23,10 +23,10 @@ use Rattle.npf_oneturn_tests.specs.Joined.{TookInLook, HasHold}
 alone_did : {S A R : Type 0} (old now : Pass (Entry S A R)) (said : List (Said S A R)) →
     Did old now said → by old.number old.history ≡ [] → by now.number now.history ≡ under now.number said
 alone_did old now said d unused =
-    ap (λ number. by number now.history) d.same.number
+    ap (λ number. by number now.history) d.later.number
     ∙ (ap (by old.number) d.adds.goes_on
     ∙ (by-append old.number old.history d.adds.rest
-    ∙ (ap (λ xs. xs ++ by old.number d.adds.rest) unused ∙ (d.adds.own ∙ ap (λ number. under number said) (sym d.same.number)))))
+    ∙ (ap (λ xs. xs ++ by old.number d.adds.rest) unused ∙ (d.adds.own ∙ ap (λ number. under number said) (sym d.later.number)))))
 
 -- who takes in a pass that only looked has its look beside those that it took in before
 takes_in_look : {S A R : Type 0} (old other now : Pass (Entry S A R)) (count : ℕ) (key : Key) (found : Option Found) →

@@ -1,6 +1,7 @@
 // Acts of one pass, one after the other, and what each is answered.
-ghost use Rattle.std.specs.Prelude.{◌≡◌, ◌≤◌, false};
-ghost use Rattle.npf_connections.specs.Pass.{IsPass, all_places};
+ghost use Rattle.std.specs.Prelude.{◌≡◌, ◌≤◌};
+ghost use Rattle.npf_connections.specs.Pass.{all_places};
+ghost use Rattle.npf_connections.specs.Stay.{IsOut};
 ghost use Rattle.npf_oneturn_tests.specs.Sum.{sum_law};
 
 use crate::answers::put;
@@ -30,13 +31,9 @@ pub(crate) enum Act {
 
 // How many of so many flows, each with a key of its own, are opened before one is refused.
 fn fill<C: Connections<Sum>>(rt: &impl Wait, conns: &C, pass: &mut C::Pass, flows: u64) -> u64
-    requires own { C.fits conns.now pass.old }
-    requires legal { IsPass sum_law (C.view pass.old) }
-    requires out { (C.view pass.old).entered ≡ false }
+    requires out { IsOut sum_law (C.fits conns.now) C.view pass.old }
     requires place { 1 ≤ (C.view pass.old).places }
-    ensures own { C.fits conns.now pass.new }
-    ensures legal { IsPass sum_law (C.view pass.new) }
-    ensures out { (C.view pass.new).entered ≡ false }
+    ensures out { IsOut sum_law (C.fits conns.now) C.view pass.new }
     ensures places { (C.view pass.new).places ≡ (C.view pass.old).places }
 {
     for n in 0..flows {
@@ -55,11 +52,9 @@ fn copy_all<C: Connections<Sum>>(
     pass: &mut C::Pass,
     told: &mut String,
 ) -> Result<(), Fail>
-    requires own { C.fits conns.now pass.old }
-    requires legal { IsPass sum_law (C.view pass.old) }
-    requires out { (C.view pass.old).entered ≡ false }
+    requires out { IsOut sum_law (C.fits conns.now) C.view pass.old }
     requires sole { (C.view pass.old).places ≡ all_places }
-    ensures own { C.fits conns.now pass.new }
+    ensures out { IsOut sum_law (C.fits conns.now) C.view pass.new }
     ensures same { C.view pass.new ≡ C.view pass.old }
 {
     for slot in 0..conns.slots() {
@@ -77,13 +72,9 @@ fn answer<C: Connections<Sum>>(
     act: Act,
     told: &mut String,
 ) -> Result<(), Fail>
-    requires own { C.fits conns.now pass.old }
-    requires legal { IsPass sum_law (C.view pass.old) }
-    requires out { (C.view pass.old).entered ≡ false }
+    requires out { IsOut sum_law (C.fits conns.now) C.view pass.old }
     requires sole { (C.view pass.old).places ≡ all_places }
-    ensures own { C.fits conns.now pass.new }
-    ensures legal { IsPass sum_law (C.view pass.new) }
-    ensures out { (C.view pass.new).entered ≡ false }
+    ensures out { IsOut sum_law (C.fits conns.now) C.view pass.new }
     ensures places { (C.view pass.new).places ≡ (C.view pass.old).places }
 {
     match act {
@@ -108,9 +99,7 @@ pub(crate) fn answer_all<C: Connections<Sum>>(
     acts: &[Act],
     told: &mut String,
 ) -> Result<(), Fail>
-    requires own { C.fits conns.now pass.old }
-    requires legal { IsPass sum_law (C.view pass.old) }
-    requires out { (C.view pass.old).entered ≡ false }
+    requires out { IsOut sum_law (C.fits conns.now) C.view pass.old }
     requires sole { (C.view pass.old).places ≡ all_places }
 {
     for (n, act) in acts.iter().enumerate() {

@@ -1,7 +1,7 @@
 // Connections that ask for a key, and steps of a key's holder, each in a stay of its own.
-ghost use Rattle.std.specs.Prelude.{◌≡◌, ◌≢◌, ◌≤◌, false, IfSome};
+ghost use Rattle.std.specs.Prelude.{◌≡◌, ◌≢◌, ◌≤◌, IfSome};
 ghost use Rattle.npf_core.specs.declared.held.Held.{Held};
-ghost use Rattle.npf_connections.specs.Pass.{IsPass};
+ghost use Rattle.npf_connections.specs.Stay.{IsOut};
 ghost use Rattle.npf_oneturn_tests.specs.Joined.{HasHold};
 ghost use Rattle.npf_oneturn_tests.specs.Sum.{sum_law};
 
@@ -31,13 +31,9 @@ pub(crate) fn ask<R: Wait, C: Connections<Sum>>(
     key: Key,
     then: Then,
 ) -> Asked
-    requires own { C.fits conns.now pass.old }
-    requires legal { IsPass sum_law (C.view pass.old) }
-    requires out { (C.view pass.old).entered ≡ false }
+    requires out { IsOut sum_law (C.fits conns.now) C.view pass.old }
     requires place { 1 ≤ (C.view pass.old).places }
-    ensures own { C.fits conns.now pass.new }
-    ensures legal { IsPass sum_law (C.view pass.new) }
-    ensures out { (C.view pass.new).entered ≡ false }
+    ensures out { IsOut sum_law (C.fits conns.now) C.view pass.new }
     ensures number { (C.view pass.new).number ≡ (C.view pass.old).number }
     ensures slots { (C.view pass.new).slots ≡ (C.view pass.old).slots }
     ensures places { (C.view pass.new).places ≡ (C.view pass.old).places }
@@ -67,13 +63,9 @@ pub(crate) fn step<C: Connections<Sum>>(
     n: u64,
     key: Key,
 ) -> Option<Stepped<u32>>
-    requires own { C.fits conns.now pass.old }
-    requires legal { IsPass sum_law (C.view pass.old) }
-    requires out { (C.view pass.old).entered ≡ false }
+    requires out { IsOut sum_law (C.fits conns.now) C.view pass.old }
     requires place { 1 ≤ (C.view pass.old).places }
-    ensures own { C.fits conns.now pass.new }
-    ensures legal { IsPass sum_law (C.view pass.new) }
-    ensures out { (C.view pass.new).entered ≡ false }
+    ensures out { IsOut sum_law (C.fits conns.now) C.view pass.new }
     ensures places { (C.view pass.new).places ≡ (C.view pass.old).places }
 {
     conns.enter(rt, pass);

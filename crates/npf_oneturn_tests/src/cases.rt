@@ -1,6 +1,7 @@
 // What is put to a table, and what it answers.
-ghost use Rattle.std.specs.Prelude.{◌≡◌, false};
-ghost use Rattle.npf_connections.specs.Pass.{IsPass, all_places};
+ghost use Rattle.std.specs.Prelude.{◌≡◌};
+ghost use Rattle.npf_connections.specs.Pass.{all_places};
+ghost use Rattle.npf_connections.specs.Stay.{IsOut};
 ghost use Rattle.npf_oneturn_tests.specs.Sum.{sum_law};
 
 use crate::acts::{Act, answer_all};
@@ -107,9 +108,7 @@ fn answer<R: Threads + Wait + Sync, C: Connections<Sum>>(
     question: Question,
     told: &mut String,
 ) -> Result<(), Fail>
-    requires own { C.fits conns.now pass.old }
-    requires legal { IsPass sum_law (C.view pass.old) }
-    requires out { (C.view pass.old).entered ≡ false }
+    requires out { IsOut sum_law (C.fits conns.now) C.view pass.old }
     requires sole { (C.view pass.old).places ≡ all_places }
 {
     match question {

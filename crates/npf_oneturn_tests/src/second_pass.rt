@@ -1,6 +1,6 @@
 // Slots that come again, or don't, beside a second pass.
-ghost use Rattle.std.specs.Prelude.{◌≡◌, ◌≤◌, false};
-ghost use Rattle.npf_connections.specs.Pass.{IsPass};
+ghost use Rattle.std.specs.Prelude.{◌≤◌};
+ghost use Rattle.npf_connections.specs.Stay.{IsOut};
 ghost use Rattle.npf_oneturn_tests.specs.Sum.{sum_law};
 
 use crate::asking::{Asked, Then, ask};
@@ -17,9 +17,7 @@ pub(crate) fn known_is_not_freed<C: Connections<Sum>>(
     conns: &C,
     pass: &mut C::Pass,
 ) -> (u64, Asked, Option<Stepped<u32>>, Asked)
-    requires own { C.fits conns.now pass.old }
-    requires legal { IsPass sum_law (C.view pass.old) }
-    requires out { (C.view pass.old).entered ≡ false }
+    requires out { IsOut sum_law (C.fits conns.now) C.view pass.old }
     requires place { 2 ≤ (C.view pass.old).places }
 {
     let mut second = conns.split(rt, pass);
@@ -47,9 +45,7 @@ pub(crate) fn freed_beside_a_resting_pass<C: Connections<Sum>>(
     conns: &C,
     pass: &mut C::Pass,
 ) -> Asked
-    requires own { C.fits conns.now pass.old }
-    requires legal { IsPass sum_law (C.view pass.old) }
-    requires out { (C.view pass.old).entered ≡ false }
+    requires out { IsOut sum_law (C.fits conns.now) C.view pass.old }
     requires place { 2 ≤ (C.view pass.old).places }
 {
     let second = conns.split(rt, pass);

@@ -4,7 +4,7 @@ ghost use Rattle.npf_core.specs.declared.act.Act.TheVariants.{Look};
 ghost use Rattle.npf_core.specs.declared.held.Held.{Held};
 ghost use Rattle.npf_core.specs.declared.reply.Reply.TheVariants.{ToLook};
 ghost use Rattle.npf_core.specs.History.{IsPrefix};
-ghost use Rattle.npf_connections.specs.Pass.{IsPass};
+ghost use Rattle.npf_connections.specs.Stay.{IsOut};
 ghost use Rattle.npf_connections.specs.Said.{Did};
 ghost use Rattle.npf_oneturn_tests.specs.Joined.{TookInLook, HasHold};
 ghost use Rattle.npf_oneturn_tests.specs.Sum.{sum_law};
@@ -25,12 +25,9 @@ fn look_once<R: Wait, C: Connections<Sum>>(
     n: u64,
     key: Key,
 ) -> Option<Found>
-    requires own { C.fits conns.now pass.old }
-    requires legal { IsPass sum_law (C.view pass.old) }
-    requires out { (C.view pass.old).entered ≡ false }
+    requires out { IsOut sum_law (C.fits conns.now) C.view pass.old }
     requires place { 1 ≤ (C.view pass.old).places }
-    ensures own { C.fits conns.now pass.new }
-    ensures legal { IsPass sum_law (C.view pass.new) }
+    ensures out { IsOut sum_law (C.fits conns.now) C.view pass.new }
     ensures did { Did (C.view pass.old) (C.view pass.new) (record { act = Look n key; reply = ToLook result } ∷ []) }
 {
     conns.enter(rt, pass);
@@ -47,13 +44,9 @@ fn look_apart<R: Wait, C: Connections<Sum>>(
     count: u64,
     key: Key,
 ) -> u64
-    requires own { C.fits conns.now pass.old }
-    requires legal { IsPass sum_law (C.view pass.old) }
-    requires out { (C.view pass.old).entered ≡ false }
+    requires out { IsOut sum_law (C.fits conns.now) C.view pass.old }
     requires places { count < (C.view pass.old).places }
-    ensures own { C.fits conns.now pass.new }
-    ensures legal { IsPass sum_law (C.view pass.new) }
-    ensures out { (C.view pass.new).entered ≡ false }
+    ensures out { IsOut sum_law (C.fits conns.now) C.view pass.new }
     ensures places { (C.view pass.new).places ≡ (C.view pass.old).places }
     ensures most { result ≤ count }
     ensures begins { IsPrefix (C.view pass.old).history (C.view pass.new).history }
@@ -76,13 +69,9 @@ fn ask_at_once<R: Threads + Wait + Sync, C: Connections<Sum>>(
     pass: &mut C::Pass,
     key: Key,
 ) -> (Asked, Asked)
-    requires own { C.fits conns.now pass.old }
-    requires legal { IsPass sum_law (C.view pass.old) }
-    requires out { (C.view pass.old).entered ≡ false }
+    requires out { IsOut sum_law (C.fits conns.now) C.view pass.old }
     requires places { 3 ≤ (C.view pass.old).places }
-    ensures own { C.fits conns.now pass.new }
-    ensures legal { IsPass sum_law (C.view pass.new) }
-    ensures out { (C.view pass.new).entered ≡ false }
+    ensures out { IsOut sum_law (C.fits conns.now) C.view pass.new }
     ensures begins { IsPrefix (C.view pass.old).history (C.view pass.new).history }
     ensures first { IfSome result.0 (λ asked. asked.1 ≢ Held.NoNode → HasHold (C.view pass.new).history key asked.0 asked.1) }
     ensures second { IfSome result.1 (λ asked. asked.1 ≢ Held.NoNode → HasHold (C.view pass.new).history key asked.0 asked.1) }
@@ -92,14 +81,14 @@ fn ask_at_once<R: Threads + Wait + Sync, C: Connections<Sum>>(
     let ((first, one), (second, other)) = join(
         rt,
         move ||
-            requires { C.fits conns.now first × IsPass sum_law (C.view first) × ((C.view first).entered ≡ false) × (1 ≤ (C.view first).places) }
+            requires { IsOut sum_law (C.fits conns.now) C.view first × (1 ≤ (C.view first).places) }
         {
             let mut pass = first;
             let asked = ask(rt, conns, &mut pass, 1, key, Then::Starts);
             (pass, asked)
         },
         move ||
-            requires { C.fits conns.now second × IsPass sum_law (C.view second) × ((C.view second).entered ≡ false) × (1 ≤ (C.view second).places) }
+            requires { IsOut sum_law (C.fits conns.now) C.view second × (1 ≤ (C.view second).places) }
         {
             let mut pass = second;
             let asked = ask(rt, conns, &mut pass, 2, key, Then::Starts);
@@ -133,9 +122,7 @@ pub(crate) fn shared<R: Threads + Wait + Sync, C: Connections<Sum>>(
     conns: &C,
     pass: &mut C::Pass,
 ) -> (u64, bool)
-    requires own { C.fits conns.now pass.old }
-    requires legal { IsPass sum_law (C.view pass.old) }
-    requires out { (C.view pass.old).entered ≡ false }
+    requires out { IsOut sum_law (C.fits conns.now) C.view pass.old }
     requires places { 65 ≤ (C.view pass.old).places }
 {
     ask(rt, conns, pass, 0, KEY, Then::Starts);

@@ -340,6 +340,6 @@ module _ (says : SaysOwn) (configs : List Configuration) where
         let h = w.2 in
         let rest = went_on mid w.1 jobs new next dones w.3 in (
           before_later old mid new reader w.1 next job jobs done dones h rest s own apart.0 legal sized before,
-          takes_in_turn mid new w.1 next jobs dones w.3 h.rested.legal (h.rested.same.slots ∙ sized) (h.rested.same.number ∙ own) apart.1
+          takes_in_turn mid new w.1 next jobs dones w.3 h.rested.legal (h.rested.later.slots ∙ sized) (h.rested.later.number ∙ own) apart.1
               (fewer job.number (numbers_of jobs) new s) (before_next old mid new reader w.1 next job jobs done dones h rest s own apart.0 before),
         )

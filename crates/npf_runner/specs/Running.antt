@@ -1,5 +1,5 @@
 -- What a phase did, in terms of its passes.
-use Rattle.std.specs.Prelude.{◌≡◌, ◌⊎◌, ℕ, ◌≤◌, ◌+◌, ◌++◌, List, [], ◌∷◌, All, map, take, drop}
+use Rattle.std.specs.Prelude.{◌≡◌, ◌⊎◌, ℕ, ◌+◌, ◌++◌, List, [], ◌∷◌, All, map, take, drop}
 use Rattle.std.specs.List.{AllZip}
 use Rattle.npf_core.specs.History.{state_of}
 use Rattle.npf_connections.specs.Collecting.{HasNoDead, IsWorn}

@@ -1,11 +1,9 @@
-use Rattle.std.proofs.Common.{◌≡◌, false}
+use Rattle.std.proofs.Common.{◌≡◌}
 use Rattle.npf_oneturn_tests.specs.Sum.{sum_law}
-use Rattle.npf_connections.specs.Pass.{IsPass}
+use Rattle.npf_connections.specs.Stay.{IsOut}
 use Rattle.npf_oneturn_tests.proofs.acts.fill.Given as goal
 
 abbrev pub invariant-loop-n : goal.invariant-loop-n
 invariant-loop-n g l =
-    g.C.Connections.fits l.conns l.pass
-    × IsPass sum_law (g.C.Connections.view l.pass)
-    × ((g.C.Connections.view l.pass).entered ≡ false)
+    IsOut sum_law (g.C.Connections.fits l.conns) g.C.Connections.view l.pass
     × ((g.C.Connections.view l.pass).places ≡ (g.C.Connections.view l.initial.pass).places)
