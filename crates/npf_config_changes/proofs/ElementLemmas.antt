@@ -14,7 +14,7 @@ use Rattle.npf_model.specs.declared.rule.Rule.{Rule}
 use Rattle.npf_model.specs.Count.{elements_of}
 use Rattle.npf_model.specs.Verdict.{PlacedRule, all_rules, rules_at, rules_of}
 use Rattle.npf_ruleset.specs.Refusal.{IsBuildable, IsCompilable}
-use Rattle.npf_config_changes.specs.Elements.{group_elements, item_elements}
+use Rattle.npf_config_changes.specs.Elements.{group_elements, elements_in_item}
 
 abbrev placed_elements : PlacedRule → ℕ
 placed_elements placed = elements_of placed.rule
@@ -40,12 +40,12 @@ ruleset_is dir on (numbered ∷ rules) =
     let rest = ruleset_is dir on rules in
     omega (arith, placed, more, rest)
 
-item_is : (item : Item) → sum_by placed_elements (rules_at item) ≡ item_elements item
+item_is : (item : Item) → sum_by placed_elements (rules_at item) ≡ elements_in_item item
 item_is (One rule) = omega (arith, sum_by-cons placed_elements (record { within_dir = None; within_on = None; rule = rule }) [])
 item_is (Dynamic name dir on next_id rules) = ruleset_is dir on rules
 
 group_is : (group : Group) → sum_by placed_elements (rules_of group) ≡ group_elements group
-group_is group = sum_joined rules_at placed_elements item_elements item_is group.items
+group_is group = sum_joined rules_at placed_elements elements_in_item item_is group.items
 
 pub groups_are : (groups : List Group) → sum_by placed_elements (all_rules groups) ≡ sum_by group_elements groups
 groups_are groups = sum_joined rules_of placed_elements group_elements group_is groups

@@ -17,9 +17,9 @@ abbrev pub model_elements : Model → ℕ
 model_elements model = sum_by (λ placed. elements_of placed.rule) (all_rules model.groups) + sum_by filter_elements_of model.maps
 
 -- those of an item's rules, and of a group's
-abbrev pub item_elements : Item → ℕ
-item_elements (One rule) = elements_of rule
-item_elements (Dynamic name dir on next_id rules) = sum_by (λ numbered. elements_of numbered.1) rules
+abbrev pub elements_in_item : Item → ℕ
+elements_in_item (One rule) = elements_of rule
+elements_in_item (Dynamic name dir on next_id rules) = sum_by (λ numbered. elements_of numbered.1) rules
 
 abbrev pub group_elements : Group → ℕ
-group_elements group = sum_by item_elements group.items
+group_elements group = sum_by elements_in_item group.items

@@ -4,7 +4,7 @@ ghost use Rattle.std.specs.List.{sum_by};
 ghost use Rattle.npf_model.specs.Count.{elements_of, listed};
 ghost use Rattle.npf_bpfgen.specs.RuleWeight.{HasShortEnds, HasShortLists};
 ghost use Rattle.npf_ruleset.specs.Refusal.{IsBuildable};
-ghost use Rattle.npf_config_changes.specs.Elements.{filter_elements_of, group_elements, item_elements, model_elements};
+ghost use Rattle.npf_config_changes.specs.Elements.{filter_elements_of, group_elements, elements_in_item, model_elements};
 
 use npf_model::{Ends, Group, Item, Map, Model, Rule};
 use npf_types::List;
@@ -57,19 +57,19 @@ fn groups_elements(groups: &[Group]) -> u128
 }
 
 fn items_elements(items: &[Item]) -> u128
-    requires { sum_by item_elements items.now ≤ 2 ^ 80 }
-    ensures { result ≡ sum_by item_elements items.now }
+    requires { sum_by elements_in_item items.now ≤ 2 ^ 80 }
+    ensures { result ≡ sum_by elements_in_item items.now }
 {
     let mut total = 0;
     for item in items {
-        total += item_elements(item);
+        total += elements_in_item(item);
     }
     total
 }
 
-fn item_elements(item: &Item) -> u128
-    requires { item_elements item.now ≤ 2 ^ 80 }
-    ensures { result ≡ item_elements item.now }
+fn elements_in_item(item: &Item) -> u128
+    requires { elements_in_item item.now ≤ 2 ^ 80 }
+    ensures { result ≡ elements_in_item item.now }
 {
     match item {
         Item::One(rule) => rule_elements(rule),

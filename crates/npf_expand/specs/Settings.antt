@@ -13,13 +13,13 @@ abbrev pub value_set : Setting → Option Bool
 value_set (Setting.Word word span) = switch_word word.text
 value_set (Setting.Number number span) = switch_number number.value
 
-abbrev pub chosen : Option Parameter → Option Bool → List (Parameter × Bool)
-chosen (Some parameter) (Some value) = (parameter, value) ∷ []
-chosen _ _ = []
+abbrev pub setting_of : Option Parameter → Option Bool → List (Parameter × Bool)
+setting_of (Some parameter) (Some value) = (parameter, value) ∷ []
+setting_of _ _ = []
 
 -- what a statement sets
 abbrev pub settings_in : Stmt → List (Parameter × Bool)
-settings_in (Stmt.Set name value span) = chosen (parameter_named name.text) (value_set value)
+settings_in (Stmt.Set name value span) = setting_of (parameter_named name.text) (value_set value)
 settings_in _ = []
 
 abbrev pub settings_of : List Stmt → Settings

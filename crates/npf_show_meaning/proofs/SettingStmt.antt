@@ -14,7 +14,7 @@ use Rattle.npf_model.specs.declared.settings.Parameter.TheVariants.{StrictRst, K
 use Rattle.npf_model.specs.Settings.{parameter_name, parameter_named, switch_word}
 use Rattle.npf_parser_values.specs.Token.{span_of}
 use Rattle.npf_parser.specs.Stmt.{alg, set, setting}
-use Rattle.npf_expand.specs.Settings.{chosen, value_set}
+use Rattle.npf_expand.specs.Settings.{setting_of, value_set}
 use Rattle.npf_show.specs.Piece.{Piece, glued, spaced}
 use Rattle.npf_show.specs.Piece as Pieces
 use Rattle.npf_show.specs.Setting.{switch_text}
@@ -57,7 +57,7 @@ module _ (ifaces : List Iface) (model : Model) where
     procedures = refl;
     table_names = refl;
     procedure_names = refl;
-    settings = ap₂ chosen (ap parameter_named named ∙ parameter_again one.0) sets;
+    settings = ap₂ setting_of (ap parameter_named named ∙ parameter_again one.0) sets;
     algs = refl;
   }
 
