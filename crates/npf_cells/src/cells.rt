@@ -7,13 +7,13 @@ ghost use Rattle.npf_seats.specs.Sums.{numbers_below};
 use crate::kinds::{
     AdvancesEpoch, LoadsEpoch, PinsReader, ProtectsReader, ScansReader, UnpinsReader,
 };
-use npf_cells_words::{EPOCH, FIRST_EPOCH, IDLE, Layout, Pool, READERS, reader_place};
 use crate::passing::{GetsBorn, Gives, Reads, TakesIn};
 use crate::rule::CellsRule;
 use crate::told::Told;
-use npf_cells_rule::CellView;
 use arrayvec::ArrayVec;
 use atomic_table::{Refused, Seat, Table};
+use npf_cells_rule::CellView;
+use npf_cells_words::{EPOCH, FIRST_EPOCH, IDLE, Layout, Pool, READERS, reader_place};
 use npf_core::Law;
 use npf_paths::KeyHash;
 use npf_types::NoMemory;

@@ -1,12 +1,12 @@
 ghost use Rattle.std.specs.Prelude.{◌≡◌};
 
-use npf_cells_holds::Aim;
 use crate::cells::{CellPass, Cells};
-use npf_cells_words::{Pool, key_field};
 use crate::rule::Running;
 use crate::told::Told;
-use npf_cells_rule::CellView;
 use atomic_table::Play;
+use npf_cells_holds::Aim;
+use npf_cells_rule::CellView;
+use npf_cells_words::{Pool, key_field};
 use npf_core::Law;
 use npf_paths::{Cell, KeyHash, Place};
 use npf_types::{Key, Way};
@@ -61,13 +61,7 @@ impl<L: Law, H: KeyHash> Cells<L, H> {
         }
     }
 
-    fn look_place<W: Told>(
-        &self,
-        pass: &mut CellPass<L>,
-        place: Place,
-        n: u64,
-        key: &Key,
-    ) -> Cell
+    fn look_place<W: Told>(&self, pass: &mut CellPass<L>, place: Place, n: u64, key: &Key) -> Cell
         requires own { IsPassOf self.now.table.shared.key self.now.table.shared.table_id pass.old.seat.table_id pass.old.readers.items pass.old.seat.me }
         requires place { IsInTrie self.now.table.shared.key place }
         requires protected { IsProtected pass.old.seat.me.0.epochs.pin }

@@ -1,6 +1,6 @@
 use crate::rule::Running;
-use npf_cells_rule::CellView;
 use atomic_table::{Join, Play, Split};
+use npf_cells_rule::CellView;
 use npf_core::Law;
 use std::marker::PhantomData;
 

@@ -2,11 +2,11 @@ ghost use Rattle.std.specs.Prelude.{◌≡◌, ◌-◌, ◌*◌, ◌%◌, ◌^�
 ghost use Rattle.std.specs.Int.{bit_at};
 
 use crate::cells::{CellPass, Cells};
-use npf_cells_words::Pool;
 use crate::rule::Running;
 use crate::told::Told;
-use npf_cells_rule::CellView;
 use atomic_table::Play;
+use npf_cells_rule::CellView;
+use npf_cells_words::Pool;
 use npf_core::Law;
 use npf_paths::KeyHash;
 use std::marker::{Brand, PhantomData};

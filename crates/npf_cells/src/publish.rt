@@ -1,11 +1,11 @@
 ghost use Rattle.std.specs.Prelude.{◌≡◌};
 
-use npf_cells_holds::Aim;
 use crate::cells::{CellPass, Cells};
 use crate::rule::Running;
 use crate::told::Told;
-use npf_cells_rule::CellView;
 use atomic_table::Play;
+use npf_cells_holds::Aim;
+use npf_cells_rule::CellView;
 use npf_core::{ConnId, Law};
 use npf_paths::{Cell, KeyHash, Place};
 use npf_types::{Key, Way};

@@ -1,6 +1,6 @@
-use npf_cells_words::Layout;
-use npf_cells_rule::CellView;
 use atomic_table::TableRule;
+use npf_cells_rule::CellView;
+use npf_cells_words::Layout;
 use npf_core::Law;
 use npf_paths::KeyHash;
 use std::marker::PhantomData;
