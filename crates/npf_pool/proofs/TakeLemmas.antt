@@ -70,12 +70,16 @@ module _ {S A R F : Type 0} where
       next ≡ with_pools now (searching now.0.pools next.0.pools) → next ≡ with_pools old (searching old.0.pools next.0.pools)
   searched_more old now next is more = more ∙ ap (λ (y : Me F (CellView S A R)). with_pools y (record y.0.pools { found = next.0.pools.found; row = next.0.pools.row })) is
 
+  -- a claim that lost changes only what was found
+  pub lost_search : (now next : Me F (CellView S A R)) → next ≡ with_pools now (record now.0.pools { found = next.0.pools.found }) → next ≡ with_pools now (searching now.0.pools next.0.pools)
+  lost_search now next is = is ∙ ap (λ r. with_pools now (record now.0.pools { found = next.0.pools.found; row = r })) (sym (ap (λ (y : Me F (CellView S A R)). y.0.pools.row) is))
+
   pub swept_more : (old now next : Me F (CellView S A R)) → now ≡ with_pools old (searching old.0.pools now.0.pools) →
       next ≡ with_pools now (having_swept now.0.pools next.0.pools) → next ≡ with_pools old (having_swept old.0.pools next.0.pools)
   swept_more old now next is more =
       more ∙ ap (λ (y : Me F (CellView S A R)). with_pools y (record y.0.pools { found = next.0.pools.found; row = next.0.pools.row; sweeps = next.0.pools.sweeps })) is
 
--- the first places of a list are a part of it
+-- what a pass sees begins with what it had seen
 goes_on_from : {S A R : Type 0} (old : Pass (Entry S A R)) (new : List (Entry S A R)) → Adds old new [] → IsPrefix old.history new
 goes_on_from old new adds = record { rest = adds.rest; goes_on = adds.goes_on }
 
