@@ -1,5 +1,5 @@
 -- What an answer says of the packet.
-use Rattle.std.proofs.Common.{◌≡◌, ◌≢◌, ℕ, [], Some, None, refl, subst}
+use Rattle.std.proofs.Common.{◌≡◌, ◌≢◌, ℕ, [], Some, None, subst}
 use Rattle.npf_types.specs.declared.change.Change.{Change}
 use Rattle.npf_types.specs.declared.decision.Decision.TheVariants.{Pass}
 use Rattle.npf_core.specs.declared.conn_id.ConnId.{ConnId}
@@ -23,7 +23,7 @@ use Rattle.npf_engine.specs.declared.outcome.Outcome.TheVariants.{Dropped}
 use Rattle.npf_engine.specs.declared.rules.Mapping.TheVariants.{Unmapped}
 use Rattle.npf_engine.specs.declared.open.Passed.{Passed}
 use Rattle.npf_engine.specs.Answer.{AnswersByConn, AnswersRuled, AnswersTried, arrival_of}
-use Rattle.npf_engine.specs.Explains.{IsDecided, IsRefused, IsTried, Sight, WasFull, by_ruling, unkept}
+use Rattle.npf_engine.specs.Explains.{IsDecided, LacksConnection, IsTried, Sight, WasFull, by_ruling, unkept}
 use Rattle.npf_engine.specs.Connection.{met}
 use Rattle.npf_engine.specs.Histories.{FlowEntry}
 use Rattle.npf_engine.specs.Rules.{OpensOne, attempt_of, static_change, unchanged}
@@ -40,7 +40,7 @@ module _ (passed : Passed) (answer : Answer) where
       AnswersByConn (met holder reply place) answer → (sight : Sight) → AnswersTried passed opened answer sight
   tried_known opened holder reply place is taken sight bytes facts sent so = rw is (IsTried.known {holder = holder} (taken bytes facts sent so))
 
-  module _ (why : Refusal) (sight : Sight) (opened : Opened) (refused : IsRefused sight opened why) where
+  module _ (why : Refusal) (sight : Sight) (opened : Opened) (refused : LacksConnection sight opened why) where
     pub tried_unkept : passed.mapping ≡ Unmapped → answer.outcome ≡ unkept passed.config passed.ruling why →
         answer.rewriting ≡ Some (record { action = passed.ruling.action; change = unchanged }) → AnswersTried passed opened answer sight
     tried_unkept mapped outcome rewriting bytes facts sent so = rw outcome (IsTried.alone mapped refused (rw rewriting at so))

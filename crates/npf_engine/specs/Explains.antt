@@ -60,9 +60,9 @@ WasFull sight = (slot : ℕ) → slot < sight.slots → SlotWasClaimed sight slo
 
 -- why a packet has no connection of its own: it was refused one for this cause, and the table was full where that is the cause;
 -- or the holder of its key was no more live when it was stepped
-pub data IsRefused (sight : Sight) : Opened → Refusal → Type 0 where
-  refused : {why : Refusal} → (why ≡ Refusals.Full → WasFull sight) → IsRefused sight (Openings.Refused why) why
-  ended : {holder : Found} → IsRefused sight (Openings.Known holder Steps.NotLive) (Refusals.Taken holder)
+pub data LacksConnection (sight : Sight) : Opened → Refusal → Type 0 where
+  refused : {why : Refusal} → (why ≡ Refusals.Full → WasFull sight) → LacksConnection sight (Openings.Refused why) why
+  ended : {holder : Found} → LacksConnection sight (Openings.Known holder Steps.NotLive) (Refusals.Taken holder)
 
 -- the outcome of a packet that a connection took
 abbrev pub by_conn : Met → Outcome
@@ -101,9 +101,9 @@ module _ (bytes : List ℕ) (facts : Facts) where
     known : {holder : Found} {reply : FlowReply} {place : ℕ} {outcome : Outcome} {sent : Option (List ℕ)} →
         IsByConn (met holder reply place) outcome sent →
         IsTried sight config ruled mapped (Openings.Known holder (Steps.Done reply place)) outcome sent
-    alone : {result : Opened} {why : Refusal} {sent : Option (List ℕ)} → mapped ≡ Unmapped → IsRefused sight result why →
+    alone : {result : Opened} {why : Refusal} {sent : Option (List ℕ)} → mapped ≡ Unmapped → LacksConnection sight result why →
         IsSent ruled.action unchanged sent → IsTried sight config ruled mapped result (unkept config ruled why) sent
-    dropped : {result : Opened} {why : Refusal} → mapped ≢ Unmapped → IsRefused sight result why →
+    dropped : {result : Opened} {why : Refusal} → mapped ≢ Unmapped → LacksConnection sight result why →
         IsTried sight config ruled mapped result (Dropped ruled.place config why) None
 
   -- What the configuration of this number made of a packet that no connection took, by what it then asked. No rule decides, and it is

@@ -6,7 +6,7 @@ ghost use Rattle.npf_flow.specs.Flows.{flow_law};
 ghost use Rattle.npf_engine_opening.specs.declared.attempt.Opened.{Opened as IsOpened};
 ghost use Rattle.npf_engine.specs.Answer.{AnswersRuled, AnswersTried, arrival_of};
 ghost use Rattle.npf_engine.specs.Arrival.{arg_of};
-ghost use Rattle.npf_engine.specs.Explains.{IsRefused, Sight, WasFull};
+ghost use Rattle.npf_engine.specs.Explains.{LacksConnection, Sight, WasFull};
 ghost use Rattle.npf_engine.specs.Outcome.{lacks_node, passes};
 ghost use Rattle.npf_engine.specs.Rules.{attempt_of};
 
@@ -110,7 +110,7 @@ fn answer_known(passed: &Passed, holder: Found, answer: Stepped<FlowReply>) -> A
 /// one does.
 fn answer_refused(passed: &Passed, why: Refusal) -> Answer
     requires { passed.now.ruling.decision ≡ Decision.Pass }
-    ensures explains { (sight : Sight) (opened : IsOpened) → IsRefused sight opened why → AnswersTried passed.now opened result sight }
+    ensures explains { (sight : Sight) (opened : IsOpened) → LacksConnection sight opened why → AnswersTried passed.now opened result sight }
     ensures passes { passes result.outcome ≡ is_some result.rewriting }
     ensures lacks { lacks_node result.outcome ≡ true → why ≡ Refusal.NoNode }
 {

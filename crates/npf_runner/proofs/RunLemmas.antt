@@ -4,7 +4,6 @@ use Rattle.std.specs.List.{Contains}
 use Rattle.std.proofs.lemmas.List.{append_assoc, append-nil, drop_at, length-drop, length-map, length-take-le, map-append, take-map, take_at}
 use Rattle.std.proofs.lemmas.List.Elements.{Contains-append_cases}
 use Rattle.npf_core.specs.History.{Legal}
-use Rattle.npf_core.proofs.HistoryLemmas.{IsPrefix-trans}
 use Rattle.npf_connections.specs.Entries.{free_entries}
 use Rattle.npf_connections.specs.Pass.{Pass, IsPass, all_places}
 use Rattle.npf_flow.specs.Flows.{flow_law}

@@ -1,5 +1,5 @@
 -- What a phase needs of its lanes, and what they show when they are done.
-use Rattle.std.proofs.Common.{◌≡◌, ◌<◌, ℕ, false, Some, List, [], ◌∷◌, ◌++◌, All, map, length, get_or, refl, sym, ap, subst, ◌∙◌, arith, suc}
+use Rattle.std.proofs.Common.{◌≡◌, ◌<◌, ℕ, Some, List, [], ◌∷◌, ◌++◌, All, map, length, get_or, refl, sym, ap, subst, ◌∙◌, arith, suc}
 use Rattle.std.specs.List.{AllZip, Contains}
 use Rattle.std.proofs.lemmas.List.Elements.{All-nil, All-cons, All-head, All-tail, All-append, All-contains, All-weaker, All-map, All-pop}
 use Rattle.std.proofs.lemmas.List.{length-map}

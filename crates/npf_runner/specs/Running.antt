@@ -1,5 +1,5 @@
 -- What a phase did, in terms of its passes.
-use Rattle.std.specs.Prelude.{◌≡◌, ℕ, ◌≤◌, ◌+◌, ◌++◌, List, [], ◌∷◌, All, map, take, drop}
+use Rattle.std.specs.Prelude.{◌≡◌, ℕ, ◌+◌, ◌++◌, List, [], ◌∷◌, All, map, take, drop}
 use Rattle.std.specs.List.{AllZip}
 use Rattle.npf_connections.specs.Pass.{Pass, IsPass}
 use Rattle.npf_connections.specs.Stay.{IsLater}

@@ -1,4 +1,4 @@
-ghost use Rattle.std.specs.Prelude.{◌≡◌, ◌≤◌, ◌<◌, length};
+ghost use Rattle.std.specs.Prelude.{◌≤◌, ◌<◌, length};
 ghost use Rattle.npf_connections.specs.Stay.{IsOut};
 ghost use Rattle.npf_flow.specs.Flows.{flow_law};
 ghost use Rattle.npf_publish.specs.ConfReader.{reader_range};

@@ -1,6 +1,6 @@
 use Rattle.std.proofs.Common.{refl}
 use Rattle.npf_engine_opening.specs.declared.attempt.Opened.{Opened}
-use Rattle.npf_engine.specs.Explains.{IsRefused}
+use Rattle.npf_engine.specs.Explains.{LacksConnection}
 use Rattle.npf_engine.proofs.AnswerLemmas.{tried_known}
 use Rattle.npf_engine.proofs.open.answer_known.Goals as goal
 
@@ -10,4 +10,4 @@ returns-in-Done-clause-explains c =
 
 pub returns-in-NotLive-clause-explains : goal.returns-in-NotLive-clause-explains
 returns-in-NotLive-clause-explains c = λ sight.
-    c.answer_refused.ensures.explains sight (Opened.Known c.args.holder c.args.answer) (rw c.in-NotLive.is IsRefused.ended)
+    c.answer_refused.ensures.explains sight (Opened.Known c.args.holder c.args.answer) (rw c.in-NotLive.is LacksConnection.ended)

@@ -1,6 +1,6 @@
 use Rattle.std.proofs.Common.{ap, ◌∙◌}
 use Rattle.npf_engine_opening.specs.declared.attempt.Opened.{Opened}
-use Rattle.npf_engine.specs.Explains.{IsRefused}
+use Rattle.npf_engine.specs.Explains.{LacksConnection}
 use Rattle.npf_engine.proofs.AnswerLemmas.{tried_open}
 use Rattle.npf_engine.proofs.open.answer_tried.Goals as goal
 
@@ -14,4 +14,4 @@ returns-in-Known-clause-explains c = λ sight room. rw c.in-Known.is (c.answer_k
 pub returns-in-Refused-clause-explains : goal.returns-in-Refused-clause-explains
 returns-in-Refused-clause-explains c = λ sight room.
     c.answer_refused.ensures.explains sight c.args.opened
-    (rw c.in-Refused.is (IsRefused.refused (λ full. room (c.in-Refused.is ∙ ap Opened.Refused full))))
+    (rw c.in-Refused.is (LacksConnection.refused (λ full. room (c.in-Refused.is ∙ ap Opened.Refused full))))
