@@ -4,7 +4,7 @@ use crate::texts::print_lines;
 use anyhow::{Context, Result, bail};
 use npf_core::{ConnId, Found};
 use npf_ctl_output::put_total;
-use npf_engine::{DropWhy, Kept, Outcome};
+use npf_engine::{Outcome, Refusal};
 use npf_outside::MemSink;
 use npf_packet::BadPacket;
 use npf_report::line;
@@ -82,14 +82,22 @@ fn parse_outcome(words: &[&str]) -> Result<Outcome> {
 fn parse_verdict(words: &[&str]) -> Result<Outcome> {
     let blocked = Decision::Block(Return::Nothing);
     match *words {
-        ["none", config, ref log @ ..] => by_rule(config, None, blocked, Kept::Nothing, log),
-        ["pass", config, rule, kept, ref log @ ..] => {
-            let kept = parse_kept(kept)?;
-            by_rule(config, Some(rule.parse()?), Decision::Pass, kept, log)
+        ["none", config, ref log @ ..] => by_rule(config, None, blocked, None, log),
+        ["pass", config, rule, "nothing", ref log @ ..] => {
+            by_rule(config, Some(rule.parse()?), Decision::Pass, None, log)
         }
+        ["pass", config, rule, "new", ref log @ ..] => {
+            by_rule(config, Some(rule.parse()?), Decision::Pass, Some(ID), log)
+        }
+        ["pass", config, rule, why, ref log @ ..] => Ok(Outcome::Unkept {
+            config: config.parse()?,
+            rule: rule.parse()?,
+            why: parse_why(why)?,
+            log: parse_log(log)?,
+        }),
         ["block", config, rule, answer, ref log @ ..] => {
             let blocked = Decision::Block(parse_return(answer)?);
-            by_rule(config, Some(rule.parse()?), blocked, Kept::Nothing, log)
+            by_rule(config, Some(rule.parse()?), blocked, None, log)
         }
         _ => bail!("no such outcome"),
     }
@@ -99,14 +107,14 @@ fn by_rule(
     config: &str,
     rule: Option<u32>,
     decision: Decision,
-    kept: Kept,
+    opened: Option<ConnId>,
     log: &[&str],
 ) -> Result<Outcome> {
     Ok(Outcome::ByRule {
         config: config.parse()?,
         rule,
         decision,
-        kept,
+        opened,
         log: parse_log(log)?,
     })
 }
@@ -120,24 +128,13 @@ fn parse_fragment(word: &str) -> Result<FragWhy> {
     }
 }
 
-fn parse_why(word: &str) -> Result<DropWhy> {
+fn parse_why(word: &str) -> Result<Refusal> {
     match word {
-        "full" => Ok(DropWhy::Full),
-        "nonode" => Ok(DropWhy::NoNode),
-        "taken" => Ok(DropWhy::Taken(HOLDER)),
-        "noport" => Ok(DropWhy::NoPort),
-        _ => bail!("nothing is dropped for this"),
-    }
-}
-
-fn parse_kept(word: &str) -> Result<Kept> {
-    match word {
-        "nothing" => Ok(Kept::Nothing),
-        "new" => Ok(Kept::Opened(ID)),
-        "full" => Ok(Kept::Full),
-        "nonode" => Ok(Kept::NoNode),
-        "taken" => Ok(Kept::Taken(HOLDER)),
-        _ => bail!("nothing is kept so"),
+        "full" => Ok(Refusal::Full),
+        "nonode" => Ok(Refusal::NoNode),
+        "taken" => Ok(Refusal::Taken(HOLDER)),
+        "noport" => Ok(Refusal::NoPort),
+        _ => bail!("no connection is refused for this"),
     }
 }
 

@@ -1,5 +1,5 @@
 -- What an answer says of the packet.
-use Rattle.std.proofs.Common.{◌≡◌, ◌≢◌, ℕ, [], Some, None, refl, subst}
+use Rattle.std.proofs.Common.{◌≡◌, ◌≢◌, ℕ, [], Some, None, subst}
 use Rattle.npf_types.specs.declared.change.Change.{Change}
 use Rattle.npf_types.specs.declared.decision.Decision.TheVariants.{Pass}
 use Rattle.npf_core.specs.declared.conn_id.ConnId.{ConnId}

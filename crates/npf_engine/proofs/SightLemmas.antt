@@ -1,8 +1,8 @@
 -- What a pass saw of a work is what it saw of the work's parts.
-use Rattle.std.proofs.Common.{◌≡◌, ◌<◌, ◌≤◌, ℕ, Bool, List, [], ◌∷◌, ◌++◌, ap, sym, ◌∙◌, subst, arith, append_assoc, append-nil}
+use Rattle.std.proofs.Common.{◌≡◌, ◌<◌, ◌≤◌, Bool, List, [], ◌∷◌, ◌++◌, ap, sym, ◌∙◌, subst, arith, append_assoc, append-nil}
 use Rattle.std.proofs.lemmas.List.{append_cancel_left}
 use Rattle.npf_core.specs.declared.conn_id.ConnId.{ConnId}
-use Rattle.npf_core.specs.History.{IsPrefix, by}
+use Rattle.npf_core.specs.History.{by}
 use Rattle.npf_core.proofs.HistoryLemmas.{by-append, IsPrefix-trans}
 use Rattle.npf_connections.specs.Adding.{Adds}
 use Rattle.npf_connections.specs.Beginning.{IsFullBetween}

@@ -1,5 +1,4 @@
 // How a packet finds the live connection that it belongs to.
-ghost use Rattle.std.specs.Prelude.{◌≡◌, ◌≤◌, true};
 ghost use Rattle.npf_connections.specs.Said.{Does};
 ghost use Rattle.npf_connections.specs.Stay.{GoesOn, IsIn};
 ghost use Rattle.npf_flow.specs.Flows.{flow_law};

@@ -1,6 +1,6 @@
 // Packets through the engine, one after the other.
-ghost use Rattle.std.specs.Prelude.{◌≡◌, ◌≤◌, ◌<◌, false, length};
-ghost use Rattle.npf_connections.specs.Pass.{IsPass};
+ghost use Rattle.std.specs.Prelude.{◌≤◌, ◌<◌, length};
+ghost use Rattle.npf_connections.specs.Stay.{IsOut};
 ghost use Rattle.npf_flow.specs.Flows.{flow_law};
 ghost use Rattle.npf_publish.specs.ConfReader.{reader_range};
 
@@ -46,9 +46,7 @@ fn published<R: Wait, C: Connections<FlowLaw>>(
     configs: &[Config],
     crossings: Vec<Crossing>,
 ) -> Result<Counts, Error>
-    requires own { C.fits conns.now pass.old }
-    requires legal { IsPass flow_law (C.view pass.old) }
-    requires out { (C.view pass.old).entered ≡ false }
+    requires out { IsOut flow_law (C.fits conns.now) C.view pass.old }
     requires place { 1 ≤ (C.view pass.old).places }
     requires numbers { 0 < length configs.now }
 {
@@ -76,9 +74,7 @@ fn work<R: Wait, C: Connections<FlowLaw>>(
     configs: &[Config],
     crossings: Vec<Crossing>,
 ) -> Counts
-    requires own { C.fits conns.now pass.old }
-    requires legal { IsPass flow_law (C.view pass.old) }
-    requires out { (C.view pass.old).entered ≡ false }
+    requires out { IsOut flow_law (C.fits conns.now) C.view pass.old }
     requires place { 1 ≤ (C.view pass.old).places }
     requires numbers { (reader_range reader.old).last < length configs.now }
 {

@@ -1,12 +1,12 @@
 // Packets that open connections: what they become, and what later looks find.
 ghost use Rattle.std.specs.Prelude.{◌≡◌, ◌≤◌, false};
-ghost use Rattle.npf_connections.specs.Pass.{IsPass};
+ghost use Rattle.npf_connections.specs.Stay.{IsOut};
 ghost use Rattle.npf_flow.specs.Flows.{flow_law};
 
 use crate::answers::{put, same};
 use npf_connections::Connections;
 use npf_core::Found;
-use npf_engine_opening::{Attempt, Opened, open};
+use npf_engine_opening::{Attempt, Opened, Refusal, open};
 use npf_flow::{FlowArg, FlowLaw};
 use npf_nat::MapPlan;
 use npf_oneturn::OneTurn;
@@ -193,20 +193,20 @@ Some(Found { id: ConnId { slot: 1, inc: 1 }, way: Backward })
 
 Open { id: ConnId { slot: 0, inc: 1 }, there: Change { src: Some(End { addr: V4(3405803777), port: Some(61000) }), dst: None, \
 neutral: false } }
-NoPort
+Refused(NoPort)
 Some(Found { id: ConnId { slot: 0, inc: 1 }, way: Port })
 None
 None
 
 Open { id: ConnId { slot: 0, inc: 1 }, there: Change { src: Some(End { addr: V4(3405803777), port: None }), dst: None, neutral: false } }
-Taken(Found { id: ConnId { slot: 0, inc: 1 }, way: Backward })
+Refused(Taken(Found { id: ConnId { slot: 0, inc: 1 }, way: Backward }))
 Some(Found { id: ConnId { slot: 0, inc: 1 }, way: Forward })
 Some(Found { id: ConnId { slot: 0, inc: 1 }, way: Backward })
 None
 
 Open { id: ConnId { slot: 63, inc: 1 }, there: Change { src: None, dst: None, neutral: false } }
 
-Full
+Refused(Full)
 
 ";
 
@@ -259,13 +259,9 @@ fn try_once<C: Connections<FlowLaw>>(
     pass: &mut C::Pass,
     attempt: &Attempt,
 ) -> Opened
-    requires own { C.fits conns.now pass.old }
-    requires legal { IsPass flow_law (C.view pass.old) }
-    requires out { (C.view pass.old).entered ≡ false }
+    requires out { IsOut flow_law (C.fits conns.now) C.view pass.old }
     requires place { 1 ≤ (C.view pass.old).places }
-    ensures own { C.fits conns.now pass.new }
-    ensures legal { IsPass flow_law (C.view pass.new) }
-    ensures out { (C.view pass.new).entered ≡ false }
+    ensures out { IsOut flow_law (C.fits conns.now) C.view pass.new }
     ensures places { (C.view pass.new).places ≡ (C.view pass.old).places }
 {
     conns.enter(rt, pass);
@@ -280,13 +276,9 @@ fn holder<C: Connections<FlowLaw>>(
     pass: &mut C::Pass,
     key: Key,
 ) -> Option<Found>
-    requires own { C.fits conns.now pass.old }
-    requires legal { IsPass flow_law (C.view pass.old) }
-    requires out { (C.view pass.old).entered ≡ false }
+    requires out { IsOut flow_law (C.fits conns.now) C.view pass.old }
     requires place { 1 ≤ (C.view pass.old).places }
-    ensures own { C.fits conns.now pass.new }
-    ensures legal { IsPass flow_law (C.view pass.new) }
-    ensures out { (C.view pass.new).entered ≡ false }
+    ensures out { IsOut flow_law (C.fits conns.now) C.view pass.new }
     ensures places { (C.view pass.new).places ≡ (C.view pass.old).places }
 {
     conns.enter(rt, pass);
@@ -302,16 +294,12 @@ fn last_of<C: Connections<FlowLaw>>(
     pass: &mut C::Pass,
     packets: u16,
 ) -> Opened
-    requires own { C.fits conns.now pass.old }
-    requires legal { IsPass flow_law (C.view pass.old) }
-    requires out { (C.view pass.old).entered ≡ false }
+    requires out { IsOut flow_law (C.fits conns.now) C.view pass.old }
     requires place { 1 ≤ (C.view pass.old).places }
-    ensures own { C.fits conns.now pass.new }
-    ensures legal { IsPass flow_law (C.view pass.new) }
-    ensures out { (C.view pass.new).entered ≡ false }
+    ensures out { IsOut flow_law (C.fits conns.now) C.view pass.new }
     ensures places { (C.view pass.new).places ≡ (C.view pass.old).places }
 {
-    let mut last = Opened::NoPort;
+    let mut last = Opened::Refused(Refusal::NoPort);
     for port in 0..packets {
         let packet = attempt(u64::from(port), udp(INSIDE, port, SERVER, 53), UNMAPPED);
         last = try_once(rt, conns, pass, &packet);
@@ -328,13 +316,9 @@ fn answer<C: Connections<FlowLaw>>(
     act: Act,
     told: &mut String,
 ) -> Result<(), Fail>
-    requires own { C.fits conns.now pass.old }
-    requires legal { IsPass flow_law (C.view pass.old) }
-    requires out { (C.view pass.old).entered ≡ false }
+    requires out { IsOut flow_law (C.fits conns.now) C.view pass.old }
     requires place { 1 ≤ (C.view pass.old).places }
-    ensures own { C.fits conns.now pass.new }
-    ensures legal { IsPass flow_law (C.view pass.new) }
-    ensures out { (C.view pass.new).entered ≡ false }
+    ensures out { IsOut flow_law (C.fits conns.now) C.view pass.new }
     ensures places { (C.view pass.new).places ≡ (C.view pass.old).places }
 {
     let packet = match act {
@@ -354,9 +338,7 @@ fn answer_all<C: Connections<FlowLaw>>(
     acts: &[Act],
     told: &mut String,
 ) -> Result<(), Fail>
-    requires own { C.fits conns.now pass.old }
-    requires legal { IsPass flow_law (C.view pass.old) }
-    requires out { (C.view pass.old).entered ≡ false }
+    requires out { IsOut flow_law (C.fits conns.now) C.view pass.old }
     requires place { 1 ≤ (C.view pass.old).places }
 {
     for (before, act) in acts.iter().enumerate() {

@@ -1,6 +1,7 @@
 // Runs of one phase, over a new table of four slots, in which two workers take packets in turn.
 ghost use Rattle.std.specs.Prelude.{IsTrue, All};
-ghost use Rattle.npf_connections.specs.Pass.{IsFirstPass, IsPass};
+ghost use Rattle.npf_connections.specs.Pass.{IsFirstPass};
+ghost use Rattle.npf_connections.specs.Stay.{IsOut};
 ghost use Rattle.npf_flow.specs.Flows.{flow_law};
 ghost use Rattle.npf_traffic.specs.Packet.{IsShortPacket};
 
@@ -58,8 +59,7 @@ pub fn run<R: Threads + Wait + Sync, C: Connections<FlowLaw>, G: Gate>(
     pass: &mut C::Pass,
     gate: &G,
 ) -> Result<Vec<Outcome>, Fail>
-    requires own { C.fits conns.now pass.old }
-    requires legal { IsPass flow_law (C.view pass.old) }
+    requires out { IsOut flow_law (C.fits conns.now) C.view pass.old }
     requires first { IsFirstPass 4 (C.view pass.old) }
 {
     let mut configs = Vec::new(alloc);

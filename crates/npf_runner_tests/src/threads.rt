@@ -84,7 +84,7 @@ true
 true
 true
 false
-[ByRule { decision: Pass, log: None, rule: Some(0), config: 0, kept: Opened(ConnId { slot: 0, inc: 1 }) }, \
+[ByRule { decision: Pass, log: None, rule: Some(0), config: 0, opened: Some(ConnId { slot: 0, inc: 1 }) }, \
 ByConn { id: ConnId { slot: 0, inc: 1 }, opener: 1, place: 1, pass: true, log: None }]
 ",
     );

@@ -1,7 +1,7 @@
 // How long a packet's look and step take of connections in a table under one turn.
-ghost use Rattle.std.specs.Prelude.{◌≡◌, ◌≤◌, false, true, []};
+ghost use Rattle.std.specs.Prelude.{◌≡◌, ◌≤◌, false, []};
 ghost use Rattle.npf_flow.specs.Flows.{flow_law};
-ghost use Rattle.npf_connections.specs.Pass.{IsPass};
+ghost use Rattle.npf_connections.specs.Stay.{IsIn, IsOut};
 
 use crate::drawn::{Draws, KEYS, key};
 use crate::flows::{PACKET, flow};
@@ -30,9 +30,7 @@ fn time_runs<C: Connections<FlowLaw>>(
     opened: u32,
     packets: u64,
 ) -> Result<(), Error>
-    requires own { C.fits conns.now pass.old }
-    requires legal { IsPass flow_law (C.view pass.old) }
-    requires out { (C.view pass.old).entered ≡ false }
+    requires out { IsOut flow_law (C.fits conns.now) C.view pass.old }
     requires place { 1 ≤ (C.view pass.old).places }
 {
     let apart = Work {
@@ -56,13 +54,9 @@ fn time_runs<C: Connections<FlowLaw>>(
 
 // Opens the connections, and answers how many were opened before one was refused.
 fn fill<C: Connections<FlowLaw>>(rt: &impl Wait, conns: &C, pass: &mut C::Pass) -> u32
-    requires own { C.fits conns.now pass.old }
-    requires legal { IsPass flow_law (C.view pass.old) }
-    requires out { (C.view pass.old).entered ≡ false }
+    requires out { IsOut flow_law (C.fits conns.now) C.view pass.old }
     requires place { 1 ≤ (C.view pass.old).places }
-    ensures own { C.fits conns.now pass.new }
-    ensures legal { IsPass flow_law (C.view pass.new) }
-    ensures out { (C.view pass.new).entered ≡ false }
+    ensures out { IsOut flow_law (C.fits conns.now) C.view pass.new }
     ensures places { (C.view pass.new).places ≡ (C.view pass.old).places }
 {
     for number in 0..KEYS {
@@ -75,13 +69,9 @@ fn fill<C: Connections<FlowLaw>>(rt: &impl Wait, conns: &C, pass: &mut C::Pass) 
 
 // Opens a connection in a stay of its own, unless it is refused.
 fn open<C: Connections<FlowLaw>>(rt: &impl Wait, conns: &C, pass: &mut C::Pass, number: u32) -> bool
-    requires own { C.fits conns.now pass.old }
-    requires legal { IsPass flow_law (C.view pass.old) }
-    requires out { (C.view pass.old).entered ≡ false }
+    requires out { IsOut flow_law (C.fits conns.now) C.view pass.old }
     requires place { 1 ≤ (C.view pass.old).places }
-    ensures own { C.fits conns.now pass.new }
-    ensures legal { IsPass flow_law (C.view pass.new) }
-    ensures out { (C.view pass.new).entered ≡ false }
+    ensures out { IsOut flow_law (C.fits conns.now) C.view pass.new }
     ensures places { (C.view pass.new).places ≡ (C.view pass.old).places }
 {
     conns.enter(rt, pass);
@@ -92,13 +82,9 @@ fn open<C: Connections<FlowLaw>>(rt: &impl Wait, conns: &C, pass: &mut C::Pass, 
 
 // Opens a connection in a stay, unless it is refused.
 fn keep<C: Connections<FlowLaw>>(rt: &impl Wait, conns: &C, pass: &mut C::Pass, number: u32) -> bool
-    requires own { C.fits conns.now pass.old }
-    requires legal { IsPass flow_law (C.view pass.old) }
-    requires entered { (C.view pass.old).entered ≡ true }
+    requires inside { IsIn flow_law (C.fits conns.now) C.view pass.old }
     requires idle { (C.view pass.old).builds ≡ [] }
-    ensures own { C.fits conns.now pass.new }
-    ensures legal { IsPass flow_law (C.view pass.new) }
-    ensures entered { (C.view pass.new).entered ≡ true }
+    ensures inside { IsIn flow_law (C.fits conns.now) C.view pass.new }
     ensures idle { (C.view pass.new).builds ≡ [] }
     ensures places { (C.view pass.new).places ≡ (C.view pass.old).places }
 {
@@ -123,13 +109,9 @@ fn run<C: Connections<FlowLaw>>(
     stays: u64,
     packets: u64,
 ) -> u64
-    requires own { C.fits conns.now pass.old }
-    requires legal { IsPass flow_law (C.view pass.old) }
-    requires out { (C.view pass.old).entered ≡ false }
+    requires out { IsOut flow_law (C.fits conns.now) C.view pass.old }
     requires place { 1 ≤ (C.view pass.old).places }
-    ensures own { C.fits conns.now pass.new }
-    ensures legal { IsPass flow_law (C.view pass.new) }
-    ensures out { (C.view pass.new).entered ≡ false }
+    ensures out { IsOut flow_law (C.fits conns.now) C.view pass.new }
     ensures places { (C.view pass.new).places ≡ (C.view pass.old).places }
 {
     let mut draws = Draws::new(0);
@@ -150,13 +132,9 @@ fn step_some<C: Connections<FlowLaw>>(
     draws: &mut Draws,
     packets: u64,
 ) -> u64
-    requires own { C.fits conns.now pass.old }
-    requires legal { IsPass flow_law (C.view pass.old) }
-    requires entered { (C.view pass.old).entered ≡ true }
+    requires inside { IsIn flow_law (C.fits conns.now) C.view pass.old }
     requires idle { (C.view pass.old).builds ≡ [] }
-    ensures own { C.fits conns.now pass.new }
-    ensures legal { IsPass flow_law (C.view pass.new) }
-    ensures entered { (C.view pass.new).entered ≡ true }
+    ensures inside { IsIn flow_law (C.fits conns.now) C.view pass.new }
     ensures idle { (C.view pass.new).builds ≡ [] }
     ensures places { (C.view pass.new).places ≡ (C.view pass.old).places }
 {
@@ -177,13 +155,9 @@ fn step<C: Connections<FlowLaw>>(
     key: Key,
     n: u64,
 ) -> bool
-    requires own { C.fits conns.now pass.old }
-    requires legal { IsPass flow_law (C.view pass.old) }
-    requires entered { (C.view pass.old).entered ≡ true }
+    requires inside { IsIn flow_law (C.fits conns.now) C.view pass.old }
     requires idle { (C.view pass.old).builds ≡ [] }
-    ensures own { C.fits conns.now pass.new }
-    ensures legal { IsPass flow_law (C.view pass.new) }
-    ensures entered { (C.view pass.new).entered ≡ true }
+    ensures inside { IsIn flow_law (C.fits conns.now) C.view pass.new }
     ensures idle { (C.view pass.new).builds ≡ [] }
     ensures places { (C.view pass.new).places ≡ (C.view pass.old).places }
 {

@@ -1,11 +1,9 @@
-use Rattle.std.proofs.Common.{◌≡◌, false}
-use Rattle.npf_connections.specs.Pass.{IsPass}
+use Rattle.std.proofs.Common.{◌≡◌}
+use Rattle.npf_connections.specs.Stay.{IsOut}
 use Rattle.npf_flow.specs.Flows.{flow_law}
 use Rattle.npf_runner_tests.proofs.openings.answer_all.Given as goal
 
 abbrev pub invariant-loop-before : goal.invariant-loop-before
 invariant-loop-before g l =
-    g.C.Connections.fits l.conns l.pass
-    × IsPass flow_law (g.C.Connections.view l.pass)
-    × ((g.C.Connections.view l.pass).entered ≡ false)
+    IsOut flow_law (g.C.Connections.fits l.conns) g.C.Connections.view l.pass
     × ((g.C.Connections.view l.pass).places ≡ (g.C.Connections.view l.initial.pass).places)
