@@ -7,7 +7,7 @@ use Rattle.npf_ctl_messages.specs.declared.fault.CommandFault.TheVariants.{Usage
 use Rattle.npf_ctl_messages.specs.Message.{status_of_fault}
 use Rattle.npf_ctl_words.specs.CommandLine.{is_command_line}
 use Rattle.npf_ctl.specs.Ends.{AnswersWords, SaysFault}
-use Rattle.npf_ctl.specs.Faults.{IsFaulted, IsUntouched, MeetsFault, PutsFront, PutsNothing}
+use Rattle.npf_ctl.specs.Faults.{IsFaulted, IsUntouched, KeepsFiles, MeetsFault, PutsFront, PutsNothing}
 use Rattle.npf_ctl.specs.Running.{Moment}
 use Rattle.npf_ctl.specs.Top.{HasStatus, DoesWords, IsQuiet}
 use Rattle.npf_ctl.proofs.EndLemmas.{reported_front}
@@ -33,9 +33,19 @@ module _ (words : List (List ℕ)) (before after : Moment) where
   put_before _ (MeetsFault.in_loading said loaded comes untouched) = inl untouched.put
   put_before _ (MeetsFault.in_workload said holds comes untouched) = inl untouched.put
   put_before _ (MeetsFault.in_output rose same front) = inr front
-  put_before _ (MeetsFault.in_writing {run = run} {plan = plan} {outputs = outputs} {outcomes = outcomes} said named rose reports) =
+  put_before _ (MeetsFault.in_writing {run = run} {plan = plan} {outputs = outputs} {outcomes = outcomes} said named rose reports passed) =
       inr (reported_front words before after run plan said outputs outcomes reports)
-  put_before _ (MeetsFault.in_memory put) = put
+  put_before _ (MeetsFault.in_memory put kept) = put
+
+  -- nor did a file change before any, unless a write failed
+  pub kept_before : (fault : CommandFault) → MeetsFault words before after fault → KeepsFiles before after
+  kept_before _ (MeetsFault.in_words not untouched) = inl untouched.files
+  kept_before _ (MeetsFault.in_run said comes untouched) = inl untouched.files
+  kept_before _ (MeetsFault.in_loading said loaded comes untouched) = inl untouched.files
+  kept_before _ (MeetsFault.in_workload said holds comes untouched) = inl untouched.files
+  kept_before _ (MeetsFault.in_output rose same front) = inl same
+  kept_before _ (MeetsFault.in_writing said named rose reports passed) = inr rose
+  kept_before _ (MeetsFault.in_memory put kept) = kept
 
   -- with a quiet status nothing was put, and no file changed
   untouched_by : (fault : CommandFault) → MeetsFault words before after fault → IsQuiet (status_of_fault fault) → IsUntouched before after
@@ -44,18 +54,20 @@ module _ (words : List (List ℕ)) (before after : Moment) where
   untouched_by _ (MeetsFault.in_loading said loaded comes untouched) quiet = untouched
   untouched_by _ (MeetsFault.in_workload said holds comes untouched) quiet = untouched
   untouched_by _ (MeetsFault.in_output rose same front) quiet = absurd (quiet.2 refl)
-  untouched_by _ (MeetsFault.in_writing said named rose reports) quiet = absurd (quiet.2 refl)
-  untouched_by _ (MeetsFault.in_memory put) quiet = absurd (quiet.1 refl)
+  untouched_by _ (MeetsFault.in_writing said named rose reports passed) quiet = absurd (quiet.2 refl)
+  untouched_by _ (MeetsFault.in_memory put kept) quiet = absurd (quiet.1 refl)
 
   module _ (old new : SinkMoment) (status : ℕ) where
     -- what was said of a fault with its cause is an answer
     pub said_fault : (fault : CommandFault) → MeetsFault words before after fault → SaysFault old new fault status → AnswersWords words before after old new status
-    said_fault fault cause (SaysFault.told is line) = AnswersWords.refused (record { fault = fault; status_is = is; cause = cause; line = line })
-    said_fault fault cause (SaysFault.untold is nothing) = AnswersWords.refused (record {
+    said_fault fault cause (SaysFault.told is line passed) =
+        AnswersWords.refused (record { fault = fault; status_is = is; cause = cause; line = line; flushed = λ not. passed })
+    said_fault fault cause (SaysFault.untold none) = AnswersWords.refused (record {
       fault = NoMemory;
-      status_is = is;
-      cause = MeetsFault.in_memory (put_before fault cause);
-      line = inr (inr (is, nothing));
+      status_is = none.memory;
+      cause = MeetsFault.in_memory (put_before fault cause) (kept_before fault cause);
+      line = inr (inr none);
+      flushed = λ not. absurd (not none.memory);
     })
 
     pub was_done : AnswersWords words before after old new status → status ≡ 0 → DoesWords words before after × (after.out.waiting ≡ 0) × Appends old.held new.held []
@@ -80,5 +92,5 @@ module _ (words : List (List ℕ)) (before after : Moment) where
       by _ (MeetsFault.in_loading said loaded comes untouched) is = absurd (false≢true (sym not ∙ said.taken))
       by _ (MeetsFault.in_workload said holds comes untouched) is = absurd (false≢true (sym not ∙ said.taken))
       by _ (MeetsFault.in_output rose same front) is = absurd (false≢true (sym not ∙ front.said.taken))
-      by _ (MeetsFault.in_writing said named rose reports) is = absurd (false≢true (sym not ∙ said.taken))
-      by _ (MeetsFault.in_memory put) is = inr is
+      by _ (MeetsFault.in_writing said named rose reports passed) is = absurd (false≢true (sym not ∙ said.taken))
+      by _ (MeetsFault.in_memory put kept) is = inr is

@@ -1,9 +1,9 @@
 -- How the work on a command ends before it is done.
-use Rattle.std.proofs.Common.{◌≡◌, Contains, inl, inr, ℕ, List, [], Some, Ok, Err, Result, OnOk, IfErr, sym, subst, arith}
+use Rattle.std.proofs.Common.{◌≡◌, Contains, inl, inr, ⊎_elim, ℕ, List, [], Some, Ok, Err, Result, OnOk, IfErr, sym, subst, arith}
 use Rattle.npf_engine.specs.Histories.{History}
 use Rattle.npf_runner.specs.Plays.{IsUnnumbered}
 use Rattle.npf_outside.specs.Counts.{Rose}
-use Rattle.npf_outside.specs.Files.{FilesMoment}
+use Rattle.npf_outside.specs.Files.{FilesMoment, SameFiles}
 use Rattle.npf_outside.specs.Sink.{Appends, AppendsFront}
 use Rattle.npf_engine.specs.declared.outcome.Outcome.{Outcome}
 use Rattle.npf_ctl_messages.specs.declared.fault.CommandFault.{CommandFault}
@@ -25,39 +25,40 @@ use Rattle.npf_ctl.specs.Texts.{TextOf}
 use Rattle.npf_ctl.specs.Top.{DoesCommand, PutsText}
 use Rattle.npf_ctl.proofs.FileLemmas.{front_of_whole}
 
--- a write that failed failed since an earlier moment at which as many had failed
-pub unwritten_since : (first before after : FilesMoment) (name : List ℕ) → before.write_faults ≡ first.write_faults → (fault : CommandFault) →
+-- a write that failed failed since an earlier moment with the same contents, at which as many had failed
+pub unwritten_since : (first before after : FilesMoment) (name : List ℕ) → before.write_faults ≡ first.write_faults → before.contents ≡ first.contents → (fault : CommandFault) →
     IsUnwritten before after name fault → IsUnwritten first after name fault
-unwritten_since first before after name same (Unwritten file) (is, rose) = (is, subst (λ faults. Rose faults after.write_faults) same rose)
-unwritten_since first before after name same NoMemory why = tt
-unwritten_since first before after name same Usage why = why
-unwritten_since first before after name same (Configuration file fault) why = why
-unwritten_since first before after name same (Unread file) why = why
-unwritten_since first before after name same (Long file most) why = why
-unwritten_since first before after name same (Capture file fault) why = why
-unwritten_since first before after name same (Line file line fault) why = why
-unwritten_since first before after name same (Many what count) why = why
-unwritten_since first before after name same OutputUnwritten why = why
+unwritten_since first before after name same read (Unwritten file) (is, rose) = (is, subst (λ faults. Rose faults after.write_faults) same rose)
+unwritten_since first before after name same read NoMemory why =
+    ⊎_elim (λ kept. inl (subst (λ contents. SameFiles contents after.contents) read kept)) (λ rose. inr (subst (λ faults. Rose faults after.write_faults) same rose)) why
+unwritten_since first before after name same read Usage why = why
+unwritten_since first before after name same read (Configuration file fault) why = why
+unwritten_since first before after name same read (Unread file) why = why
+unwritten_since first before after name same read (Long file most) why = why
+unwritten_since first before after name same read (Capture file fault) why = why
+unwritten_since first before after name same read (Line file line fault) why = why
+unwritten_since first before after name same read (Many what count) why = why
+unwritten_since first before after name same read OutputUnwritten why = why
 
-pub each_unwritten_since : (first before after : FilesMoment) (name : List ℕ) → before.write_faults ≡ first.write_faults → (result : Result (Unit {0}) CommandFault) →
+pub each_unwritten_since : (first before after : FilesMoment) (name : List ℕ) → before.write_faults ≡ first.write_faults → before.contents ≡ first.contents → (result : Result (Unit {0}) CommandFault) →
     IfErr result (IsUnwritten before after name) → IfErr result (IsUnwritten first after name)
-each_unwritten_since first before after name same (Ok u) why = why
-each_unwritten_since first before after name same (Err fault) why = unwritten_since first before after name same fault why
+each_unwritten_since first before after name same read (Ok u) why = why
+each_unwritten_since first before after name same read (Err fault) why = unwritten_since first before after name same read fault why
 
 module _ (words : List (List ℕ)) (before after : Moment) where
-  -- what is said of a fault is its cause, and where memory runs out nothing was put
-  pub early : (Says : CommandFault → Type 0) → ((fault : CommandFault) → Says fault → MeetsFault words before after fault) → PutsNothing before after →
+  -- what is said of a fault is its cause, and where memory runs out nothing was put, and no file changed
+  pub early : (Says : CommandFault → Type 0) → ((fault : CommandFault) → Says fault → MeetsFault words before after fault) → PutsNothing before after → ChangesNoFile before after →
       (fault : CommandFault) → IfTold Says fault → MeetsFault words before after fault
-  early Says meets nothing NoMemory told = MeetsFault.in_memory (inl nothing)
-  early Says meets nothing Usage told = meets Usage told
-  early Says meets nothing (Configuration file why) told = meets (Configuration file why) told
-  early Says meets nothing (Unread file) told = meets (Unread file) told
-  early Says meets nothing (Long file most) told = meets (Long file most) told
-  early Says meets nothing (Capture file why) told = meets (Capture file why) told
-  early Says meets nothing (Line file line why) told = meets (Line file line why) told
-  early Says meets nothing (Many what count) told = meets (Many what count) told
-  early Says meets nothing (Unwritten file) told = meets (Unwritten file) told
-  early Says meets nothing OutputUnwritten told = meets OutputUnwritten told
+  early Says meets nothing same NoMemory told = MeetsFault.in_memory (inl nothing) (inl same)
+  early Says meets nothing same Usage told = meets Usage told
+  early Says meets nothing same (Configuration file why) told = meets (Configuration file why) told
+  early Says meets nothing same (Unread file) told = meets (Unread file) told
+  early Says meets nothing same (Long file most) told = meets (Long file most) told
+  early Says meets nothing same (Capture file why) told = meets (Capture file why) told
+  early Says meets nothing same (Line file line why) told = meets (Line file line why) told
+  early Says meets nothing same (Many what count) told = meets (Many what count) told
+  early Says meets nothing same (Unwritten file) told = meets (Unwritten file) told
+  early Says meets nothing same OutputUnwritten told = meets OutputUnwritten told
 
   module _ (command : Command) (text : List ℕ) (said : SaysCommand words command) (of : TextOf before after command text) (front : AppendsFront before.out.held after.out.held text) where
     puts_front : PutsFront words before after
@@ -66,14 +67,14 @@ module _ (words : List (List ℕ)) (before after : Moment) where
     -- the text wasn't put whole
     pub unput : ChangesNoFile before after → (fault : CommandFault) → HasPutFault before.out.faults after.out.faults fault → MeetsFault words before after fault
     unput same OutputUnwritten rose = MeetsFault.in_output rose same puts_front
-    unput same NoMemory why = MeetsFault.in_memory (inr puts_front)
+    unput same NoMemory why = MeetsFault.in_memory (inr puts_front) (inl same)
     unput same _ why = absurd why
 
   module _ (run : RunWords) (plan : RunPlan) (said : SaysCommand words (Run run)) where
     -- a plan wasn't reported
     pub unreported : ChangesNoFile before after → PreparesRun before.files after.files (names_of_run run) (Ok plan) → (fault : CommandFault) →
         FailsReport plan run.workers (spread_said run.spread) before.pass after.pass before.out after.out fault → MeetsFault words before after fault
-    unreported same prepared _ (FailsReport.unplayed nothing) = MeetsFault.in_memory (inl nothing)
+    unreported same prepared _ (FailsReport.unplayed nothing) = MeetsFault.in_memory (inl nothing) (inl same)
     unreported same prepared fault (FailsReport.unput plays why front) =
         unput (Run run) _ said (TextOf.report (record { prepared = prepared; played = plays })) front same fault why
 
@@ -84,12 +85,12 @@ module _ (words : List (List ℕ)) (before after : Moment) where
           (front_of_whole before.out.held after.out.held (report_text plan.ifaces plan.packets outcomes) reports.reported)
 
       -- and what passed wasn't written
-      pub unwritten : (name : List ℕ) → given_text run.output ≡ Some name → (fault : CommandFault) → IsUnwritten before.files after.files name fault →
+      pub unwritten : after.out.waiting ≡ 0 → (name : List ℕ) → given_text run.output ≡ Some name → (fault : CommandFault) → IsUnwritten before.files after.files name fault →
           MeetsFault words before after fault
-      unwritten name named (Unwritten file) why =
-          subst (λ (n : List ℕ). MeetsFault words before after (Unwritten n)) (sym why.0) (MeetsFault.in_writing said named why.1 reports)
-      unwritten name named NoMemory why = MeetsFault.in_memory (inr reported_front)
-      unwritten name named _ why = absurd why
+      unwritten passed name named (Unwritten file) why =
+          subst (λ (n : List ℕ). MeetsFault words before after (Unwritten n)) (sym why.0) (MeetsFault.in_writing said named why.1 reports passed)
+      unwritten passed name named NoMemory why = MeetsFault.in_memory (inr reported_front) why
+      unwritten passed name named _ why = absurd why
 
 -- a history without entries carries no number
 pub unnumbered_first : (last : ℕ) (history : History) → history ≡ [] → IsUnnumbered last history

@@ -22,9 +22,9 @@ use Rattle.npf_ctl.proofs.EndLemmas.{early, text_ends}
 
 module _ (words : List (List ℕ)) (before after : Moment) (number : ℕ) (said : SaysCommand words (Gen number)) where
   pub unprepared : IsUntouched before after → (fault : CommandFault) → PreparesGenerated number (Err fault) → MeetsFault words before after fault
-  unprepared untouched _ PreparesGenerated.unmade = MeetsFault.in_memory (inl untouched.put)
+  unprepared untouched _ PreparesGenerated.unmade = MeetsFault.in_memory (inl untouched.put) (inl untouched.files)
   unprepared untouched fault (PreparesGenerated.made {tree = tree} holds comes) =
-      early words before after (λ why. PreparesOf tree (Err why)) (λ why says. MeetsFault.in_workload said holds says untouched) untouched.put fault comes
+      early words before after (λ why. PreparesOf tree (Err why)) (λ why says. MeetsFault.in_workload said holds says untouched) untouched.put untouched.files fault comes
 
   module _ (prepared : Prepared) (outputs : List Packet) (outcomes : List Outcome) where
     pub generated_ends : SameFiles before.files.contents after.files.contents → PreparesGenerated number (Ok prepared) →

@@ -57,13 +57,13 @@ module _ (words : List (List ℕ)) (before after : Moment) (A : Type 0) (ComesTo
       by other (MeetsFault.in_loading said loaded comes untouched) at = same other (is.loads said loaded comes) at
       by other (MeetsFault.in_workload said holds comes untouched) at = same other (is.generated said holds comes) at
       by _ (MeetsFault.in_output rose unchanged front) at = never (is.front front)
-      by _ (MeetsFault.in_writing {run = run} {plan = plan} {outputs = outputs} {outcomes = outcomes} said named rose reports) at =
+      by _ (MeetsFault.in_writing {run = run} {plan = plan} {outputs = outputs} {outcomes = outcomes} said named rose reports passed) at =
           never (is.front (reported_front words before after run plan said outputs outcomes reports))
-      by _ (MeetsFault.in_memory put) at = inr at
+      by _ (MeetsFault.in_memory put kept) at = inr at
 
     -- no fault can be told
     none : ((result : Result A CommandFault) → ComesTo result → IsOk result) → StoodStill before.out.faults after.out.faults →
-        StoodStill before.files.write_faults after.files.write_faults → AnswersWords words before after old new status → HasStatus 0 status
+        ((run : Run) → SaysCommand words (Words.Run run) → StoodStill before.files.write_faults after.files.write_faults) → AnswersWords words before after old new status → HasStatus 0 status
     none can puts writes (AnswersWords.done zero does flushed silent) = inl zero
     none can puts writes (AnswersWords.refused faulted) = by faulted.fault faulted.cause faulted.status_is where
       by : (other : CommandFault) → MeetsFault words before after other → status ≡ status_of_fault other → HasStatus 0 status
@@ -72,8 +72,8 @@ module _ (words : List (List ℕ)) (before after : Moment) (A : Type 0) (ComesTo
       by other (MeetsFault.in_loading said loaded comes untouched) at = absurd (can (Err other) (is.loads said loaded comes))
       by other (MeetsFault.in_workload said holds comes untouched) at = absurd (can (Err other) (is.generated said holds comes))
       by _ (MeetsFault.in_output rose same front) at = absurd (omega (arith, rose, puts.0, puts.1))
-      by _ (MeetsFault.in_writing said named rose reports) at = absurd (omega (arith, rose, writes.0, writes.1))
-      by _ (MeetsFault.in_memory put) at = inr at
+      by _ (MeetsFault.in_writing {run = run} said named rose reports passed) at = absurd (let still = writes run said in omega (arith, rose, still.0, still.1))
+      by _ (MeetsFault.in_memory put kept) at = inr at
 
 module _ (words : List (List ℕ)) (before after : Moment) (tree : Tree) (told : before.files.contents ≡ Some tree) (well : ReadsWell before.files after.files) (one : OneCommand) where
   module _ (of_runs : RunsAreOfContents) (run : Run) (said : SaysCommand words (Words.Run run)) where
@@ -174,51 +174,6 @@ module _ (words : List (List ℕ)) (before after : Moment) (tree : Tree) (told :
       generated = λ {number} {tree} {fault} said_b holds comes. not_other (Words.Gen number) said_b refl;
     }
 
-  module _ (number : ℕ) (said : SaysCommand words (Words.Gen number)) where
-    abbrev OfGenerated : Result RunPlan CommandFault → Type 0
-    OfGenerated result = (held : Tree) × HoldsWorkload number held × PreparesOf held result
-
-    -- these words say no other command
-    no_other : {X : Type 0} (command : Command) → SaysCommand words command → ((other : ℕ) → command ≡ Words.Gen other → ⊥) → X
-    no_other {X} command said_b not = by command (one words (Words.Gen number) command said said_b) not where
-      by : (c : Command) → IsSameCommand (Words.Gen number) c → ((other : ℕ) → c ≡ Words.Gen other → ⊥) → X
-      by (Words.Gen other) same not = absurd (not other refl)
-      by (Words.Run r) same not = absurd same
-      by (Words.Validate l) same not = absurd same
-      by (Words.Show l) same not = absurd same
-      by (Words.Debug l) same not = absurd same
-
-    holds_so : (other : ℕ) → SaysCommand words (Words.Gen other) → (held : Tree) → HoldsWorkload other held → HoldsWorkload number held
-    holds_so other said_b held holds =
-        subst (λ n. HoldsWorkload n held) (sym (one words (Words.Gen number) (Words.Gen other) said said_b)) holds
-
-    generated_text : (command : Command) (text : List ℕ) → SaysCommand words command → TextOf before after command text → (plan : RunPlan) × OfGenerated (Ok plan)
-    generated_text _ _ said_b (TextOf.report {run = b} plays) = no_other (Words.Run b) said_b (λ other e. cc)
-    generated_text _ _ said_b (TextOf.count {load = load} loads) = no_other (Words.Validate load) said_b (λ other e. cc)
-    generated_text _ _ said_b (TextOf.model {load = load} loads) = no_other (Words.Show load) said_b (λ other e. cc)
-    generated_text _ _ said_b (TextOf.programs {load = load} loads within) = no_other (Words.Debug load) said_b (λ other e. cc)
-    generated_text _ _ said_b (TextOf.total {number = other} {tree = held} {plan = plan} holds plays) = (plan, (held, holds_so other said_b held holds, plays.prepared))
-
-    generated_does : (command : Command) → SaysCommand words command → DoesCommand command before after → (plan : RunPlan) × OfGenerated (Ok plan)
-    generated_does (Words.Run b) said_b does = no_other (Words.Run b) said_b (λ other e. cc)
-    generated_does (Words.Validate load) said_b does = generated_text _ _ said_b does.of
-    generated_does (Words.Show load) said_b does = generated_text _ _ said_b does.of
-    generated_does (Words.Debug load) said_b does = generated_text _ _ said_b does.of
-    generated_does (Words.Gen other) said_b does = generated_text _ _ said_b does.of
-
-    not_loading : {X : Type 0} (command : Command) (load : Load) → SaysCommand words command → loaded_by command ≡ Some load → X
-    not_loading command load said_b loaded = no_other command said_b (λ other e. (let l = subst (λ c. loaded_by c ≡ Some load) e loaded in cc))
-
-    generated_told : IsToldBy words before after RunPlan OfGenerated
-    generated_told = record {
-      taken = said.taken;
-      does = λ does. generated_does does.command does.said does.does;
-      front = λ front. generated_text front.command front.text front.said front.of;
-      runs = λ {run = b} {fault} said_b comes. no_other (Words.Run b) said_b (λ other e. cc);
-      loads = λ {command} {load} {fault} said_b loaded comes. not_loading command load said_b loaded;
-      generated = λ {number = other} {tree = held} {fault} said_b holds comes. (held, holds_so other said_b held holds, comes);
-    }
-
   module _ (of_runs : RunsAreOfContents) (of_loads : LoadsAreOfContents) (old new : SinkMoment) (status : ℕ) where
     pub refuses_fault : (fault : CommandFault) → MustRefuse words tree fault → AnswersWords words before after old new status → HasStatus (status_of_fault fault) status
     refuses_fault fault (MustRefuse.run {words_of = run} said must) =
@@ -228,9 +183,58 @@ module _ (words : List (List ℕ)) (before after : Moment) (tree : Tree) (told :
 
     pub does_all : CanDo words tree → StoodStill before.out.faults after.out.faults → StoodStill before.files.write_faults after.files.write_faults →
         AnswersWords words before after old new status → HasStatus 0 status
-    does_all (CanDo.run {words_of = run} said can) =
-        none words before after RunPlan (OfRun of_runs run said) (run_told of_runs run said) old new status can
-    does_all (CanDo.load {command = command} {load_of = load} said loaded can) =
-        none words before after Configuration (OfLoad of_loads command load said loaded) (load_told of_loads command load said loaded) old new status can
-    does_all (CanDo.generated {number = number} said can) =
-        none words before after RunPlan (OfGenerated number said) (generated_told number said) old new status (λ result comes. can comes.0 result comes.1 comes.2)
+    does_all (CanDo.run {words_of = run} said can) puts writes =
+        none words before after RunPlan (OfRun of_runs run said) (run_told of_runs run said) old new status can puts (λ b said_b. writes)
+    does_all (CanDo.load {command = command} {load_of = load} said loaded can) puts writes =
+        none words before after Configuration (OfLoad of_loads command load said loaded) (load_told of_loads command load said loaded) old new status can puts (λ b said_b. writes)
+
+module _ (words : List (List ℕ)) (before after : Moment) (one : OneCommand) (number : ℕ) (said : SaysCommand words (Words.Gen number)) where
+  abbrev OfGenerated : Result RunPlan CommandFault → Type 0
+  OfGenerated result = (held : Tree) × HoldsWorkload number held × PreparesOf held result
+
+  -- these words say no other command
+  no_other : {X : Type 0} (command : Command) → SaysCommand words command → ((other : ℕ) → command ≡ Words.Gen other → ⊥) → X
+  no_other {X} command said_b not = by command (one words (Words.Gen number) command said said_b) not where
+    by : (c : Command) → IsSameCommand (Words.Gen number) c → ((other : ℕ) → c ≡ Words.Gen other → ⊥) → X
+    by (Words.Gen other) same not = absurd (not other refl)
+    by (Words.Run r) same not = absurd same
+    by (Words.Validate l) same not = absurd same
+    by (Words.Show l) same not = absurd same
+    by (Words.Debug l) same not = absurd same
+
+  holds_so : (other : ℕ) → SaysCommand words (Words.Gen other) → (held : Tree) → HoldsWorkload other held → HoldsWorkload number held
+  holds_so other said_b held holds =
+      subst (λ n. HoldsWorkload n held) (sym (one words (Words.Gen number) (Words.Gen other) said said_b)) holds
+
+  generated_text : (command : Command) (text : List ℕ) → SaysCommand words command → TextOf before after command text → (plan : RunPlan) × OfGenerated (Ok plan)
+  generated_text _ _ said_b (TextOf.report {run = b} plays) = no_other (Words.Run b) said_b (λ other e. cc)
+  generated_text _ _ said_b (TextOf.count {load = load} loads) = no_other (Words.Validate load) said_b (λ other e. cc)
+  generated_text _ _ said_b (TextOf.model {load = load} loads) = no_other (Words.Show load) said_b (λ other e. cc)
+  generated_text _ _ said_b (TextOf.programs {load = load} loads within) = no_other (Words.Debug load) said_b (λ other e. cc)
+  generated_text _ _ said_b (TextOf.total {number = other} {tree = held} {plan = plan} holds plays) = (plan, (held, holds_so other said_b held holds, plays.prepared))
+
+  generated_does : (command : Command) → SaysCommand words command → DoesCommand command before after → (plan : RunPlan) × OfGenerated (Ok plan)
+  generated_does (Words.Run b) said_b does = no_other (Words.Run b) said_b (λ other e. cc)
+  generated_does (Words.Validate load) said_b does = generated_text _ _ said_b does.of
+  generated_does (Words.Show load) said_b does = generated_text _ _ said_b does.of
+  generated_does (Words.Debug load) said_b does = generated_text _ _ said_b does.of
+  generated_does (Words.Gen other) said_b does = generated_text _ _ said_b does.of
+
+  not_loading : {X : Type 0} (command : Command) (load : Load) → SaysCommand words command → loaded_by command ≡ Some load → X
+  not_loading command load said_b loaded = no_other command said_b (λ other e. (let l = subst (λ c. loaded_by c ≡ Some load) e loaded in cc))
+
+  generated_told : IsToldBy words before after RunPlan OfGenerated
+  generated_told = record {
+    taken = said.taken;
+    does = λ does. generated_does does.command does.said does.does;
+    front = λ front. generated_text front.command front.text front.said front.of;
+    runs = λ {run = b} {fault} said_b comes. no_other (Words.Run b) said_b (λ other e. cc);
+    loads = λ {command} {load} {fault} said_b loaded comes. not_loading command load said_b loaded;
+    generated = λ {number = other} {tree = held} {fault} said_b holds comes. (held, holds_so other said_b held holds, comes);
+  }
+
+  pub generates_all : ((held : Tree) (result : Result RunPlan CommandFault) → HoldsWorkload number held → PreparesOf held result → IsOk result) →
+      (old new : SinkMoment) (status : ℕ) → StoodStill before.out.faults after.out.faults → AnswersWords words before after old new status → HasStatus 0 status
+  generates_all can old new status puts =
+      none words before after RunPlan OfGenerated generated_told old new status (λ result comes. can comes.0 result comes.1 comes.2) puts
+      (λ run said_b. no_other (Words.Run run) said_b (λ other e. cc))

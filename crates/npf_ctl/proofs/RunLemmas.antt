@@ -18,7 +18,7 @@ module _ (words : List (List ℕ)) (before after : Moment) (run : RunWords) (sai
   pub run_unprepared : IsUntouched before after → (fault : CommandFault) → IfTold (λ why. PreparesRun before.files after.files (names_of_run run) (Err why)) fault →
       MeetsFault words before after fault
   run_unprepared untouched =
-      early words before after (λ why. PreparesRun before.files after.files (names_of_run run) (Err why)) (λ why comes. MeetsFault.in_run said comes untouched) untouched.put
+      early words before after (λ why. PreparesRun before.files after.files (names_of_run run) (Err why)) (λ why comes. MeetsFault.in_run said comes untouched) untouched.put untouched.files
 
   module _ (plan : RunPlan) (outputs : List Packet) (outcomes : List Outcome) (reports : IsReported run before after plan outputs outcomes) (flushed : after.out.waiting ≡ 0) where
     run_ends : IfSome (given_text run.output) (IsWrittenTo after.files plan.packets outputs outcomes) → (u : Unit {0}) → EndsIn words before after (Ok u)
@@ -32,4 +32,4 @@ module _ (words : List (List ℕ)) (before after : Moment) (run : RunWords) (sai
         OnOk result (IsWrittenTo after.files plan.packets outputs outcomes name) → IfErr result (IsUnwritten before.files after.files name) → EndsIn words before after result
     writing_ends name named (Ok u) written fails =
         run_ends (subst (λ (o : Option (List ℕ)). IfSome o (IsWrittenTo after.files plan.packets outputs outcomes)) (sym named) written) u
-    writing_ends name named (Err fault) written fails = unwritten words before after run plan said outputs outcomes reports name named fault fails
+    writing_ends name named (Err fault) written fails = unwritten words before after run plan said outputs outcomes reports flushed name named fault fails

@@ -1,5 +1,5 @@
 -- How the work on a command ends, and what is left of the pass of the table of connections.
-use Rattle.std.specs.Prelude.{◌≡◌, ℕ, ⊤, Result, Ok, Err, List, []}
+use Rattle.std.specs.Prelude.{◌≡◌, ◌⊎◌, ℕ, Result, Ok, Err, List, []}
 use Rattle.npf_connections.specs.Pass.{Pass, all_places}
 use Rattle.npf_engine.specs.declared.outcome.Outcome.{Outcome}
 use Rattle.npf_engine.specs.Histories.{FlowEntry}
@@ -8,7 +8,7 @@ use Rattle.npf_ctl_messages.specs.declared.fault.CommandFault.TheVariants.{NoMem
 use Rattle.npf_ctl_messages.specs.Message.{message_line, status_of_fault}
 use Rattle.npf_ctl_input.specs.Unless.{UnlessMemory}
 use Rattle.npf_outside.specs.Counts.{Rose}
-use Rattle.npf_outside.specs.Files.{FilesMoment, SameReadFaults, Tree}
+use Rattle.npf_outside.specs.Files.{FilesMoment, SameFiles, SameReadFaults, Tree}
 use Rattle.npf_outside.specs.Sink.{Appends, AppendsFront, SinkMoment}
 use Rattle.npf_ctl_output.specs.Putting.{HasPutFault}
 use Rattle.npf_ctl_output.specs.Report.{report_text}
@@ -18,7 +18,7 @@ use Rattle.npf_ctl_prepare.specs.View.{run_plan_of}
 use Rattle.npf_traffic.specs.declared.packet.Packet.{Packet}
 use Rattle.npf_runner.specs.declared.phase.Spread.{Spread}
 use Rattle.npf_runner.specs.Plays.{PlaysPhases}
-use Rattle.npf_ctl.specs.Faults.{IsFaulted, MeetsFault, PutsLine}
+use Rattle.npf_ctl.specs.Faults.{IsFaulted, MeetsFault, PutsLine, PutsNoLine}
 use Rattle.npf_ctl.specs.Generated.{HoldsWorkload, PreparesOf}
 use Rattle.npf_ctl.specs.Running.{Moment}
 use Rattle.npf_ctl.specs.Top.{DoesWords}
@@ -40,10 +40,10 @@ pub record HasReadOn (before after : FilesMoment) : Type 0 where
   pub faults : SameReadFaults before after
   pub taken : after.taken ≡ before.taken
 
--- why the file of this name isn't written: a write failed; or memory was wanting
+-- why the file of this name isn't written: a write failed; or memory was wanting, and then no file changed, or a write failed
 abbrev pub IsUnwritten : FilesMoment → FilesMoment → List ℕ → CommandFault → Type 0
 IsUnwritten before after name (Unwritten file) = (file ≡ name) × Rose before.write_faults after.write_faults
-IsUnwritten before after name NoMemory = ⊤
+IsUnwritten before after name NoMemory = SameFiles before.contents after.contents ⊎ Rose before.write_faults after.write_faults
 IsUnwritten before after name _ = ⊥
 
 -- what preparing the generated run of this number comes to, unless memory is wanting for its files
@@ -57,10 +57,11 @@ abbrev pub EndsIn : List (List ℕ) → Moment → Moment → Result (Unit {0}) 
 EndsIn words before after (Ok _) = DoesWords words before after × (after.out.waiting ≡ 0)
 EndsIn words before after (Err fault) = MeetsFault words before after fault
 
--- the fault's line was put, or a front of it where the sink failed, and the status is the fault's; or memory was wanting for it
+-- the fault's line was put and flushed, or a front of it where the sink failed, and the status is the fault's; or memory was wanting for it
 pub data SaysFault (old new : SinkMoment) (fault : CommandFault) (status : ℕ) : Type 0 where
-  told : status ≡ status_of_fault fault → PutsLine old new (message_line fault) status → SaysFault old new fault status
-  untold : status ≡ 1 → Appends old.held new.held [] → SaysFault old new fault status
+  told : status ≡ status_of_fault fault → PutsLine old new (message_line fault) status → (new.waiting ≡ 0) ⊎ Rose old.faults new.faults →
+      SaysFault old new fault status
+  untold : PutsNoLine old new status → SaysFault old new fault status
 
 -- the words were answered with this status
 pub data AnswersWords (words : List (List ℕ)) (before after : Moment) (old new : SinkMoment) (status : ℕ) : Type 0 where

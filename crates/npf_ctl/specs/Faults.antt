@@ -1,5 +1,5 @@
 -- The first fault that a command met: its cause, what was put before it, and its line.
-use Rattle.std.specs.Prelude.{◌≡◌, ◌⊎◌, ℕ, false, Err, Some, List, []}
+use Rattle.std.specs.Prelude.{◌≡◌, ◌≢◌, ◌⊎◌, ℕ, false, Err, Some, List, []}
 use Rattle.npf_outside.specs.Counts.{Rose}
 use Rattle.npf_outside.specs.Files.{SameFiles, Tree}
 use Rattle.npf_outside.specs.Sink.{SinkMoment, Appends, AppendsFront}
@@ -20,12 +20,17 @@ use Rattle.npf_ctl.specs.Generated.{HoldsWorkload, PreparesOf}
 use Rattle.npf_ctl.specs.Running.{Moment, IsReported}
 use Rattle.npf_ctl.specs.Texts.{TextOf}
 
--- The line was put on the error sink; or a front of it, where the sink's own count rose; or, with status 1 alone, nothing.
+-- with status 1 alone: nothing was put, or the line of a fault before memory ran out
+pub record PutsNoLine (old new : SinkMoment) (status : ℕ) : Type 0 where
+  pub memory : status ≡ 1
+  pub put : Appends old.held new.held [] ⊎ ((fault : CommandFault) × Appends old.held new.held (message_line fault))
+
+-- The line was put on the error sink; or a front of it, where the sink's own count rose; or, with status 1 alone, it wasn't.
 abbrev pub PutsLine : SinkMoment → SinkMoment → List ℕ → ℕ → Type 0
 PutsLine old new line status =
     Appends old.held new.held line
     ⊎ (Rose old.faults new.faults × AppendsFront old.held new.held line)
-    ⊎ ((status ≡ 1) × Appends old.held new.held [])
+    ⊎ PutsNoLine old new status
 
 module _ (before after : Moment) where
   -- nothing was put on the output
@@ -36,7 +41,11 @@ module _ (before after : Moment) where
   abbrev pub ChangesNoFile : Type 0
   ChangesNoFile = SameFiles before.files.contents after.files.contents
 
-  -- and neither, nor was the table of connections asked anything
+  -- no file changed, or a write of one failed
+  abbrev pub KeepsFiles : Type 0
+  KeepsFiles = ChangesNoFile ⊎ Rose before.files.write_faults after.files.write_faults
+
+  -- nothing was put, no file changed, and the table of connections was asked nothing
   pub record IsUntouched : Type 0 where
     pub put : PutsNothing
     pub files : ChangesNoFile
@@ -63,11 +72,13 @@ module _ (words : List (List ℕ)) (before after : Moment) where
     in_output : Rose before.out.faults after.out.faults → ChangesNoFile before after → PutsFront → MeetsFault OutputUnwritten
     in_writing : {run : RunWords} {name : List ℕ} {plan : RunPlan} {outputs : List Packet} {outcomes : List Outcome} → SaysCommand words (Run run) →
         given_text run.output ≡ Some name → Rose before.files.write_faults after.files.write_faults →
-        IsReported run before after plan outputs outcomes → MeetsFault (Unwritten name)
-    in_memory : PutsNothing before after ⊎ PutsFront → MeetsFault NoMemory
+        IsReported run before after plan outputs outcomes → after.out.waiting ≡ 0 → MeetsFault (Unwritten name)
+    in_memory : PutsNothing before after ⊎ PutsFront → KeepsFiles before after → MeetsFault NoMemory
 
+  -- the first fault was met and told: its line doesn't wait, unless the error sink failed or memory was wanting
   pub record IsFaulted (old new : SinkMoment) (status : ℕ) : Type 0 where
     pub fault : CommandFault
     pub status_is : status ≡ status_of_fault fault
     pub cause : MeetsFault fault
     pub line : PutsLine old new (message_line fault) status
+    pub flushed : status ≢ 1 → (new.waiting ≡ 0) ⊎ Rose old.faults new.faults

@@ -1,6 +1,6 @@
 -- The greatest number of each thing that a run takes, in figures.
 use Rattle.std.specs.Prelude.{◌≡◌}
-use Rattle.npf_types.specs.declared.limits.TheConstants.{MAX_BYTES_OF_CAPTURES, MAX_CAPTURES, MAX_CAPTURE_BYTES, MAX_CHANGES, MAX_INSTRUCTIONS, MAX_INTERFACES, MAX_LIST_ELEMENTS, MAX_MAPS, MAX_PACKETS, MAX_PACKET_BYTES, MAX_PHASES, MAX_PROCEDURES, MAX_RULES, MAX_RULE_WEIGHT, MAX_TABLES, MAX_TABLE_ENTRIES, MAX_TEXT_BYTES}
+use Rattle.npf_types.specs.declared.limits.TheConstants.{MAX_BYTES_OF_CAPTURES, MAX_CAPTURES, MAX_CAPTURE_BYTES, MAX_CHANGES, MAX_CONNECTIONS, MAX_INSTRUCTIONS, MAX_INTERFACES, MAX_LIST_ELEMENTS, MAX_MAPS, MAX_PACKETS, MAX_PACKET_BYTES, MAX_PHASES, MAX_PROCEDURES, MAX_RULES, MAX_RULE_WEIGHT, MAX_TABLES, MAX_TABLE_ENTRIES, MAX_TEXT_BYTES}
 
 pub record AreLimits : Type 0 where
   pub text : MAX_TEXT_BYTES ≡ 4194304
@@ -20,3 +20,4 @@ pub record AreLimits : Type 0 where
   pub phases : MAX_PHASES ≡ 1024
   pub changes : MAX_CHANGES ≡ 256
   pub interfaces : MAX_INTERFACES ≡ 64
+  pub connections : MAX_CONNECTIONS ≡ 65536

@@ -69,12 +69,16 @@ module _ (words : List (List ℕ)) (tree : Tree) where
         ((result : Result Configuration CommandFault) → LoadsAlone (told_files tree) (told_files tree) (given_text load_of.ifaces) load_of.conf.now result →
         result ≡ Err fault) → MustRefuse fault
 
-  -- the command's files are in their grammars and limits, whichever way they are read; those of a generated run are in memory
+  -- the command's files are in their grammars and limits, whichever way they are read
   pub data CanDo : Type 0 where
     run : {words_of : Run} → SaysCommand words (Words.Run words_of) →
         ((result : Result RunPlan CommandFault) → PreparesRun (told_files tree) (told_files tree) (names_of_run words_of) result → IsOk result) → CanDo
     load : {command : Command} {load_of : Load} → SaysCommand words command → loaded_by command ≡ Some load_of →
         ((result : Result Configuration CommandFault) → LoadsAlone (told_files tree) (told_files tree) (given_text load_of.ifaces) load_of.conf.now result →
         IsOk result) → CanDo
-    generated : {number : ℕ} → SaysCommand words (Words.Gen number) →
-        ((held : Tree) (result : Result RunPlan CommandFault) → HoldsWorkload number held → PreparesOf held result → IsOk result) → CanDo
+
+-- the words ask for a generated run, whose files, which stand in memory, are in their grammars and limits
+pub record CanGenerate (words : List (List ℕ)) : Type 0 where
+  pub number : ℕ
+  pub said : SaysCommand words (Words.Gen number)
+  pub accepted : (held : Tree) (result : Result RunPlan CommandFault) → HoldsWorkload number held → PreparesOf held result → IsOk result

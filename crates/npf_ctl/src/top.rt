@@ -1,19 +1,19 @@
 // The top call of the program: its words, the files and both sinks, the table of connections, and the status.
-ghost use Rattle.std.specs.Prelude.{◌≡◌, ◌≢◌, ◌⊎◌, ℕ, Some, false, []};
+ghost use Rattle.std.specs.Prelude.{◌≡◌, ◌≢◌, ◌⊎◌, ℕ, Some, false, [], IsErrOf, OnOk};
 ghost use Rattle.npf_connections.specs.Pass.{all_places};
 ghost use Rattle.npf_connections.specs.Stay.{IsLater, IsOut};
 ghost use Rattle.npf_flow.specs.Flows.{flow_law};
 ghost use Rattle.npf_ctl_messages.specs.declared.fault.CommandFault.{CommandFault as FaultType};
 ghost use Rattle.npf_ctl_messages.specs.Message.{status_of_fault};
-ghost use Rattle.npf_outside.specs.Counts.{StoodStill};
+ghost use Rattle.npf_outside.specs.Counts.{Rose, StoodStill};
 ghost use Rattle.npf_outside.specs.Files.{SameFiles, Tree};
-ghost use Rattle.npf_outside.specs.Sink.{Appends};
+ghost use Rattle.npf_outside.specs.Sink.{Appends, AppendsFront};
 ghost use Rattle.npf_ctl_words.specs.CommandLine.{is_command_line, word_texts};
 ghost use Rattle.npf_ctl_input.specs.File.{ReadsWell};
 ghost use Rattle.npf_ctl.specs.Ends.{EndsIn, AnswersWords, IsFresh, SaysFault};
-ghost use Rattle.npf_ctl.specs.Faults.{IsFaulted};
+ghost use Rattle.npf_ctl.specs.Faults.{IsFaulted, KeepsFiles};
 ghost use Rattle.npf_ctl.specs.Running.{moment};
-ghost use Rattle.npf_ctl.specs.Top.{HasStatus, CanDo, DoesWords, IsQuiet, KeepsOtherFiles, MustRefuse};
+ghost use Rattle.npf_ctl.specs.Top.{HasStatus, CanDo, CanGenerate, DoesWords, IsQuiet, KeepsOtherFiles, MustRefuse};
 
 use crate::generating::run_generated;
 use crate::looking::{Look, look_at};
@@ -82,12 +82,16 @@ pub fn npfctl_top<
         → ReadsWell (F.moment files.old) (F.moment files.new)
         → StoodStill (O.moment out.old).faults (O.moment out.new).faults
         → StoodStill (F.moment files.old).write_faults (F.moment files.new).write_faults → HasStatus 0 result }
+    ensures complete_generated { CanGenerate (word_texts words.now)
+        → StoodStill (O.moment out.old).faults (O.moment out.new).faults → HasStatus 0 result }
 
     // With 2, 3, 4, 7, 8 and 9 nothing is put on the output, no file changes, and the table of connections is asked nothing; with any status
-    // no file changes but the one that is to be written.
+    // but 0 no file changes unless a write failed, and with any at all none but the one that is to be written.
     ensures quiet { IsQuiet result → Appends (O.moment out.old).held (O.moment out.new).held [] }
     ensures same { IsQuiet result → SameFiles (F.moment files.old).contents (F.moment files.new).contents }
     ensures idle { IsQuiet result → C.view pass.new ≡ C.view pass.old }
+    ensures kept { result ≢ 0 → KeepsFiles
+        (moment (F.moment files.old) (O.moment out.old) (C.view pass.old)) (moment (F.moment files.new) (O.moment out.new) (C.view pass.new)) }
     ensures files { KeepsOtherFiles (word_texts words.now) (F.moment files.old).contents (F.moment files.new).contents }
 
     // The pass is outside again, owns all places, and has its number and slots; its history goes on, and its sweeps and its epoch don't fall.
@@ -160,8 +164,8 @@ fn do_words<R: Threads + Wait + Sync, F: Files, O: Sink, C: Connections<FlowLaw>
     }
 }
 
-// Puts the line of the fault in one call, and gives its status. A failing error sink changes no status; want of memory for the line is
-// want of memory.
+// Puts the line of the fault in one call, flushes it, and gives the fault's status. A failing error sink changes no status; want of memory
+// for the line is want of memory.
 #[tactic(auto, using(crate::proofs::FileLemmas::nothing_put))]
 fn say<E: Sink>(alloc: Global, fault: &CommandFault, err: &mut E) -> Status
     ensures { SaysFault (E.moment err.old) (E.moment err.new) fault.now result }
@@ -169,8 +173,21 @@ fn say<E: Sink>(alloc: Global, fault: &CommandFault, err: &mut E) -> Status
     let Ok(line) = message(alloc, fault) else {
         return CommandFault::NoMemory.status();
     };
-    match err.put(line.as_slice()) {
+    match put_flushed(line.as_slice(), err) {
         Ok(()) | Err(SinkFault::Failed) => fault.status(),
         Err(SinkFault::NoMemory) => CommandFault::NoMemory.status(),
     }
+}
+
+// Puts the bytes in one call, and passes them on.
+fn put_flushed<E: Sink>(bytes: &[u8], sink: &mut E) -> Result<(), SinkFault>
+    ensures whole { OnOk result (Appends (E.moment sink.old).held (E.moment sink.new).held bytes.now) }
+    ensures flushed { OnOk result ((E.moment sink.new).waiting ≡ 0) }
+    ensures front { AppendsFront (E.moment sink.old).held (E.moment sink.new).held bytes.now }
+    ensures failed { IsErrOf result SinkFault.Failed → Rose (E.moment sink.old).faults (E.moment sink.new).faults }
+    ensures memory { IsErrOf result SinkFault.NoMemory
+        → Appends (E.moment sink.old).held (E.moment sink.new).held [] ⊎ Appends (E.moment sink.old).held (E.moment sink.new).held bytes.now }
+{
+    sink.put(bytes)?;
+    sink.flush()
 }

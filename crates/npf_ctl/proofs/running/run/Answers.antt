@@ -36,7 +36,8 @@ returns-in_err-report_run-in-None-clause-ends g c =
 pub returns-in_err-extents-in-Some-clause-ends : goal.returns-in_err-extents-in-Some-clause-ends
 returns-in_err-extents-in-Some-clause-ends g c =
     let same : c.from_residual-in_err-extents-in-Some.result ≡ Err NoMemory = search rules in
-    rw same (λ texts said. MeetsFault.in_memory (inl (nothing_put (g.O.Sink.moment c.args.out.now))))
+    rw same (λ texts said. MeetsFault.in_memory (inl (nothing_put (g.O.Sink.moment c.args.out.now)))
+    (inl (only_read (g.F.Files.moment c.args.files.now) (g.F.Files.moment c.prepare_run.new.files) c.prepare_run.ensures.reads)))
 
 pub returns-in_err-played-in-Some-clause-ends : goal.returns-in_err-played-in-Some-clause-ends
 returns-in_err-played-in-Some-clause-ends g c =
@@ -95,7 +96,7 @@ returns-clause-ends g c = λ texts said.
       reported = told.whole;
     }) told.flushed name (search rules) c.write_passed.result
     (c.write_passed.ensures.written _ (extents_named _ _ _ _ same_packets same_extents c.in_ok-extents-in-Some.ensures.extents) told.outputs)
-    (each_unwritten_since first read last name c.prepare_run.ensures.reads.write_faults c.write_passed.result c.write_passed.ensures.fails)
+    (each_unwritten_since first read last name c.prepare_run.ensures.reads.write_faults c.prepare_run.ensures.reads.contents c.write_passed.result c.write_passed.ensures.fails)
 
 pub returns-clause-files : goal.returns-clause-files
 returns-clause-files g c = λ texts said.

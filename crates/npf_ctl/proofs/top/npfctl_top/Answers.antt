@@ -1,7 +1,7 @@
 use Rattle.npf_ctl_words.specs.CommandLine.{word_texts}
 use Rattle.npf_ctl.specs.Running.{moment}
-use Rattle.npf_ctl.proofs.AnswerLemmas.{refuses_usage, was_done, was_quiet, was_refused}
-use Rattle.npf_ctl.proofs.LawLemmas.{does_all, refuses_fault}
+use Rattle.npf_ctl.proofs.AnswerLemmas.{kept_before, refuses_usage, was_done, was_quiet, was_refused}
+use Rattle.npf_ctl.proofs.LawLemmas.{does_all, generates_all, refuses_fault}
 use Rattle.npf_ctl.proofs.top.npfctl_top.Goals as goal
 
 pub returns-clause-done : goal.returns-clause-done
@@ -95,3 +95,22 @@ returns-clause-idle g c =
     let new = g.E.Sink.moment c.answer.new.err in
     let texts = word_texts c.args.words.now in
     λ quiet. (was_quiet texts before after old new c.answer.result c.answer.ensures.answered quiet).idle
+
+pub returns-clause-kept : goal.returns-clause-kept
+returns-clause-kept g c =
+    let before = moment (g.F.Files.moment c.args.files.now) (g.O.Sink.moment c.args.out.now) (g.C.Connections.view c.args.pass.now) in
+    let after = moment (g.F.Files.moment c.answer.new.files) (g.O.Sink.moment c.answer.new.out) (g.C.Connections.view c.answer.new.pass) in
+    let old = g.E.Sink.moment c.args.err.now in
+    let new = g.E.Sink.moment c.answer.new.err in
+    let texts = word_texts c.args.words.now in
+    λ not. let faulted = was_refused texts before after old new c.answer.result c.answer.ensures.answered not in
+    kept_before texts before after faulted.fault faulted.cause
+
+pub returns-clause-complete_generated : goal.returns-clause-complete_generated
+returns-clause-complete_generated g c =
+    let before = moment (g.F.Files.moment c.args.files.now) (g.O.Sink.moment c.args.out.now) (g.C.Connections.view c.args.pass.now) in
+    let after = moment (g.F.Files.moment c.answer.new.files) (g.O.Sink.moment c.answer.new.out) (g.C.Connections.view c.answer.new.pass) in
+    let old = g.E.Sink.moment c.args.err.now in
+    let new = g.E.Sink.moment c.answer.new.err in
+    let texts = word_texts c.args.words.now in
+    λ can puts. generates_all texts before after c.one_command.ensures can.number can.said can.accepted old new c.answer.result puts c.answer.ensures.answered
