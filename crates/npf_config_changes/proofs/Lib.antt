@@ -5,5 +5,6 @@ mod EntryLemmas
 mod FindLemmas
 mod KeptLemmas
 mod LawLemmas
+mod LoneLemmas
 mod ReadLemmas
 mod RemovalLemmas
