@@ -1,4 +1,4 @@
-use Rattle.std.proofs.Common.{sym, ◌∙◌}
+use Rattle.std.proofs.Common.{sym}
 use Rattle.npf_faults.proofs.FirstLemmas.{is_first_fault, no_first_fault}
 use Rattle.npf_check.specs.LoneRule.{lone_faults}
 use Rattle.npf_check.proofs.lone_rule.check_rule.Goals as goal
