@@ -6,7 +6,6 @@ use Rattle.std.specs.Str.{bytes_eq}
 use Rattle.std.proofs.lemmas.Slice.Eq.{bytes_eq-Decides}
 use Rattle.npf_types.specs.declared.address.Addr.{Addr}
 use Rattle.npf_types.specs.declared.span.Span.{Span}
-use Rattle.npf_faults.specs.declared.fault.ConfFault.{ConfFault}
 use Rattle.npf_faults.specs.declared.fault.Fault.{Fault}
 use Rattle.npf_faults.specs.declared.fault.Fault.TheVariants.{UnknownTable}
 use Rattle.npf_faults.specs.First.{fault_if}
@@ -27,7 +26,7 @@ use Rattle.npf_expand_values.specs.Iface.{addresses_of, iface_name}
 use Rattle.npf_expand_values.specs.Variable.{env_of, spliced}
 use Rattle.npf_expand.specs.Rule.{destination_ends, ends_of_written, source_ends}
 use Rattle.npf_check.specs.LoneRule.{number_of_none, table_numbers, table_places, unknown_among, unknown_in_addresses, unknown_in_ends, unknown_in_target, unknown_in_where, unknown_table}
-use Rattle.npf_check.specs.Undefined.{table_faults, tables_of_addresses, tables_of_ends, tables_of_target, tables_of_where}
+use Rattle.npf_check.specs.Undefined.{table_faults, tables_of_addresses, tables_of_target, tables_of_where}
 
 module _ {X : Type 0} where
   pub front : (xs ys : List X) → xs ++ ys ≡ [] → xs ≡ []
