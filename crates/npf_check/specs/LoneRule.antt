@@ -1,5 +1,6 @@
--- 42 to 45 of one rule that stands in no text, as one that is added to a ruleset, beside what it means. A rule without variables means
--- as many tables as are written in it, in the same order, and each by its number: 4,294,967,295 where nothing has the name.
+-- 42 to 45 of one rule that stands in no text, as one that is added to a ruleset, beside what it
+-- means. A rule without variables means as many tables as are written in it, in the same order, and
+-- each by its number: 4,294,967,295 where nothing has the name.
 use Rattle.std.specs.Prelude.{ℕ, ◌==◌, Option, Some, None, List, [], ◌∷◌, ◌++◌, zip}
 use Rattle.std.specs.List.{flat_map}
 use Rattle.npf_types.specs.declared.span.Span.{Span}

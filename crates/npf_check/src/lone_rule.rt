@@ -14,9 +14,10 @@ use npf_types::Span;
 /// The number that a rule has for a table or a procedure that isn't there.
 const NUMBER_OF_NONE: u32 = u32::MAX;
 
-/// Checks one rule beside what it means, as one that is added to a ruleset (npf.conf(5)). The rule is what the tree means by itself, in
-/// which no variable is defined, and where a name that nothing has is 4,294,967,295. Refused with the fault that stands first in the
-/// tree, of two at one place with that of the smaller number:
+/// Checks one rule beside what it means, as one that is added to a ruleset (npf.conf(5)). The rule
+/// is what the tree means by itself, in which no variable is defined, and where a name that nothing
+/// has is 4,294,967,295. Refused with the fault that stands first in the tree, of two at one place
+/// with that of the smaller number:
 ///
 /// - `UnknownTable` at the `<`, where no table has the name, `UnknownProcedure` at the string
 /// - `FamilyMix` and `PortNeedsTcpUdp` at the rule
@@ -124,7 +125,9 @@ struct TablesLeft<'a> {
 impl TablesLeft<'_> {
     // Passes a written value, and where it is a table the next one, which it means.
     fn pass(&mut self, value: &Value)
-        ensures { (more : List Place) → first_beside unknown_table self.old.first (table_place value.now ++ more) (table_numbers self.old.rest.now)
+        ensures { (more : List Place)
+            → first_beside unknown_table self.old.first (table_place value.now ++ more)
+            (table_numbers self.old.rest.now)
             ≡ first_beside unknown_table self.new.first more (table_numbers self.new.rest.now) }
     {
         let Some(span) = table_place(value) else {
@@ -138,7 +141,8 @@ impl TablesLeft<'_> {
 }
 
 fn table_place(value: &Value) -> Option<Span>
-    ensures { MatchOption result (table_place value.now ≡ []) (λ span. table_place value.now ≡ span ∷ []) }
+    ensures { MatchOption result (table_place value.now ≡ [])
+        (λ span. table_place value.now ≡ span ∷ []) }
 {
     match value {
         Value::Table { span, .. } => Some(*span),
@@ -154,7 +158,8 @@ fn unknown_table(span: Span, number: u32) -> Option<ConfFault>
 
 /// The number of the first table, and the addresses behind it.
 fn next_table(items: &[AddrItem]) -> Option<(u32, &[AddrItem])>
-    ensures { MatchOption result (table_numbers items.now ≡ []) (λ next. table_numbers items.now ≡ next.0 ∷ table_numbers next.1.now) }
+    ensures { MatchOption result (table_numbers items.now ≡ [])
+        (λ next. table_numbers items.now ≡ next.0 ∷ table_numbers next.1.now) }
 {
     let mut rest = items;
     'items: loop {
