@@ -1,9 +1,7 @@
-// The names that statements give, and those of a model.
+// The names that statements give.
 ghost use Rattle.std.specs.Prelude.{◌≡◌, ◌||◌, IfOk, OnOk, List, ℕ};
-ghost use Rattle.npf_check.specs.LoneRule.{is_procedure_of, is_table_of};
 ghost use Rattle.npf_check.specs.Name.{as_list, holds, is_among, is_given, name_given, no_text, with_text};
 
-use npf_model::Model;
 use npf_syntax::{GroupHead, Stmt};
 use npf_types::{NoMemory, Span};
 use std::alloc::Global;
@@ -105,31 +103,6 @@ pub(crate) fn names_given<'a>(
     let mut names = Names::new(alloc);
     for stmt in stmts {
         names.add_given(kind.given(stmt))?;
-    }
-    Ok(names)
-}
-
-/// The names of a model's tables.
-pub(crate) fn names_of_tables<'a>(alloc: Global, model: &'a Model) -> Result<Names<'a>, NoMemory>
-    ensures { IfOk result (λ names. (text : List ℕ) → holds names text ≡ is_table_of model.now text) }
-{
-    let mut names = Names::new(alloc);
-    for table in model.tables.as_slice() {
-        names.add(table.name.as_bytes())?;
-    }
-    Ok(names)
-}
-
-/// The names of a model's procedures.
-pub(crate) fn names_of_procedures<'a>(
-    alloc: Global,
-    model: &'a Model,
-) -> Result<Names<'a>, NoMemory>
-    ensures { IfOk result (λ names. (text : List ℕ) → holds names text ≡ is_procedure_of model.now text) }
-{
-    let mut names = Names::new(alloc);
-    for procedure in model.procedures.as_slice() {
-        names.add(procedure.name.as_slice())?;
     }
     Ok(names)
 }

@@ -81,8 +81,7 @@ fn table_in_pass(tables: &Names, pass: &Option<Filter>) -> Option<ConfFault>
     }
 }
 
-/// The first table of a filter that is none of these.
-pub(crate) fn table_in_where(tables: &Names, ends: &Where) -> Option<ConfFault>
+fn table_in_where(tables: &Names, ends: &Where) -> Option<ConfFault>
     ensures { result ≡ first_fault (tables_of_where (holds tables.now) ends.now) }
 {
     match ends {
@@ -201,8 +200,7 @@ fn procedure_in_item(procedures: &Names, item: &Item) -> Option<ConfFault>
     }
 }
 
-/// The procedure that a rule applies, where it is none of these.
-pub(crate) fn applied_procedure(procedures: &Names, applied: &Option<Str>) -> Option<ConfFault>
+fn applied_procedure(procedures: &Names, applied: &Option<Str>) -> Option<ConfFault>
     ensures { result ≡ first_fault (applied_faults (holds procedures.now) applied.now) }
 {
     match applied {

@@ -23,8 +23,7 @@ use Rattle.npf_bpfgen.specs.Condition.{HasTableNumbers}
 use Rattle.npf_bpfgen.specs.RuleWeight.{HasShortLists, weight_of}
 use Rattle.npf_expand_values.specs.Source.{declared_of}
 use Rattle.npf_expand_values.specs.Variable.{env_of}
-use Rattle.npf_check.specs.LoneRule.{is_procedure_of, is_table_of}
-use Rattle.npf_check.specs.Undefined.{applied_faults, tables_of_where}
+use Rattle.npf_check.specs.LoneRule.{unknown_applied, unknown_in_where}
 use Rattle.npf_check.specs.WrittenRule.{faults_of_rule}
 use Rattle.npf_types.specs.Stages.{goes_on, stops}
 use Rattle.npf_ruleset.specs.declared.config.Config.{Config}
@@ -40,10 +39,7 @@ use Rattle.npf_config_changes.specs.Kept.{Serves}
 use Rattle.npf_config_changes.specs.Rulesets.{are_one_name, group_with_ruleset, item_with_ruleset, model_with_ruleset, with_rule_added}
 use Rattle.npf_config_changes.specs.Told.{EndsUnlessMemory, too_many}
 use Rattle.npf_config_changes.proofs.AskLemmas.{keeps_limit, passes_limit}
-
-front : {X : Type 0} (xs ys : List X) → xs ++ ys ≡ [] → xs ≡ []
-front [] ys none = refl
-front (x ∷ xs) ys none = cc
+use Rattle.npf_config_changes.proofs.LoneLemmas.{front, is_among, where_named}
 
 -- the tables of a rule without faults are the configuration's
 pub rule_tables : (config : Config) → (ifaces : List Iface) (tree : RuleTree) (rule : Rule) → MeansRule ifaces config.model tree (Ok rule) → HasTableNumbers rule
@@ -52,11 +48,12 @@ rule_tables config ifaces tree rule (meant means clean) =
     let len = length-map config.model.tables (λ (table : TableDecl). name_bytes table.name) in
     let most = config.declared.few in
     let few_names : length names ≤ 64 = omega arith in
-    let tables = tables_of_where (is_table_of config.model) tree.filter.ends in
-    let procedures = applied_faults (is_procedure_of config.model) tree.apply in
-    let none = front tables procedures (front (tables ++ procedures) (faults_of_rule tree.span rule) clean) in
+    let tables = unknown_in_where tree.filter.ends rule in
+    let procedures = unknown_applied tree.apply rule.procedure in
+    let known = front tables procedures (front (tables ++ procedures) (faults_of_rule tree.span rule) clean) in
+    let none = where_named names ifaces tree.filter.ends rule (ap (λ one. one.from) means.meant) (ap (λ one. one.to) means.meant) known in
     subst HasTableNumbers (sym means.meant)
-    (rule_numbers names (is_table_of config.model) (λ text. refl) few_names ifaces (env_of ifaces []) (env_defined names (is_table_of config.model) (λ text. refl) few_names ifaces [] tt)
+    (rule_numbers names (is_among names) (λ text. refl) few_names ifaces (env_of ifaces []) (env_defined names (is_among names) (λ text. refl) few_names ifaces [] tt)
     (declared_of config.model) refl tree none)
 
 -- its program serves it wherever it stands

@@ -78,15 +78,15 @@ module _ (ifaces : List Iface) (model : Model) (tree : RuleTree) where
   one_meaning one two (meant is _) (meant other _) = is.meant ∙ sym other.meant
   one_meaning one two (meant is _) (in_meaning {fault = g} other) = absurd (no_first _ g is.clean other)
   one_meaning one two (meant is clean) (in_checks {fault = g} other first) =
-      absurd (no_first _ g (ap (lone_faults tree model) (other.meant ∙ sym is.meant) ∙ clean) first)
+      absurd (no_first _ g (ap (lone_faults tree) (other.meant ∙ sym is.meant) ∙ clean) first)
   one_meaning one two (in_meaning {fault = f} is) (meant other _) = absurd (no_first _ f other.clean is)
   one_meaning one two (in_meaning {fault = f} is) (in_meaning {fault = g} other) = told_alike _ f g is other
   one_meaning one two (in_meaning {fault = f} is) (in_checks other _) = absurd (no_first _ f other.clean is)
   one_meaning one two (in_checks {fault = f} is first) (meant other clean) =
-      absurd (no_first _ f (ap (lone_faults tree model) (is.meant ∙ sym other.meant) ∙ clean) first)
+      absurd (no_first _ f (ap (lone_faults tree) (is.meant ∙ sym other.meant) ∙ clean) first)
   one_meaning one two (in_checks is _) (in_meaning {fault = g} other) = absurd (no_first _ g is.clean other)
   one_meaning one two (in_checks {fault = f} is first) (in_checks {fault = g} other second) =
-      told_alike _ f g first (subst (λ (rule : Rule). IsFirstFaultOf (lone_faults tree model rule) g) (other.meant ∙ sym is.meant) second)
+      told_alike _ f g first (subst (λ (rule : Rule). IsFirstFaultOf (lone_faults tree rule) g) (other.meant ∙ sym is.meant) second)
 
 one_kept : (span : Span) (rule : Rule) (next : Model) → HasOneResult (KeepsLimits span rule next)
 one_kept span rule next = one_after _ _ (one_told _) (λ _. one_after _ _ (one_told _) (λ _. one_after _ _ (one_told _) (λ _. one_told _)))

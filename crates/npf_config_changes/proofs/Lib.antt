@@ -6,5 +6,6 @@ mod EntryLemmas
 mod FindLemmas
 mod KeptLemmas
 mod LawLemmas
+mod LoneLemmas
 mod NextLemmas
 mod ReadLemmas

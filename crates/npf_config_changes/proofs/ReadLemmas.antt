@@ -1,6 +1,8 @@
 -- Each stage that refuses a rule's text refuses the change.
 use Rattle.std.proofs.Common.{◌≡◌, ℕ, Ok, Err, List, refl, subst, sym}
 use Rattle.npf_types.specs.Reading.{IsOnly}
+use Rattle.npf_faults.specs.declared.fault.ConfFault.{ConfFault}
+use Rattle.npf_faults.specs.First.{IsFirstFaultOf}
 use Rattle.npf_faults.specs.declared.fault.Fault.{Fault}
 use Rattle.npf_faults.specs.declared.fault.Fault.TheVariants.{Expected}
 use Rattle.npf_faults.specs.declared.fault.Refused.{Refused}
@@ -14,7 +16,6 @@ use Rattle.npf_model.specs.declared.model.Model.{Model}
 use Rattle.npf_model.specs.declared.rule.Rule.{Rule}
 use Rattle.npf_expand_values.specs.Source.{declared_of}
 use Rattle.npf_expand.specs.LoneRule.{ElaboratesRule, RefusesRule}
-use Rattle.npf_check.specs.Fault.{RefusedByFirst}
 use Rattle.npf_check.specs.LoneRule.{lone_faults}
 use Rattle.npf_config_changes.specs.declared.fault.ChangeFault.TheVariants.{Conf}
 use Rattle.npf_config_changes.specs.Additions.{MeansRule, ReadsRule, in_checks, in_grammar, in_meaning, in_tokens}
@@ -36,7 +37,6 @@ module _ (ifaces : List Iface) (model : Model) (tree : RuleTree) where
   meaning_refused (Refused.Fault fault) is = λ _. in_meaning is
   meaning_refused Refused.NoMemory is = λ other. absurd (other refl)
 
-  pub checks_refused : (rule : Rule) → ElaboratesRule tree (declared_of model) ifaces rule → (refused : Refused) → RefusedByFirst (lone_faults tree model rule) refused
-      → EndsUnlessMemory (MeansRule ifaces model tree) (told_of_text refused)
-  checks_refused rule means (Refused.Fault fault) is = λ _. in_checks means is
-  checks_refused rule means Refused.NoMemory is = λ other. absurd (other refl)
+  pub checks_refused : (rule : Rule) → ElaboratesRule tree (declared_of model) ifaces rule → (fault : ConfFault) → IsFirstFaultOf (lone_faults tree rule) fault
+      → EndsUnlessMemory (MeansRule ifaces model tree) (Conf fault)
+  checks_refused rule means fault is = λ _. in_checks means is

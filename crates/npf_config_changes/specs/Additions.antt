@@ -42,9 +42,9 @@ pub data ReadsRule (text : List ℕ) : Result RuleTree ChangeFault → Type 0 wh
 
 -- what the rule means in this model, or the first fault of its meaning or of the checks
 pub data MeansRule (ifaces : List Iface) (model : Model) (tree : RuleTree) : Result Rule ChangeFault → Type 0 where
-  meant : {rule : Rule} → ElaboratesRule tree (declared_of model) ifaces rule → lone_faults tree model rule ≡ [] → MeansRule ifaces model tree (Ok rule)
+  meant : {rule : Rule} → ElaboratesRule tree (declared_of model) ifaces rule → lone_faults tree rule ≡ [] → MeansRule ifaces model tree (Ok rule)
   in_meaning : {fault : ConfFault} → RefusesRule tree ifaces (ARefusal fault) → MeansRule ifaces model tree (Err (Conf fault))
-  in_checks : {rule : Rule} {fault : ConfFault} → ElaboratesRule tree (declared_of model) ifaces rule → IsFirstFaultOf (lone_faults tree model rule) fault →
+  in_checks : {rule : Rule} {fault : ConfFault} → ElaboratesRule tree (declared_of model) ifaces rule → IsFirstFaultOf (lone_faults tree rule) fault →
       MeansRule ifaces model tree (Err (Conf fault))
 
 -- the limits that a rule which is added may pass, each told at the rule: those of all rules together, of which the last is the

@@ -43,6 +43,16 @@ impl From<Refused> for ChangeFault {
     }
 }
 
+impl From<ConfFault> for ChangeFault {
+    ghost use Rattle.npf_config_changes.specs.declared.fault.ChangeFault.TheVariants.{Conf};
+
+    ghost from_gives = { λ told fault. fault ≡ Conf told };
+
+    fn from(told: ConfFault) -> ChangeFault {
+        ChangeFault::Conf(told)
+    }
+}
+
 impl From<TableFault> for ChangeFault {
     ghost use Rattle.npf_config_changes.specs.Told.{told_of_table};
 

@@ -34,6 +34,6 @@ pub(crate) fn mean_rule(
     ensures err { IfErr result (EndsUnlessMemory (MeansRule ifaces.now.list model.now tree.now)) }
 {
     let rule = expand_rule(alloc, tree, model, ifaces)?;
-    check_rule(alloc, tree, model, &rule)?;
+    check_rule(tree, &rule)?;
     Ok(rule)
 }

@@ -45,8 +45,10 @@ pub fn rule_of(alloc: Global, file: &[u8], model: &Model, text: &[u8]) -> Result
     let tokens = tokens_of(alloc, text)?;
     let tree = parse_rule(alloc, tokens.as_slice())?;
     let rule = expand_rule(alloc, &tree, model, &ifaces)?;
-    check_rule(alloc, &tree, model, &rule)?;
-    Ok(rule)
+    match check_rule(&tree, &rule) {
+        Ok(()) => Ok(rule),
+        Err(fault) => Err(Refused::Fault(fault)),
+    }
 }
 
 /// The canonical text of a text.
