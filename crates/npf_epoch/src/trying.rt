@@ -1,15 +1,16 @@
-ghost use Rattle.std.specs.Prelude.{◌≡◌, ◌↔◌, ◌+◌, ◌≤◌, ◌<◌, ◌==◌, ◌||◌, true, false, [], if◌then◌else◌};
+ghost use Rattle.std.specs.Prelude.{◌≡◌, ◌↔◌, ◌⊎◌, ◌+◌, ◌≤◌, ◌<◌, ◌==◌, ◌||◌, true, false, [], if◌then◌else◌};
 ghost use Rattle.npf_cells_pins.specs.Epochs.{HasScannedAll};
 ghost use Rattle.npf_cells_rule.specs.Views.{with_epochs};
 ghost use Rattle.npf_cells_rule.specs.Passes.{IsPassOf};
 ghost use Rattle.npf_connections.specs.Worn.{last_epoch};
-ghost use Rattle.npf_epoch.specs.Tries.{CanRaise, scanning_on};
+ghost use Rattle.npf_epoch.specs.Tries.{CanRaise, IsHindered, scanning_on};
 
 use npf_cells::{CellPass, Cells, LAST_EPOCH, READERS};
 use npf_core::Law;
 use npf_paths::KeyHash;
 
-/// Raises the epoch by one where no reader is pinned in an older one. Answers whether this call did.
+/// Raises the epoch by one where no reader is pinned in an older one. Answers whether this call did; where a reader hindered it, its word
+/// stood so.
 pub fn try_advance<L: Law, H: KeyHash>(cells: &Cells<L, H>, pass: &mut CellPass<L>) -> bool
     requires own { IsPassOf cells.now.table.shared.key cells.now.table.shared.table_id pass.old.seat.table_id pass.old.readers.items pass.old.seat.me }
     ensures own { IsPassOf cells.now.table.shared.key cells.now.table.shared.table_id pass.new.seat.table_id pass.new.readers.items pass.new.seat.me }
@@ -17,6 +18,7 @@ pub fn try_advance<L: Law, H: KeyHash>(cells: &Cells<L, H>, pass: &mut CellPass<
     ensures pin { pass.new.seat.me.0.epochs.pin ≡ pass.old.seat.me.0.epochs.pin }
     ensures moved { pass.new.seat.me.0.epochs.raises ≡ pass.old.seat.me.0.epochs.raises + (if result then 1 else 0) }
     ensures answers { (result ≡ true) ↔ CanRaise pass.new.seat.me.0.epochs }
+    ensures hindered { (pass.new.seat.me.0.epochs.behind ≡ []) ⊎ IsHindered L.meaning H.digest cells.now.table.shared.key pass.old.seat.me.0 pass.new.seat.me.0.epochs.loaded }
     ensures scanned { result ≡ true → HasScannedAll pass.new.seat.me.0.epochs }
     ensures raised { result ≡ true → pass.new.seat.me.0.epochs.loaded + 1 ≤ pass.new.seat.me.0.epochs.known }
     ensures loaded { pass.old.seat.me.0.epochs.known ≤ pass.new.seat.me.0.epochs.loaded }
@@ -46,6 +48,7 @@ pub fn scan_readers<L: Law, H: KeyHash>(
     ensures next { pass.new.seat.me ≡ with_epochs pass.old.seat.me (scanning_on pass.old.seat.me.0.epochs pass.new.seat.me.0.epochs) }
     ensures all { result ≡ true → HasScannedAll pass.new.seat.me.0.epochs }
     ensures answers { (result ≡ true) ↔ (pass.new.seat.me.0.epochs.behind ≡ []) }
+    ensures hindered { result ≡ false → IsHindered L.meaning H.digest cells.now.table.shared.key pass.old.seat.me.0 epoch }
 {
     for reader in 0..READERS {
         let found = cells.scan_reader(pass, reader);
