@@ -1,5 +1,9 @@
 -- What is left of a text's statements, of which so many were read.
+<<<<<<< HEAD
 use Rattle.std.proofs.Common.{◌≡◌, ◌≤◌, ◌<◌, ◌+◌, ℕ, None, false, List, [], ◌∷◌, ◌++◌, length, get_or, take, drop, refl, sym, ap, subst, ◌∙◌, append-nil, append_assoc}
+=======
+use Rattle.std.proofs.Common.{◌≡◌, ◌≤◌, ◌<◌, ◌+◌, ℕ, None, List, [], ◌∷◌, ◌++◌, length, get_or, take, drop, refl, sym, ap, ap₂, subst, ◌∙◌, append-nil, append_assoc}
+>>>>>>> model/main
 use Rattle.std.specs.List.{flat_map}
 use Rattle.std.proofs.Math.Path.{fun_ext}
 use Rattle.std.proofs.lemmas.List.{drop_more, drop_all, take_more}
@@ -140,12 +144,12 @@ module _ (ifaces : List Iface) where
           }
 
     pub stmts_start : (state : State) (stmts : List Stmt) → AreSound state.variables → ((text : List ℕ) → env_in state.variables text ≡ None)
-        → state.met ≡ record { first = None; elements = 0 } → (state.groups.items ≡ []) × (state.defaults.items ≡ []) × (state.maps.items ≡ [])
+        → (state.met.first ≡ None) × (state.met.elements ≡ 0) → (state.groups.items ≡ []) × (state.defaults.items ≡ []) × (state.maps.items ≡ [])
         → StmtsLeft state stmts 0
     stmts_start state stmts sound unbound met empty = record {
       sound = sound;
       env = fun_ext unbound;
-      faults = sym (ap (λ (m : Met). earlier m.first (first_fault (stmts_faults ifaces declared [] m.elements stmts))) met);
+      faults = sym (ap₂ (λ first elements. earlier first (first_fault (stmts_faults ifaces declared [] elements stmts))) met.0 met.1);
       groups = λ none. sym (ap (λ (l : List Group). l ++ gathered ifaces declared (named_group ifaces declared) [] stmts) empty.0);
       defaults = λ none. sym (ap (λ (l : List Group). l ++ gathered ifaces declared (default_group ifaces declared) [] stmts) empty.1);
       maps = λ none. sym (ap (λ (l : List Map). l ++ gathered ifaces declared (maps_of ifaces declared) [] stmts) empty.2);

@@ -1,5 +1,5 @@
 -- What is met behind what was met before.
-use Rattle.std.proofs.Common.{◌≡◌, ◌≤◌, ◌<◌, ◌+◌, ℕ, ◌&&◌, nat_le, nat_lt, Option, None, List, [], ◌∷◌, ◌++◌, length, get_or, drop, map, refl, sym, ap, ◌∙◌, append-nil, append_assoc, arith}
+use Rattle.std.proofs.Common.{◌≡◌, ◌≤◌, ◌<◌, ◌+◌, ℕ, false, is_some, ◌&&◌, nat_le, nat_lt, Option, Some, None, List, [], ◌∷◌, ◌++◌, length, get_or, drop, map, refl, sym, ap, ◌∙◌, append-nil, append_assoc, arith}
 use Rattle.std.proofs.lemmas.List.{drop_more, drop_all}
 use Rattle.npf_types.specs.declared.limits.TheConstants.{MAX_LIST_ELEMENTS}
 use Rattle.npf_types.specs.declared.span.Span.{Span}
@@ -53,17 +53,27 @@ module _ (ifaces : List Iface) (env : Env) (declared : Declared) where
       ∙ ap (λ faults. item_faults ifaces env declared b item ++ faults)
       (items_faults-counted (a + item_elements ifaces env declared item) (b + item_elements ifaces env declared item) items (counted-more a b _ _ same refl))
 
-abbrev met : Option ConfFault → ℕ → Met
-met first elements = record { first = first; elements = elements }
-
-pub met_rule : (old first fault passes both : Option ConfFault) (before more after : ℕ) (span : Span) (faults : List ConfFault) (elements : ℕ)
-    → first ≡ earlier old both → both ≡ earlier fault passes → passes ≡ first_fault (passing_faults before more span) → after ≡ counted (before + more)
-    → fault ≡ first_fault faults → more ≡ counted elements → Meets (met old before) (met first after) (faults ++ passing_faults before elements span) elements
-met_rule old first fault passes both before more after span faults elements is_first is_both is_passing is_after is_fault is_more = record {
-  first = is_first ∙ ap (earlier old) (is_both ∙ first_of_both faults (passing_faults before elements span) fault passes is_fault
-      (is_passing ∙ ap first_fault (passing_faults-counted before before more elements span refl (omega (arith, is_more)))));
+pub met_rule : (old new : Met) (fault passes both : Option ConfFault) (more : ℕ) (span : Span) (faults : List ConfFault) (elements : ℕ)
+    → new.first ≡ earlier old.first both → both ≡ earlier fault passes → passes ≡ first_fault (passing_faults old.elements more span)
+    → new.elements ≡ counted (old.elements + more) → fault ≡ first_fault faults → more ≡ counted elements
+    → Meets old new (faults ++ passing_faults old.elements elements span) elements
+met_rule old new fault passes both more span faults elements is_first is_both is_passing is_after is_fault is_more = record {
+  first = is_first ∙ ap (earlier old.first) (is_both ∙ first_of_both faults (passing_faults old.elements elements span) fault passes is_fault
+      (is_passing ∙ ap first_fault (passing_faults-counted old.elements old.elements more elements span refl (omega (arith, is_more)))));
   count = omega (arith, is_after, is_more);
 }
+
+none_there : {X : Type 0} (o : Option X) → is_some o ≡ false → o ≡ None
+none_there None none = refl
+none_there (Some x) none = cc
+
+-- what may be gathered where no fault was met
+pub few_gathered : (old new : Met) (faults : List ConfFault) (elements : ℕ) → Meets old new faults elements → is_some new.first ≡ false
+    → elements ≤ MAX_LIST_ELEMENTS
+few_gathered old new faults elements meets none =
+    let count = meets.count in
+    let all = new.few (none_there new.first none) in
+    omega (arith, count, all)
 
 module _ (ifaces : List Iface) (env : Env) (declared : Declared) where
   -- what is left of a group's items, of which so many were read

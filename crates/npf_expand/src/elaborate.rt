@@ -84,7 +84,7 @@ impl<'a> State<'a> {
     fn new(alloc: Global) -> State<'a>
         ensures sound { AreSound result.variables }
         ensures none { (text : List ℕ) → env_in result.variables text ≡ None }
-        ensures met { result.met ≡ record { first = None; elements = 0 } }
+        ensures met { (result.met.first ≡ None) × (result.met.elements ≡ 0) }
         ensures empty { (result.groups.items ≡ []) × (result.defaults.items ≡ []) × (result.maps.items ≡ []) }
     {
         State {

@@ -1,5 +1,5 @@
 // The groups of a configuration, and their rules.
-ghost use Rattle.std.specs.Prelude.{◌≡◌, ◌++◌, ◌∷◌, [], IfOk, None, OnOk, map};
+ghost use Rattle.std.specs.Prelude.{◌≡◌, ◌≤◌, ◌++◌, ◌∷◌, [], IfOk, None, OnOk, map};
 ghost use Rattle.std.specs.Option.{option_map};
 ghost use Rattle.npf_faults.specs.First.{first_fault};
 ghost use Rattle.npf_expand_values.specs.Declarations.{table_number};
@@ -7,7 +7,8 @@ ghost use Rattle.npf_expand_values.specs.Iface.{on_iface};
 ghost use Rattle.npf_expand_values.specs.Kept.{AreSound};
 ghost use Rattle.npf_expand.specs.Group.{group_of_tree, head_faults, item_elements, item_faults, item_of_tree, items_elements, items_faults};
 ghost use Rattle.npf_expand.specs.Meets.{Meets};
-ghost use Rattle.npf_expand.specs.Rule.{dir_of, on_faults, rule_faults, rule_of_tree};
+ghost use Rattle.npf_expand.specs.Rule.{dir_of, filter_count, on_faults, rule_faults, rule_of_tree};
+ghost use Rattle.npf_types.specs.declared.limits.TheConstants.{MAX_LIST_ELEMENTS};
 ghost use Rattle.npf_types.specs.Named.{named};
 ghost use Rattle.npf_expand_values.specs.Scope.{declared_of_scope, env_of_scope, ifaces_of_scope};
 
@@ -124,7 +125,7 @@ fn read_item<'a>(
             if met.first.is_some() {
                 return Ok(());
             }
-            built.push(Item::One(rule_of(scope, alloc, rule)?))?;
+            add_rule(scope, alloc, built, rule)?;
             Ok(())
         }
         WrittenItem::Ruleset { name, dir, on, .. } => {
@@ -133,6 +134,22 @@ fn read_item<'a>(
             Ok(())
         }
     }
+}
+
+// Puts a rule, whose elements keep the limit, behind the others.
+fn add_rule<'a>(
+    scope: &Scope<'_, 'a, '_>,
+    alloc: Global,
+    built: &mut Vec<Item>,
+    rule: &'a RuleTree,
+) -> Result<(), NoMemory>
+    requires sound { AreSound scope.now.variables.now }
+    requires few { filter_count (ifaces_of_scope scope.now) (env_of_scope scope.now) rule.now.filter ≤ MAX_LIST_ELEMENTS }
+    ensures { OnOk result (built.new.items ≡ built.old.items
+        ++ Item.One (rule_of_tree (ifaces_of_scope scope.now) (env_of_scope scope.now) (declared_of_scope scope.now) rule.now) ∷ []) }
+{
+    built.push(Item::One(rule_of(scope, alloc, rule)?))?;
+    Ok(())
 }
 
 fn ruleset_of<'a>(

@@ -1,6 +1,7 @@
 // The maps of a configuration.
-ghost use Rattle.std.specs.Prelude.{◌≡◌, IfOk};
+ghost use Rattle.std.specs.Prelude.{◌≡◌, ◌≤◌, IfOk};
 ghost use Rattle.std.specs.Option.{option_map};
+ghost use Rattle.npf_types.specs.declared.limits.TheConstants.{MAX_LIST_ELEMENTS};
 ghost use Rattle.npf_faults.specs.First.{first_fault};
 ghost use Rattle.npf_expand_values.specs.Atom.{kept_atom};
 ghost use Rattle.npf_expand_values.specs.Kept.{AreSound};
@@ -51,13 +52,15 @@ pub(crate) fn map_fault<'a>(scope: &Scope<'_, 'a, '_>, line: &MapLine<'a>) -> Op
     earlier(sides, map_filter_fault(scope, line.pass))
 }
 
-/// The map as a model has it.
+/// The map as a model has it, where the elements of its filter keep the limit.
 pub(crate) fn map_of<'a>(
     scope: &Scope<'_, 'a, '_>,
     alloc: Global,
     line: &MapLine<'a>,
 ) -> Result<Map, NoMemory>
-    requires { AreSound scope.now.variables.now }
+    requires sound { AreSound scope.now.variables.now }
+    requires few { filter_elements (ifaces_of_scope scope.now) (declared_of_scope scope.now) (env_of_scope scope.now) line.now.pass.now
+        ≤ MAX_LIST_ELEMENTS }
     ensures { IfOk result (λ map. map ≡ map_of_tree (ifaces_of_scope scope.now) (env_of_scope scope.now) (declared_of_scope scope.now).tables
         line.now.iface.now line.now.kind.now line.now.proto.now line.now.left.now line.now.arrow line.now.right.now line.now.pass.now) }
 {

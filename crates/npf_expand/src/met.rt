@@ -1,26 +1,30 @@
 // What was met of a text so far.
-ghost use Rattle.std.specs.Prelude.{◌≡◌, ◌++◌, ℕ, List, [], None};
+ghost use Rattle.std.specs.Prelude.{◌≡◌, ◌≤◌, ◌++◌, ℕ, List, [], None};
 ghost use Rattle.npf_faults.specs.declared.fault.ConfFault.{ConfFault};
 ghost use Rattle.npf_faults.specs.First.{first_fault};
 ghost use Rattle.npf_expand_values.specs.Summary.{counted};
-ghost use Rattle.npf_expand.specs.Meets.{Meets};
 ghost use Rattle.npf_expand.specs.Rule.{passing_faults};
+ghost use Rattle.npf_types.specs.declared.limits.TheConstants.{MAX_LIST_ELEMENTS};
 
 use npf_expand_values::counted_both;
 use npf_faults::{ConfFault, Excess, Fault, earlier, fault_if};
 use npf_types::Span;
 use npf_types::limits::MAX_LIST_ELEMENTS;
 
-/// The fault that stands first, and how many elements there are: at most one more than all lists may have.
+/// The fault that stands first, and how many elements there are: at most one more than all lists may have, and no more than they
+/// may where no fault was met.
 #[derive(Clone, Copy)]
 pub(crate) struct Met {
     pub(crate) first: Option<ConfFault>,
     pub(crate) elements: usize,
+    ghost few: { first ≡ None → elements ≤ MAX_LIST_ELEMENTS },
 }
 
 impl Met {
+    ghost use Rattle.npf_expand.specs.Meets.{Meets};
+
     pub(crate) fn none() -> Met
-        ensures { result ≡ record { first = None; elements = 0 } }
+        ensures { (result.first ≡ None) × (result.elements ≡ 0) }
     {
         Met {
             first: None,

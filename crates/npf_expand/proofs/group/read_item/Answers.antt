@@ -4,8 +4,18 @@ use Rattle.npf_model.specs.declared.group.Item.{Item}
 use Rattle.npf_expand_values.specs.Scope.{declared_of_scope, env_of_scope, ifaces_of_scope}
 use Rattle.npf_expand.specs.Group.{item_elements, item_faults, item_of_tree}
 use Rattle.npf_expand.specs.Meets.{Meets}
-use Rattle.npf_expand.specs.Rule.{filter_count, rule_faults}
+use Rattle.npf_expand.specs.Rule.{filter_count, passing_faults, rule_faults}
+use Rattle.npf_expand.proofs.StepLemmas.{few_gathered}
 use Rattle.npf_expand.proofs.group.read_item.Goals as goal
+
+pub add_rule-requires-clause-few : goal.add_rule-requires-clause-few
+add_rule-requires-clause-few c =
+    let scope = c.args.scope.now in
+    let rule = c.in-Rule.rule in
+    let faults = rule_faults (ifaces_of_scope scope) (env_of_scope scope) rule in
+    let elements = filter_count (ifaces_of_scope scope) (env_of_scope scope) rule.filter in
+    few_gathered c.args.met.now c.meet_rule.new.self (faults ++ passing_faults c.args.met.now.elements elements rule.span) elements
+    (c.meet_rule.ensures faults elements c.rule_fault.ensures c.in_ok-more-in-Rule.ensures) (sym c.is_some.ensures ∙ c.if-is_some.false)
 
 pub returns-then-is_some-clause-met : goal.returns-then-is_some-clause-met
 returns-then-is_some-clause-met c =
@@ -17,8 +27,8 @@ returns-then-is_some-clause-met c =
     (sym c.in-Rule.is)
     (c.meet_rule.ensures (rule_faults ifaces env c.in-Rule.rule) (filter_count ifaces env c.in-Rule.rule.filter) c.rule_fault.ensures c.in_ok-more-in-Rule.ensures)
 
-pub returns-in_ok-push-in-Rule-clause-met : goal.returns-in_ok-push-in-Rule-clause-met
-returns-in_ok-push-in-Rule-clause-met c =
+pub returns-in_ok-add_rule-in-Rule-clause-met : goal.returns-in_ok-add_rule-in-Rule-clause-met
+returns-in_ok-add_rule-in-Rule-clause-met c =
     let scope = c.args.scope.now in
     let ifaces = ifaces_of_scope scope in
     let env = env_of_scope scope in

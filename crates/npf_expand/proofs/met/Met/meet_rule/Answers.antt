@@ -3,5 +3,5 @@ use Rattle.npf_expand.proofs.met.Met.meet_rule.Goals as goal
 
 pub returns : goal.returns
 returns c = λ faults elements is more.
-    met_rule c.args.self.now.first _ c.args.fault c.passing_fault-passing.result c.earlier-both.result c.args.self.now.elements c.args.more _ c.args.span faults elements
+    met_rule c.args.self.now _ c.args.fault c.passing_fault-passing.result c.earlier-both.result c.args.more c.args.span faults elements
     c.earlier-self.ensures c.earlier-both.ensures c.passing_fault-passing.ensures c.counted_both-self.ensures is more
