@@ -4,8 +4,9 @@ use std::sync::Wait;
 
 /// A table of connections that many threads use at a time, each by a pass of its own. No call takes memory.
 ///
-/// A pass is a thread's sight of the table. Each call wants a pass of this table that is outside a stay (`out`) or inside one
-/// (`inside`); `adds` names the entries by which the pass's history goes on, and `view` all that the pass shows after it.
+/// A pass is a thread's sight of the table. Each call wants a pass of this table that is outside a
+/// stay (`out`) or inside one (`inside`); `adds` names the entries by which the pass's history goes
+/// on, and `view` all that the pass shows after it.
 pub trait Connections<L: Law>: Sync {
     ghost use Rattle.std.specs.Prelude.{◌≡◌, ◌<◌, ◌≤◌, ◌+◌, true, false, ◌++◌, ◌∷◌, [], Contains};
     ghost use Rattle.npf_core.specs.declared.act.Act.TheVariants.{Look, Step, Start};
@@ -54,14 +55,18 @@ pub trait Connections<L: Law>: Sync {
         requires idle { (view pass.old).builds ≡ [] }
         ensures out { IsOut L.meaning (fits self.now) view pass.new }
         ensures adds { Adds (view pass.old) (view pass.new).history [] }
-        ensures view { GoesOn (record (view pass.old) { entered = false; answered = [] }) (view pass.new) };
+        ensures view { GoesOn
+            (record (view pass.old) { entered = false; answered = [] })
+            (view pass.new) };
 
     /// The key's holder, in whatever phase it is, for the packet of the number `n`. None exactly where the entry replies none.
     fn look(&self, rt: &impl Wait, pass: &mut Self::Pass, n: u64, key: Key) -> Option<Found>
         requires inside { IsIn L.meaning (fits self.now) view pass.old }
         ensures inside { IsIn L.meaning (fits self.now) view pass.new }
         ensures adds { AddsOwn (view pass.old) (view pass.new).history (entry_of (view pass.old) (Look n key) (ToLook result) ∷ []) }
-        ensures view { GoesOn (record (view pass.old) { answered = found_ids result ++ (view pass.old).answered }) (view pass.new) };
+        ensures view { GoesOn
+            (record (view pass.old) { answered = found_ids result ++ (view pass.old).answered })
+            (view pass.new) };
 
     /// The next step of a connection's flow, by a packet of that way. `NotLive` exactly where that incarnation isn't Live at the
     /// entry. `place` is the number of the connection's steps before this one; its start is number 0.
@@ -88,7 +93,12 @@ pub trait Connections<L: Law>: Sync {
         ensures adds { AddsOwn (view pass.old) (view pass.new).history (claim_entries (view pass.old) n result) }
         ensures full { IsFullIfNone L.meaning (view pass.old) (view pass.new).history result }
         ensures bare { HoldsNoneIfSome (state_of L.meaning (view pass.new).history) result }
-        ensures view { GoesOn (record (view pass.old) { answered = begun_ids result ++ (view pass.old).answered; builds = begun_ids result ++ (view pass.old).builds }) (view pass.new) };
+        ensures view { GoesOn
+            (record (view pass.old) {
+              answered = begun_ids result ++ (view pass.old).answered;
+              builds = begun_ids result ++ (view pass.old).builds;
+            })
+            (view pass.new) };
 
     /// The key for a connection that this pass is building, as its key of that way. `Taken` exactly where the key has that
     /// holder; `NoNode` only where the pass's count of full sweeps rose. After a refusal the connection holds what it held. The
@@ -102,7 +112,12 @@ pub trait Connections<L: Law>: Sync {
         ensures ways { KeepsWays (state_of L.meaning (view pass.old).history) (state_of L.meaning (view pass.new).history) id way result }
         ensures bare { KeepsBare (state_of L.meaning (view pass.old).history) (state_of L.meaning (view pass.new).history) id way result }
         ensures sweep { result ≡ Held.NoNode → (view pass.old).sweeps + 1 ≤ (view pass.new).sweeps }
-        ensures view { GoesOn (record (view pass.old) { answered = taken_ids result; sweeps = (view pass.new).sweeps }) (view pass.new) }
+        ensures view { GoesOn
+            (record (view pass.old) {
+              answered = taken_ids result;
+              sweeps = (view pass.new).sweeps;
+            })
+            (view pass.new) }
         ensures sweeps { (view pass.old).sweeps ≤ (view pass.new).sweeps };
 
     /// A connection that this pass was building is Live from now on, with this flow.
@@ -111,7 +126,9 @@ pub trait Connections<L: Law>: Sync {
         requires builds { Contains (view pass.old).builds id }
         ensures inside { IsIn L.meaning (fits self.now) view pass.new }
         ensures adds { AddsOwn (view pass.old) (view pass.new).history (entry_of (view pass.old) (Start id n init) Nothing ∷ []) }
-        ensures view { GoesOn (record (view pass.old) { builds = without id (view pass.old).builds }) (view pass.new) };
+        ensures view { GoesOn
+            (record (view pass.old) { builds = without id (view pass.old).builds })
+            (view pass.new) };
 
     /// Kills a connection that this pass was building, and gives up its keys.
     fn abandon(&self, rt: &impl Wait, pass: &mut Self::Pass, id: ConnId)
@@ -119,7 +136,9 @@ pub trait Connections<L: Law>: Sync {
         requires builds { Contains (view pass.old).builds id }
         ensures inside { IsIn L.meaning (fits self.now) view pass.new }
         ensures adds { Abandons L.meaning (view pass.old) (view pass.new).history id }
-        ensures view { GoesOn (record (view pass.old) { builds = without id (view pass.old).builds }) (view pass.new) };
+        ensures view { GoesOn
+            (record (view pass.old) { builds = without id (view pass.old).builds })
+            (view pass.new) };
 
     /// Kills connections that are due at that time, gives up their keys, and answers how many it killed. One that was Live in
     /// what the pass had seen before the call and isn't killed by it was not due at some point of the history from there on.
