@@ -9,7 +9,6 @@ use Rattle.npf_model.specs.declared.group.Group.{Group}
 use Rattle.npf_model.specs.declared.iface.Iface.{Iface}
 use Rattle.npf_model.specs.declared.map.Map.{Map}
 use Rattle.npf_model.specs.declared.model.Model.{Model}
-use Rattle.npf_model.specs.Settings.{default_settings}
 use Rattle.npf_faults.specs.First.{earlier, first_fault}
 use Rattle.npf_faults.proofs.FirstLemmas.{earlier-assoc, earlier-none, first_fault-append, no_first_fault, none_of_earlier}
 use Rattle.npf_expand_values.specs.Atom.{Env}

@@ -1,10 +1,9 @@
 // The elaboration of a whole configuration, statement by statement.
-ghost use Rattle.std.specs.Prelude.{◌≡◌, ◌++◌, ℕ, [], false, IfErr, IfOk, List, None, OnOk};
+ghost use Rattle.std.specs.Prelude.{◌≡◌, ◌++◌, ℕ, [], IfErr, IfOk, List, None, OnOk};
 ghost use Rattle.std.specs.List.{flat_map};
 ghost use Rattle.npf_types.specs.declared.span.Span.{Span};
 ghost use Rattle.npf_syntax.specs.declared.stmt.Stmt.{Stmt};
 ghost use Rattle.npf_faults.specs.First.{first_fault};
-ghost use Rattle.npf_model.specs.Settings.{default_settings};
 ghost use Rattle.npf_expand_values.specs.Kept.{AreSound, env_in};
 ghost use Rattle.npf_expand_values.specs.Source.{declared_by};
 ghost use Rattle.npf_expand.specs.Elaborates.{Elaborates, RefusesTree, procedures_of, stmts_faults};
@@ -20,7 +19,7 @@ use crate::settings::{asks_icmp, settings_of};
 use crate::table::table_of;
 use npf_expand_values::{Declarations, Interfaces, Scope, Variables};
 use npf_faults::Refused;
-use npf_model::{Group, Ifaces, Map, Model, Procedure, Settings, TableDecl};
+use npf_model::{Group, Ifaces, Map, Model, Procedure, TableDecl};
 use npf_syntax::{GroupHead, Item, Stmt, Tree, Values, Var};
 use npf_types::{List, NoMemory, Span};
 use std::alloc::Global;

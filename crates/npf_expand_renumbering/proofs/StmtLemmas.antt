@@ -1,5 +1,5 @@
 -- Statements and trees without faults, numbered anew, are what they are with a longer list of interfaces.
-use Rattle.std.proofs.Common.{◌≡◌, ℕ, ◌+◌, false, List, [], ◌∷◌, ◌++◌, map, refl, sym, ap, ◌∙◌}
+use Rattle.std.proofs.Common.{◌≡◌, ℕ, ◌+◌, List, [], ◌∷◌, ◌++◌, map, refl, sym, ap, ◌∙◌}
 use Rattle.std.specs.List.{flat_map}
 use Rattle.std.proofs.lemmas.List.{map-append}
 use Rattle.npf_syntax.specs.declared.group.GroupHead.TheVariants as Head
@@ -9,7 +9,6 @@ use Rattle.npf_model.specs.declared.iface.Iface.{Iface}
 use Rattle.npf_model.specs.declared.map.Map.{Map}
 use Rattle.npf_model.specs.declared.model.Model.{Model}
 use Rattle.npf_model.specs.Numbering.{numbered, numbered_group, numbered_map}
-use Rattle.npf_model.specs.Settings.{default_settings}
 use Rattle.npf_expand_values.specs.Atom.{Env}
 use Rattle.npf_expand_values.specs.Declarations.{Declared, declared_in}
 use Rattle.npf_expand_values.specs.Variable.{Definition, env_of}
