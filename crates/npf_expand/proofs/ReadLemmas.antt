@@ -17,7 +17,6 @@ use Rattle.npf_expand_values.specs.Kept.{AreSound, env_in}
 use Rattle.npf_expand_values.specs.Summary.{counted}
 use Rattle.npf_expand_values.specs.Variable.{Definition, env_of}
 use Rattle.npf_expand.specs.declared.elaborate.State.{State}
-use Rattle.npf_expand.specs.declared.met.Met.{Met}
 use Rattle.npf_expand.specs.Elaborates.{Elaborates, behind, default_group, gathered, maps_of, named_group, procedures_of, stmt_elements, stmt_faults, stmts_faults, tree_faults}
 use Rattle.npf_expand.specs.Group.{head_faults}
 use Rattle.npf_expand.specs.Map.{map_faults}

@@ -1,4 +1,4 @@
--- What was met so far, and what more is met behind it.
+-- What the code keeps, and no part of what the language means: what was met so far, and what more is met behind it.
 use Rattle.std.specs.Prelude.{◌≡◌, ◌+◌, ℕ, List}
 use Rattle.npf_faults.specs.declared.fault.ConfFault.{ConfFault}
 use Rattle.npf_faults.specs.First.{earlier, first_fault}

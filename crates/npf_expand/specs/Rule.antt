@@ -160,7 +160,7 @@ module _ (ifaces : List Iface) (env : Env) where
       record { addrs = address_items ifaces env tables addresses; ports = ports_of ifaces env ports }
   ends_of_written tables (Some (EndsAre.Ports ports span)) = record { addrs = None; ports = ports_of ifaces env (Some ports) }
 
-  -- a rule of this decision and state with this filter, bound to nothing
+  -- the rule of a filter alone: it passes, keeps no state and is bound to nothing
   abbrev pub filter_rule : List (List ℕ) → Filter → Rule
   filter_rule tables filter = record {
     decision = Pass;

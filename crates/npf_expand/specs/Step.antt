@@ -1,4 +1,4 @@
--- What each statement does to what was read before it.
+-- What the code keeps, and no part of what the language means: what each statement does to what was read before it.
 use Rattle.std.specs.Prelude.{◌≡◌, ℕ, if◌then◌else◌, Some, None, List, [], ◌++◌}
 use Rattle.std.specs.Str.{bytes_eq}
 use Rattle.npf_syntax.specs.declared.stmt.Stmt.{Stmt}

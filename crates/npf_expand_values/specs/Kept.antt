@@ -1,5 +1,5 @@
--- What the code keeps of definitions: in place of the values of a variable in a list the place of its definition, so that
--- nothing is spliced before it is used.
+-- What the code keeps, and no part of what the language means: in place of the values of a variable in a list the place of its definition, so
+-- that nothing is spliced before it is used.
 use Rattle.std.specs.Prelude.{◌≡◌, ◌<◌, ◌≤◌, ℕ, false, Option, Some, None, List, [], ◌∷◌, ◌++◌, All, length, reverse, slice_get}
 use Rattle.std.specs.HashMap.{get_by}
 use Rattle.std.specs.List.{flat_map}

@@ -1,4 +1,4 @@
--- The addresses of interfaces by their families.
+-- What the code keeps, and no part of what the language means: the addresses of interfaces by their families.
 use Rattle.std.specs.Prelude.{◌≡◌, ℕ, Bool, true, false, List, map}
 use Rattle.std.specs.List.{filter}
 use Rattle.npf_types.specs.declared.address.Addr.{Addr}

@@ -1,4 +1,4 @@
--- Names by their first places in a text.
+-- What the code keeps, and no part of what the language means: names by their first places in a text.
 use Rattle.std.specs.Prelude.{◌≡◌, ℕ, List, length}
 use Rattle.std.specs.Str.{bytes_eq}
 use Rattle.std.specs.HashMap.{get_by}

@@ -1,4 +1,4 @@
--- What is known where a statement stands.
+-- What the code keeps, and no part of what the language means: what is known where a statement stands.
 use Rattle.std.specs.Prelude.{List}
 use Rattle.npf_model.specs.declared.iface.Iface.{Iface}
 use Rattle.npf_expand_values.specs.declared.scope.Scope.{Scope}

@@ -1,5 +1,5 @@
--- What is kept of values so that they need not be looked at where they are used: how many elements they are, up to one more
--- than all lists may have, and what becomes of them in each place.
+-- What the code keeps, and no part of what the language means: of values, so that they need not be looked at where they are used, how
+-- many elements they are, up to one more than all lists may have, and what becomes of them in each place.
 use Rattle.std.specs.Prelude.{ℕ, ◌+◌, ◌||◌, min, List}
 use Rattle.std.specs.List.{flat_map, list_any}
 use Rattle.npf_faults.specs.First.{earlier, first_fault}
