@@ -6,10 +6,10 @@ use Rattle.npf_trie.proofs.NodeLemmas.{within_more, apart_more, taken_more, take
 use Rattle.npf_trie.proofs.nodes.take_nodes.Goals as goal
 
 pub give_all-requires-clause-owned : goal.give_all-requires-clause-owned
-give_all-requires-clause-owned g c = taken_owned c.loop.nodes.items c.take.new.pass.seat.me.0.pools.nodes (ap (λ y. y.0.pools.nodes) c.in-None.ensures.none ∙ ap (λ y. y.0.pools.nodes) c.loop.invariant.taken)
+give_all-requires-clause-owned g c = taken_owned c.loop.nodes.items c.take.new.pass.seat.me.0.pools.nodes (ap (λ y. y.0.pools.nodes) (c.in-None.ensures.none refl) ∙ ap (λ y. y.0.pools.nodes) c.loop.invariant.taken)
 
 pub give_all-requires-clause-all : goal.give_all-requires-clause-all
-give_all-requires-clause-all g c = taken_all c.loop.nodes.items c.take.new.pass.seat.me.0.pools.nodes (ap (λ y. y.0.pools.nodes) c.in-None.ensures.none ∙ ap (λ y. y.0.pools.nodes) c.loop.invariant.taken)
+give_all-requires-clause-all g c = taken_all c.loop.nodes.items c.take.new.pass.seat.me.0.pools.nodes (ap (λ y. y.0.pools.nodes) (c.in-None.ensures.none refl) ∙ ap (λ y. y.0.pools.nodes) c.loop.invariant.taken)
 
 pub loop-preserved : goal.loop-preserved
 loop-preserved g c =
