@@ -131,9 +131,8 @@ returns g c =
     let collects : Collects (V c.take_in.new.pass) (V c.collect.new.pass) = record { frees = c.collect.ensures.adds; clean = c.collect.ensures.clean; view = c.collect.ensures.view } in
     let back = is_back old (V c.take_in.new.pass) (V c.collect.new.pass) (map (λ (lane : Lane _). V lane.pass) ended ++ V controlled ∷ []) whole collects in
     record {
-      own = search rules;
-      legal = search rules;
-      back = back;
+      out = c.collect.ensures.out;
+      later = back;
       clean = inr (c.collect.ensures.clean (back.places ∙ c.requires.places));
       runs = (
         map done_of_lane ended,
