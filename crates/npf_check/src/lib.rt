@@ -3,13 +3,8 @@
 //
 // One rule of the language a file, in src/ and in specs/, each a list of faults told of the tree and of its model. The contract:
 // `check` accepts exactly where there is no fault at all, and otherwise answers the fault that stands first in the text, of two at
-<<<<<<< HEAD
-// one place that with the smaller number. It keeps the names of the text, and no other memory. `check_rule` does the same for one
-// rule that stands in no text, whose tables and procedure have numbers, and takes no memory.
-=======
 // one place that with the smaller number. It keeps the names of the text and which variables are tables, and no other memory.
-// `check_rule` does the same for one rule beside a model that is there, whose names it keeps.
->>>>>>> model/main
+// `check_rule` does the same for one rule that stands in no text, whose tables and procedure have numbers, and takes no memory.
 #![tactic(auto)]
 
 mod default;
