@@ -21,5 +21,5 @@ returns-clause-comes c =
     let tree : Tree = λ name. Some (contents_of c.in_ok-files.files.workload name) in
     PreparesGenerated.made {tree = tree} c.in_ok-files.ensures
     (unless_lasts run_plan_of (PreparesRun files read generated_names) (PreparesOf tree)
-    (λ result. c.contents_decide.ensures generated_names tree files read result refl (λ name. (refl, omega arith)))
+    (λ result. c.contents_decide.ensures generated_names tree files read result refl (refl, omega arith))
     c.prepare_run.result (c.prepare_run.ensures.comes files read (around_work files read read (read_on read))))
