@@ -10,7 +10,7 @@ use Rattle.npf_packet.specs.Field.{l4_source_port, l4_destination_port}
 use Rattle.npf_packet.specs.Place.{least_ip_header}
 use Rattle.npf_icmpalg.specs.declared.error.Inner.{Inner}
 use Rattle.npf_icmpalg.specs.declared.quoted.Quoted.{Quoted}
-use Rattle.npf_icmpalg.specs.Quoted.{is_one_address, is_quoted_header, is_quoted_upper, port_or_identifier, quoted_at, quoted_echo, quoted_in, sum_offset, whole_sum_at}
+use Rattle.npf_icmpalg.specs.Quoted.{is_same_address, is_quoted_header, is_quoted_upper, port_or_identifier, quoted_at, quoted_echo, quoted_in, sum_offset, whole_sum_at}
 
 -- An unreachable destination, an exceeded time or a parameter that is a problem (RFC 792); in ICMPv6 these and a
 -- packet that is too big (RFC 4443 section 3).
@@ -31,7 +31,7 @@ module _ (bytes : List ℕ) (facts : Facts) where
   abbrev pub is_error : Bool
   is_error =
       is_error_kind facts.l4 && is_quoted_header bytes (quoted_at facts) facts.src facts.end
-      && is_quoted_upper bytes quoted_header facts.src && is_one_address quoted_header.src facts.dst
+      && is_quoted_upper bytes quoted_header facts.src && is_same_address quoted_header.src facts.dst
 
   -- what is quoted
   abbrev pub error_in : Inner

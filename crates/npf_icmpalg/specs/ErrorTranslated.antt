@@ -6,6 +6,7 @@ use Rattle.npf_types.specs.declared.address.Addr.{Addr}
 use Rattle.npf_types.specs.declared.address.Addr.TheVariants.{V4, V6}
 use Rattle.npf_types.specs.declared.action.Action.{Action}
 use Rattle.npf_types.specs.declared.change.Change.{Change}
+use Rattle.npf_types.specs.declared.change.End.{End}
 use Rattle.npf_types.specs.declared.facts.Facts.{Facts}
 use Rattle.npf_fields.specs.Field.{number16}
 use Rattle.npf_key.specs.Translated.{fitting, named_port}
@@ -18,17 +19,21 @@ use Rattle.npf_icmpalg.specs.declared.error.Inner.{Inner}
 use Rattle.npf_icmpalg.specs.declared.header.HeaderEnds.{HeaderEnds}
 use Rattle.npf_icmpalg.specs.Error.{error_in}
 use Rattle.npf_icmpalg.specs.Header.{header_addresses}
-use Rattle.npf_icmpalg.specs.Quoted.{has_ports, is_one_address}
+use Rattle.npf_icmpalg.specs.Quoted.{is_tcp_or_udp, is_same_address}
 use Rattle.npf_icmpalg.specs.Word.{WordAt}
 
 module _ (facts : Facts) (inner : Inner) (change : Change) where
-  -- What the outer header gets, of ends of the packet's family: the change's destination, and its source where
-  -- the error comes from the host to which the quoted packet went. A router on the way keeps its address.
+  -- The change's source is the outer one too where the error comes from the host to which the quoted packet went;
+  -- a router on the way keeps its address.
+  abbrev pub outer_source : Option End
+  outer_source = if is_same_address facts.src inner.dst then fitting facts.src change.src else None
+
+  -- what the outer header gets, of ends of the packet's family
   abbrev pub outer_ends : HeaderEnds
   outer_ends = record {
     family = facts.src;
     ip_at = facts.ip_at;
-    src = if is_one_address facts.src inner.dst then fitting facts.src change.src else None;
+    src = outer_source;
     dst = fitting facts.src change.dst;
   }
 
@@ -46,13 +51,13 @@ module _ (facts : Facts) (inner : Inner) (change : Change) where
 module _ (inner : Inner) (quoted : HeaderEnds) where
   abbrev pub quoted_source_write : Option WordAt
   quoted_source_write =
-      if has_ports inner.proto
+      if is_tcp_or_udp inner.proto
       then named_word (inner.l4_at + l4_source_port) (named_port quoted.src)
       else named_word (inner.l4_at + icmp_identifier) (option_or (named_port quoted.dst) (named_port quoted.src))
 
   abbrev pub quoted_destination_write : Option WordAt
   quoted_destination_write =
-      if has_ports inner.proto
+      if is_tcp_or_udp inner.proto
       then named_word (inner.l4_at + l4_destination_port) (named_port quoted.dst)
       else None
 
@@ -89,7 +94,7 @@ module _ (bytes : List ℕ) (quoted : HeaderEnds) (ports : List WordAt) where
   -- what is written behind the sum of the error itself, whose payload is what is quoted
   abbrev pub behind_sum : Inner → List WordAt
   behind_sum inner =
-      header_addresses quoted ++ ports ++ word_list quoted_header_sum
+      (header_addresses quoted ++ ports) ++ word_list quoted_header_sum
       ++ word_list (quoted_sum inner.proto inner.sum_at)
 
   -- the sum of an error that begins here, once all is written that it counts

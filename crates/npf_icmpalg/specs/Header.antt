@@ -1,5 +1,5 @@
 -- The addresses that are written in an IP header.
-use Rattle.std.specs.Prelude.{ℕ, ◌+◌, ◌^◌, ◌<◌, ◌≤◌, List, ◌++◌}
+use Rattle.std.specs.Prelude.{ℕ, ◌+◌, ◌≤◌, List, ◌++◌}
 use Rattle.npf_packet.specs.Place.{least_ip_header}
 use Rattle.npf_rewrite.specs.Address.{end_words}
 use Rattle.npf_rewrite.specs.Translated.{destination_at, source_at}
@@ -15,7 +15,6 @@ header_addresses header =
 
 -- the header and what is named of it lie within `size` bytes
 pub record HeaderWithin (size : ℕ) (header : HeaderEnds) : Type 0 where
-  pub place : header.ip_at < 2 ^ 33
   pub room : header.ip_at + least_ip_header header.family ≤ size
   pub src : AllWithin size (end_words (source_at header.ip_at header.family) header.src)
   pub dst : AllWithin size (end_words (destination_at header.ip_at header.family) header.dst)

@@ -1,7 +1,6 @@
 -- What an error of ICMP or ICMPv6 quotes: the first bytes of a packet, from its IP header on (RFC 792, RFC 4443
 -- section 3). The pictures of the headers are those of RFC 791 and 8200, whose offsets npf_packet names.
-use Rattle.std.specs.Prelude.{ℕ, ◌+◌, ◌%◌, ◌==◌, ◌||◌, ◌&&◌, nat_le, if◌then◌else◌, Bool, false, Option, Some, None, List, slice_index}
-use Rattle.std.specs.Prelude.{◌≤◌}
+use Rattle.std.specs.Prelude.{ℕ, ◌+◌, ◌%◌, ◌^◌, ◌<◌, ◌≤◌, ◌==◌, ◌||◌, ◌&&◌, nat_le, if◌then◌else◌, Bool, false, Option, Some, None, List, slice_index}
 use Rattle.std.specs.Option.{is_some}
 use Rattle.npf_types.specs.declared.address.Addr.{Addr}
 use Rattle.npf_types.specs.declared.address.Addr.TheVariants.{V4, V6}
@@ -60,14 +59,16 @@ module _ (bytes : List ℕ) (at : ℕ) where
   quoted_in (V4 _) = quoted_v4
   quoted_in (V6 _) = quoted_v6
 
--- the quoted header is no shorter than one without options, and eight bytes behind it lie before the end
+-- the quoted header is no shorter than one without options, and eight bytes behind it lie before the end, which is a
+-- number of 32 bits
 pub record HasQuotedHeader (bytes : List ℕ) (facts : Facts) : Type 0 where
   pub least : quoted_at facts + least_ip_header facts.src ≤ (quoted_in bytes (quoted_at facts) facts.src).l4_at
   pub upper : (quoted_in bytes (quoted_at facts) facts.src).l4_at + 8 ≤ facts.end
+  pub place : facts.end < 2 ^ 32
 
 -- TCP has the number 6 and UDP 17 (assigned Internet protocol numbers)
-abbrev pub has_ports : ℕ → Bool
-has_ports proto = proto == 6 || proto == 17
+abbrev pub is_tcp_or_udp : ℕ → Bool
+is_tcp_or_udp proto = proto == 6 || proto == 17
 
 module _ (bytes : List ℕ) (quoted : Quoted) where
   -- the identifier of a quoted echo message: ICMP has the number 1 in IPv4, and ICMPv6 58 in IPv6
@@ -77,7 +78,7 @@ module _ (bytes : List ℕ) (quoted : Quoted) where
 
   -- a packet of which a connection can be kept
   abbrev pub is_quoted_upper : Addr → Bool
-  is_quoted_upper src = has_ports quoted.proto || is_some (quoted_echo src)
+  is_quoted_upper src = is_tcp_or_udp quoted.proto || is_some (quoted_echo src)
 
 -- the port at a place, or the echo's identifier, which stands for both ports
 abbrev pub port_or_identifier : List ℕ → Option ℕ → ℕ → ℕ
@@ -94,8 +95,8 @@ abbrev pub whole_sum_at : ℕ → ℕ → Option ℕ
 whole_sum_at at end = if nat_le (at + 2) end then Some at else None
 
 -- two addresses are one
-abbrev pub is_one_address : Addr → Addr → Bool
-is_one_address (V4 a) (V4 b) = a == b
-is_one_address (V6 a) (V6 b) = a == b
-is_one_address (V4 _) (V6 _) = false
-is_one_address (V6 _) (V4 _) = false
+abbrev pub is_same_address : Addr → Addr → Bool
+is_same_address (V4 a) (V4 b) = a == b
+is_same_address (V6 a) (V6 b) = a == b
+is_same_address (V4 _) (V6 _) = false
+is_same_address (V6 _) (V4 _) = false

@@ -45,5 +45,5 @@ pub record AreQuotedSums (bytes : List ℕ) (inner : Inner) (quoted : QuotedEnds
 abbrev pub told_error_sum : List ℕ → ℕ → HeaderEnds → QuotedEnds → QuotedSums → WordAt
 told_error_sum bytes l4_at outer quoted sums =
     let at = l4_at + icmp_checksum in
-    word at (sum_after 0 bytes (counted_outer outer.family outer ++ header_addresses quoted.header ++ port_words quoted
+    word at (sum_after 0 bytes (counted_outer outer.family outer ++ (header_addresses quoted.header ++ port_words quoted)
     ++ new_words sums.header ++ new_words sums.upper) (number16 bytes at))

@@ -6,7 +6,7 @@ ghost use Rattle.npf_icmpalg.specs.Quoted.{HasQuotedHeader};
 ghost use Rattle.npf_rewrite.specs.Room.{HasRoom};
 
 use crate::quoted::{
-    Quoted, is_one_address, is_quoted_header, is_quoted_upper, port_or_identifier, quoted_at,
+    Quoted, is_same_address, is_quoted_header, is_quoted_upper, port_or_identifier, quoted_at,
     quoted_echo, quoted_in, sum_offset, whole_sum_at,
 };
 use npf_key::key_between;
@@ -39,7 +39,7 @@ pub fn inner_of(bytes: &[u8], facts: &Facts) -> Option<Inner>
         return None;
     }
     let quoted = quoted_in(bytes, facts);
-    if is_quoted_upper(bytes, &quoted, facts.src) && is_one_address(quoted.src, facts.dst) {
+    if is_quoted_upper(bytes, &quoted, facts.src) && is_same_address(quoted.src, facts.dst) {
         Some(error_in(bytes, facts, &quoted))
     } else {
         None

@@ -1,22 +1,23 @@
 // Translation of an error and of what it quotes (RFC 5508 section 4, RFC 3022 section 4.3);
 // specs/ErrorTranslated.antt says which words it writes.
-ghost use Rattle.std.specs.Prelude.{◌≡◌, ◌+◌, ◌<◌, ◌≤◌, ◌^◌, ◌∷◌, [], ◌++◌, length, IfSome};
+ghost use Rattle.std.specs.Prelude.{◌≡◌, ℕ, ◌+◌, ◌<◌, ◌≤◌, ◌^◌, ◌∷◌, [], ◌++◌, length, IfSome};
 ghost use Rattle.npf_icmpalg.specs.Error.{HasQuotedRoom};
-ghost use Rattle.npf_icmpalg.specs.ErrorTranslated.{ErrorTranslated, counted_outer, error_sums, error_writes, outer_ends, quoted_destination_write, quoted_ends, quoted_source_write, quoted_sum, quoted_sum_after};
+ghost use Rattle.npf_icmpalg.specs.ErrorTranslated.{ErrorTranslated, counted_outer, error_sums, error_writes, outer_ends, outer_source, quoted_destination_write, quoted_ends, quoted_source_write, quoted_sum, quoted_sum_after};
 ghost use Rattle.npf_icmpalg.specs.Header.{HeaderWithin, header_addresses};
 ghost use Rattle.npf_icmpalg.specs.Within.{AreQuotedSums, ErrorWithin, QuotedWithin, SumsWithin, port_words, told_error_sum};
 ghost use Rattle.npf_icmpalg.specs.Word.{new_words};
+ghost use Rattle.npf_packet.specs.Place.{least_ip_header};
 ghost use Rattle.npf_rewrite.specs.Room.{HasRoom};
 ghost use Rattle.npf_rewrite.specs.Sum.{sum_after};
-ghost use Rattle.npf_rewrite.specs.Word.{Rewrites, word_list};
+ghost use Rattle.npf_rewrite.specs.Word.{AllWithin, Rewrites, word_list};
 
 use crate::error::Inner;
 use crate::header::{HeaderEnds, header_sum, sum_after_addresses, write_addresses};
-use crate::quoted::{has_ports, is_one_address};
+use crate::quoted::{is_tcp_or_udp, is_same_address};
 use crate::word::{NewWord, UDP_ZERO, ZERO, named, sum_after_named, write_named};
 use npf_fields::get16;
 use npf_key::{fitting, named_port};
-use npf_types::{Addr, Change, Facts};
+use npf_types::{Addr, Change, End, Facts};
 
 /// The offsets of the headers' fields, in bytes.
 mod field {
@@ -63,18 +64,25 @@ pub fn translate_error(bytes: &mut [u8], facts: &Facts, inner: &Inner, change: &
 
 /// The ends that the outer header gets.
 fn outer_ends(facts: &Facts, inner: &Inner, change: &Change) -> HeaderEnds
-    ensures { result ≡ outer_ends facts.now inner.now change.now }
+    ensures value { result ≡ outer_ends facts.now inner.now change.now }
+    ensures within { (size : ℕ) → HasRoom size facts.now → HeaderWithin size result }
 {
-    let src = if is_one_address(facts.src, inner.dst) {
+    HeaderEnds {
+        family: facts.src,
+        ip_at: facts.ip_at,
+        src: outer_source(facts, inner, change),
+        dst: fitting(facts.src, &change.dst),
+    }
+}
+
+/// The outer source, where the error comes from the host to which the quoted packet went.
+fn outer_source(facts: &Facts, inner: &Inner, change: &Change) -> Option<End>
+    ensures { result ≡ outer_source facts.now inner.now change.now }
+{
+    if is_same_address(facts.src, inner.dst) {
         fitting(facts.src, &change.src)
     } else {
         None
-    };
-    HeaderEnds {
-        family: facts.src,
-        ip_at: facts.ip_at as usize,
-        src,
-        dst: fitting(facts.src, &change.dst),
     }
 }
 
@@ -83,6 +91,7 @@ fn quoted_writes(facts: &Facts, inner: &Inner, change: &Change) -> QuotedEnds
     ensures header { result.header ≡ quoted_ends facts.now inner.now change.now }
     ensures source { new_words result.source ≡ word_list (quoted_source_write inner.now (quoted_ends facts.now inner.now change.now)) }
     ensures destination { new_words result.destination ≡ word_list (quoted_destination_write inner.now (quoted_ends facts.now inner.now change.now)) }
+    ensures within { (size : ℕ) → HasQuotedRoom facts.now inner.now → facts.now.end ≤ size → QuotedWithin size result }
 {
     let header = quoted_ends(facts, inner, change);
     QuotedEnds {
@@ -94,11 +103,12 @@ fn quoted_writes(facts: &Facts, inner: &Inner, change: &Change) -> QuotedEnds
 
 /// The ends that the quoted header gets.
 fn quoted_ends(facts: &Facts, inner: &Inner, change: &Change) -> HeaderEnds
-    ensures { result ≡ quoted_ends facts.now inner.now change.now }
+    ensures value { result ≡ quoted_ends facts.now inner.now change.now }
+    ensures within { (size : ℕ) → inner.now.ip_at + least_ip_header facts.now.src ≤ size → HeaderWithin size result }
 {
     HeaderEnds {
         family: facts.src,
-        ip_at: inner.ip_at as usize,
+        ip_at: inner.ip_at,
         src: fitting(facts.src, &change.dst),
         dst: fitting(facts.src, &change.src),
     }
@@ -106,11 +116,12 @@ fn quoted_ends(facts: &Facts, inner: &Inner, change: &Change) -> HeaderEnds
 
 /// The quoted source port that is named, or the identifier that stands for both ports.
 fn source_write(inner: &Inner, header: &HeaderEnds) -> Option<NewWord>
-    ensures { new_words result ≡ word_list (quoted_source_write inner.now header.now) }
+    ensures value { new_words result ≡ word_list (quoted_source_write inner.now header.now) }
+    ensures within { (size : ℕ) → inner.now.l4_at + 8 ≤ size → AllWithin size (new_words result) }
 {
     let at = inner.l4_at as usize;
     let source = named_port(&header.src);
-    if has_ports(inner.proto) {
+    if is_tcp_or_udp(inner.proto) {
         named(at, source)
     } else {
         named(at + field::ICMP_IDENTIFIER, named_port(&header.dst).or(source))
@@ -119,9 +130,10 @@ fn source_write(inner: &Inner, header: &HeaderEnds) -> Option<NewWord>
 
 /// The quoted destination port that is named.
 fn destination_write(inner: &Inner, header: &HeaderEnds) -> Option<NewWord>
-    ensures { new_words result ≡ word_list (quoted_destination_write inner.now header.now) }
+    ensures value { new_words result ≡ word_list (quoted_destination_write inner.now header.now) }
+    ensures within { (size : ℕ) → inner.now.l4_at + 8 ≤ size → AllWithin size (new_words result) }
 {
-    if has_ports(inner.proto) {
+    if is_tcp_or_udp(inner.proto) {
         let at = inner.l4_at as usize + field::DESTINATION_PORT;
         named(at, named_port(&header.dst))
     } else {
@@ -184,7 +196,8 @@ fn quoted_sums(bytes: &[u8], inner: &Inner, quoted: &QuotedEnds) -> QuotedSums
 fn quoted_sum(bytes: &[u8], inner: &Inner, quoted: &QuotedEnds) -> Option<NewWord>
     requires within { QuotedWithin (length bytes.now) quoted.now }
     requires sum { IfSome inner.now.sum_at (λ at. at + 2 ≤ length bytes.now) }
-    ensures { new_words result ≡ word_list (quoted_sum bytes.now quoted.now.header (port_words quoted.now) inner.now.proto inner.now.sum_at) }
+    ensures value { new_words result ≡ word_list (quoted_sum bytes.now quoted.now.header (port_words quoted.now) inner.now.proto inner.now.sum_at) }
+    ensures within { AllWithin (length bytes.now) (new_words result) }
 {
     match inner.sum_at {
         Some(at) => {
@@ -241,7 +254,8 @@ fn error_sum(
     requires sums { SumsWithin (length bytes.now) sums.now }
     requires header { l4_at + 8 ≤ length bytes.now }
     requires place { l4_at < 2 ^ 32 }
-    ensures { new_words result ≡ told_error_sum bytes.now l4_at outer.now quoted.now sums.now ∷ [] }
+    ensures value { new_words result ≡ told_error_sum bytes.now l4_at outer.now quoted.now sums.now ∷ [] }
+    ensures within { AllWithin (length bytes.now) (new_words result) }
 {
     let at = l4_at + field::ICMP_CHECKSUM;
     let sum = sum_after_outer(bytes, outer, get16(bytes, at));

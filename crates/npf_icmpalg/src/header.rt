@@ -4,7 +4,7 @@ ghost use Rattle.npf_icmpalg.specs.Header.{HeaderWithin, header_addresses};
 ghost use Rattle.npf_icmpalg.specs.Word.{new_words};
 ghost use Rattle.npf_rewrite.specs.Sum.{sum_after};
 ghost use Rattle.npf_rewrite.specs.Translated.{destination_at, header_sum, source_at};
-ghost use Rattle.npf_rewrite.specs.Word.{Rewrites, word_list};
+ghost use Rattle.npf_rewrite.specs.Word.{AllWithin, Rewrites, word_list};
 
 use crate::word::{NewWord, ZERO, sum_after_end, write_end};
 use npf_fields::get16;
@@ -28,7 +28,7 @@ mod field {
 #[derive(Clone, Copy)]
 pub(crate) struct HeaderEnds {
     pub(crate) family: Addr,
-    pub(crate) ip_at: usize,
+    pub(crate) ip_at: u32,
     pub(crate) src: Option<End>,
     pub(crate) dst: Option<End>,
 }
@@ -54,11 +54,12 @@ pub(crate) fn sum_after_addresses(zero: u16, bytes: &[u8], header: &HeaderEnds, 
 /// The sum of a header of IPv4 once the addresses are written.
 pub(crate) fn header_sum(bytes: &[u8], header: &HeaderEnds) -> Option<NewWord>
     requires { HeaderWithin (length bytes.now) header.now }
-    ensures { new_words result ≡ word_list (header_sum bytes.now header.now.ip_at header.now.family (header_addresses header.now)) }
+    ensures value { new_words result ≡ word_list (header_sum bytes.now header.now.ip_at header.now.family (header_addresses header.now)) }
+    ensures within { AllWithin (length bytes.now) (new_words result) }
 {
     match header.family {
         Addr::V4(_) => {
-            let at = header.ip_at + field::IPV4_CHECKSUM;
+            let at = header.ip_at as usize + field::IPV4_CHECKSUM;
             let value = sum_after_addresses(ZERO, bytes, header, get16(bytes, at));
             Some(NewWord { at, value })
         }
@@ -68,24 +69,22 @@ pub(crate) fn header_sum(bytes: &[u8], header: &HeaderEnds) -> Option<NewWord>
 
 /// Where the source's address stands.
 fn source_at(header: &HeaderEnds) -> usize
-    requires { header.now.ip_at < 2 ^ 33 }
     ensures value { result ≡ source_at header.now.ip_at header.now.family }
     ensures place { result < 2 ^ 34 }
 {
     match header.family {
-        Addr::V4(_) => header.ip_at + field::IPV4_SOURCE,
-        Addr::V6(_) => header.ip_at + field::IPV6_SOURCE,
+        Addr::V4(_) => header.ip_at as usize + field::IPV4_SOURCE,
+        Addr::V6(_) => header.ip_at as usize + field::IPV6_SOURCE,
     }
 }
 
 /// Where the destination's address stands.
 fn destination_at(header: &HeaderEnds) -> usize
-    requires { header.now.ip_at < 2 ^ 33 }
     ensures value { result ≡ destination_at header.now.ip_at header.now.family }
     ensures place { result < 2 ^ 34 }
 {
     match header.family {
-        Addr::V4(_) => header.ip_at + field::IPV4_DESTINATION,
-        Addr::V6(_) => header.ip_at + field::IPV6_DESTINATION,
+        Addr::V4(_) => header.ip_at as usize + field::IPV4_DESTINATION,
+        Addr::V6(_) => header.ip_at as usize + field::IPV6_DESTINATION,
     }
 }

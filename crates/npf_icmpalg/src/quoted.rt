@@ -1,7 +1,7 @@
 // What an error of ICMP or ICMPv6 quotes: the first bytes of a packet, from its IP header on (RFC 792,
 // RFC 4443 section 3). specs/Quoted.antt says which headers are taken.
 ghost use Rattle.std.specs.Prelude.{◌≡◌, ◌+◌, ◌<◌, ◌≤◌, ◌^◌, length, IsTrue};
-ghost use Rattle.npf_icmpalg.specs.Quoted.{HasQuotedHeader, has_ports, is_header_v4, is_header_v6, is_one_address, is_quoted_header, is_quoted_upper, port_or_identifier, quoted_at, quoted_echo, quoted_in, quoted_v4, quoted_v6, sum_offset, whole_sum_at};
+ghost use Rattle.npf_icmpalg.specs.Quoted.{HasQuotedHeader, is_tcp_or_udp, is_header_v4, is_header_v6, is_same_address, is_quoted_header, is_quoted_upper, port_or_identifier, quoted_at, quoted_echo, quoted_in, quoted_v4, quoted_v6, sum_offset, whole_sum_at};
 ghost use Rattle.npf_packet.specs.Icmp.{echo_in_icmp};
 ghost use Rattle.npf_packet.specs.Icmpv6.{echo_in_icmpv6};
 ghost use Rattle.npf_packet.specs.Ipv4.{header_len};
@@ -70,7 +70,8 @@ pub(crate) struct Quoted {
 
 /// Where the quoted header begins.
 pub(crate) fn quoted_at(facts: &Facts) -> usize
-    ensures { result ≡ quoted_at facts.now }
+    ensures value { result ≡ quoted_at facts.now }
+    ensures place { result < 2 ^ 33 }
 {
     facts.l4_at as usize + ICMP_HEADER
 }
@@ -162,8 +163,8 @@ fn quoted_v6(bytes: &[u8], at: usize) -> Quoted
 }
 
 /// Whether the protocol is TCP or UDP.
-pub(crate) fn has_ports(proto: u8) -> bool
-    ensures { result ≡ has_ports proto }
+pub(crate) fn is_tcp_or_udp(proto: u8) -> bool
+    ensures { result ≡ is_tcp_or_udp proto }
 {
     proto == protocol::TCP || proto == protocol::UDP
 }
@@ -174,7 +175,7 @@ pub(crate) fn is_quoted_upper(bytes: &[u8], quoted: &Quoted, src: Addr) -> bool
     requires place { quoted.now.l4_at < 2 ^ 33 }
     ensures { result ≡ is_quoted_upper bytes.now quoted.now src }
 {
-    has_ports(quoted.proto) || quoted_echo(bytes, quoted, src).is_some()
+    is_tcp_or_udp(quoted.proto) || quoted_echo(bytes, quoted, src).is_some()
 }
 
 /// The identifier of a quoted echo message.
@@ -250,8 +251,8 @@ pub(crate) fn whole_sum_at(at: usize, end: u32) -> Option<u32>
 }
 
 /// Whether two addresses are one.
-pub(crate) fn is_one_address(a: Addr, b: Addr) -> bool
-    ensures { result ≡ is_one_address a b }
+pub(crate) fn is_same_address(a: Addr, b: Addr) -> bool
+    ensures { result ≡ is_same_address a b }
 {
     match (a, b) {
         (Addr::V4(a), Addr::V4(b)) => a == b,

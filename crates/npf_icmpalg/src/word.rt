@@ -1,5 +1,5 @@
 // The 16-bit words that are written, and the sums that follow them (RFC 1071 section 1, RFC 1624).
-ghost use Rattle.std.specs.Prelude.{◌≡◌, ◌+◌, ◌<◌, ◌≤◌, ◌^◌, ◌∷◌, [], length};
+ghost use Rattle.std.specs.Prelude.{◌≡◌, ℕ, ◌+◌, ◌<◌, ◌≤◌, ◌^◌, ◌∷◌, [], length};
 ghost use Rattle.npf_icmpalg.specs.Word.{new_words, word_pair};
 ghost use Rattle.npf_rewrite.specs.Address.{end_words, word_of, words_v6};
 ghost use Rattle.npf_rewrite.specs.Sum.{sum_after, sum_after_word};
@@ -23,7 +23,8 @@ pub(crate) struct NewWord {
 
 /// The word at this place, where there is one.
 pub(crate) fn named(at: usize, value: Option<u16>) -> Option<NewWord>
-    ensures { new_words result ≡ word_list (named_word at value) }
+    ensures value { new_words result ≡ word_list (named_word at value) }
+    ensures within { (size : ℕ) → at + 2 ≤ size → AllWithin size (new_words result) }
 {
     match value {
         Some(value) => Some(NewWord { at, value }),
