@@ -94,7 +94,7 @@ module _ (bytes : List ℕ) (quoted : HeaderEnds) (ports : List WordAt) where
   -- what is written behind the sum of the error itself, whose payload is what is quoted
   abbrev pub behind_sum : Inner → List WordAt
   behind_sum inner =
-      (header_addresses quoted ++ ports) ++ word_list quoted_header_sum
+      header_addresses quoted ++ ports ++ word_list quoted_header_sum
       ++ word_list (quoted_sum inner.proto inner.sum_at)
 
   -- the sum of an error that begins here, once all is written that it counts

@@ -24,10 +24,10 @@ pub record QuotedWithin (size : ℕ) (quoted : QuotedEnds) : Type 0 where
 
 -- and so do the outer header and the sums of the error and of what it quotes
 pub record ErrorWithin (size l4_at : ℕ) (inner : Inner) (outer : HeaderEnds) (quoted : QuotedEnds) : Type 0 where
-  pub outer : HeaderWithin size outer
-  pub quoted : QuotedWithin size quoted
-  pub sum : IfSome inner.sum_at (λ at. at + 2 ≤ size)
-  pub error_sum : l4_at + 8 ≤ size
+  pub outer_room : HeaderWithin size outer
+  pub quoted_room : QuotedWithin size quoted
+  pub quoted_sum_room : IfSome inner.sum_at (λ at. at + 2 ≤ size)
+  pub error_room : l4_at + 8 ≤ size
 
 -- the sums of what is quoted lie within `size` bytes
 pub record SumsWithin (size : ℕ) (sums : QuotedSums) : Type 0 where
@@ -45,5 +45,5 @@ pub record AreQuotedSums (bytes : List ℕ) (inner : Inner) (quoted : QuotedEnds
 abbrev pub told_error_sum : List ℕ → ℕ → HeaderEnds → QuotedEnds → QuotedSums → WordAt
 told_error_sum bytes l4_at outer quoted sums =
     let at = l4_at + icmp_checksum in
-    word at (sum_after 0 bytes (counted_outer outer.family outer ++ (header_addresses quoted.header ++ port_words quoted)
-    ++ new_words sums.header ++ new_words sums.upper) (number16 bytes at))
+    word at (sum_after 0 bytes (counted_outer outer.family outer ++ (header_addresses quoted.header ++ port_words quoted
+    ++ new_words sums.header ++ new_words sums.upper)) (number16 bytes at))

@@ -2,7 +2,7 @@
 // specs/ErrorTranslated.antt says which words it writes.
 ghost use Rattle.std.specs.Prelude.{◌≡◌, ℕ, ◌+◌, ◌<◌, ◌≤◌, ◌^◌, ◌∷◌, [], ◌++◌, length, IfSome};
 ghost use Rattle.npf_icmpalg.specs.Error.{HasQuotedRoom};
-ghost use Rattle.npf_icmpalg.specs.ErrorTranslated.{ErrorTranslated, counted_outer, error_sums, error_writes, outer_ends, outer_source, quoted_destination_write, quoted_ends, quoted_source_write, quoted_sum, quoted_sum_after};
+ghost use Rattle.npf_icmpalg.specs.ErrorTranslated.{ErrorTranslated, counted_outer, error_sums, error_writes, outer_ends, outer_source, quoted_destination_write, quoted_ends, quoted_ports, quoted_source_write, quoted_sum, quoted_sum_after};
 ghost use Rattle.npf_icmpalg.specs.Header.{HeaderWithin, header_addresses};
 ghost use Rattle.npf_icmpalg.specs.Within.{AreQuotedSums, ErrorWithin, QuotedWithin, SumsWithin, port_words, told_error_sum};
 ghost use Rattle.npf_icmpalg.specs.Word.{new_words};
@@ -91,6 +91,7 @@ fn quoted_writes(facts: &Facts, inner: &Inner, change: &Change) -> QuotedEnds
     ensures header { result.header ≡ quoted_ends facts.now inner.now change.now }
     ensures source { new_words result.source ≡ word_list (quoted_source_write inner.now (quoted_ends facts.now inner.now change.now)) }
     ensures destination { new_words result.destination ≡ word_list (quoted_destination_write inner.now (quoted_ends facts.now inner.now change.now)) }
+    ensures ports { port_words result ≡ quoted_ports inner.now (quoted_ends facts.now inner.now change.now) }
     ensures within { (size : ℕ) → HasQuotedRoom facts.now inner.now → facts.now.end ≤ size → QuotedWithin size result }
 {
     let header = quoted_ends(facts, inner, change);

@@ -20,10 +20,11 @@ returns-clause-value c =
     let second = c.sum_after_quoted-sum.result in
     let third = c.sum_after_named-sum.result in
     let last = c.sum_after_named-value.result in
-    let sums = sum_after_both 0 bytes header upper second third last
-    c.sum_after_named-sum.ensures c.sum_after_named-value.ensures in
-    let quoted = sum_after_both 0 bytes named (header ++ upper) first second last c.sum_after_quoted-sum.ensures sums in
+    let with_header = sum_after_both 0 bytes named header first second third c.sum_after_quoted-sum.ensures
+    c.sum_after_named-sum.ensures in
+    let quoted = sum_after_both 0 bytes (named ++ header) upper first third last with_header
+    c.sum_after_named-value.ensures in
     let whole = sum_after_both 0 bytes outer (named ++ header ++ upper) c.get16.result first last
     c.sum_after_outer-sum.ensures quoted in
     ap (λ v. word (c.args.l4_at + icmp_checksum) v ∷ [])
-    (whole ∙ ap (sum_after 0 bytes (outer ++ named ++ header ++ upper)) c.get16.ensures)
+    (whole ∙ ap (sum_after 0 bytes (outer ++ (named ++ header ++ upper))) c.get16.ensures)

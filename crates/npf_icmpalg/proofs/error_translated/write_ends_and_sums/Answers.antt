@@ -1,4 +1,4 @@
-use Rattle.std.proofs.Common.{◌+◌, [], ◌∷◌, ◌++◌, ap, ◌∙◌}
+use Rattle.std.proofs.Common.{◌+◌, List, [], ◌∷◌, ◌++◌, ap, ◌∙◌}
 use Rattle.npf_fields.specs.Field.{number16}
 use Rattle.npf_packet.specs.Field.{icmp_checksum}
 use Rattle.npf_rewrite.specs.Sum.{sum_after}
@@ -17,9 +17,9 @@ returns c =
     let quoted = c.args.quoted.now in
     let sums = c.quoted_sums-sums in
     let at = c.args.l4_at + icmp_checksum in
-    let told = λ header upper.
+    let told = λ (header upper : List WordAt).
     word at (sum_after 0 bytes (counted_outer outer.family outer
-    ++ (header_addresses quoted.header ++ port_words quoted) ++ header ++ upper) (number16 bytes at)) ∷ [] in
+    ++ (header_addresses quoted.header ++ port_words quoted ++ header ++ upper)) (number16 bytes at)) ∷ [] in
     let error_is = c.error_sum-error.ensures.value
     ∙ ap (λ header. told header (new_words sums.result.upper)) sums.ensures.header
     ∙ ap (told _) sums.ensures.upper in
@@ -28,4 +28,4 @@ returns c =
     let outer_header = rewrites_as _ _ _ _ c.header_sum-outer_header.ensures.value c.write_named-3.ensures in
     let error = rewrites_as _ _ _ _ error_is c.write_named-4.ensures in
     rewrites_both _ _ _ _ _ c.write_ends.ensures
-    (rewrites_both _ _ _ _ _ header (rewrites_both _ _ _ _ _ upper (rewrites_both _ _ _ _ _ outer_header error)))
+    (rewrites_both _ _ _ _ _ (rewrites_both _ _ _ _ _ (rewrites_both _ _ _ _ _ header upper) outer_header) error)
