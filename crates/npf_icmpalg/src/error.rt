@@ -6,7 +6,7 @@ ghost use Rattle.npf_icmpalg.specs.Quoted.{HasQuotedHeader};
 ghost use Rattle.npf_rewrite.specs.Room.{HasRoom};
 
 use crate::quoted::{
-    Quoted, is_same_address, is_quoted_header, is_quoted_upper, port_or_identifier, quoted_at,
+    Quoted, is_quoted_header, is_quoted_upper, is_same_address, port_or_identifier, quoted_at,
     quoted_echo, quoted_in, sum_offset, whole_sum_at,
 };
 use npf_key::key_between;
@@ -84,5 +84,12 @@ fn error_in(bytes: &[u8], facts: &Facts, quoted: &Quoted) -> Inner
 pub fn inner_key(inner: &Inner, ifid: IfId) -> Key
     ensures { result ≡ inner_key inner.now ifid }
 {
-    key_between(inner.proto, inner.dst, inner.dport, inner.src, inner.sport, ifid)
+    key_between(
+        inner.proto,
+        inner.dst,
+        inner.dport,
+        inner.src,
+        inner.sport,
+        ifid,
+    )
 }

@@ -13,7 +13,7 @@ ghost use Rattle.npf_rewrite.specs.Word.{AllWithin, Rewrites, word_list};
 
 use crate::error::Inner;
 use crate::header::{HeaderEnds, header_sum, sum_after_addresses, write_addresses};
-use crate::quoted::{is_tcp_or_udp, is_same_address};
+use crate::quoted::{is_same_address, is_tcp_or_udp};
 use crate::word::{NewWord, UDP_ZERO, ZERO, named, sum_after_named, write_named};
 use npf_fields::get16;
 use npf_key::{fitting, named_port};
@@ -125,7 +125,10 @@ fn source_write(inner: &Inner, header: &HeaderEnds) -> Option<NewWord>
     if is_tcp_or_udp(inner.proto) {
         named(at, source)
     } else {
-        named(at + field::ICMP_IDENTIFIER, named_port(&header.dst).or(source))
+        named(
+            at + field::ICMP_IDENTIFIER,
+            named_port(&header.dst).or(source),
+        )
     }
 }
 

@@ -1,6 +1,6 @@
 use crate::comparison::same;
 use crate::packet::{
-    TIME_EXCEEDED, UNREACHABLE_ECHO, UNREACHABLE_UDP, TOO_BIG_UDP6, quoted, quotes_with,
+    TIME_EXCEEDED, TOO_BIG_UDP6, UNREACHABLE_ECHO, UNREACHABLE_UDP, quoted, quotes_with,
 };
 use npf_icmpalg::{Inner, inner_key};
 use npf_types::{Addr, IfId, Key};
@@ -24,7 +24,12 @@ const DATAGRAM: Inner = Inner {
 
 #[test]
 fn quoted_packets_are_told(rt: HostRuntime) -> Result<(), Fail> {
-    same(&rt, "UDP", quoted(rt.alloc(), UNREACHABLE_UDP)?, Some(DATAGRAM));
+    same(
+        &rt,
+        "UDP",
+        quoted(rt.alloc(), UNREACHABLE_UDP)?,
+        Some(DATAGRAM),
+    );
     let segment = Inner {
         proto: 6,
         sport: 1024,
@@ -32,7 +37,12 @@ fn quoted_packets_are_told(rt: HostRuntime) -> Result<(), Fail> {
         sum_at: Some(64),
         ..DATAGRAM
     };
-    same(&rt, "TCP", quoted(rt.alloc(), TIME_EXCEEDED)?, Some(segment));
+    same(
+        &rt,
+        "TCP",
+        quoted(rt.alloc(), TIME_EXCEEDED)?,
+        Some(segment),
+    );
     let echo = Inner {
         proto: 1,
         sport: 1024,
@@ -40,20 +50,24 @@ fn quoted_packets_are_told(rt: HostRuntime) -> Result<(), Fail> {
         sum_at: Some(50),
         ..DATAGRAM
     };
-    same(&rt, "an echo", quoted(rt.alloc(), UNREACHABLE_ECHO)?, Some(echo));
+    same(
+        &rt,
+        "an echo",
+        quoted(rt.alloc(), UNREACHABLE_ECHO)?,
+        Some(echo),
+    );
     Ok(())
 }
 
 #[test]
 fn key_is_that_of_the_answers(rt: HostRuntime) {
-    let words = [
-        0x0411_0002_0035_9c40,
-        0,
-        0xc633_6407,
-        0,
-        0xcb00_7101,
-    ];
-    same(&rt, "turned about", inner_key(&DATAGRAM, IfId(2)), Key(words));
+    let words = [0x0411_0002_0035_9c40, 0, 0xc633_6407, 0, 0xcb00_7101];
+    same(
+        &rt,
+        "turned about",
+        inner_key(&DATAGRAM, IfId(2)),
+        Key(words),
+    );
 }
 
 // A packet, the place of a byte, what is put there, and whether the packet still quotes one.
@@ -75,7 +89,12 @@ const CASES: [(&str, &str, usize, u8, bool); 12] = [
 #[test]
 fn other_packets_quote_none(rt: HostRuntime) -> Result<(), Fail> {
     for (case, digits, at, value, wanted) in CASES {
-        same(&rt, case, quotes_with(rt.alloc(), digits, at, value)?, wanted);
+        same(
+            &rt,
+            case,
+            quotes_with(rt.alloc(), digits, at, value)?,
+            wanted,
+        );
     }
     let short = concat!(
         "45000037000000004001148ac6336407cb0071010303635300000000",

@@ -1,6 +1,6 @@
 use crate::comparison::same;
 use crate::packet::{
-    TIME_EXCEEDED, UNREACHABLE_ECHO, UNREACHABLE_UDP, TOO_BIG_UDP6, end, to, translated,
+    TIME_EXCEEDED, TOO_BIG_UDP6, UNREACHABLE_ECHO, UNREACHABLE_UDP, end, to, translated,
 };
 use npf_types::{Addr, Change, End};
 use std::test::Fail;
@@ -64,7 +64,12 @@ fn echo_has_one_identifier(rt: HostRuntime) -> Result<(), Fail> {
         "4500001c0000000040015dce0a0000020a0909090800f7f500090001",
     );
     let written = translated(rt.alloc(), UNREACHABLE_ECHO, &both)?;
-    same(&rt, "the source's, where both name one", written.as_str(), wanted);
+    same(
+        &rt,
+        "the source's, where both name one",
+        written.as_str(),
+        wanted,
+    );
     Ok(())
 }
 
@@ -98,7 +103,12 @@ fn outer_source_follows_where_it_was_quoted(rt: HostRuntime) -> Result<(), Fail>
         ..to(None)
     };
     let written = translated(rt.alloc(), packet, &change)?;
-    same(&rt, "a server that answers itself", written.as_str(), wanted);
+    same(
+        &rt,
+        "a server that answers itself",
+        written.as_str(),
+        wanted,
+    );
     Ok(())
 }
 

@@ -12,7 +12,7 @@ use Rattle.npf_icmpalg.proofs.error_translated.write_ends_and_sums.Goals as goal
 
 pub returns : goal.returns
 returns c =
-    let bytes = c.args.bytes.old in
+    let bytes = c.args.bytes.now in
     let outer = c.args.outer.now in
     let quoted = c.args.quoted.now in
     let sums = c.quoted_sums-sums in
