@@ -12,8 +12,8 @@ use Rattle.npf_icmpalg.specs.declared.error.Inner.{Inner}
 use Rattle.npf_icmpalg.specs.declared.quoted.Quoted.{Quoted}
 use Rattle.npf_icmpalg.specs.Quoted.{is_same_address, is_quoted_header, is_quoted_upper, port_or_identifier, quoted_at, quoted_echo, quoted_in, sum_offset, whole_sum_at}
 
--- An unreachable destination, an exceeded time or a parameter that is a problem (RFC 792); in ICMPv6 these and a
--- packet that is too big (RFC 4443 section 3).
+-- An unreachable destination, an exceeded time or a parameter that is a problem (RFC 792); in
+-- ICMPv6 these and a packet that is too big (RFC 4443 section 3).
 abbrev pub is_error_kind : L4 → Bool
 is_error_kind (Icmp kind _ _) = kind == 3 || kind == 11 || kind == 12
 is_error_kind (Icmp6 kind _ _) = nat_le 1 kind && nat_le kind 4
@@ -26,8 +26,8 @@ module _ (bytes : List ℕ) (facts : Facts) where
   abbrev pub quoted_header : Quoted
   quoted_header = quoted_in bytes (quoted_at facts) facts.src
 
-  -- The packet's type is that of an error; an IP header of its version is quoted; that carries TCP, UDP or an
-  -- echo; and the quoted packet came from where the error goes.
+  -- The packet's type is that of an error; an IP header of its version is quoted; that carries TCP,
+  -- UDP or an echo; and the quoted packet came from where the error goes.
   abbrev pub is_error : Bool
   is_error =
       is_error_kind facts.l4 && is_quoted_header bytes (quoted_at facts) facts.src facts.end
@@ -58,15 +58,15 @@ pub record IsError (bytes : List ℕ) (facts : Facts) (inner : Inner) : Type 0 w
   pub error : is_error bytes facts ≡ true
   pub is : inner ≡ error_in bytes facts
 
--- The places of what is quoted follow one another before the packet's end. This says nothing of the bytes, so
--- it holds whatever is written in them.
+-- The places of what is quoted follow one another before the packet's end. This says nothing of the
+-- bytes, so it holds whatever is written in them.
 pub record HasQuotedRoom (facts : Facts) (inner : Inner) : Type 0 where
   pub header : inner.ip_at ≡ quoted_at facts
   pub upper : inner.ip_at + least_ip_header facts.src ≤ inner.l4_at
   pub upper_header : inner.l4_at + 8 ≤ facts.end
   pub sum : IfSome inner.sum_at (λ at. at + 2 ≤ facts.end)
 
--- The key of what answers the quoted packet, with source and destination changed about: a connection's packet is
--- quoted by an error that comes from the other side.
+-- The key of what answers the quoted packet, with source and destination changed about: a
+-- connection's packet is quoted by an error that comes from the other side.
 abbrev pub inner_key : Inner → IfId → Key
 inner_key inner ifid = key_between inner.proto inner.dst inner.dport inner.src inner.sport ifid

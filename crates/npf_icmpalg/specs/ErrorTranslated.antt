@@ -1,5 +1,6 @@
--- What a translation writes in an error of ICMP or ICMPv6 and in what that quotes (RFC 5508 section 4, RFC 3022
--- section 4.3). The quoted packet went the other way, so its source is the change's destination.
+-- What a translation writes in an error of ICMP or ICMPv6 and in what that quotes (RFC 5508 section
+-- 4, RFC 3022 section 4.3). The quoted packet went the other way, so its source is the change's
+-- destination.
 use Rattle.std.specs.Prelude.{ℕ, ◌+◌, ◌==◌, if◌then◌else◌, Option, Some, None, List, [], ◌∷◌, ◌++◌}
 use Rattle.std.specs.Option.{option_or}
 use Rattle.npf_types.specs.declared.address.Addr.{Addr}
@@ -23,8 +24,8 @@ use Rattle.npf_icmpalg.specs.Quoted.{is_tcp_or_udp, is_same_address}
 use Rattle.npf_icmpalg.specs.Word.{WordAt}
 
 module _ (facts : Facts) (inner : Inner) (change : Change) where
-  -- The change's source is the outer one too where the error comes from the host to which the quoted packet went;
-  -- a router on the way keeps its address.
+  -- The change's source is the outer one too where the error comes from the host to which the
+  -- quoted packet went; a router on the way keeps its address.
   abbrev pub outer_source : Option End
   outer_source = if is_same_address facts.src inner.dst then fitting facts.src change.src else None
 
@@ -46,8 +47,8 @@ module _ (facts : Facts) (inner : Inner) (change : Change) where
     dst = fitting facts.src change.src;
   }
 
--- The ports of what is quoted: a quoted source is named by the change's destination. An echo has its identifier
--- for both, which either end names, and the change's source where both do.
+-- The ports of what is quoted: a quoted source is named by the change's destination. An echo has
+-- its identifier for both, which either end names, and the change's source where both do.
 module _ (inner : Inner) (quoted : HeaderEnds) where
   abbrev pub quoted_source_write : Option WordAt
   quoted_source_write =
@@ -70,9 +71,9 @@ counted_outer (V4 _) outer = []
 counted_outer (V6 _) outer = header_addresses outer
 
 module _ (bytes : List ℕ) (quoted : HeaderEnds) (ports : List WordAt) where
-  -- A quoted sum once the addresses of the quoted header and these ports are written, by the header's family and
-  -- its protocol: that of ICMP doesn't count the addresses, and in UDP over IPv4 a sum of 0 says that there is
-  -- none, and stays.
+  -- A quoted sum once the addresses of the quoted header and these ports are written, by the
+  -- header's family and its protocol: that of ICMP doesn't count the addresses, and in UDP over
+  -- IPv4 a sum of 0 says that there is none, and stays.
   abbrev pub quoted_sum_after : Addr → ℕ → ℕ → ℕ
   quoted_sum_after (V4 _) proto sum =
       if proto == 6 then sum_after 0 bytes (header_addresses quoted ++ ports) sum

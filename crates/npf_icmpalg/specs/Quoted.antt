@@ -1,5 +1,6 @@
--- What an error of ICMP or ICMPv6 quotes: the first bytes of a packet, from its IP header on (RFC 792, RFC 4443
--- section 3). The pictures of the headers are those of RFC 791 and 8200, whose offsets npf_packet names.
+-- What an error of ICMP or ICMPv6 quotes: the first bytes of a packet, from its IP header on (RFC
+-- 792, RFC 4443 section 3). The pictures of the headers are those of RFC 791 and 8200, whose
+-- offsets npf_packet names.
 use Rattle.std.specs.Prelude.{ℕ, ◌+◌, ◌%◌, ◌^◌, ◌<◌, ◌≤◌, ◌==◌, ◌||◌, ◌&&◌, nat_le, if◌then◌else◌, Bool, false, Option, Some, None, List, slice_index}
 use Rattle.std.specs.Option.{is_some}
 use Rattle.npf_types.specs.declared.address.Addr.{Addr}
@@ -19,9 +20,10 @@ abbrev pub quoted_at : Facts → ℕ
 quoted_at facts = facts.l4_at + 8
 
 module _ (bytes : List ℕ) (at : ℕ) where
-  -- A header of IPv4, at least as long as one without options, of a packet that isn't a later fragment: the
-  -- offset, which is the lower 13 bits of the fragment field, is 0. It and eight bytes behind it lie before
-  -- the end. Neither the bit "more fragments" nor the quoted length is looked at.
+  -- A header of IPv4, at least as long as one without options, of a packet that isn't a later
+  -- fragment: the offset, which is the lower 13 bits of the fragment field, is 0. It and eight
+  -- bytes behind it lie before the end. Neither the bit "more fragments" nor the quoted length is
+  -- looked at.
   abbrev pub is_header_v4 : ℕ → Bool
   is_header_v4 end =
       version_number bytes at == 4 && nat_le 20 (header_len bytes at)
@@ -32,8 +34,8 @@ module _ (bytes : List ℕ) (at : ℕ) where
   abbrev pub is_header_v6 : ℕ → Bool
   is_header_v6 end = version_number bytes at == 6 && nat_le (at + 40 + 8) end
 
-  -- the fields of a header; the protocol of IPv6 is what the header itself names, so that an extension header
-  -- is a protocol of its own
+  -- the fields of a header; the protocol of IPv6 is what the header itself names, so that an
+  -- extension header is a protocol of its own
   abbrev pub quoted_v4 : Quoted
   quoted_v4 = record {
     src = V4 (number32 bytes (at + ipv4_source));
@@ -59,8 +61,8 @@ module _ (bytes : List ℕ) (at : ℕ) where
   quoted_in (V4 _) = quoted_v4
   quoted_in (V6 _) = quoted_v6
 
--- the quoted header is no shorter than one without options, and eight bytes behind it lie before the end, which is a
--- number of 32 bits
+-- the quoted header is no shorter than one without options, and eight bytes behind it lie before
+-- the end, which is a number of 32 bits
 pub record HasQuotedHeader (bytes : List ℕ) (facts : Facts) : Type 0 where
   pub least : quoted_at facts + least_ip_header facts.src ≤ (quoted_in bytes (quoted_at facts) facts.src).l4_at
   pub upper : (quoted_in bytes (quoted_at facts) facts.src).l4_at + 8 ≤ facts.end

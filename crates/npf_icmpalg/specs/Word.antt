@@ -1,5 +1,5 @@
--- The 16-bit words that are written, as npf_rewrite's definitions say what bytes are once words are written and
--- what a sum is then.
+-- The 16-bit words that are written, as npf_rewrite's definitions say what bytes are once words are
+-- written and what a sum is then.
 use Rattle.std.specs.Prelude.{ℕ, ◌+◌, Option, Some, None, List, [], ◌∷◌}
 use Rattle.npf_rewrite.specs.Address.{word_of}
 use Rattle.npf_rewrite.specs.Word.{word}

@@ -1,5 +1,5 @@
-// Errors of ICMP and ICMPv6 that quote a packet (RFC 792, RFC 4443 section 3); specs/Error.antt says
-// which packets are such errors.
+// Errors of ICMP and ICMPv6 that quote a packet (RFC 792, RFC 4443 section 3); specs/Error.antt
+// says which packets are such errors.
 ghost use Rattle.std.specs.Prelude.{◌≡◌, length, IfSome};
 ghost use Rattle.npf_icmpalg.specs.Error.{HasQuotedRoom, error_in, inner_key, is_error_kind, quoted_header, quoted_packet};
 ghost use Rattle.npf_icmpalg.specs.Quoted.{HasQuotedHeader};
@@ -12,9 +12,9 @@ use crate::quoted::{
 use npf_key::key_between;
 use npf_types::{Addr, Facts, IfId, Key, L4};
 
-/// The packet that an error quotes: its addresses, protocol and ports, an echo's identifier for both
-/// ports, and the places of its IP header, of what it carries and of the sum of that, where both bytes
-/// of the sum are quoted. Places are in bytes from the record's first.
+/// The packet that an error quotes: its addresses, protocol and ports, an echo's identifier for
+/// both ports, and the places of its IP header, of what it carries and of the sum of that, where
+/// both bytes of the sum are quoted. Places are in bytes from the record's first.
 #[derive(Clone, Copy, Debug, PartialEq, Eq)]
 pub struct Inner {
     pub src: Addr,
@@ -27,9 +27,9 @@ pub struct Inner {
     pub sum_at: Option<u32>,
 }
 
-/// What the packet with these facts, which are those of its bytes, quotes; None exactly where it is no
-/// error of ICMP (destination unreachable, time exceeded, parameter problem) or ICMPv6 (types 1 to 4) that
-/// quotes a packet of TCP or UDP or an echo from where the error goes.
+/// What the packet with these facts, which are those of its bytes, quotes; None exactly where it is
+/// no error of ICMP (destination unreachable, time exceeded, parameter problem) or ICMPv6 (types 1
+/// to 4) that quotes a packet of TCP or UDP or an echo from where the error goes.
 pub fn inner_of(bytes: &[u8], facts: &Facts) -> Option<Inner>
     requires { HasRoom (length bytes.now) facts.now }
     ensures quoted { result ≡ quoted_packet bytes.now facts.now }

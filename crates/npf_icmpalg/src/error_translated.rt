@@ -46,8 +46,8 @@ pub(crate) struct QuotedEnds {
 /// Writes what the change names in the error with these facts, which quotes `inner`: the outer
 /// destination and the quoted source become the change's destination, the quoted destination its
 /// source, and so does the outer source where it was the quoted destination. Where the change isn't
-/// neutral, the sums of both headers, of the error and of what is quoted follow (RFC 1624). An end of
-/// another family changes nothing.
+/// neutral, the sums of both headers, of the error and of what is quoted follow (RFC 1624). An end
+/// of another family changes nothing.
 pub fn translate_error(bytes: &mut [u8], facts: &Facts, inner: &Inner, change: &Change)
     requires room { HasRoom (length bytes.old) facts.now }
     requires quoted { HasQuotedRoom facts.now inner.now }

@@ -23,8 +23,8 @@ mod field {
     pub const IPV6_DESTINATION: usize = 24;
 }
 
-/// The ends whose addresses are written in the header that begins at `ip_at` and is of the version of
-/// `family`.
+/// The ends whose addresses are written in the header that begins at `ip_at` and is of the version
+/// of `family`.
 #[derive(Clone, Copy)]
 pub(crate) struct HeaderEnds {
     pub(crate) family: Addr,

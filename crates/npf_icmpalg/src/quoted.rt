@@ -1,5 +1,5 @@
-// What an error of ICMP or ICMPv6 quotes: the first bytes of a packet, from its IP header on (RFC 792,
-// RFC 4443 section 3). specs/Quoted.antt says which headers are taken.
+// What an error of ICMP or ICMPv6 quotes: the first bytes of a packet, from its IP header on (RFC
+// 792, RFC 4443 section 3). specs/Quoted.antt says which headers are taken.
 ghost use Rattle.std.specs.Prelude.{◌≡◌, ◌+◌, ◌<◌, ◌≤◌, ◌^◌, length, IsTrue};
 ghost use Rattle.npf_icmpalg.specs.Quoted.{HasQuotedHeader, is_tcp_or_udp, is_header_v4, is_header_v6, is_same_address, is_quoted_header, is_quoted_upper, port_or_identifier, quoted_at, quoted_echo, quoted_in, quoted_v4, quoted_v6, sum_offset, whole_sum_at};
 ghost use Rattle.npf_packet.specs.Icmp.{echo_in_icmp};

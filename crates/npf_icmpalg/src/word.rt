@@ -49,8 +49,8 @@ fn write_word(bytes: &mut [u8], at: usize, value: u16)
     put16(bytes, at, value);
 }
 
-/// The sum once this word is written, where there is one, and where a sum that comes to 0 is written as
-/// `zero`.
+/// The sum once this word is written, where there is one, and where a sum that comes to 0 is
+/// written as `zero`.
 pub(crate) fn sum_after_named(zero: u16, bytes: &[u8], word: Option<NewWord>, sum: u16) -> u16
     requires { AllWithin (length bytes.now) (new_words word) }
     ensures { result ≡ sum_after zero bytes.now (new_words word) sum }
