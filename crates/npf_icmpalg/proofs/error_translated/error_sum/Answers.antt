@@ -1,0 +1,30 @@
+use Rattle.std.proofs.Common.{◌+◌, [], ◌∷◌, ◌++◌, ap, ◌∙◌}
+use Rattle.npf_packet.specs.Field.{icmp_checksum}
+use Rattle.npf_rewrite.specs.Sum.{sum_after}
+use Rattle.npf_rewrite.specs.Word.{word}
+use Rattle.npf_icmpalg.specs.ErrorTranslated.{counted_outer}
+use Rattle.npf_icmpalg.specs.Header.{header_addresses}
+use Rattle.npf_icmpalg.specs.Within.{port_words}
+use Rattle.npf_icmpalg.specs.Word.{new_words}
+use Rattle.npf_icmpalg.proofs.SumLemmas.{sum_after_both}
+use Rattle.npf_icmpalg.proofs.error_translated.error_sum.Goals as goal
+
+pub returns-clause-value : goal.returns-clause-value
+returns-clause-value c =
+    let bytes = c.args.bytes.now in
+    let outer = counted_outer c.args.outer.now.family c.args.outer.now in
+    let named = header_addresses c.args.quoted.now.header ++ port_words c.args.quoted.now in
+    let header = new_words c.args.sums.now.header in
+    let upper = new_words c.args.sums.now.upper in
+    let first = c.sum_after_outer-sum.result in
+    let second = c.sum_after_quoted-sum.result in
+    let third = c.sum_after_named-sum.result in
+    let last = c.sum_after_named-value.result in
+    let with_header = sum_after_both 0 bytes named header first second third c.sum_after_quoted-sum.ensures
+    c.sum_after_named-sum.ensures in
+    let quoted = sum_after_both 0 bytes (named ++ header) upper first third last with_header
+    c.sum_after_named-value.ensures in
+    let whole = sum_after_both 0 bytes outer (named ++ header ++ upper) c.get16.result first last
+    c.sum_after_outer-sum.ensures quoted in
+    ap (λ v. word (c.args.l4_at + icmp_checksum) v ∷ [])
+    (whole ∙ ap (sum_after 0 bytes (outer ++ (named ++ header ++ upper))) c.get16.ensures)
