@@ -8,7 +8,18 @@
 // is refused exactly at its first bad line, then where its interfaces are others, then where it lists more connections than slots.
 #![tactic(auto)]
 
+mod guess;
+mod guess_flow;
+mod keys;
+mod line;
+mod reading;
 mod saved;
 mod spelling;
+#[cfg(test)]
+mod tests;
+mod words;
+mod writing;
 
+pub use reading::read_saved;
 pub use saved::{Saved, SavedFault};
+pub use writing::saved_text;
