@@ -1,0 +1,5 @@
+pub mod CutLemmas
+pub mod WordLemmas
+pub mod FieldLemmas
+pub mod GuessLemmas
+pub mod NameLemmas

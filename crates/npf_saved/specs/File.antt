@@ -1,8 +1,7 @@
 -- A file of saved connections: the head, the interfaces in order, and the connections, rising by their forward keys.
 use Rattle.std.specs.Prelude.{◌≡◌, ◌≢◌, ◌+◌, ◌-◌, ◌/◌, ◌^◌, ◌<◌, ◌≤◌, ◌==◌, ℕ, Bool, Option, Some, None, IfSome, List, [], ◌∷◌, ◌++◌, Contains, length, map, take, position, slice_get, slice_index}
-use Rattle.std.specs.Cmp.{Ordering}
-use Rattle.std.specs.Cmp.Ordering.TheVariants.{Less}
-use Rattle.std.specs.Cmp.Nat.{nat_cmp}
+use Rattle.std.specs.declared.cmp.Ordering.TheVariants.{Less}
+use Rattle.std.specs.Ordering.{nat_cmp}
 use Rattle.std.specs.Cmp.Lexicographic.{slice_cmp}
 use Rattle.std.specs.List.{slice_split, flat_map}
 use Rattle.npf_types.specs.declared.change.Change.{Change}

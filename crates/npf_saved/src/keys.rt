@@ -1,5 +1,5 @@
 // Which connection may stand behind others: its keys are of their kinds, it rises, and no key stands twice.
-ghost use Rattle.std.specs.Prelude.{◌≡◌, ◌↔◌, ◌×◌, IsTrue, IfOk, IfSome};
+ghost use Rattle.std.specs.Prelude.{◌≡◌, ◌↔◌, IsTrue, IfOk, IfSome};
 ghost use Rattle.npf_saved.specs.File.{IsBelow, IsPacketKey, MayStand, Rises, source_key};
 
 use crate::saved::Saved;

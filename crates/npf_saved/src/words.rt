@@ -1,6 +1,6 @@
 // The words of a line, and the numbers that they spell. Each reader answers at every word: with what the word spells, or else with
 // anything. `line` spells its answer again and compares.
-ghost use Rattle.std.specs.Prelude.{◌≡◌, ◌<◌, ◌^◌, ◌==◌, ℕ, List, Bool, Option, IfSome};
+ghost use Rattle.std.specs.Prelude.{◌≡◌, ◌↔◌, ◌<◌, ◌^◌, ◌==◌, ℕ, Bool, Option, IfSome, IsTrue, codes, position};
 ghost use Rattle.std.specs.Fmt.{decimal};
 ghost use Rattle.std.specs.Int.{w16, w32, w64};
 ghost use Rattle.std.specs.List.{before_first, after_first};
@@ -13,14 +13,22 @@ pub(crate) fn cut(text: &[u8], mark: u8) -> (&[u8], &[u8])
     ensures word { result.0.now ≡ before_first (λ byte. byte == mark) text.now }
     ensures behind { result.1.now ≡ after_first (λ byte. byte == mark) text.now }
 {
-    match text.iter().position(|byte| *byte == mark) {
+    match first_place(text, mark) {
         Some(at) => (&text[..at], &text[at + 1..]),
         None => (text, &[]),
     }
 }
 
+fn first_place(text: &[u8], mark: u8) -> Option<usize>
+    ensures { result ≡ position (λ byte. byte == mark) text.now }
+{
+    text.iter().position(|byte| *byte == mark)
+}
+
 /// Whether the word says that there is nothing.
-pub(crate) fn is_dash(word: &[u8]) -> bool {
+pub(crate) fn is_dash(word: &[u8]) -> bool
+    ensures { IsTrue result ↔ (word.now ≡ codes "-") }
+{
     matches!(word, b"-")
 }
 
