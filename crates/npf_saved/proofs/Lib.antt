@@ -1,3 +1,4 @@
+pub mod AppendLemmas
 pub mod CutLemmas
 pub mod WordLemmas
 pub mod FieldLemmas

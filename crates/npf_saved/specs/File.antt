@@ -129,6 +129,12 @@ pub record IsTaken (text : List ℕ) (names : List Name) (slots : ℕ) (conns : 
 abbrev pub ended_line : List ℕ → List ℕ
 ended_line line = line ++ 10 ∷ []
 
+abbrev pub name_lines : List Name → List ℕ
+name_lines names = flat_map (λ name. ended_line (if_line name)) names
+
+abbrev pub conn_lines : List Saved → List ℕ
+conn_lines conns = flat_map (λ saved. ended_line (conn_line saved)) conns
+
 -- the text of these interfaces and connections
 abbrev pub saved_text : List Name → List Saved → List ℕ
-saved_text names conns = ended_line head_line ++ (flat_map (λ name. ended_line (if_line name)) names ++ flat_map (λ saved. ended_line (conn_line saved)) conns)
+saved_text names conns = ended_line head_line ++ (name_lines names ++ conn_lines conns)

@@ -16,8 +16,8 @@ use crate::words::{
 };
 use npf_types::{Action, Addr, Change, End, Key, Name};
 
-/// The digits of an IPv4 address, and of each half of an IPv6 address.
-const V4_DIGITS: usize = 8;
+/// The digits of an IPv6 address, and of each half of one.
+const V6_DIGITS: usize = 32;
 const HALF_DIGITS: usize = 16;
 
 pub(crate) fn guess_key(word: &[u8]) -> Key
@@ -78,10 +78,10 @@ fn guess_addr(word: &[u8]) -> Addr
     ensures value { (addr : AddrType) → FitsAddr addr → word.now ≡ addr_text addr → result ≡ addr }
     ensures fits { FitsAddr result }
 {
-    if word.len() <= V4_DIGITS {
+    if word.len() < V6_DIGITS {
         return Addr::V4(guess_half_word(word));
     }
-    let (upper, lower) = word.split_at(word.len().min(HALF_DIGITS));
+    let (upper, lower) = word.split_at(HALF_DIGITS);
     Addr::V6(u128::from(guess_word(upper)) * (1 << 64) + u128::from(guess_word(lower)))
 }
 

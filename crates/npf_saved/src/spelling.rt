@@ -30,7 +30,8 @@ pub(crate) fn write_conn(into: &mut Vec<u8>, saved: &Saved) -> Result<(), NoMemo
     into.push(b' ')?;
     write_change(into, &saved.flow.back)?;
     into.push(b' ')?;
-    write_action(into, &saved.flow.action)
+    write_action(into, &saved.flow.action)?;
+    Ok(())
 }
 
 /// Appends the interface's line, without its line feed.
@@ -53,7 +54,8 @@ fn write_key(into: &mut Vec<u8>, key: &Key) -> Result<(), NoMemory>
     into.push(b'.')?;
     write_word(into, key.0[3])?;
     into.push(b'.')?;
-    write_word(into, key.0[4])
+    write_word(into, key.0[4])?;
+    Ok(())
 }
 
 fn write_optional_key(into: &mut Vec<u8>, key: &Option<Key>) -> Result<(), NoMemory>
@@ -120,7 +122,8 @@ fn write_side(into: &mut Vec<u8>, side: &TcpSide) -> Result<(), NoMemory>
     into.push(b',')?;
     write_number(into, u64::from(side.maxwin))?;
     into.push(b',')?;
-    write_optional_byte(into, side.scale)
+    write_optional_byte(into, side.scale)?;
+    Ok(())
 }
 
 fn known_number(known: Known) -> u64

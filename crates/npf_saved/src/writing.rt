@@ -1,6 +1,7 @@
 // A file of saved connections, written line by line.
-ghost use Rattle.std.specs.Prelude.{◌≡◌, IfOk};
-ghost use Rattle.npf_saved.specs.File.{saved_text};
+ghost use Rattle.std.specs.Prelude.{◌≡◌, ◌++◌, IfOk, OnOk};
+ghost use Rattle.npf_saved.specs.File.{conn_lines, ended_line, name_lines, saved_text};
+ghost use Rattle.npf_saved.specs.Spelling.{conn_line};
 
 use crate::reading::HEAD;
 use crate::saved::Saved;
@@ -20,7 +21,9 @@ pub fn saved_text(alloc: Global, names: &[Name], conns: &[Saved]) -> Result<Vec<
     Ok(text)
 }
 
-fn write_names(into: &mut Vec<u8>, names: &[Name]) -> Result<(), NoMemory> {
+fn write_names(into: &mut Vec<u8>, names: &[Name]) -> Result<(), NoMemory>
+    ensures { OnOk result (into.new.items ≡ into.old.items ++ name_lines names.now) }
+{
     for name in names {
         write_if(into, *name)?;
         into.push(b'\n')?;
@@ -28,10 +31,19 @@ fn write_names(into: &mut Vec<u8>, names: &[Name]) -> Result<(), NoMemory> {
     Ok(())
 }
 
-fn write_conns(into: &mut Vec<u8>, conns: &[Saved]) -> Result<(), NoMemory> {
+fn write_conns(into: &mut Vec<u8>, conns: &[Saved]) -> Result<(), NoMemory>
+    ensures { OnOk result (into.new.items ≡ into.old.items ++ conn_lines conns.now) }
+{
     for saved in conns {
-        write_conn(into, saved)?;
-        into.push(b'\n')?;
+        write_conn_line(into, saved)?;
     }
+    Ok(())
+}
+
+fn write_conn_line(into: &mut Vec<u8>, saved: &Saved) -> Result<(), NoMemory>
+    ensures { OnOk result (into.new.items ≡ into.old.items ++ ended_line (conn_line saved.now)) }
+{
+    write_conn(into, saved)?;
+    into.push(b'\n')?;
     Ok(())
 }
