@@ -18,6 +18,7 @@ use npf_types::{Action, Addr, Change, End, Key, Name};
 
 /// The digits of an IPv6 address, and of each half of one.
 const V6_DIGITS: usize = 32;
+
 const HALF_DIGITS: usize = 16;
 
 pub(crate) fn guess_key(word: &[u8]) -> Key

@@ -1,18 +1,16 @@
-// The text of saved connections, by which a run goes on where another ended (docs/npfctl.8, "Saved connections").
+// The lines of saved connections, by which a run can go on where another ended: the interfaces of the run, and each connection
+// with its keys and its flow. Which lines may stand behind one another isn't said here.
 //
-// `spelling` writes a connection's line, `words`, `guess` and `guess_flow` read one, and `line` decides what a line is. `keys`
-// says which connection may stand behind others, `reading` reads a file and `writing` writes one.
+// `spelling` writes a connection's line and an interface's, and `writing` a whole file. `words`, `guess` and `guess_flow` say what a
+// line would have to be, and `line` whether it is that.
 //
-// The contract: one grammar goes both ways (specs/Spelling, specs/File). A line is read as a connection exactly where it is that
-// connection's line, byte for byte, so a capital, a leading zero or a second space is refused without a test of its own. A file
-// is refused exactly at its first bad line, then where its interfaces are others, then where it lists more connections than slots.
+// The contract: one grammar goes both ways (specs/Spelling). A line is read as a connection exactly where it is that connection's
+// line, byte for byte, and as no other; so a capital, a leading zero or a second space is refused without a test of its own.
 #![tactic(auto)]
 
 mod guess;
 mod guess_flow;
-mod keys;
 mod line;
-mod reading;
 mod saved;
 mod spelling;
 #[cfg(test)]
@@ -20,6 +18,6 @@ mod tests;
 mod words;
 mod writing;
 
-pub use reading::read_saved;
-pub use saved::{Saved, SavedFault};
+pub use line::{conn_of_line, if_of_line};
+pub use saved::Saved;
 pub use writing::saved_text;

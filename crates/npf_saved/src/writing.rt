@@ -3,11 +3,13 @@ ghost use Rattle.std.specs.Prelude.{◌≡◌, ◌++◌, IfOk, OnOk};
 ghost use Rattle.npf_saved.specs.File.{conn_lines, ended_line, name_lines, saved_text};
 ghost use Rattle.npf_saved.specs.Spelling.{conn_line};
 
-use crate::reading::HEAD;
 use crate::saved::Saved;
 use crate::spelling::{write_conn, write_if};
 use npf_types::{Name, NoMemory};
 use std::alloc::Global;
+
+/// The first line of a file.
+const HEAD: &[u8] = b"npf-connections 1";
 
 /// The text of these interfaces and connections, in their order.
 pub fn saved_text(alloc: Global, names: &[Name], conns: &[Saved]) -> Result<Vec<u8>, NoMemory>

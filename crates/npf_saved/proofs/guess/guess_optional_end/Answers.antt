@@ -14,8 +14,8 @@ returns-then-is_dash-clause-value c = dash_is_none FitsEnd end_text (λ one fits
 pub returns-clause-value : goal.returns-clause-value
 returns-clause-value c = word_is_some FitsEnd end_text c.args.word.now _ (not_dash c.args.word.now c.is_dash.result c.is_dash.ensures c.if-is_dash.false)
     (λ one fits is.
-        let lack = addr_lacks 43 refl one.addr in
-        let port = or_dash (hex_text w16) one.port in
-        let addr_is = c.guess_addr.ensures.value one.addr fits.0 (c.cut.ensures.word ∙ word_before 43 c.args.word.now (addr_text one.addr) port is lack) in
-        let port_is = c.guess_optional_port.ensures.value one.port fits.1 (c.cut.ensures.behind ∙ rest_behind 43 c.args.word.now (addr_text one.addr) port is lack) in
-        λ i. record { addr = addr_is i; port = port_is i })
+    let lack = addr_lacks 43 refl one.addr in
+    let port = or_dash (hex_text w16) one.port in
+    let addr_is = c.guess_addr.ensures.value one.addr fits.0 (c.cut.ensures.word ∙ word_before 43 c.args.word.now (addr_text one.addr) port is lack) in
+    let port_is = c.guess_optional_port.ensures.value one.port fits.1 (c.cut.ensures.behind ∙ rest_behind 43 c.args.word.now (addr_text one.addr) port is lack) in
+    λ i. record { addr = addr_is i; port = port_is i })

@@ -42,7 +42,7 @@ returns-clause-value c = λ saved fits is.
     let forward_is = c.guess_key.ensures.value saved.forward fits.forward (c.cut-2.ensures.word ∙ word_before 32 c.cut.result.1.now forward behind_2 one forward_lacks) in
     let port_is = c.guess_optional_key.ensures.value saved.port fits.port (c.cut-3.ensures.word ∙ word_before 32 c.cut-2.result.1.now port behind_3 two port_lacks) in
     let backward_is = c.guess_optional_key-2.ensures.value saved.backward fits.backward
-        (c.cut-4.ensures.word ∙ word_before 32 c.cut-3.result.1.now backward behind_4 three backward_lacks) in
+    (c.cut-4.ensures.word ∙ word_before 32 c.cut-3.result.1.now backward behind_4 three backward_lacks) in
     let kind_is = c.guess_kind.ensures.value flow.kind fits.flow.kind (c.cut-5.ensures.word ∙ word_before 32 c.cut-4.result.1.now kind behind_5 four kind_lacks) in
     let last_is = c.guess_number.ensures flow.last fits.flow.last (c.cut-6.ensures.word ∙ word_before 32 c.cut-5.result.1.now last behind_6 five last_lacks) in
     let there_is = c.guess_change.ensures.value flow.there fits.flow.there (c.cut-7.ensures.word ∙ word_before 32 c.cut-6.result.1.now there behind_7 six there_lacks) in

@@ -25,7 +25,7 @@ returns-clause-value c = λ side fits is.
     let three = c.cut-3.ensures.behind ∙ rest_behind 44 c.cut-2.result.1.now maxend behind_3 two maxend_lacks in
     let four = c.cut-4.ensures.behind ∙ rest_behind 44 c.cut-3.result.1.now maxwin scale three maxwin_lacks in
     let number_is = c.guess_number.ensures (known_number side.known) (known_small side.known)
-        (c.cut.ensures.word ∙ word_before 44 c.args.word.now known behind_1 is known_lacks) in
+    (c.cut.ensures.word ∙ word_before 44 c.args.word.now known behind_1 is known_lacks) in
     let known_is = c.known_of.ensures side.known number_is in
     let end_is = c.guess_u32.ensures side.end fits.end (c.cut-2.ensures.word ∙ word_before 44 c.cut.result.1.now end behind_2 one end_lacks) in
     let maxend_is = c.guess_u32-2.ensures side.maxend fits.maxend (c.cut-3.ensures.word ∙ word_before 44 c.cut-2.result.1.now maxend behind_3 two maxend_lacks) in

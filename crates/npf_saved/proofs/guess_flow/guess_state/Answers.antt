@@ -23,7 +23,7 @@ returns-clause-value c = λ state forward_fits backward_fits is.
     let three = c.cut-3.ensures.behind ∙ rest_behind 58 c.cut-2.result.1.now strict behind_3 two strict_lacks in
     let four = c.cut-4.ensures.behind ∙ rest_behind 58 c.cut-3.result.1.now forward backward three forward_lacks in
     let number_is = c.guess_number.ensures (phase_number state.phase) (phase_small state.phase)
-        (c.cut-2.ensures.word ∙ word_before 58 c.cut.result.1.now phase behind_2 one phase_lacks) in
+    (c.cut-2.ensures.word ∙ word_before 58 c.cut.result.1.now phase behind_2 one phase_lacks) in
     let phase_is = c.phase_of.ensures state.phase number_is in
     let forward_is = c.guess_side.ensures.value state.forward forward_fits (c.cut-4.ensures.word ∙ word_before 58 c.cut-3.result.1.now forward backward three forward_lacks) in
     let backward_is = c.guess_side-2.ensures.value state.backward backward_fits four in

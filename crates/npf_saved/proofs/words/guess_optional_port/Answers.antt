@@ -14,6 +14,6 @@ pub returns-clause-value : goal.returns-clause-value
 returns-clause-value c = word_is_some (λ (n : ℕ). n < 2 ^ 16) (hex_text w16) c.args.word.now c.from_be_bytes.result
     (not_dash c.args.word.now c.is_dash.result c.is_dash.ensures c.if-is_dash.false)
     (λ n fits is.
-        c.from_be_bytes.ensures
-        ∙ ap (from_be_bytes w16) (hex_read c.args.word.now 2 c.decode_to_slice.result c.decode_to_slice.new.out (to_be_bytes w16 n) (are_bytes 2 n) refl is c.decode_to_slice.ensures.value)
-        ∙ from_be_bytes-to_be_bytes_2 n fits)
+    c.from_be_bytes.ensures
+    ∙ ap (from_be_bytes w16) (hex_read c.args.word.now 2 c.decode_to_slice.result c.decode_to_slice.new.out (to_be_bytes w16 n) (are_bytes 2 n) refl is c.decode_to_slice.ensures.value)
+    ∙ from_be_bytes-to_be_bytes_2 n fits)
