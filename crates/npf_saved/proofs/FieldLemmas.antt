@@ -19,7 +19,7 @@ use Rattle.npf_tcp.specs.declared.state.TcpSide.{TcpSide}
 use Rattle.npf_tcp.specs.declared.state.TcpState.{TcpState}
 use Rattle.npf_flow.specs.declared.flow.FlowKind.{FlowKind}
 use Rattle.npf_flow.specs.declared.flow.FlowKind.TheVariants.{Tcp, Other}
-use Rattle.npf_saved.specs.Fields.{FitsAddr, FitsChange, FitsEnd, FitsKey, FitsKind, FitsSide}
+use Rattle.npf_saved.specs.Fields.{FitsAddrText, FitsChange, FitsEnd, FitsKeyText, FitsKind, FitsSide}
 use Rattle.npf_saved.specs.Spelling.{addr_text, bit_text, change_text, end_text, hex_text, key_text, kind_text, known_number, or_dash, phase_number, side_text, state_text}
 use Rattle.npf_saved.proofs.CutLemmas.{lacks, lacks_both}
 use Rattle.npf_saved.proofs.WordLemmas.{bit_lacks, decimal_lacks, number_lacks, or_dash_lacks}

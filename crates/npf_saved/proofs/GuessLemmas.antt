@@ -3,7 +3,7 @@ use Rattle.std.proofs.Common.{◌≡◌, ◌+◌, ◌==◌, ◌<◌, ◌^◌, �
 use Rattle.std.specs.List.{before_first}
 use Rattle.npf_types.specs.declared.change.End.{End}
 use Rattle.npf_types.specs.declared.key.Key.{Key}
-use Rattle.npf_saved.specs.Fields.{FitsKey}
+use Rattle.npf_saved.specs.Fields.{FitsKeyText}
 use Rattle.npf_saved.specs.Spelling.{addr_text, end_text, or_dash}
 use Rattle.npf_saved.proofs.CutLemmas.{lacks, word_before}
 use Rattle.npf_saved.proofs.FieldLemmas.{addr_lacks}
@@ -19,7 +19,7 @@ five_of (a ∷ b ∷ c ∷ d ∷ []) five = absurd (omega (arith, five))
 five_of (a ∷ b ∷ c ∷ d ∷ e ∷ []) five = refl
 five_of (a ∷ b ∷ c ∷ d ∷ e ∷ f ∷ more) five = absurd (omega (arith, five))
 
-pub key_of_five : (key : Key) → FitsKey key → (a b c d e : ℕ) → a ≡ slice_index key.0 0 → b ≡ slice_index key.0 1 → c ≡ slice_index key.0 2
+pub key_of_five : (key : Key) → FitsKeyText key → (a b c d e : ℕ) → a ≡ slice_index key.0 0 → b ≡ slice_index key.0 1 → c ≡ slice_index key.0 2
     → d ≡ slice_index key.0 3 → e ≡ slice_index key.0 4 → a ∷ b ∷ c ∷ d ∷ e ∷ [] ≡ key.0
 key_of_five key fits a b c d e one two three four five = rw (one, two, three, four, five) (five_of key.0 fits.five)
 

@@ -14,7 +14,7 @@ use Rattle.npf_flow.specs.declared.flow.FlowKind.TheVariants.{Tcp, Other}
 use Rattle.npf_saved.specs.declared.saved.Saved.{Saved}
 
 -- five numbers of 64 bits
-pub record FitsKey (key : Key) : Type 0 where
+pub record FitsKeyText (key : Key) : Type 0 where
   pub five : length key.0 ≡ 5
   pub first : slice_index key.0 0 < 2 ^ 64
   pub second : slice_index key.0 1 < 2 ^ 64
@@ -22,12 +22,12 @@ pub record FitsKey (key : Key) : Type 0 where
   pub fourth : slice_index key.0 3 < 2 ^ 64
   pub fifth : slice_index key.0 4 < 2 ^ 64
 
-abbrev pub FitsAddr : Addr → Type 0
-FitsAddr (V4 address) = address < 2 ^ 32
-FitsAddr (V6 address) = address < 2 ^ 128
+abbrev pub FitsAddrText : Addr → Type 0
+FitsAddrText (V4 address) = address < 2 ^ 32
+FitsAddrText (V6 address) = address < 2 ^ 128
 
 abbrev pub FitsEnd : End → Type 0
-FitsEnd one = FitsAddr one.addr × IfSome one.port (λ port. port < 2 ^ 16)
+FitsEnd one = FitsAddrText one.addr × IfSome one.port (λ port. port < 2 ^ 16)
 
 abbrev pub FitsChange : Change → Type 0
 FitsChange change = IfSome change.src FitsEnd × IfSome change.dst FitsEnd
@@ -61,7 +61,7 @@ pub record FitsFlow (flow : Flow) : Type 0 where
   pub action : FitsAction flow.action
 
 pub record FitsSaved (saved : Saved) : Type 0 where
-  pub forward : FitsKey saved.forward
-  pub port : IfSome saved.port FitsKey
-  pub backward : IfSome saved.backward FitsKey
+  pub forward : FitsKeyText saved.forward
+  pub port : IfSome saved.port FitsKeyText
+  pub backward : IfSome saved.backward FitsKeyText
   pub flow : FitsFlow saved.flow

@@ -1,4 +1,5 @@
-// The keys and the translation of a connection's line. Where a word spells one, it is the answer; `line` finds out.
+// The keys and the translation of a connection's line. Where a word spells one, it is the answer;
+// `line` finds out.
 ghost use Rattle.std.specs.Prelude.{◌≡◌, Option, IfSome};
 ghost use Rattle.npf_types.specs.declared.action.Action.{Action as ActionType};
 ghost use Rattle.npf_types.specs.declared.address.Addr.{Addr as AddrType};
@@ -7,7 +8,7 @@ ghost use Rattle.npf_types.specs.declared.change.End.{End as EndType};
 ghost use Rattle.npf_types.specs.declared.key.Key.{Key as KeyType};
 ghost use Rattle.npf_types.specs.declared.name.Name.{Name as NameType};
 ghost use Rattle.npf_types.specs.Name.{name_bytes};
-ghost use Rattle.npf_saved.specs.Fields.{FitsAction, FitsAddr, FitsChange, FitsEnd, FitsKey, FitsName};
+ghost use Rattle.npf_saved.specs.Fields.{FitsAction, FitsAddrText, FitsChange, FitsEnd, FitsKeyText, FitsName};
 ghost use Rattle.npf_saved.specs.Spelling.{action_text, addr_text, change_text, end_text, key_text, or_dash};
 
 use crate::words::{
@@ -22,8 +23,8 @@ const V6_DIGITS: usize = 32;
 const HALF_DIGITS: usize = 16;
 
 pub(crate) fn guess_key(word: &[u8]) -> Key
-    ensures value { (key : KeyType) → FitsKey key → word.now ≡ key_text key → result ≡ key }
-    ensures fits { FitsKey result }
+    ensures value { (key : KeyType) → FitsKeyText key → word.now ≡ key_text key → result ≡ key }
+    ensures fits { FitsKeyText result }
 {
     let (first, rest) = cut(word, b'.');
     let (second, rest) = cut(rest, b'.');
@@ -39,8 +40,9 @@ pub(crate) fn guess_key(word: &[u8]) -> Key
 }
 
 pub(crate) fn guess_optional_key(word: &[u8]) -> Option<Key>
-    ensures value { (key : Option KeyType) → IfSome key FitsKey → word.now ≡ or_dash key_text key → result ≡ key }
-    ensures fits { IfSome result FitsKey }
+    ensures value { (key : Option KeyType) → IfSome key FitsKeyText
+        → word.now ≡ or_dash key_text key → result ≡ key }
+    ensures fits { IfSome result FitsKeyText }
 {
     if is_dash(word) {
         return None;
@@ -49,7 +51,8 @@ pub(crate) fn guess_optional_key(word: &[u8]) -> Option<Key>
 }
 
 pub(crate) fn guess_change(word: &[u8]) -> Change
-    ensures value { (change : ChangeType) → FitsChange change → word.now ≡ change_text change → result ≡ change }
+    ensures value { (change : ChangeType) → FitsChange change
+        → word.now ≡ change_text change → result ≡ change }
     ensures fits { FitsChange result }
 {
     let (src, rest) = cut(word, b'/');
@@ -62,7 +65,8 @@ pub(crate) fn guess_change(word: &[u8]) -> Change
 }
 
 fn guess_optional_end(word: &[u8]) -> Option<End>
-    ensures value { (end : Option EndType) → IfSome end FitsEnd → word.now ≡ or_dash end_text end → result ≡ end }
+    ensures value { (end : Option EndType) → IfSome end FitsEnd
+        → word.now ≡ or_dash end_text end → result ≡ end }
     ensures fits { IfSome result FitsEnd }
 {
     if is_dash(word) {
@@ -76,8 +80,9 @@ fn guess_optional_end(word: &[u8]) -> Option<End>
 }
 
 fn guess_addr(word: &[u8]) -> Addr
-    ensures value { (addr : AddrType) → FitsAddr addr → word.now ≡ addr_text addr → result ≡ addr }
-    ensures fits { FitsAddr result }
+    ensures value { (addr : AddrType) → FitsAddrText addr
+        → word.now ≡ addr_text addr → result ≡ addr }
+    ensures fits { FitsAddrText result }
 {
     if word.len() < V6_DIGITS {
         return Addr::V4(guess_half_word(word));
@@ -87,7 +92,8 @@ fn guess_addr(word: &[u8]) -> Addr
 }
 
 pub(crate) fn guess_action(word: &[u8]) -> Action
-    ensures value { (action : ActionType) → FitsAction action → word.now ≡ action_text action → result ≡ action }
+    ensures value { (action : ActionType) → FitsAction action
+        → word.now ≡ action_text action → result ≡ action }
     ensures fits { FitsAction result }
 {
     let (min_ttl, rest) = cut(word, b',');

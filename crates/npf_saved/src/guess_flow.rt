@@ -1,4 +1,5 @@
-// The flow of a connection's line, and the whole line. Where it spells one, it is the answer; `line` finds out.
+// The flow of a connection's line, and the whole line. Where it spells one, it is the answer;
+// `line` finds out.
 ghost use Rattle.std.specs.Prelude.{◌≡◌};
 ghost use Rattle.npf_tcp.specs.declared.state.Known.{Known as KnownType};
 ghost use Rattle.npf_tcp.specs.declared.state.TcpPhase.{TcpPhase as PhaseType};
@@ -17,7 +18,8 @@ use npf_tcp::{Known, TcpPhase, TcpSide, TcpState};
 
 /// The connection of a line.
 pub(crate) fn guess_conn(line: &[u8]) -> Saved
-    ensures value { (saved : SavedType) → FitsSaved saved → line.now ≡ conn_line saved → result ≡ saved }
+    ensures value { (saved : SavedType) → FitsSaved saved
+        → line.now ≡ conn_line saved → result ≡ saved }
     ensures fits { FitsSaved result }
 {
     let (_, rest) = cut(line, b' ');
@@ -55,7 +57,8 @@ fn guess_kind(word: &[u8]) -> FlowKind
 }
 
 fn guess_state(word: &[u8]) -> TcpState
-    ensures value { (state : StateType) → FitsSide state.forward → FitsSide state.backward → word.now ≡ state_text state → result ≡ state }
+    ensures value { (state : StateType) → FitsSide state.forward → FitsSide state.backward
+        → word.now ≡ state_text state → result ≡ state }
     ensures forward { FitsSide result.forward }
     ensures backward { FitsSide result.backward }
 {

@@ -1,4 +1,5 @@
-// What a line is. A line is spelled again from what it was taken for, and is that only where both are the same.
+// What a line is. A line is spelled again from what it was taken for, and is that only where both
+// are the same.
 ghost use Rattle.std.specs.Prelude.{IfOk};
 ghost use Rattle.npf_types.specs.Reading.{IsReading};
 ghost use Rattle.npf_saved.specs.File.{IsConnLine, IsIfLine};

@@ -1,7 +1,8 @@
 use npf_flow::Flow;
 use npf_types::Key;
 
-/// A connection of a saved file: its key of each way, and its flow. The number of the packet that opened it isn't saved: it is 0.
+/// A connection of a saved file: its key of each way, and its flow. The number of the packet that
+/// opened it isn't saved: it is 0.
 #[derive(Clone, Copy, Debug, PartialEq, Eq)]
 pub struct Saved {
     pub forward: Key,

@@ -1,4 +1,5 @@
-// Lines of saved connections: what is read is written again, and a line that is spelled otherwise is none.
+// Lines of saved connections: what is read is written again, and a line that is spelled otherwise
+// is none.
 use crate::{conn_of_line, if_of_line, saved_text};
 use npf_types::NoMemory;
 use std::process::Abort;

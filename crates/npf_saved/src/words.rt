@@ -1,5 +1,5 @@
-// The words of a line, and the numbers that they spell. Each reader answers at every word: with what the word spells, or else with
-// anything. `line` spells its answer again and compares.
+// The words of a line, and the numbers that they spell. Each reader answers at every word: with
+// what the word spells, or else with anything. `line` spells its answer again and compares.
 ghost use Rattle.std.specs.Prelude.{◌≡◌, ◌↔◌, ◌<◌, ◌^◌, ◌==◌, ℕ, Bool, Option, IfSome, IsTrue, codes, position};
 ghost use Rattle.std.specs.Fmt.{decimal};
 ghost use Rattle.std.specs.Int.{w16, w32, w64};
@@ -8,7 +8,8 @@ ghost use Rattle.npf_saved.specs.Spelling.{bit_text, hex_text, or_dash};
 
 use std::str;
 
-/// What stands before the first mark, and what stands behind it; all and nothing where there is none.
+/// What stands before the first mark, and what stands behind it; all and nothing where there is
+/// none.
 pub(crate) fn cut(text: &[u8], mark: u8) -> (&[u8], &[u8])
     ensures word { result.0.now ≡ before_first (λ byte. byte == mark) text.now }
     ensures behind { result.1.now ≡ after_first (λ byte. byte == mark) text.now }
@@ -55,7 +56,8 @@ pub(crate) fn guess_u32(word: &[u8]) -> u32
 }
 
 pub(crate) fn guess_optional_byte(word: &[u8]) -> Option<u8>
-    ensures value { (number : Option ℕ) → IfSome number (λ n. n < 2 ^ 8) → word.now ≡ or_dash decimal number → result ≡ number }
+    ensures value { (number : Option ℕ) → IfSome number (λ n. n < 2 ^ 8)
+        → word.now ≡ or_dash decimal number → result ≡ number }
     ensures fits { IfSome result (λ n. n < 2 ^ 8) }
 {
     if is_dash(word) {
@@ -65,7 +67,8 @@ pub(crate) fn guess_optional_byte(word: &[u8]) -> Option<u8>
 }
 
 pub(crate) fn guess_optional_size(word: &[u8]) -> Option<u16>
-    ensures value { (number : Option ℕ) → IfSome number (λ n. n < 2 ^ 16) → word.now ≡ or_dash decimal number → result ≡ number }
+    ensures value { (number : Option ℕ) → IfSome number (λ n. n < 2 ^ 16)
+        → word.now ≡ or_dash decimal number → result ≡ number }
     ensures fits { IfSome result (λ n. n < 2 ^ 16) }
 {
     if is_dash(word) {
@@ -94,7 +97,8 @@ pub(crate) fn guess_half_word(word: &[u8]) -> u32
 
 /// Four, or a dash.
 pub(crate) fn guess_optional_port(word: &[u8]) -> Option<u16>
-    ensures value { (port : Option ℕ) → IfSome port (λ n. n < 2 ^ 16) → word.now ≡ or_dash (hex_text w16) port → result ≡ port }
+    ensures value { (port : Option ℕ) → IfSome port (λ n. n < 2 ^ 16)
+        → word.now ≡ or_dash (hex_text w16) port → result ≡ port }
     ensures fits { IfSome result (λ n. n < 2 ^ 16) }
 {
     if is_dash(word) {

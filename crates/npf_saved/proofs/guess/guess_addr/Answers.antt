@@ -6,7 +6,7 @@ use Rattle.hex.specs.Hex.{lower_digits}
 use Rattle.hex.proofs.HexLemmas.{length-encode_with}
 use Rattle.npf_types.specs.declared.address.Addr.{Addr}
 use Rattle.npf_types.specs.declared.address.Addr.TheVariants.{V4, V6}
-use Rattle.npf_saved.specs.Fields.{FitsAddr}
+use Rattle.npf_saved.specs.Fields.{FitsAddrText}
 use Rattle.npf_saved.specs.Spelling.{addr_text, hex_text}
 use Rattle.npf_saved.proofs.guess.guess_addr.Goals as goal
 
@@ -25,7 +25,7 @@ six_long high low =
 
 pub returns-then-word-lt-V6_DIGITS-clause-value : goal.returns-then-word-lt-V6_DIGITS-clause-value
 returns-then-word-lt-V6_DIGITS-clause-value c = by where
-  by : (addr : Addr) → FitsAddr addr → c.args.word.now ≡ addr_text addr → V4 c.guess_half_word.result ≡ addr
+  by : (addr : Addr) → FitsAddrText addr → c.args.word.now ≡ addr_text addr → V4 c.guess_half_word.result ≡ addr
   by (V4 address) fits is = ap V4 (c.guess_half_word.ensures address fits is)
   by (V6 address) fits is =
       let long = ap length is ∙ six_long (address / 2 ^ 64) (address % 2 ^ 64) in
@@ -33,7 +33,7 @@ returns-then-word-lt-V6_DIGITS-clause-value c = by where
 
 pub returns-clause-value : goal.returns-clause-value
 returns-clause-value c = by where
-  by : (addr : Addr) → FitsAddr addr → c.args.word.now ≡ addr_text addr → V6 (c.from.result * 2 ^ 64 + c.from-2.result) ≡ addr
+  by : (addr : Addr) → FitsAddrText addr → c.args.word.now ≡ addr_text addr → V6 (c.from.result * 2 ^ 64 + c.from-2.result) ≡ addr
   by (V4 address) fits is =
       let long = ap length is ∙ four_long address in
       absurd (omega (arith, long, c.if-word-lt-V6_DIGITS.false))
