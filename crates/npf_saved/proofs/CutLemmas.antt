@@ -1,0 +1,68 @@
+-- A text that is a word, a mark and a rest is cut into the word and the rest, where the word lacks the mark.
+use Rattle.std.proofs.Common.{◌≡◌, ◌≤◌, ◌<◌, ◌+◌, ◌-◌, ◌==◌, ℕ, Bool, true, false, cond, not, ◌&&◌, Some, None, position, List, [], ◌∷◌, ◌++◌, length, take, drop, get_or, refl, sym, ap, ◌∙◌, arith}
+use Rattle.std.specs.List.{list_all, before_first, after_first, position_or_len, prefix_len}
+use Rattle.std.proofs.lemmas.Bool.{and_parts, ltb-false}
+use Rattle.std.proofs.lemmas.List.{drop_all, length-drop, take_all}
+use Rattle.std.proofs.lemmas.List.Quantifiers.{position-Some}
+use Rattle.std.proofs.lemmas.List.Sums.{position_or_len_is}
+use Rattle.std.proofs.Math.Seq.{take-append_seam, drop-append-add}
+
+-- no byte of the word is the mark
+abbrev pub lacks : ℕ → List ℕ → Bool
+lacks mark word = list_all (λ byte. not (byte == mark)) word
+
+-- two words with a mark of their own between lack a third
+pub lacks_both : (mark other : ℕ) (word rest : List ℕ) → lacks mark word ≡ true → not (other == mark) ≡ true → lacks mark rest ≡ true
+    → lacks mark (word ++ other ∷ rest) ≡ true
+lacks_both mark other [] rest one two three = rw (two, three) refl
+lacks_both mark other (byte ∷ word) rest one two three =
+    let both = and_parts (not (byte == mark)) (lacks mark word) one in
+    rw (both.0, lacks_both mark other word rest both.1 two three) refl
+
+-- the first mark stands behind the word
+pub first_mark : (mark : ℕ) (word rest : List ℕ) → lacks mark word ≡ true → position_or_len (λ byte. byte == mark) (word ++ mark ∷ rest) ≡ length word
+first_mark mark [] rest _ = search (arith)
+first_mark mark (byte ∷ word) rest lack =
+    let both = and_parts (not (byte == mark)) (lacks mark word) lack in
+    rw (both.0, first_mark mark word rest both.1) (omega arith)
+
+pub word_before : (mark : ℕ) (text word rest : List ℕ) → text ≡ word ++ mark ∷ rest → lacks mark word ≡ true → before_first (λ byte. byte == mark) text ≡ word
+word_before mark text word rest is lack =
+    ap (before_first (λ byte. byte == mark)) is
+    ∙ ap (λ n. take n (word ++ mark ∷ rest)) (first_mark mark word rest lack)
+    ∙ take-append_seam word (mark ∷ rest)
+
+pub rest_behind : (mark : ℕ) (text word rest : List ℕ) → text ≡ word ++ mark ∷ rest → lacks mark word ≡ true → after_first (λ byte. byte == mark) text ≡ rest
+rest_behind mark text word rest is lack =
+    ap (after_first (λ byte. byte == mark)) is
+    ∙ ap (λ n. drop (n + 1) (word ++ mark ∷ rest)) (first_mark mark word rest lack)
+    ∙ drop-append-add word (mark ∷ rest) 1
+
+-- the place that `position` finds ends the word
+place_is : (p : ℕ → Bool) (text : List ℕ) (at : ℕ) → position p text ≡ Some at → position_or_len p text ≡ at
+place_is p text at found =
+    let is = position-Some p text at 0 found in
+    position_or_len_is p text at 0 (omega (arith, is.0)) is.2 (λ _. is.1)
+
+pub found_before : (p : ℕ → Bool) (text : List ℕ) (at : ℕ) → position p text ≡ Some at → take at text ≡ before_first p text
+found_before p text at found = ap (λ n. take n text) (sym (place_is p text at found))
+
+pub found_behind : (p : ℕ → Bool) (text : List ℕ) (at : ℕ) → position p text ≡ Some at
+    → take (length text - (at + 1)) (drop (at + 1) text) ≡ after_first p text
+found_behind p text at found =
+    let long = length-drop (at + 1) text in
+    take_all (length text - (at + 1)) (drop (at + 1) text) (omega (arith, long)) ∙ ap (λ n. drop (n + 1) text) (sym (place_is p text at found))
+
+not_found : {X : Type 0} (answer : Bool) (x : X) → cond answer (Some x) None ≡ None → answer ≡ false
+not_found true x none = cc
+not_found false x none = refl
+
+-- where it finds none, all is the word
+nothing_found : (p : ℕ → Bool) (text : List ℕ) → position p text ≡ None → length text ≤ position_or_len p text
+nothing_found p text none = ltb-false _ _ (not_found _ _ none)
+
+pub none_before : (p : ℕ → Bool) (text : List ℕ) → position p text ≡ None → text ≡ before_first p text
+none_before p text none = sym (take_all (position_or_len p text) text (nothing_found p text none))
+
+pub none_behind : (p : ℕ → Bool) (text : List ℕ) → position p text ≡ None → [] ≡ after_first p text
+none_behind p text none = let all = nothing_found p text none in sym (drop_all (position_or_len p text + 1) text (omega (arith, all)))

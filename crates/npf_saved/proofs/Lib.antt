@@ -1,0 +1,6 @@
+pub mod AppendLemmas
+pub mod CutLemmas
+pub mod WordLemmas
+pub mod FieldLemmas
+pub mod GuessLemmas
+pub mod NameLemmas

@@ -1,0 +1,11 @@
+use Rattle.std.proofs.Common.{refl, ap, ◌∙◌}
+use Rattle.std.specs.Int.{w32, from_be_bytes, to_be_bytes}
+use Rattle.std.proofs.lemmas.Nat.{from_be_bytes-to_be_bytes_4}
+use Rattle.npf_saved.proofs.WordLemmas.{are_bytes, hex_read}
+use Rattle.npf_saved.proofs.words.guess_half_word.Goals as goal
+
+pub returns : goal.returns
+returns c = λ n fits is.
+    c.from_be_bytes.ensures
+    ∙ ap (from_be_bytes w32) (hex_read c.args.word.now 4 c.decode_to_slice.result c.decode_to_slice.new.out (to_be_bytes w32 n) (are_bytes 4 n) refl is c.decode_to_slice.ensures.value)
+    ∙ from_be_bytes-to_be_bytes_4 n fits
