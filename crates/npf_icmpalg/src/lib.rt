@@ -14,8 +14,10 @@
 mod error;
 mod error_translated;
 mod header;
+mod laws;
 mod quoted;
 mod word;
 
 pub use error::{Inner, inner_key, inner_of};
 pub use error_translated::translate_error;
+pub use laws::error_sum_follows;
