@@ -1,9 +1,9 @@
 -- The sum of an error of ICMP, whose words are those behind the outer header.
-use Rattle.std.proofs.Common.{◌≡◌, ℕ, ◌+◌, ◌-◌, ◌*◌, ◌/◌, ◌%◌, ◌^◌, ◌<◌, ◌≤◌, ◌⊎◌, Bool, true, false, Option, Some, None, List, [], ◌∷◌, ◌++◌, length, refl, sym, ap, ◌∙◌, subst, inl, inr, arith}
+use Rattle.std.proofs.Common.{◌≡◌, ℕ, ◌+◌, ◌-◌, ◌*◌, ◌/◌, ◌%◌, ◌^◌, ◌<◌, ◌≤◌, Bool, true, false, Option, Some, None, List, [], ◌∷◌, ◌++◌, length, refl, sym, ap, ◌∙◌, subst, inl, inr, arith}
 use Rattle.std.proofs.lemmas.Bool.Decides.{nat_tests}
-use Rattle.std.specs.Prelude.{◌&&◌, ◌==◌, if◌then◌else◌, nat_le, slice_index}
+use Rattle.std.specs.Prelude.{◌==◌, if◌then◌else◌, nat_le, slice_index}
 use Rattle.npf_types.specs.declared.address.Addr.{Addr}
-use Rattle.npf_types.specs.declared.address.Addr.TheVariants.{V4, V6}
+use Rattle.npf_types.specs.declared.address.Addr.TheVariants.{V4}
 use Rattle.npf_types.specs.declared.change.Change.{Change}
 use Rattle.npf_types.specs.declared.change.End.{End}
 use Rattle.npf_types.specs.declared.facts.Facts.{Facts}
@@ -17,7 +17,7 @@ use Rattle.npf_rewrite.proofs.EndLemmas.{end-between, end-fits, end-inside}
 use Rattle.npf_rewrite.proofs.PlacedLemmas.{between-append}
 use Rattle.npf_rewrite.proofs.TotalLemmas.{AllFit, Between, Inside, after, after-elsewhere, fit-append, inside-append, news, news-append, olds, olds-append, sum_after-fits, sum_after-follows, words_total-same}
 use Rattle.npf_icmpalg.specs.Word.{WordAt}
-use Rattle.npf_icmpalg.proofs.ScatteredLemmas.{Apart, Scattered, apart-append, apart-between, apart-inside, scattered-between, scattered-inside, scattered-last, total-scattered}
+use Rattle.npf_icmpalg.proofs.ScatteredLemmas.{Apart, Scattered, apart-append, apart-between, apart-inside, scattered-between, scattered-inside, scattered-last, behind-there, total-scattered}
 use Rattle.std.specs.Prelude.{◌||◌}
 use Rattle.std.specs.Option.{option_or}
 use Rattle.npf_types.specs.declared.facts.L4.{L4}
@@ -26,8 +26,11 @@ use Rattle.npf_rewrite.specs.Sum.{sum_after_word}
 use Rattle.npf_rewrite.specs.Verified.{PortsFit}
 use Rattle.npf_icmpalg.specs.declared.error.Inner.{Inner}
 use Rattle.npf_icmpalg.specs.declared.header.HeaderEnds.{HeaderEnds}
-use Rattle.npf_icmpalg.specs.Error.{error_in, is_error}
-use Rattle.npf_icmpalg.specs.ErrorTranslated.{ErrorTranslated, outer_ends, quoted_ends, quoted_header_sum, quoted_ports, quoted_sum}
+use Rattle.npf_icmpalg.specs.Error.{IsError, error_in, is_error}
+use Rattle.npf_icmpalg.specs.ErrorTranslated.{ErrorTranslated, error_sum, error_sums, error_writes, outer_ends, quoted_ends, quoted_header_sum, quoted_ports, quoted_sum, quoted_sum_after}
+use Rattle.npf_icmpalg.specs.ErrorVerified.{ErrorSumFollows}
+use Rattle.npf_icmpalg.specs.Quoted.{is_same_address}
+use Rattle.npf_rewrite.specs.Translated.{header_sum}
 use Rattle.npf_icmpalg.specs.Header.{header_addresses}
 
 -- a sum at the second word of what is counted, which follows scattered words behind it
@@ -302,6 +305,89 @@ module _ (bytes translated : List ℕ) (dst : Addr) (proto ip_at at end : ℕ) (
 
     pub whole-fits : (t : Bool) → AllFit (before_sum ++ upper_words (if t then Some place else None))
     whole-fits true =
-        fit-append before_sum (upper_words (Some place)) before-fits
-        (value-small (p == 6) (p == 17) (number16 bytes place == 0) (number16 bytes place) _ _ (number-small place), tt)
+        fit-append before_sum (upper_words (Some place)) before-fits (
+          value-small (p == 6) (p == 17) (number16 bytes place == 0) (number16 bytes place)
+              (header_addresses quoted ++ port_writes) port_writes (number-small place),
+          tt,
+        )
     whole-fits false = subst AllFit (sym (ends before_sum)) before-fits
+
+    abbrev counted_words : Bool → List WordAt
+    counted_words t = before_sum ++ upper_words (if t then Some place else None)
+
+    abbrev sport : Option ℕ
+    sport = named_port (fitting (V4 a) change.dst)
+
+    abbrev dport : Option ℕ
+    dport = named_port (fitting (V4 a) change.src)
+
+    abbrev header_value : ℕ
+    header_value = sum_after 0 bytes (header_addresses quoted) (number16 bytes (at + 8 + 10))
+
+    whole-there : (t : Bool) → nat_le (place + 2) end ≡ t → Scattered at ((end - at) / 2) (counted_words t)
+    whole-there true is =
+        whole-scattered at end m (least_words error) (upper_room error) a change.dst change.src (p == 6 || p == 17)
+        sport dport (option_or dport sport) header_value off (if p == 6 then 8 else (if p == 17 then 3 else 1))
+        (quoted_sum_after bytes quoted port_writes (V4 a) p (number16 bytes place))
+        (offset-even (p == 6) (p == 17)) (offset-fits (p == 6) (p == 17)) (grind (arith, nat_tests, is))
+    whole-there false is =
+        subst (λ ws. Scattered at ((end - at) / 2) ws) (sym (ends before_sum))
+        (header-scattered at end m (least_words error) (upper_room error) a change.dst change.src
+        (p == 6 || p == 17) sport dport (option_or dport sport) header_value)
+
+    before-apart : (w : WordAt) → w.at ≡ at + 2 → Apart w before_sum
+    before-apart w e =
+        header-apart at end m (least_words error) (upper_room error) a change.dst change.src
+        (p == 6 || p == 17) sport dport (option_or dport sport) header_value w e
+
+    whole-apart : (t : Bool) (w : WordAt) → w.at ≡ at + 2 → Apart w (counted_words t)
+    whole-apart true w e =
+        apart-append w before_sum (upper_words (Some place)) (before-apart w e) (inr (omega (arith, e)), tt)
+    whole-apart false w e = subst (λ ws. Apart w ws) (sym (ends before_sum)) (before-apart w e)
+
+    outer-between : Between ip_at at (header_addresses outer)
+    outer-between =
+        between-append ip_at at (end_words (ip_at + 12) outer.src) (end_words (ip_at + 16) outer.dst)
+        (wider (ip_at + 12) (ip_at + 12 + 4) ip_at at (end_words (ip_at + 12) outer.src) (omega arith)
+        (omega (arith, room.upper))
+        (chosen-between (is_same_address (V4 a) inner.dst) a (ip_at + 12) change.src))
+        (wider (ip_at + 16) (ip_at + 16 + 4) ip_at at (end_words (ip_at + 16) outer.dst) (omega arith)
+        (omega (arith, room.upper)) (end-between (V4 a) (ip_at + 16) change.dst))
+
+    pub follows : change.neutral ≡ false → ErrorTranslated bytes facts inner change translated
+        → carried_total (slice_index bytes) at end % 65535 ≡ 0
+        → carried_total (slice_index translated) at end % 65535 ≡ 0
+    follows adjusts written was =
+        let t = nat_le (place + 2) end in
+        let told = error_sum bytes quoted port_writes at inner outer in
+        counted-follows bytes translated at end small (counted_words t) (whole-fits t)
+        (omega (arith, upper_room error)) (whole-apart t told refl) (whole-there t refl)
+        (λ k from. written.each k
+        ∙ ap (λ x. byte_there (error_writes outer quoted port_writes
+        ++ (if x then [] else error_sums bytes quoted port_writes at inner outer)) k (slice_index bytes k)) adjusts
+        ∙ behind-there (header_addresses outer) (header_addresses quoted) port_writes header_word
+        (upper_words inner.sum_at) (word_list (header_sum bytes ip_at (V4 a) (header_addresses outer)))
+        (told ∷ []) ip_at at k (slice_index bytes k) from outer-between
+        (omega arith, (omega (arith, room.upper), tt)))
+        was
+
+pub error_sum_follows_lem : ErrorSumFollows
+error_sum_follows_lem bytes translated facts-given inner-given change a small fits family room error adjusts written was =
+    let P : Facts → Type 0 = λ fs. PortsFit fs change → HasRoom (length bytes) fs → IsError bytes fs inner-given
+    → ErrorTranslated bytes fs inner-given change translated
+    → carried_total (slice_index bytes) fs.l4_at fs.end % 65535 ≡ 0
+    → carried_total (slice_index translated) fs.l4_at fs.end % 65535 ≡ 0 in
+    let built : Addr → Facts = λ src. record {
+      src = src;
+      dst = facts-given.dst;
+      proto = facts-given.proto;
+      ip_at = facts-given.ip_at;
+      l4_at = facts-given.l4_at;
+      end = facts-given.end;
+      l4 = facts-given.l4;
+    } in
+    let there : P (built (V4 a)) = λ ports has is says sum.
+    follows bytes translated facts-given.dst facts-given.proto facts-given.ip_at facts-given.l4_at facts-given.end
+    facts-given.l4 a change small ports has is.error adjusts
+    (subst (λ i. ErrorTranslated bytes (built (V4 a)) i change translated) is.is says) sum in
+    subst P (sym (ap built family)) there fits room error written was

@@ -23,13 +23,19 @@ olds-apart : (f : ℕ → ℕ) (w : WordAt) (vs : List WordAt) → Apart w vs
     → olds (after (w ∷ []) f) vs ≡ olds f vs
 olds-apart f w [] h = refl
 olds-apart f w (v ∷ vs) (inl below, rest) =
-    omega (arith, olds-apart f w vs rest,
-    byte_after-elsewhere w v.at (f v.at) (inl (omega (arith, below))),
-    byte_after-elsewhere w (v.at + 1) (f (v.at + 1)) (inl (omega (arith, below))))
+    omega (
+      arith,
+      olds-apart f w vs rest,
+      byte_after-elsewhere w v.at (f v.at) (inl (omega (arith, below))),
+      byte_after-elsewhere w (v.at + 1) (f (v.at + 1)) (inl (omega (arith, below))),
+    )
 olds-apart f w (v ∷ vs) (inr above, rest) =
-    omega (arith, olds-apart f w vs rest,
-    byte_after-elsewhere w v.at (f v.at) (inr (omega (arith, above))),
-    byte_after-elsewhere w (v.at + 1) (f (v.at + 1)) (inr (omega (arith, above))))
+    omega (
+      arith,
+      olds-apart f w vs rest,
+      byte_after-elsewhere w v.at (f v.at) (inr (omega (arith, above))),
+      byte_after-elsewhere w (v.at + 1) (f (v.at + 1)) (inr (omega (arith, above))),
+    )
 
 pub total-scattered : (f : ℕ → ℕ) (at n : ℕ) (ws : List WordAt) → Scattered at n ws
     → words_total (after ws f) at n + olds f ws ≡ words_total f at n + news ws

@@ -1,5 +1,6 @@
--- The sum of an error of ICMP still verifies once the error is translated: the words that it counts, those from
--- its header to the packet's end, add up to a multiple of 65,535 (RFC 1071 section 1, RFC 792).
+-- The sum of an error of ICMP still verifies once the error is translated: the words that it
+-- counts, those from its header to the packet's end, add up to a multiple of 65,535 (RFC 1071
+-- section 1, RFC 792).
 use Rattle.std.specs.Prelude.{◌≡◌, ℕ, ◌%◌, false, List, length, slice_index}
 use Rattle.npf_types.specs.declared.address.Addr.TheVariants.{V4}
 use Rattle.npf_types.specs.declared.change.Change.{Change}

@@ -9,6 +9,9 @@
 // packet of TCP or UDP or an echo; `inner_key` is the key of what answers that packet; and
 // `translate_error` writes the words and the sums that `ErrorTranslated` names, with the values
 // that it names, and changes no other byte. None takes memory or can be refused.
+//
+// A law says that the sum of an error over IPv4 which verified still verifies, where the change
+// isn't neutral.
 #![tactic(auto)]
 
 mod error;

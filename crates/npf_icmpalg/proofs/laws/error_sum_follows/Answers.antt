@@ -1,6 +1,5 @@
-use Rattle.npf_icmpalg.proofs.ErrorSumLemmas.{counted-follows, whole-fits}
-use Rattle.npf_icmpalg.proofs.ScatteredLemmas.{scattered-append, total-scattered}
+use Rattle.npf_icmpalg.proofs.ErrorSumLemmas.{error_sum_follows_lem}
 use Rattle.npf_icmpalg.proofs.laws.error_sum_follows.Goals as goal
 
 pub returns : goal.returns
-returns c bytes translated facts inner change a small ports family room error adjusts written was = ?
+returns c = error_sum_follows_lem
