@@ -1,2 +1,4 @@
 pub mod AddressLemmas
+pub mod ErrorSumLemmas
+pub mod ScatteredLemmas
 pub mod SumLemmas

@@ -46,13 +46,13 @@ pub fn parse_packet(alloc: Global, digits: &str) -> Result<Vec<u8>>
     Ok(packet)
 }
 
-/// The facts of a packet without a link's header.
-pub fn facts_of(bytes: &[u8]) -> Result<Facts>
+/// The facts of a packet.
+pub fn facts_of(link: Link, bytes: &[u8]) -> Result<Facts>
     requires { length bytes.now ≤ MAX_PACKET_BYTES }
     ensures { IfOk result (HasRoom (length bytes.now)) }
 {
     decoded_has_room();
-    match decode(Link::Raw, bytes) {
+    match decode(link, bytes) {
         Decoded::Ip(facts) => Ok(facts),
         _ => Err(anyhow!("no packet that is looked into")),
     }
@@ -61,7 +61,7 @@ pub fn facts_of(bytes: &[u8]) -> Result<Facts>
 /// What the packet quotes.
 pub fn quoted(alloc: Global, digits: &str) -> Result<Option<Inner>> {
     let bytes = parse_packet(alloc, digits)?;
-    let facts = facts_of(&bytes)?;
+    let facts = facts_of(Link::Raw, &bytes)?;
     Ok(inner_of(&bytes, &facts))
 }
 
@@ -72,14 +72,14 @@ pub fn quotes_with(alloc: Global, digits: &str, at: usize, value: u8) -> Result<
         Some(byte) => *byte = value,
         None => return Err(anyhow!("no such place")),
     }
-    let facts = facts_of(&bytes)?;
+    let facts = facts_of(Link::Raw, &bytes)?;
     Ok(inner_of(&bytes, &facts).is_some())
 }
 
 /// The digits of the error once the change is made.
 pub fn translated(alloc: Global, digits: &str, change: &Change) -> Result<String> {
     let mut bytes = parse_packet(alloc, digits)?;
-    let facts = facts_of(&bytes)?;
+    let facts = facts_of(Link::Raw, &bytes)?;
     let Some(inner) = inner_of(&bytes, &facts) else {
         return Err(anyhow!("no error that quotes a packet"));
     };
