@@ -1,1 +1,4 @@
+pub mod CountLemmas
+pub mod OpenSetLemmas
 pub mod PieceLemmas
+pub mod SetLemmas

@@ -1,3 +1,5 @@
 pub mod Ipv4
 pub mod Ipv6
+pub mod OpenSet
 pub mod Piece
+pub mod Sets

@@ -2,6 +2,7 @@
 use Rattle.std.specs.Prelude.{◌≡◌, ℕ, ◌+◌, ◌-◌, ◌%◌, ◌≤◌, ◌<◌, ◌==◌, ◌&&◌, ◌||◌, ◌⊎◌, nat_lt, not, if◌then◌else◌, Bool, true, Option, Some, None, ⊤}
 use Rattle.npf_packet.specs.declared.fragment_at.FragmentAt.{FragmentAt}
 use Rattle.npf_packet.specs.FragmentAt.{FindsFragment}
+use Rattle.npf_packet.specs.Place.{least_ip_header}
 use Rattle.npf_traffic.specs.declared.packet.Packet.{Packet}
 use Rattle.npf_pieces.specs.declared.piece.Piece.{Piece}
 use Rattle.npf_pieces.specs.declared.piece.Seen.{Seen}
@@ -66,7 +67,7 @@ pub record IsGood (piece : Piece) : Type 0 where
 
 -- its parts follow one another within the packet's bytes, of which there are `size`
 pub record IsPlacedPiece (size : ℕ) (piece : Piece) : Type 0 where
-  pub header : piece.ip_at + 20 ≤ piece.head_end
+  pub header : piece.ip_at + least_ip_header piece.key.src ≤ piece.head_end
   pub «data» : piece.head_end ≤ piece.data_at
   pub end : piece.data_at ≤ piece.end
   pub within : piece.end ≤ size

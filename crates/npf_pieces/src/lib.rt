@@ -5,12 +5,16 @@
 // that for each packet there is one answer. Nothing here takes memory.
 #![tactic(auto)]
 
+mod arrived;
 mod ipv4;
 mod ipv6;
 mod laws;
+mod measure;
+mod open_set;
 mod piece;
 #[cfg(test)]
 mod tests;
 
+pub use arrived::{Arrived, Ending, SetAt};
 pub use laws::one_seeing;
 pub use piece::{FragKey, Piece, Seen, piece_of};
