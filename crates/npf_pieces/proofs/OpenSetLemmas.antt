@@ -1,7 +1,8 @@
 -- What is known of an open set follows a piece that is added.
-use Rattle.std.proofs.Common.{◌≡◌, ℕ, ◌+◌, ◌-◌, ◌*◌, ◌/◌, ◌<◌, ◌≤◌, ◌∙◌, ◌&&◌, ◌||◌, Bool, true, false, refl, sym, ap, max, nat_eq, nat_le, nat_lt, if◌then◌else◌, List, [], ◌∷◌, ◌++◌, Some, None, arith}
+use Rattle.std.proofs.Common.{◌≡◌, ℕ, ◌+◌, ◌-◌, ◌*◌, ◌/◌, ◌<◌, ◌≤◌, ◌∙◌, ◌&&◌, ◌||◌, Bool, true, false, refl, sym, ap, max, nat_eq, nat_le, nat_lt, if◌then◌else◌, List, [], ◌∷◌, ◌++◌, Option, Some, None, arith}
 use Rattle.std.specs.Prelude.{slice_index}
 use Rattle.std.specs.List.{list_any}
+use Rattle.std.specs.Option.{option_or}
 use Rattle.std.proofs.lemmas.Bool.Decides.{nat_tests}
 use Rattle.std.proofs.Common.{replicate}
 use Rattle.std.proofs.lemmas.List.{get_or-replicate}
@@ -13,16 +14,17 @@ use Rattle.npf_pieces.specs.OpenSet.{IsKnown, IsTaken, count_below, first_header
 use Rattle.npf_pieces.specs.Piece.{end_of}
 use Rattle.npf_pieces.specs.Sets.{ending_of, has, has_byte, is_last, is_too_long, is_whole, overlaps, passes_last, reach, shares_byte}
 use Rattle.npf_pieces.proofs.CountLemmas.{count_within}
-use Rattle.npf_pieces.proofs.SetLemmas.{all_by_count, any_push, covered_push, header_push, not_shared, left_false, right_false, passes_push, reach_push, reach_within, too_long, unit_byte, unit_had, unit_shared}
+use Rattle.npf_pieces.proofs.SetLemmas.{all_by_count, any_push, covered_push, first_push, header_push, not_shared, left_false, right_false, passes_push, reach_push, reach_within, too_long, unit_byte, unit_had, unit_shared}
 
 pub zeros : (items : List ℕ) → items ≡ replicate 8192 0 → (unit : ℕ) → unit < 8192 → slice_index items unit ≤ 0
 zeros items e unit h = omega (arith, ap (λ (xs : List ℕ). slice_index xs unit) e ∙ get_or-replicate 8192 unit 0 0 h)
 
-pub known_none : (known : OpenSet) → known.covered ≡ 0 → known.reach ≡ 0 → known.ended ≡ false → known.header ≡ 0
+pub known_none : (known : OpenSet) → known.begun ≡ None → known.covered ≡ 0 → known.reach ≡ 0 → known.ended ≡ false → known.header ≡ 0
     → ((unit : ℕ) → unit < 8192 → slice_index known.filled.items unit ≤ known.first) → IsKnown [] known
-known_none known covered reach ended header old = record {
+known_none known begun covered reach ended header old = record {
   taken = All-nil IsTaken;
   apart = refl;
+  begun = begun;
   covered = covered;
   reach = reach;
   ended = ended;
@@ -57,17 +59,18 @@ module _ (set : List Arrived) (a : Arrived) (old : OpenSet) (is : IsKnown set ol
       rw e (rw ended (rw reaches (rw passes refl)))
 
   pub added : (new : OpenSet) → overlaps set a ≡ false
-      → new.covered ≡ old.covered + (end_of a.piece - a.piece.from) → new.reach ≡ max old.reach (end_of a.piece)
+      → new.begun ≡ option_or old.begun (Some a.time) → new.covered ≡ old.covered + (end_of a.piece - a.piece.from) → new.reach ≡ max old.reach (end_of a.piece)
       → new.ended ≡ (old.ended || a.piece.last) → new.header ≡ max old.header (first_header a.piece)
       → ((unit : ℕ) → unit < 8192 → is_filled new unit ≡ (is_filled old unit || (nat_le (a.piece.from / 8) unit && nat_lt unit ((end_of a.piece + 7) / 8))))
       → IsKnown (set ++ a ∷ []) new
-  added new free covered reaches ended header units =
+  added new free begun covered reaches ended header units =
       let shares = list_any (shares_byte a) set in
       let lasts = is_last a && list_any is_last set in
       let apart = left_false shares lasts (left_false (shares || lasts) (passes_last (set ++ a ∷ [])) free) in
       record {
         taken = All-push IsTaken set a is.taken taken;
         apart = right_false (shares || lasts) (passes_last (set ++ a ∷ [])) free;
+        begun = begun ∙ ap (λ (t : Option ℕ). option_or t (Some a.time)) is.begun ∙ sym (first_push set a);
         covered = covered ∙ ap (λ (n : ℕ). n + (end_of a.piece - a.piece.from)) is.covered ∙ sym (covered_push set a (omega arith) apart);
         reach = reaches ∙ ap (λ (n : ℕ). max n (end_of a.piece)) is.reach ∙ sym (reach_push set a);
         ended = ended ∙ ap (λ (b : Bool). b || a.piece.last) is.ended ∙ sym (any_push is_last set a);

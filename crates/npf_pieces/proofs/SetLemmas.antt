@@ -1,7 +1,8 @@
 -- What is known of a set that a piece joins.
-use Rattle.std.proofs.Common.{◌≡◌, ℕ, ◌+◌, ◌-◌, ◌*◌, ◌/◌, ◌%◌, ◌<◌, ◌≤◌, ◌==◌, ◌⊎◌, ◌∙◌, ◌&&◌, ◌||◌, Bool, true, false, zero, suc, inl, inr, refl, sym, ap, max, nat_eq, nat_le, nat_lt, if◌then◌else◌, List, [], ◌∷◌, ◌++◌, arith}
+use Rattle.std.proofs.Common.{◌≡◌, ℕ, ◌+◌, ◌-◌, ◌*◌, ◌/◌, ◌%◌, ◌<◌, ◌≤◌, ◌==◌, ◌⊎◌, ◌∙◌, ◌&&◌, ◌||◌, Bool, true, false, zero, suc, inl, inr, refl, sym, ap, max, nat_eq, nat_le, nat_lt, if◌then◌else◌, List, [], ◌∷◌, ◌++◌, Some, arith}
 use Rattle.std.specs.Prelude.{All}
 use Rattle.std.specs.List.{list_any}
+use Rattle.std.specs.Option.{option_or}
 use Rattle.std.proofs.Math.Bool.{or-false}
 use Rattle.std.proofs.lemmas.Bool.Decides.{nat_tests}
 use Rattle.std.proofs.lemmas.List.Folds.{list_any-append}
@@ -9,7 +10,7 @@ use Rattle.std.proofs.lemmas.List.Elements.{All-head, All-tail}
 use Rattle.npf_pieces.specs.declared.arrived.Arrived.{Arrived}
 use Rattle.npf_pieces.specs.OpenSet.{IsTaken, count_below, first_header, greatest_header}
 use Rattle.npf_pieces.specs.Piece.{end_of}
-use Rattle.npf_pieces.specs.Sets.{has, has_all_below, has_byte, header_counted, is_last, is_too_long, passes_last, reach, shares_byte}
+use Rattle.npf_pieces.specs.Sets.{first_time, has, has_all_below, has_byte, header_counted, is_last, is_too_long, passes_last, reach, shares_byte}
 use Rattle.npf_pieces.proofs.CountLemmas.{count_beyond, count_either, count_range, count_within, one_more}
 
 true_or_false : (b : Bool) → (b ≡ true) ⊎ (b ≡ false)
@@ -20,6 +21,10 @@ true_or_false false = inr refl
 pub reach_push : (set : List Arrived) (a : Arrived) → reach (set ++ a ∷ []) ≡ max (reach set) (end_of a.piece)
 reach_push [] a = omega arith
 reach_push (o ∷ set) a = omega (arith, reach_push set a)
+
+pub first_push : (set : List Arrived) (a : Arrived) → first_time (set ++ a ∷ []) ≡ option_or (first_time set) (Some a.time)
+first_push [] a = refl
+first_push (o ∷ set) a = refl
 
 greatest_of : (x y z w : ℕ) → w ≡ max y z → max x w ≡ max (max x y) z
 greatest_of x y z w e = omega (arith, e)

@@ -6,7 +6,7 @@ use Rattle.npf_pieces.specs.declared.arrived.Arrived.{Arrived}
 use Rattle.npf_pieces.specs.declared.open_set.OpenSet.{OpenSet}
 use Rattle.npf_pieces.specs.declared.piece.Piece.{Piece}
 use Rattle.npf_pieces.specs.Piece.{IsGood, IsPlacedPiece}
-use Rattle.npf_pieces.specs.Sets.{has, header_counted, is_last, passes_last, reach}
+use Rattle.npf_pieces.specs.Sets.{first_time, has, header_counted, is_last, passes_last, reach}
 
 -- a piece of a packet, as `piece_of` finds it
 pub record IsTaken (a : Arrived) : Type 0 where
@@ -34,6 +34,7 @@ is_filled known unit = nat_lt known.first (slice_index known.filled.items unit)
 pub record IsKnown (set : List Arrived) (known : OpenSet) : Type 0 where
   pub taken : All IsTaken set
   pub apart : passes_last set ≡ false
+  pub begun : known.begun ≡ first_time set
   pub covered : known.covered ≡ count_below (has set) (reach set)
   pub reach : known.reach ≡ reach set
   pub ended : known.ended ≡ list_any is_last set
@@ -44,6 +45,7 @@ pub record IsKnown (set : List Arrived) (known : OpenSet) : Type 0 where
 pub record KeepsSums (old new : OpenSet) : Type 0 where
   pub first : new.first ≡ old.first
   pub behind : new.behind ≡ old.behind
+  pub begun : new.begun ≡ old.begun
   pub covered : new.covered ≡ old.covered
   pub reach : new.reach ≡ old.reach
   pub ended : new.ended ≡ old.ended

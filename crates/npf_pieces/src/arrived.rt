@@ -1,4 +1,4 @@
-// Pieces as they come, and the sets that they make.
+// A piece as it comes, and what becomes of the set that it joins.
 
 use crate::piece::Piece;
 
@@ -9,21 +9,11 @@ pub struct Arrived {
     pub piece: Piece,
 }
 
-/// What becomes of a set.
+/// What becomes of a set that waits for no further piece.
 #[derive(Clone, Copy, Debug, PartialEq, Eq)]
 pub enum Ending {
-    /// Pieces are missing.
-    Unfinished,
     /// Its last piece overlaps the others, or the datagram would be too long.
     Refused,
     /// With its last piece the datagram is whole.
     Complete,
-}
-
-/// A set of pieces that came one behind the other: those from the place `first` up to `behind`, which isn't one of them.
-#[derive(Clone, Copy, Debug, PartialEq, Eq)]
-pub struct SetAt {
-    pub first: usize,
-    pub behind: usize,
-    pub ending: Ending,
 }

@@ -15,6 +15,7 @@ mod piece;
 #[cfg(test)]
 mod tests;
 
-pub use arrived::{Arrived, Ending, SetAt};
+pub use arrived::{Arrived, Ending};
 pub use laws::one_seeing;
+pub use open_set::OpenSet;
 pub use piece::{FragKey, Piece, Seen, piece_of};

@@ -1,8 +1,8 @@
-// How much of a datagram a piece has, in bytes and in units of 8 bytes.
+// How much of a datagram a piece has, in bytes and in units of 8 bytes, and how long a set waits.
 ghost use Rattle.std.specs.Prelude.{◌≡◌, ◌+◌, ◌/◌, ◌≤◌};
 ghost use Rattle.npf_pieces.specs.Piece.{IsPlacedPiece, end_of};
 ghost use Rattle.npf_pieces.specs.OpenSet.{first_header};
-ghost use Rattle.npf_pieces.specs.Sets.{header_counted};
+ghost use Rattle.npf_pieces.specs.Sets.{has_waited, header_counted};
 
 use crate::piece::Piece;
 use npf_types::Addr;
@@ -10,6 +10,19 @@ use npf_types::limits::MAX_PACKET_BYTES;
 
 /// The header of IPv6 without extension headers, in bytes (RFC 8200 section 3).
 const FIXED_HEADER_V6: u32 = 40;
+
+/// Nanoseconds that a set waits for its pieces.
+const WAIT: u64 = 30_000_000_000;
+
+/// Whether a set that began then, if it did, has waited too long by now.
+pub(crate) fn has_waited(begun: Option<u64>, now: u64) -> bool
+    ensures { result ≡ has_waited begun now }
+{
+    match begun {
+        None => false,
+        Some(begun) => now.saturating_sub(begun) >= WAIT,
+    }
+}
 
 /// The unit with this byte.
 pub(crate) fn unit_of(byte: u32) -> usize

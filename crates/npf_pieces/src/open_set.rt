@@ -1,9 +1,10 @@
 // The open set of a key, without a look at its pieces again: each step takes the time of one piece.
 ghost use Rattle.std.specs.Prelude.{◌≡◌, ℕ, ◌+◌, ◌*◌, ◌<◌, ◌≤◌, ◌||◌, ◌&&◌, nat_eq, nat_le, nat_lt, true, false, List, [], ◌∷◌, ◌++◌, All, IfOk, length, slice_index, if◌then◌else◌};
+ghost use Rattle.npf_types.specs.declared.limits.TheConstants.{MAX_PACKET_BYTES};
 ghost use Rattle.npf_pieces.specs.declared.arrived.Ending.TheVariants.{Complete, Refused};
 
 use crate::arrived::{Arrived, Ending};
-use crate::measure::{end_of, first_header, unit_of, units_below};
+use crate::measure::{end_of, first_header, has_waited, unit_of, units_below};
 use npf_types::limits::MAX_PACKET_BYTES;
 use npf_types::NoMemory;
 use std::alloc::Global;
@@ -14,34 +15,39 @@ const UNITS: usize = 8192;
 /// Bytes that the length of a datagram can tell (RFC 791 section 3.1, RFC 8200 section 3).
 const MAX_LENGTH: u32 = 65_535;
 
-/// What is known of the open set, whose pieces are those from `first` up to `behind` of all that came: how many bytes it
-/// has and how far they reach, whether a last piece is there, and the header of the one that begins the datagram. A unit of 8
-/// bytes is in it where more than `first` pieces had come when it was filled.
+/// What is known of the open set of a key: when it began, how many bytes it has and how far they reach, whether a last piece is
+/// there, and the greatest header of a piece that begins the datagram. Its pieces are among those from `first` up to `behind`
+/// of all that came, and a unit of 8 bytes is in it where more than `first` had come when it was filled: so nothing is cleared.
 #[derive(Drop)]
-pub(crate) struct OpenSet {
-    pub(crate) first: usize,
-    pub(crate) behind: usize,
+pub struct OpenSet {
+    first: usize,
+    behind: usize,
+    begun: Option<u64>,
     filled: Vec<usize>,
     covered: u32,
     reach: u32,
     ended: bool,
     header: u32,
+    ghost order: { first ≤ behind },
+    ghost narrow: { reach ≤ 65535 },
+    ghost headed: { header ≤ MAX_PACKET_BYTES },
     ghost sized: { length filled.items ≡ 8192 },
     ghost past: { (unit : ℕ) → unit < 8192 → slice_index filled.items unit ≤ behind },
 }
 
 impl OpenSet {
     ghost use Rattle.npf_pieces.specs.OpenSet.{IsKnown, IsTaken, KeepsSums, is_filled};
-    ghost use Rattle.npf_pieces.specs.Sets.{ending_of, overlaps};
+    ghost use Rattle.npf_pieces.specs.Sets.{ending_of, is_late, overlaps};
 
     /// A set without pieces, before any came.
-    pub(crate) fn new(alloc: Global) -> Result<OpenSet, NoMemory>
+    pub fn new(alloc: Global) -> Result<OpenSet, NoMemory>
         ensures none { IfOk result (IsKnown []) }
         ensures place { IfOk result (λ made. (made.first ≡ 0) × (made.behind ≡ 0)) }
     {
         Ok(OpenSet {
             first: 0,
             behind: 0,
+            begun: None,
             filled: vec![in alloc; 0; UNITS]?,
             covered: 0,
             reach: 0,
@@ -51,21 +57,29 @@ impl OpenSet {
     }
 
     /// A set without pieces, behind so many that came.
-    pub(crate) fn restart(&mut self, behind: usize)
+    pub fn restart(&mut self, behind: usize)
         requires { self.old.behind ≤ behind }
         ensures none { IsKnown [] self.new }
         ensures place { (self.new.first ≡ behind) × (self.new.behind ≡ behind) }
     {
         self.first = behind;
         self.behind = behind;
+        self.begun = None;
         self.covered = 0;
         self.reach = 0;
         self.ended = false;
         self.header = 0;
     }
 
+    /// Whether this one comes too late for the set: 30 seconds or more after its first piece.
+    pub fn is_late(&self, arrived: &Arrived) -> bool
+        ensures { (set : List Arrived) → IsKnown set self.now → result ≡ is_late set arrived.now }
+    {
+        has_waited(self.begun, arrived.time)
+    }
+
     /// Whether this one overlaps the set.
-    pub(crate) fn overlaps(&self, arrived: &Arrived) -> bool
+    pub fn overlaps(&self, arrived: &Arrived) -> bool
         requires { IsTaken arrived.now }
         ensures { (set : List Arrived) → IsKnown set self.now → result ≡ overlaps set arrived.now }
     {
@@ -99,11 +113,10 @@ impl OpenSet {
     }
 
     /// Adds this one, which doesn't overlap the set.
-    pub(crate) fn add(&mut self, arrived: &Arrived)
+    pub fn add(&mut self, arrived: &Arrived)
         requires taken { IsTaken arrived.now }
         requires room { self.old.covered ≤ 65535 }
         requires count { self.old.behind < usize.MAX }
-        requires first { self.old.first ≤ self.old.behind }
         ensures adds { (set : List Arrived) → IsKnown set self.old → overlaps set arrived.now ≡ false → IsKnown (set ++ arrived.now ∷ []) self.new }
         ensures place { (self.new.first ≡ self.old.first) × (self.new.behind ≡ self.old.behind + 1) }
     {
@@ -111,6 +124,7 @@ impl OpenSet {
         let end = end_of(piece);
         self.behind += 1;
         self.fill(unit_of(piece.from), units_below(end));
+        self.begun = self.begun.or(Some(arrived.time));
         self.covered += end - piece.from;
         self.reach = self.reach.max(end);
         self.ended |= piece.last;
@@ -131,9 +145,7 @@ impl OpenSet {
     }
 
     /// How the set ends with the pieces that it has, if it does.
-    pub(crate) fn ending(&self) -> Option<Ending>
-        requires reach { self.now.reach ≤ 65535 }
-        requires header { self.now.header ≤ MAX_PACKET_BYTES }
+    pub fn ending(&self) -> Option<Ending>
         ensures { (set : List Arrived) → IsKnown set self.now → result ≡ ending_of set }
     {
         let whole = self.is_whole();
@@ -150,8 +162,6 @@ impl OpenSet {
 
     /// Whether the datagram would be too long.
     fn is_too_long(&self) -> bool
-        requires reach { self.now.reach ≤ 65535 }
-        requires header { self.now.header ≤ MAX_PACKET_BYTES }
         ensures { result ≡ nat_lt 65535 (self.now.header + self.now.reach) }
     {
         self.header + self.reach > MAX_LENGTH

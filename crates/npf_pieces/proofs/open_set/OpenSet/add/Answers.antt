@@ -9,6 +9,7 @@ returns-clause-adds c = λ set known free.
     let behind = c.units_below.ensures in
     let same = c.fill.ensures.same in
     added set c.args.arrived.now c.args.self.now known c.requires.taken _ free
+    (rw c.or-self.ensures (rw same.begun refl))
     (rw same.covered (rw end refl))
     (rw c.max-self.ensures (rw same.reach (rw end refl)))
     (rw same.ended refl)
