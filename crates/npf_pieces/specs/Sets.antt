@@ -1,13 +1,14 @@
--- A set of pieces of one key, in the order in which they came (RFC 791 section 3.2, RFC 8200 section 4.5), and what a further
--- piece makes of it: the set is open until it is complete, is refused, or has waited too long.
-use Rattle.std.specs.Prelude.{ℕ, ◌+◌, ◌-◌, ◌==◌, ◌&&◌, ◌||◌, nat_lt, nat_le, max, if◌then◌else◌, Bool, true, false, zero, suc, Option, Some, None, List, [], ◌∷◌, ◌++◌}
+-- The sets that the pieces of one key make, in the order in which they come (RFC 791 section 3.2, RFC 8200 section 4.5). A set
+-- is open until it is complete, is refused, or has waited too long.
+use Rattle.std.specs.Prelude.{ℕ, ◌+◌, ◌-◌, ◌==◌, ◌&&◌, ◌||◌, nat_lt, nat_le, max, if◌then◌else◌, Bool, true, false, zero, suc, Option, Some, None, List, [], ◌∷◌, ◌++◌, slice_range}
 use Rattle.std.specs.List.{list_any}
 use Rattle.npf_types.specs.declared.address.Addr.{Addr}
 use Rattle.npf_types.specs.declared.address.Addr.TheVariants.{V4, V6}
 use Rattle.npf_pieces.specs.declared.piece.Piece.{Piece}
 use Rattle.npf_pieces.specs.declared.arrived.Arrived.{Arrived}
 use Rattle.npf_pieces.specs.declared.arrived.Ending.{Ending}
-use Rattle.npf_pieces.specs.declared.arrived.Ending.TheVariants.{Refused, Complete}
+use Rattle.npf_pieces.specs.declared.arrived.Ending.TheVariants.{Unfinished, Refused, Complete}
+use Rattle.npf_pieces.specs.declared.arrived.SetAt.{SetAt}
 use Rattle.npf_pieces.specs.Piece.{end_of}
 
 -- it has this byte of the datagram's data
@@ -78,3 +79,33 @@ is_late set a = has_waited (first_time set) a.time
 abbrev pub ending_of : List Arrived → Option Ending
 ending_of set =
     if is_whole set then Some (if is_too_long set then Refused else Complete) else None
+
+-- how the piece that comes ends the open set, if it does
+abbrev pub ending_with : List Arrived → Arrived → Option Ending
+ending_with set a = if overlaps set a then Some Refused else ending_of (set ++ a ∷ [])
+
+pub record Set : Type 0 where
+  pub pieces : List Arrived
+  pub ending : Ending
+
+-- the open set where no more comes
+abbrev pub unfinished : List Arrived → List Set
+unfinished [] = []
+unfinished (a ∷ set) = record { pieces = a ∷ set; ending = Unfinished } ∷ []
+
+-- a set that ended, if it did, and what comes behind it
+abbrev pub ended_by : (List Arrived → List Set) → List Arrived → Option Ending → List Set
+ended_by behind set None = behind set
+ended_by behind set (Some ending) = record { pieces = set; ending = ending } ∷ behind []
+
+-- the sets of an open set's pieces and those that come: one that is too late ends the set unfinished and begins another
+abbrev pub sets_from : List Arrived → List Arrived → List Set
+sets_from set [] = unfinished set
+sets_from set (a ∷ rest) =
+    if is_late set a
+    then unfinished set ++ ended_by (λ next. sets_from next rest) (a ∷ []) (ending_with [] a)
+    else ended_by (λ next. sets_from next rest) (set ++ a ∷ []) (ending_with set a)
+
+-- a set of these pieces by its places
+abbrev pub set_in : List Arrived → SetAt → Set
+set_in all set = record { pieces = slice_range all set.first set.behind; ending = set.ending }

@@ -1,4 +1,4 @@
-// A piece as it comes, and what becomes of the set that it joins.
+// Pieces as they come, and the sets that they make.
 
 use crate::piece::Piece;
 
@@ -9,11 +9,21 @@ pub struct Arrived {
     pub piece: Piece,
 }
 
-/// What becomes of a set that waits for no further piece.
+/// What becomes of a set.
 #[derive(Clone, Copy, Debug, PartialEq, Eq)]
 pub enum Ending {
+    /// It waited too long, or no more comes.
+    Unfinished,
     /// Its last piece overlaps the others, or the datagram would be too long.
     Refused,
     /// With its last piece the datagram is whole.
     Complete,
+}
+
+/// A set of pieces that came one behind the other: those from the place `first` up to `behind`, which isn't one of them.
+#[derive(Clone, Copy, Debug, PartialEq, Eq)]
+pub struct SetAt {
+    pub first: usize,
+    pub behind: usize,
+    pub ending: Ending,
 }

@@ -12,10 +12,11 @@ mod laws;
 mod measure;
 mod open_set;
 mod piece;
+mod sets;
 #[cfg(test)]
 mod tests;
 
-pub use arrived::{Arrived, Ending};
+pub use arrived::{Arrived, Ending, SetAt};
 pub use laws::one_seeing;
-pub use open_set::OpenSet;
 pub use piece::{FragKey, Piece, Seen, piece_of};
+pub use sets::sets_of;

@@ -19,9 +19,9 @@ const MAX_LENGTH: u32 = 65_535;
 /// there, and the greatest header of a piece that begins the datagram. Its pieces are among those from `first` up to `behind`
 /// of all that came, and a unit of 8 bytes is in it where more than `first` had come when it was filled: so nothing is cleared.
 #[derive(Drop)]
-pub struct OpenSet {
-    first: usize,
-    behind: usize,
+pub(crate) struct OpenSet {
+    pub(crate) first: usize,
+    pub(crate) behind: usize,
     begun: Option<u64>,
     filled: Vec<usize>,
     covered: u32,
@@ -37,10 +37,10 @@ pub struct OpenSet {
 
 impl OpenSet {
     ghost use Rattle.npf_pieces.specs.OpenSet.{IsKnown, IsTaken, KeepsSums, is_filled};
-    ghost use Rattle.npf_pieces.specs.Sets.{ending_of, is_late, overlaps};
+    ghost use Rattle.npf_pieces.specs.Sets.{ending_of, ending_with, is_late, overlaps};
 
     /// A set without pieces, before any came.
-    pub fn new(alloc: Global) -> Result<OpenSet, NoMemory>
+    pub(crate) fn new(alloc: Global) -> Result<OpenSet, NoMemory>
         ensures none { IfOk result (IsKnown []) }
         ensures place { IfOk result (λ made. (made.first ≡ 0) × (made.behind ≡ 0)) }
     {
@@ -57,7 +57,7 @@ impl OpenSet {
     }
 
     /// A set without pieces, behind so many that came.
-    pub fn restart(&mut self, behind: usize)
+    pub(crate) fn restart(&mut self, behind: usize)
         requires { self.old.behind ≤ behind }
         ensures none { IsKnown [] self.new }
         ensures place { (self.new.first ≡ behind) × (self.new.behind ≡ behind) }
@@ -71,15 +71,32 @@ impl OpenSet {
         self.header = 0;
     }
 
+    /// How this one ends the set, if it does: otherwise it is added.
+    pub(crate) fn take(&mut self, arrived: &Arrived) -> Option<Ending>
+        requires taken { IsTaken arrived.now }
+        requires room { self.old.covered ≤ 65535 }
+        requires count { self.old.behind < usize.MAX }
+        ensures ends { (set : List Arrived) → IsKnown set self.old → result ≡ ending_with set arrived.now }
+        ensures adds { (set : List Arrived) → IsKnown set self.old → result ≡ None → IsKnown (set ++ arrived.now ∷ []) self.new }
+        ensures place { (self.new.first ≡ self.old.first) × (self.new.behind ≡ self.old.behind + 1) }
+    {
+        if self.overlaps(arrived) {
+            self.behind += 1;
+            return Some(Ending::Refused);
+        }
+        self.add(arrived);
+        self.ending()
+    }
+
     /// Whether this one comes too late for the set: 30 seconds or more after its first piece.
-    pub fn is_late(&self, arrived: &Arrived) -> bool
+    pub(crate) fn is_late(&self, arrived: &Arrived) -> bool
         ensures { (set : List Arrived) → IsKnown set self.now → result ≡ is_late set arrived.now }
     {
         has_waited(self.begun, arrived.time)
     }
 
     /// Whether this one overlaps the set.
-    pub fn overlaps(&self, arrived: &Arrived) -> bool
+    fn overlaps(&self, arrived: &Arrived) -> bool
         requires { IsTaken arrived.now }
         ensures { (set : List Arrived) → IsKnown set self.now → result ≡ overlaps set arrived.now }
     {
@@ -113,7 +130,7 @@ impl OpenSet {
     }
 
     /// Adds this one, which doesn't overlap the set.
-    pub fn add(&mut self, arrived: &Arrived)
+    fn add(&mut self, arrived: &Arrived)
         requires taken { IsTaken arrived.now }
         requires room { self.old.covered ≤ 65535 }
         requires count { self.old.behind < usize.MAX }
@@ -145,7 +162,7 @@ impl OpenSet {
     }
 
     /// How the set ends with the pieces that it has, if it does.
-    pub fn ending(&self) -> Option<Ending>
+    fn ending(&self) -> Option<Ending>
         ensures { (set : List Arrived) → IsKnown set self.now → result ≡ ending_of set }
     {
         let whole = self.is_whole();
