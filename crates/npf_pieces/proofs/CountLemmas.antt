@@ -27,7 +27,7 @@ pub count_beyond : (f : ℕ → Bool) (end n : ℕ) → ((byte : ℕ) → end �
     → count_below f n ≡ count_below f end
 count_beyond f end zero none h = let e : zero ≡ end = omega (arith, h) in ap (count_below f) e
 count_beyond f end (suc n) none h = elim (is_below end n h) [
-  inl le ↦ grind (arith, count_beyond f end n none le, none n le)
+  | inl le ↦ grind (arith, count_beyond f end n none le, none n le)
   | inr e ↦ ap (count_below f) (sym e)
 ]
 

@@ -10,7 +10,7 @@ use Rattle.std.proofs.lemmas.List.Elements.{All-nil, All-push}
 use Rattle.npf_pieces.specs.declared.arrived.Arrived.{Arrived}
 use Rattle.npf_pieces.specs.declared.arrived.Ending.TheVariants.{Complete, Refused}
 use Rattle.npf_pieces.specs.declared.open_set.OpenSet.{OpenSet}
-use Rattle.npf_pieces.specs.OpenSet.{IsKnown, IsTaken, count_below, first_header, is_filled}
+use Rattle.npf_pieces.specs.OpenSet.{KnowsSet, IsTaken, count_below, beginning_header, is_filled}
 use Rattle.npf_pieces.specs.Piece.{end_of}
 use Rattle.npf_pieces.specs.Sets.{ending_of, has, has_byte, is_last, is_too_long, is_whole, overlaps, passes_last, reach, shares_byte}
 use Rattle.npf_pieces.proofs.CountLemmas.{count_within}
@@ -20,7 +20,7 @@ pub zeros : (items : List ℕ) → items ≡ replicate 8192 0 → (unit : ℕ) �
 zeros items e unit h = omega (arith, ap (λ (xs : List ℕ). slice_index xs unit) e ∙ get_or-replicate 8192 unit 0 0 h)
 
 pub known_none : (known : OpenSet) → known.begun ≡ None → known.covered ≡ 0 → known.reach ≡ 0 → known.ended ≡ false → known.header ≡ 0
-    → ((unit : ℕ) → unit < 8192 → slice_index known.filled.items unit ≤ known.first) → IsKnown [] known
+    → ((unit : ℕ) → unit < 8192 → slice_index known.filled.items unit ≤ known.first) → KnowsSet [] known
 known_none known begun covered reach ended header old = record {
   taken = All-nil IsTaken;
   apart = refl;
@@ -32,10 +32,10 @@ known_none known begun covered reach ended header old = record {
   units = λ unit h. let past = old unit h in grind (arith, nat_tests, past);
 }
 
-pub covered_within : (set : List Arrived) (known : OpenSet) → IsKnown set known → known.covered ≤ 65535
+pub covered_within : (set : List Arrived) (known : OpenSet) → KnowsSet set known → known.covered ≤ 65535
 covered_within set known is = omega (arith, is.covered, count_within (has set) (reach set), reach_within set is.taken)
 
-module _ (set : List Arrived) (a : Arrived) (old : OpenSet) (is : IsKnown set old) (taken : IsTaken a) where
+module _ (set : List Arrived) (a : Arrived) (old : OpenSet) (is : KnowsSet set old) (taken : IsTaken a) where
   unit_in : (unit : ℕ) → unit < (end_of a.piece + 7) / 8 → unit < 8192
   unit_in unit h = omega (arith, h, taken.good.within)
 
@@ -60,9 +60,9 @@ module _ (set : List Arrived) (a : Arrived) (old : OpenSet) (is : IsKnown set ol
 
   pub added : (new : OpenSet) → overlaps set a ≡ false
       → new.begun ≡ option_or old.begun (Some a.time) → new.covered ≡ old.covered + (end_of a.piece - a.piece.from) → new.reach ≡ max old.reach (end_of a.piece)
-      → new.ended ≡ (old.ended || a.piece.last) → new.header ≡ max old.header (first_header a.piece)
+      → new.ended ≡ (old.ended || a.piece.last) → new.header ≡ max old.header (beginning_header a.piece)
       → ((unit : ℕ) → unit < 8192 → is_filled new unit ≡ (is_filled old unit || (nat_le (a.piece.from / 8) unit && nat_lt unit ((end_of a.piece + 7) / 8))))
-      → IsKnown (set ++ a ∷ []) new
+      → KnowsSet (set ++ a ∷ []) new
   added new free begun covered reaches ended header units =
       let shares = list_any (shares_byte a) set in
       let lasts = is_last a && list_any is_last set in
@@ -74,17 +74,17 @@ module _ (set : List Arrived) (a : Arrived) (old : OpenSet) (is : IsKnown set ol
         covered = covered ∙ ap (λ (n : ℕ). n + (end_of a.piece - a.piece.from)) is.covered ∙ sym (covered_push set a (omega arith) apart);
         reach = reaches ∙ ap (λ (n : ℕ). max n (end_of a.piece)) is.reach ∙ sym (reach_push set a);
         ended = ended ∙ ap (λ (b : Bool). b || a.piece.last) is.ended ∙ sym (any_push is_last set a);
-        header = header ∙ ap (λ (n : ℕ). max n (first_header a.piece)) is.header ∙ sym (header_push set a);
+        header = header ∙ ap (λ (n : ℕ). max n (beginning_header a.piece)) is.header ∙ sym (header_push set a);
         units = λ unit h. units unit h
             ∙ ap (λ (b : Bool). b || (nat_le (a.piece.from / 8) unit && nat_lt unit ((end_of a.piece + 7) / 8))) (is.units unit h)
             ∙ ap (λ (b : Bool). has set (8 * unit) || b) (unit_byte a.piece.from (end_of a.piece) unit taken.good.begins)
             ∙ sym (any_push (has_byte (8 * unit)) set a);
       }
 
-pub ending_known : (set : List Arrived) (known : OpenSet) → IsKnown set known
+pub ending_known : (set : List Arrived) (known : OpenSet) → KnowsSet set known
     → (if known.ended && nat_eq known.covered known.reach
     then Some (if nat_lt 65535 (known.header + known.reach) then Refused else Complete) else None) ≡ ending_of set
 ending_known set known is =
     rw is.ended (rw is.covered (rw is.reach (rw is.header (
-      rw (all_by_count set (reach set)) (rw (too_long set (reach_within set is.taken)) refl)
+    rw (all_by_count set (reach set)) (rw (too_long set (reach_within set is.taken)) refl)
     ))))

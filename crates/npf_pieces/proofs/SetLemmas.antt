@@ -8,7 +8,7 @@ use Rattle.std.proofs.lemmas.Bool.Decides.{nat_tests}
 use Rattle.std.proofs.lemmas.List.Folds.{list_any-append}
 use Rattle.std.proofs.lemmas.List.Elements.{All-head, All-tail}
 use Rattle.npf_pieces.specs.declared.arrived.Arrived.{Arrived}
-use Rattle.npf_pieces.specs.OpenSet.{IsTaken, count_below, first_header, greatest_header}
+use Rattle.npf_pieces.specs.OpenSet.{IsTaken, count_below, beginning_header, greatest_header}
 use Rattle.npf_pieces.specs.Piece.{end_of}
 use Rattle.npf_pieces.specs.Sets.{first_time, has, has_all_below, has_byte, header_counted, is_last, is_too_long, passes_last, reach, shares_byte}
 use Rattle.npf_pieces.proofs.CountLemmas.{count_beyond, count_either, count_range, count_within, one_more}
@@ -30,10 +30,10 @@ greatest_of : (x y z w : ℕ) → w ≡ max y z → max x w ≡ max (max x y) z
 greatest_of x y z w e = omega (arith, e)
 
 pub header_push : (set : List Arrived) (a : Arrived)
-    → greatest_header (set ++ a ∷ []) ≡ max (greatest_header set) (first_header a.piece)
+    → greatest_header (set ++ a ∷ []) ≡ max (greatest_header set) (beginning_header a.piece)
 header_push [] a = omega arith
 header_push (o ∷ set) a =
-    greatest_of (first_header o.piece) (greatest_header set) (first_header a.piece) (greatest_header (set ++ a ∷ [])) (header_push set a)
+    greatest_of (beginning_header o.piece) (greatest_header set) (beginning_header a.piece) (greatest_header (set ++ a ∷ [])) (header_push set a)
 
 pub any_push : (test : Arrived → Bool) (set : List Arrived) (a : Arrived)
     → list_any test (set ++ a ∷ []) ≡ (list_any test set || test a)
@@ -119,13 +119,13 @@ one_not_shared : (a o : Arrived) → IsTaken a → IsTaken o
     → ((unit : ℕ) → a.piece.from / 8 ≤ unit → unit < (end_of a.piece + 7) / 8 → has_byte (8 * unit) o ≡ false)
     → shares_byte a o ≡ false
 one_not_shared a o taken given none = elim (true_or_false (shares_byte a o)) [
-  inl h ↦ let both = shares a o h in
-  let unit = max a.piece.from o.piece.from / 8 in
-  let u = shared_unit a.piece.from o.piece.from (end_of a.piece) (end_of o.piece) unit taken.good.begins given.good.begins refl
-  both.0 both.1 (from_before_end a o.piece.from taken both.1) (from_before_end o a.piece.from given both.0) in
-  let lacks = none unit u.0 u.1 in
-  let has = has_this o (8 * unit) u.2 u.3 in
-  grind (arith, lacks, has)
+  | inl h ↦ let both = shares a o h in
+      let unit = max a.piece.from o.piece.from / 8 in
+      let u = shared_unit a.piece.from o.piece.from (end_of a.piece) (end_of o.piece) unit taken.good.begins given.good.begins refl
+      both.0 both.1 (from_before_end a o.piece.from taken both.1) (from_before_end o a.piece.from given both.0) in
+      let lacks = none unit u.0 u.1 in
+      let has = has_this o (8 * unit) u.2 u.3 in
+      grind (arith, lacks, has)
   | inr h ↦ h
 ]
 

@@ -3,8 +3,8 @@ use Rattle.std.specs.Prelude.{◌≡◌, ℕ, ◌≤◌, List, [], ◌++◌, len
 use Rattle.npf_pieces.specs.declared.arrived.Arrived.{Arrived}
 use Rattle.npf_pieces.specs.declared.arrived.SetAt.{SetAt}
 use Rattle.npf_pieces.specs.declared.open_set.OpenSet.{OpenSet}
-use Rattle.npf_pieces.specs.OpenSet.{IsKnown}
-use Rattle.npf_pieces.specs.Sets.{set_in, sets_from}
+use Rattle.npf_pieces.specs.OpenSet.{KnowsSet}
+use Rattle.npf_pieces.specs.Sets.{set_at, sets_from}
 
 -- the pieces of the open set
 abbrev pub pieces_of : List Arrived → OpenSet → List Arrived
@@ -13,5 +13,5 @@ pieces_of all known = slice_range all known.first known.behind
 -- the sets that ended are these, and those that are still to come are those of the open set and the pieces behind it
 pub record IsJudged (all : List Arrived) (known : OpenSet) (sets : List SetAt) : Type 0 where
   pub within : known.behind ≤ length all
-  pub knows : IsKnown (pieces_of all known) known
-  pub so_far : map (set_in all) sets ++ sets_from (pieces_of all known) (drop known.behind all) ≡ sets_from [] all
+  pub knows : KnowsSet (pieces_of all known) known
+  pub so_far : map (set_at all) sets ++ sets_from (pieces_of all known) (drop known.behind all) ≡ sets_from [] all

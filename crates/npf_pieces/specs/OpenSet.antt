@@ -19,19 +19,19 @@ count_below test zero = 0
 count_below test (suc size) = count_below test size + (if test size then 1 else 0)
 
 -- the header of a piece that begins a datagram, and the greatest of a set's
-abbrev pub first_header : Piece → ℕ
-first_header piece = if piece.from == 0 then header_counted piece else 0
+abbrev pub beginning_header : Piece → ℕ
+beginning_header piece = if piece.from == 0 then header_counted piece else 0
 
 abbrev pub greatest_header : List Arrived → ℕ
 greatest_header [] = 0
-greatest_header (a ∷ set) = max (first_header a.piece) (greatest_header set)
+greatest_header (a ∷ set) = max (beginning_header a.piece) (greatest_header set)
 
 -- a unit of 8 bytes was filled since the set began
 abbrev pub is_filled : OpenSet → ℕ → Bool
 is_filled known unit = nat_lt known.first (slice_index known.filled.items unit)
 
 -- these are the pieces of the open set
-pub record IsKnown (set : List Arrived) (known : OpenSet) : Type 0 where
+pub record KnowsSet (set : List Arrived) (known : OpenSet) : Type 0 where
   pub taken : All IsTaken set
   pub apart : passes_last set ≡ false
   pub begun : known.begun ≡ first_time set
@@ -42,7 +42,7 @@ pub record IsKnown (set : List Arrived) (known : OpenSet) : Type 0 where
   pub units : (unit : ℕ) → unit < 8192 → is_filled known unit ≡ has set (8 * unit)
 
 -- all but the units is as it was
-pub record KeepsSums (old new : OpenSet) : Type 0 where
+pub record KeepsTotals (old new : OpenSet) : Type 0 where
   pub first : new.first ≡ old.first
   pub behind : new.behind ≡ old.behind
   pub begun : new.begun ≡ old.begun

@@ -41,7 +41,7 @@ seen_at packet (Some found) =
     if is_bad (piece_at packet found) then Seen.Bad else Seen.Piece (piece_at packet found)
 
 -- the packet is seen as this
-pub record IsSeen (packet : Packet) (seen : Seen) : Type 0 where
+pub record SeenAs (packet : Packet) (seen : Seen) : Type 0 where
   pub found : Option FragmentAt
   pub finds : FindsFragment packet.link packet.bytes found
   pub is : seen ≡ seen_at packet found
@@ -53,7 +53,7 @@ IfPiece holds Seen.Bad = ⊤
 IfPiece holds (Seen.Piece piece) = holds piece
 
 -- it begins with one of the 8192 units of 8 bytes that an offset can tell
-pub record IsAligned (piece : Piece) : Type 0 where
+pub record BeginsUnit (piece : Piece) : Type 0 where
   pub unit : piece.from % 8 ≡ 0
   pub within : piece.from ≤ 65528
 
@@ -75,4 +75,4 @@ pub record IsPlacedPiece (size : ℕ) (piece : Piece) : Type 0 where
 
 -- for each packet there is one answer
 abbrev pub OneSeeing : Type 0
-OneSeeing = (packet : Packet) (one other : Seen) → IsSeen packet one → IsSeen packet other → one ≡ other
+OneSeeing = (packet : Packet) (one other : Seen) → SeenAs packet one → SeenAs packet other → one ≡ other

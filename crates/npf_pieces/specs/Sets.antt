@@ -107,5 +107,5 @@ sets_from set (a ∷ rest) =
     else ended_by (λ next. sets_from next rest) (set ++ a ∷ []) (ending_with set a)
 
 -- a set of these pieces by its places
-abbrev pub set_in : List Arrived → SetAt → Set
-set_in all set = record { pieces = slice_range all set.first set.behind; ending = set.ending }
+abbrev pub set_at : List Arrived → SetAt → Set
+set_at all set = record { pieces = slice_range all set.first set.behind; ending = set.ending }

@@ -1,7 +1,7 @@
 // How much of a datagram a piece has, in bytes and in units of 8 bytes, and how long a set waits.
 ghost use Rattle.std.specs.Prelude.{◌≡◌, ◌+◌, ◌/◌, ◌≤◌};
 ghost use Rattle.npf_pieces.specs.Piece.{IsPlacedPiece, end_of};
-ghost use Rattle.npf_pieces.specs.OpenSet.{first_header};
+ghost use Rattle.npf_pieces.specs.OpenSet.{beginning_header};
 ghost use Rattle.npf_pieces.specs.Sets.{has_waited, header_counted};
 
 use crate::piece::Piece;
@@ -61,10 +61,14 @@ pub(crate) fn header_counted(piece: &Piece) -> u32
 }
 
 /// The same, where the piece begins its datagram.
-pub(crate) fn first_header(piece: &Piece) -> u32
+pub(crate) fn beginning_header(piece: &Piece) -> u32
     requires { IsPlacedPiece MAX_PACKET_BYTES piece.now }
-    ensures value { result ≡ first_header piece.now }
+    ensures value { result ≡ beginning_header piece.now }
     ensures within { result ≤ MAX_PACKET_BYTES }
 {
-    if piece.from == 0 { header_counted(piece) } else { 0 }
+    if piece.from == 0 {
+        header_counted(piece)
+    } else {
+        0
+    }
 }

@@ -4,9 +4,9 @@ ghost use Rattle.npf_types.specs.declared.limits.TheConstants.{MAX_PACKET_BYTES}
 ghost use Rattle.npf_pieces.specs.declared.arrived.Ending.TheVariants.{Complete, Refused};
 
 use crate::arrived::{Arrived, Ending};
-use crate::measure::{end_of, first_header, has_waited, unit_of, units_below};
-use npf_types::limits::MAX_PACKET_BYTES;
+use crate::measure::{beginning_header, end_of, has_waited, unit_of, units_below};
 use npf_types::NoMemory;
+use npf_types::limits::MAX_PACKET_BYTES;
 use std::alloc::Global;
 
 /// Units of 8 bytes that a datagram's data can have.
@@ -36,12 +36,12 @@ pub(crate) struct OpenSet {
 }
 
 impl OpenSet {
-    ghost use Rattle.npf_pieces.specs.OpenSet.{IsKnown, IsTaken, KeepsSums, is_filled};
+    ghost use Rattle.npf_pieces.specs.OpenSet.{KnowsSet, IsTaken, KeepsTotals, is_filled};
     ghost use Rattle.npf_pieces.specs.Sets.{ending_of, ending_with, is_late, overlaps};
 
     /// A set without pieces, before any came.
     pub(crate) fn new(alloc: Global) -> Result<OpenSet, NoMemory>
-        ensures none { IfOk result (IsKnown []) }
+        ensures none { IfOk result (KnowsSet []) }
         ensures place { IfOk result (λ made. (made.first ≡ 0) × (made.behind ≡ 0)) }
     {
         Ok(OpenSet {
@@ -59,7 +59,7 @@ impl OpenSet {
     /// A set without pieces, behind so many that came.
     pub(crate) fn restart(&mut self, behind: usize)
         requires { self.old.behind ≤ behind }
-        ensures none { IsKnown [] self.new }
+        ensures none { KnowsSet [] self.new }
         ensures place { (self.new.first ≡ behind) × (self.new.behind ≡ behind) }
     {
         self.first = behind;
@@ -76,8 +76,8 @@ impl OpenSet {
         requires taken { IsTaken arrived.now }
         requires room { self.old.covered ≤ 65535 }
         requires count { self.old.behind < usize.MAX }
-        ensures ends { (set : List Arrived) → IsKnown set self.old → result ≡ ending_with set arrived.now }
-        ensures adds { (set : List Arrived) → IsKnown set self.old → result ≡ None → IsKnown (set ++ arrived.now ∷ []) self.new }
+        ensures ends { (set : List Arrived) → KnowsSet set self.old → result ≡ ending_with set arrived.now }
+        ensures adds { (set : List Arrived) → KnowsSet set self.old → result ≡ None → KnowsSet (set ++ arrived.now ∷ []) self.new }
         ensures place { (self.new.first ≡ self.old.first) × (self.new.behind ≡ self.old.behind + 1) }
     {
         if self.overlaps(arrived) {
@@ -90,7 +90,7 @@ impl OpenSet {
 
     /// Whether this one comes too late for the set: 30 seconds or more after its first piece.
     pub(crate) fn is_late(&self, arrived: &Arrived) -> bool
-        ensures { (set : List Arrived) → IsKnown set self.now → result ≡ is_late set arrived.now }
+        ensures { (set : List Arrived) → KnowsSet set self.now → result ≡ is_late set arrived.now }
     {
         has_waited(self.begun, arrived.time)
     }
@@ -98,7 +98,7 @@ impl OpenSet {
     /// Whether this one overlaps the set.
     fn overlaps(&self, arrived: &Arrived) -> bool
         requires { IsTaken arrived.now }
-        ensures { (set : List Arrived) → IsKnown set self.now → result ≡ overlaps set arrived.now }
+        ensures { (set : List Arrived) → KnowsSet set self.now → result ≡ overlaps set arrived.now }
     {
         let end = end_of(&arrived.piece);
         let shares = self.has_unit(unit_of(arrived.piece.from), units_below(end));
@@ -134,7 +134,7 @@ impl OpenSet {
         requires taken { IsTaken arrived.now }
         requires room { self.old.covered ≤ 65535 }
         requires count { self.old.behind < usize.MAX }
-        ensures adds { (set : List Arrived) → IsKnown set self.old → overlaps set arrived.now ≡ false → IsKnown (set ++ arrived.now ∷ []) self.new }
+        ensures adds { (set : List Arrived) → KnowsSet set self.old → overlaps set arrived.now ≡ false → KnowsSet (set ++ arrived.now ∷ []) self.new }
         ensures place { (self.new.first ≡ self.old.first) × (self.new.behind ≡ self.old.behind + 1) }
     {
         let piece = &arrived.piece;
@@ -145,7 +145,7 @@ impl OpenSet {
         self.covered += end - piece.from;
         self.reach = self.reach.max(end);
         self.ended |= piece.last;
-        self.header = self.header.max(first_header(piece));
+        self.header = self.header.max(beginning_header(piece));
     }
 
     /// The units from `from` up to `to` are in the set from now on.
@@ -154,7 +154,7 @@ impl OpenSet {
         requires units { to ≤ 8192 }
         requires first { self.old.first < self.old.behind }
         ensures fills { (unit : ℕ) → unit < 8192 → is_filled self.new unit ≡ (is_filled self.old unit || (nat_le from unit && nat_lt unit to)) }
-        ensures same { KeepsSums self.old self.new }
+        ensures same { KeepsTotals self.old self.new }
     {
         for unit in from..to {
             self.filled[unit] = self.behind;
@@ -163,7 +163,7 @@ impl OpenSet {
 
     /// How the set ends with the pieces that it has, if it does.
     fn ending(&self) -> Option<Ending>
-        ensures { (set : List Arrived) → IsKnown set self.now → result ≡ ending_of set }
+        ensures { (set : List Arrived) → KnowsSet set self.now → result ≡ ending_of set }
     {
         let whole = self.is_whole();
         let long = self.is_too_long();

@@ -3,8 +3,8 @@ ghost use Rattle.std.specs.Prelude.{◌≡◌, ◌+◌, ◌<◌, false, List, []
 ghost use Rattle.std.specs.Prelude.{slice_index_or};
 ghost use Rattle.npf_pieces.specs.declared.arrived.Arrived.{Arrived};
 ghost use Rattle.npf_pieces.specs.Judged.{IsJudged, pieces_of};
-ghost use Rattle.npf_pieces.specs.OpenSet.{IsKnown, IsTaken};
-ghost use Rattle.npf_pieces.specs.Sets.{is_late, set_in, sets_from};
+ghost use Rattle.npf_pieces.specs.OpenSet.{KnowsSet, IsTaken};
+ghost use Rattle.npf_pieces.specs.Sets.{is_late, set_at, sets_from};
 
 use crate::arrived::{Arrived, Ending, SetAt};
 use crate::open_set::OpenSet;
@@ -14,7 +14,7 @@ use std::alloc::Global;
 /// The sets of the pieces of one key, which are in the order in which they came. Each takes its time once.
 pub fn sets_of(alloc: Global, arrived: &[Arrived]) -> Result<Vec<SetAt>, NoMemory>
     requires { All IsTaken arrived.now }
-    ensures { IfOk result (λ sets. map (set_in arrived.now) sets.items ≡ sets_from [] arrived.now) }
+    ensures { IfOk result (λ sets. map (set_at arrived.now) sets.items ≡ sets_from [] arrived.now) }
 {
     let mut known = OpenSet::new(alloc)?;
     let mut sets = Vec::new(alloc);
@@ -27,7 +27,11 @@ pub fn sets_of(alloc: Global, arrived: &[Arrived]) -> Result<Vec<SetAt>, NoMemor
 }
 
 /// Ends the open set, if the piece behind it comes too late for it.
-fn close_late(arrived: &[Arrived], known: &mut OpenSet, sets: &mut Vec<SetAt>) -> Result<(), NoMemory>
+fn close_late(
+    arrived: &[Arrived],
+    known: &mut OpenSet,
+    sets: &mut Vec<SetAt>,
+) -> Result<(), NoMemory>
     requires taken { All IsTaken arrived.now }
     requires judged { IsJudged arrived.now known.old sets.old.items }
     requires more { known.old.behind < length arrived.now }
@@ -62,10 +66,14 @@ fn take(arrived: &[Arrived], known: &mut OpenSet, sets: &mut Vec<SetAt>) -> Resu
 }
 
 /// Ends the open set, if it has pieces, where no more come.
-fn close_last(arrived: &[Arrived], known: &mut OpenSet, sets: &mut Vec<SetAt>) -> Result<(), NoMemory>
+fn close_last(
+    arrived: &[Arrived],
+    known: &mut OpenSet,
+    sets: &mut Vec<SetAt>,
+) -> Result<(), NoMemory>
     requires judged { IsJudged arrived.now known.old sets.old.items }
     requires all { known.old.behind ≡ length arrived.now }
-    ensures { IfOk result (λ _. map (set_in arrived.now) sets.new.items ≡ sets_from [] arrived.now) }
+    ensures { IfOk result (λ _. map (set_at arrived.now) sets.new.items ≡ sets_from [] arrived.now) }
 {
     if known.first == known.behind {
         return Ok(());
@@ -77,12 +85,16 @@ fn close_last(arrived: &[Arrived], known: &mut OpenSet, sets: &mut Vec<SetAt>) -
 /// Ends the open set so.
 fn close(known: &mut OpenSet, sets: &mut Vec<SetAt>, ending: Ending) -> Result<(), NoMemory>
     ensures closed { IfOk result (λ _. sets.new.items ≡ sets.old.items ++ record { first = known.old.first; behind = known.old.behind; ending = ending } ∷ []) }
-    ensures none { IfOk result (λ _. IsKnown [] known.new) }
+    ensures none { IfOk result (λ _. KnowsSet [] known.new) }
     ensures first { IfOk result (λ _. known.new.first ≡ known.old.behind) }
     ensures behind { IfOk result (λ _. known.new.behind ≡ known.old.behind) }
 {
     let (first, behind) = (known.first, known.behind);
-    sets.push(SetAt { first, behind, ending })?;
+    sets.push(SetAt {
+        first,
+        behind,
+        ending,
+    })?;
     known.restart(behind);
     Ok(())
 }

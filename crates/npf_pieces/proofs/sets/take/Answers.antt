@@ -23,6 +23,6 @@ returns-in_ok-close-in-Some-clause-judged c =
     let closed = c.in_ok-close-in-Some.ensures in
     let on = sym (c.in-Some.ensures.ends _ judged.knows) in
     rw closed.closed (rw place.0 (rw place.1 (
-      judged_end c.args.arrived.now known c.close.new.known c.args.sets.now.items judged known.order _ c.requires.more
-      c.in-Some.ending (c.requires.timely _) on closed.none (closed.first ∙ place.1) (closed.behind ∙ place.1)
+    judged_end c.args.arrived.now known c.close.new.known c.args.sets.now.items judged known.order _ c.requires.more
+    c.in-Some.ending (c.requires.timely _) on closed.none (closed.first ∙ place.1) (closed.behind ∙ place.1)
     )))

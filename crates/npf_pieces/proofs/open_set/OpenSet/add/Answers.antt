@@ -13,5 +13,5 @@ returns-clause-adds c = λ set known free.
     (rw same.covered (rw end refl))
     (rw c.max-self.ensures (rw same.reach (rw end refl)))
     (rw same.ended refl)
-    (rw c.max-self-2.ensures (rw same.header (rw c.first_header.ensures.value refl)))
+    (rw c.max-self-2.ensures (rw same.header (rw c.beginning_header.ensures.value refl)))
     (λ unit h. rw end at (rw behind at (rw from at (c.fill.ensures.fills unit h))))
