@@ -1,5 +1,5 @@
 -- Counts of the bytes below a size that pass a test.
-use Rattle.std.proofs.Common.{◌≡◌, ℕ, ◌+◌, ◌-◌, ◌≤◌, ◌⊎◌, ◌∙◌, ◌&&◌, ◌||◌, Bool, true, false, zero, suc, inl, inr, refl, sym, ap, min, nat_eq, nat_le, nat_lt, if◌then◌else◌, arith}
+use Rattle.std.proofs.Common.{◌≡◌, ℕ, ◌+◌, ◌-◌, ◌≤◌, ◌⊎◌, ◌&&◌, ◌||◌, Bool, false, zero, suc, inl, inr, sym, ap, min, nat_eq, nat_le, nat_lt, if◌then◌else◌, arith}
 use Rattle.std.proofs.lemmas.Bool.Decides.{nat_tests}
 use Rattle.npf_pieces.specs.OpenSet.{count_below}
 

@@ -1,5 +1,5 @@
 -- How far the pieces are judged follows each step.
-use Rattle.std.proofs.Common.{◌≡◌, ℕ, ◌+◌, ◌-◌, ◌<◌, ◌≤◌, ◌∙◌, true, false, suc, refl, sym, ap, if◌then◌else◌, List, [], ◌∷◌, ◌++◌, Some, None, length, take, drop, get_or, append-nil, append_assoc, length-drop, arith}
+use Rattle.std.proofs.Common.{◌≡◌, ℕ, ◌+◌, ◌-◌, ◌<◌, ◌≤◌, ◌∙◌, true, false, suc, refl, sym, ap, List, [], ◌∷◌, ◌++◌, Some, None, length, take, drop, get_or, append-nil, append_assoc, length-drop, arith}
 use Rattle.std.specs.Prelude.{map, slice_range}
 use Rattle.std.proofs.Math.Seq.{drop-cons, drop-length}
 use Rattle.std.proofs.lemmas.List.{get_or-drop, map_push, take_more}

@@ -10,9 +10,9 @@ use Rattle.std.proofs.lemmas.List.Elements.{All-nil, All-push}
 use Rattle.npf_pieces.specs.declared.arrived.Arrived.{Arrived}
 use Rattle.npf_pieces.specs.declared.arrived.Ending.TheVariants.{Complete, Refused}
 use Rattle.npf_pieces.specs.declared.open_set.OpenSet.{OpenSet}
-use Rattle.npf_pieces.specs.OpenSet.{KnowsSet, IsTaken, count_below, beginning_header, is_filled}
+use Rattle.npf_pieces.specs.OpenSet.{KnowsSet, IsTaken, beginning_header, is_filled}
 use Rattle.npf_pieces.specs.Piece.{end_of}
-use Rattle.npf_pieces.specs.Sets.{ending_of, has, has_byte, is_last, is_too_long, is_whole, overlaps, passes_last, reach, shares_byte}
+use Rattle.npf_pieces.specs.Sets.{ending_of, has, has_byte, is_last, overlaps, passes_last, reach, shares_byte}
 use Rattle.npf_pieces.proofs.CountLemmas.{count_within}
 use Rattle.npf_pieces.proofs.SetLemmas.{all_by_count, any_push, covered_push, first_push, header_push, not_shared, left_false, right_false, passes_push, reach_push, reach_within, too_long, unit_byte, unit_had, unit_shared}
 

@@ -1,5 +1,5 @@
 -- A fragment that isn't bad is a good piece.
-use Rattle.std.proofs.Common.{◌≡◌, ℕ, ◌+◌, ◌-◌, ◌≤◌, ◌%◌, ◌⊎◌, Bool, true, false, inl, inr, refl, nat_eq, nat_lt, not, arith}
+use Rattle.std.proofs.Common.{◌≡◌, ◌≤◌, ◌%◌, ◌⊎◌, true, false, arith}
 use Rattle.std.proofs.lemmas.Bool.Decides.{nat_tests}
 use Rattle.npf_pieces.specs.declared.piece.Piece.{Piece}
 use Rattle.npf_pieces.specs.Piece.{BeginsUnit, IsGood, end_of, is_all, is_bad, length_of}

@@ -1,5 +1,5 @@
 -- How far the pieces of one key are judged.
-use Rattle.std.specs.Prelude.{◌≡◌, ℕ, ◌≤◌, List, [], ◌++◌, length, drop, map, slice_range}
+use Rattle.std.specs.Prelude.{◌≡◌, ◌≤◌, List, [], ◌++◌, length, drop, map, slice_range}
 use Rattle.npf_pieces.specs.declared.arrived.Arrived.{Arrived}
 use Rattle.npf_pieces.specs.declared.arrived.SetAt.{SetAt}
 use Rattle.npf_pieces.specs.declared.open_set.OpenSet.{OpenSet}

@@ -1,5 +1,5 @@
 -- What is known of an open set without a look at its pieces again.
-use Rattle.std.specs.Prelude.{◌≡◌, ℕ, ◌+◌, ◌*◌, ◌<◌, ◌≤◌, ◌==◌, nat_lt, max, if◌then◌else◌, Bool, false, zero, suc, List, [], ◌∷◌, All, length, slice_index}
+use Rattle.std.specs.Prelude.{◌≡◌, ℕ, ◌+◌, ◌*◌, ◌<◌, ◌==◌, nat_lt, max, if◌then◌else◌, Bool, false, zero, suc, List, [], ◌∷◌, All, slice_index}
 use Rattle.std.specs.List.{list_any}
 use Rattle.npf_types.specs.declared.limits.TheConstants.{MAX_PACKET_BYTES}
 use Rattle.npf_pieces.specs.declared.arrived.Arrived.{Arrived}

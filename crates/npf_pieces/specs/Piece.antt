@@ -6,7 +6,6 @@ use Rattle.npf_packet.specs.Place.{least_ip_header}
 use Rattle.npf_traffic.specs.declared.packet.Packet.{Packet}
 use Rattle.npf_pieces.specs.declared.piece.Piece.{Piece}
 use Rattle.npf_pieces.specs.declared.piece.Seen.{Seen}
-use Rattle.npf_pieces.specs.declared.piece.Seen.TheVariants as Seen
 use Rattle.npf_pieces.specs.Ipv4.{piece_v4}
 use Rattle.npf_pieces.specs.Ipv6.{piece_v6}
 

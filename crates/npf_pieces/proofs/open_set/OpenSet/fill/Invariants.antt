@@ -1,4 +1,4 @@
-use Rattle.std.proofs.Common.{◌≡◌, ℕ, ◌<◌, ◌≤◌, ◌&&◌, ◌||◌, nat_le, nat_lt}
+use Rattle.std.proofs.Common.{◌≡◌, ℕ, ◌<◌, ◌&&◌, ◌||◌, nat_le, nat_lt}
 use Rattle.npf_pieces.specs.OpenSet.{KeepsTotals, is_filled}
 use Rattle.npf_pieces.proofs.open_set.OpenSet.fill.Given as goal
 

@@ -1,4 +1,3 @@
-use Rattle.std.proofs.Common.{◌∙◌}
 use Rattle.npf_pieces.proofs.OpenSetLemmas.{overlaps_known, shares_known}
 use Rattle.npf_pieces.proofs.open_set.OpenSet.overlaps.Goals as goal
 
