@@ -11,10 +11,23 @@ use Rattle.npf_pieces.specs.declared.arrived.Arrived.{Arrived}
 use Rattle.npf_pieces.specs.declared.arrived.Ending.TheVariants.{Complete, Refused}
 use Rattle.npf_pieces.specs.declared.open_set.OpenSet.{OpenSet}
 use Rattle.npf_pieces.specs.OpenSet.{KnowsSet, IsTaken, beginning_header, is_filled}
-use Rattle.npf_pieces.specs.Piece.{end_of}
+use Rattle.npf_pieces.specs.Piece.{IsGood, IsPlacedPiece, end_of}
 use Rattle.npf_pieces.specs.Sets.{ending_of, has, has_byte, is_last, overlaps, passes_last, reach, shares_byte}
 use Rattle.npf_pieces.proofs.CountLemmas.{count_within}
 use Rattle.npf_pieces.proofs.SetLemmas.{all_by_count, any_push, covered_push, first_push, header_push, not_shared, left_false, right_false, passes_push, reach_push, reach_within, too_long, unit_byte, unit_had, unit_shared}
+
+-- a piece that `piece_of` finds in a short packet
+pub taken_of : (a : Arrived) (size : ℕ) → size ≤ 262144 → IsGood a.piece → IsPlacedPiece size a.piece → IsTaken a
+taken_of a size short good placed = record {
+  good = good;
+  placed = record {
+    header = placed.header;
+    «data» = placed.«data»;
+    end = placed.end;
+    within = omega (arith, placed.within, short);
+    named = placed.named;
+  };
+}
 
 pub zeros : (items : List ℕ) → items ≡ replicate 8192 0 → (unit : ℕ) → unit < 8192 → slice_index items unit ≤ 0
 zeros items e unit h = omega (arith, ap (λ (xs : List ℕ). slice_index xs unit) e ∙ get_or-replicate 8192 unit 0 0 h)

@@ -1,6 +1,7 @@
 // Packets as the RFCs lay them out, with what they are reckoned by hand to be.
 ghost use Rattle.std.specs.Prelude.{◌≤◌, length};
 ghost use Rattle.npf_pieces.specs.OpenSet.{IsTaken};
+ghost use Rattle.npf_pieces.specs.Piece.{IfPiece, IsGood, IsPlacedPiece};
 
 use crate::arrived::{Arrived, Ending, SetAt};
 use crate::laws::one_seeing;
@@ -42,6 +43,8 @@ const fn piece(from: u32, last: bool, end: u32) -> Seen {
 
 fn seen(link: Link, bytes: &mut [u8]) -> Seen
     requires { length bytes.old ≤ 100 }
+    ensures good { IfPiece IsGood result }
+    ensures placed { IfPiece (IsPlacedPiece (length bytes.old)) result }
 {
     piece_of(&Packet {
         time: 7,
@@ -132,7 +135,7 @@ fn piece_v6(from: u32, last: bool, size: u8) -> Seen {
 }
 
 /// A piece of a datagram that came at this second.
-fn arrived(rt: &impl Abort, second: u64, upper: u8, lower: u8, total: u8) -> Arrived
+fn arrived(rt: &impl Abort, second: u32, upper: u8, lower: u8, total: u8) -> Arrived
     ensures { IsTaken result }
 {
     let mut bytes = [0; 36];
@@ -142,7 +145,7 @@ fn arrived(rt: &impl Abort, second: u64, upper: u8, lower: u8, total: u8) -> Arr
     bytes[7] = lower;
     match seen(Link::Raw, &mut bytes) {
         Seen::Piece(piece) => Arrived {
-            time: second * 1_000_000_000,
+            time: u64::from(second) * 1_000_000_000,
             piece,
         },
         _ => panic!(rt; "no piece"),
