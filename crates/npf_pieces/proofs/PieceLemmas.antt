@@ -1,8 +1,8 @@
 -- A fragment that isn't bad is a good piece.
-use Rattle.std.proofs.Common.{◌≡◌, ℕ, ◌+◌, ◌-◌, ◌≤◌, ◌%◌, ◌⊎◌, Bool, true, false, inl, inr, refl, nat_eq, nat_lt, not, arith}
+use Rattle.std.proofs.Common.{◌≡◌, ◌≤◌, ◌%◌, ◌⊎◌, true, false, arith}
 use Rattle.std.proofs.lemmas.Bool.Decides.{nat_tests}
 use Rattle.npf_pieces.specs.declared.piece.Piece.{Piece}
-use Rattle.npf_pieces.specs.Piece.{IsAligned, IsGood, end_of, is_all, is_bad, length_of}
+use Rattle.npf_pieces.specs.Piece.{BeginsUnit, IsGood, end_of, is_all, is_bad, length_of}
 
 ends_whole : (piece : Piece) → is_bad piece ≡ false → (piece.last ≡ true) ⊎ (length_of piece % 8 ≡ 0)
 ends_whole piece h = grind (arith, nat_tests)
@@ -13,7 +13,7 @@ is_filled piece h = grind (arith, nat_tests)
 ends_within : (piece : Piece) → is_bad piece ≡ false → end_of piece ≤ 65535
 ends_within piece h = grind (arith, nat_tests)
 
-pub good_unless_bad : (piece : Piece) → IsAligned piece → is_bad piece ≡ false → IsGood piece
+pub good_unless_bad : (piece : Piece) → BeginsUnit piece → is_bad piece ≡ false → IsGood piece
 good_unless_bad piece aligned h = record {
   begins = aligned.unit;
   ends = ends_whole piece h;

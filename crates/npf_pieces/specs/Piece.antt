@@ -2,10 +2,10 @@
 use Rattle.std.specs.Prelude.{◌≡◌, ℕ, ◌+◌, ◌-◌, ◌%◌, ◌≤◌, ◌<◌, ◌==◌, ◌&&◌, ◌||◌, ◌⊎◌, nat_lt, not, if◌then◌else◌, Bool, true, Option, Some, None, ⊤}
 use Rattle.npf_packet.specs.declared.fragment_at.FragmentAt.{FragmentAt}
 use Rattle.npf_packet.specs.FragmentAt.{FindsFragment}
+use Rattle.npf_packet.specs.Place.{least_ip_header}
 use Rattle.npf_traffic.specs.declared.packet.Packet.{Packet}
 use Rattle.npf_pieces.specs.declared.piece.Piece.{Piece}
 use Rattle.npf_pieces.specs.declared.piece.Seen.{Seen}
-use Rattle.npf_pieces.specs.declared.piece.Seen.TheVariants as Seen
 use Rattle.npf_pieces.specs.Ipv4.{piece_v4}
 use Rattle.npf_pieces.specs.Ipv6.{piece_v6}
 
@@ -40,7 +40,7 @@ seen_at packet (Some found) =
     if is_bad (piece_at packet found) then Seen.Bad else Seen.Piece (piece_at packet found)
 
 -- the packet is seen as this
-pub record IsSeen (packet : Packet) (seen : Seen) : Type 0 where
+pub record SeenAs (packet : Packet) (seen : Seen) : Type 0 where
   pub found : Option FragmentAt
   pub finds : FindsFragment packet.link packet.bytes found
   pub is : seen ≡ seen_at packet found
@@ -52,7 +52,7 @@ IfPiece holds Seen.Bad = ⊤
 IfPiece holds (Seen.Piece piece) = holds piece
 
 -- it begins with one of the 8192 units of 8 bytes that an offset can tell
-pub record IsAligned (piece : Piece) : Type 0 where
+pub record BeginsUnit (piece : Piece) : Type 0 where
   pub unit : piece.from % 8 ≡ 0
   pub within : piece.from ≤ 65528
 
@@ -66,7 +66,7 @@ pub record IsGood (piece : Piece) : Type 0 where
 
 -- its parts follow one another within the packet's bytes, of which there are `size`
 pub record IsPlacedPiece (size : ℕ) (piece : Piece) : Type 0 where
-  pub header : piece.ip_at + 20 ≤ piece.head_end
+  pub header : piece.ip_at + least_ip_header piece.key.src ≤ piece.head_end
   pub «data» : piece.head_end ≤ piece.data_at
   pub end : piece.data_at ≤ piece.end
   pub within : piece.end ≤ size
@@ -74,4 +74,4 @@ pub record IsPlacedPiece (size : ℕ) (piece : Piece) : Type 0 where
 
 -- for each packet there is one answer
 abbrev pub OneSeeing : Type 0
-OneSeeing = (packet : Packet) (one other : Seen) → IsSeen packet one → IsSeen packet other → one ≡ other
+OneSeeing = (packet : Packet) (one other : Seen) → SeenAs packet one → SeenAs packet other → one ≡ other

@@ -3,7 +3,7 @@ ghost use Rattle.std.specs.Prelude.{◌≡◌, length, false};
 ghost use Rattle.npf_packet.specs.Decoding.{packet_at};
 ghost use Rattle.npf_packet.specs.FragmentAt.{IsPlacedFragment};
 ghost use Rattle.npf_pieces.specs.Ipv4.{piece_v4};
-ghost use Rattle.npf_pieces.specs.Piece.{IsAligned, IsPlacedPiece};
+ghost use Rattle.npf_pieces.specs.Piece.{BeginsUnit, IsPlacedPiece};
 
 use crate::piece::{FragKey, Piece};
 use npf_fields::{get16, get32};
@@ -29,7 +29,7 @@ pub(crate) fn piece_v4(packet: &Packet<'_>, found: FragmentAt) -> Piece
     requires version { found.v6 ≡ false }
     requires placed { IsPlacedFragment (packet_at packet.now.link) (length packet.now.bytes) found }
     ensures value { result ≡ piece_v4 packet.now found }
-    ensures begins { IsAligned result }
+    ensures begins { BeginsUnit result }
     ensures placed { IsPlacedPiece (length packet.now.bytes) result }
 {
     let bytes = packet.bytes.as_slice();

@@ -2,7 +2,7 @@ ghost use Rattle.std.specs.Prelude.{◌≡◌, ◌+◌, ◌-◌, ◌≤◌, leng
 ghost use Rattle.npf_packet.specs.Decoding.{packet_at};
 ghost use Rattle.npf_packet.specs.FragmentAt.{IsPlacedFragment};
 ghost use Rattle.npf_traffic.specs.Packet.{IsShortPacket};
-ghost use Rattle.npf_pieces.specs.Piece.{IfPiece, IsAligned, IsGood, IsPlacedPiece, IsSeen, is_bad, piece_at};
+ghost use Rattle.npf_pieces.specs.Piece.{IfPiece, BeginsUnit, IsGood, IsPlacedPiece, SeenAs, is_bad, piece_at};
 
 use crate::ipv4::piece_v4;
 use crate::ipv6::piece_v6;
@@ -54,7 +54,7 @@ pub enum Seen {
 #[tactic(auto, using(crate::proofs::PieceLemmas::good_unless_bad))]
 pub fn piece_of(packet: &Packet<'_>) -> Seen
     requires { IsShortPacket packet.now }
-    ensures sees { IsSeen packet.now result }
+    ensures sees { SeenAs packet.now result }
     ensures good { IfPiece IsGood result }
     ensures placed { IfPiece (IsPlacedPiece (length packet.now.bytes)) result }
 {
@@ -74,7 +74,7 @@ pub fn piece_of(packet: &Packet<'_>) -> Seen
 fn piece_at(packet: &Packet<'_>, found: FragmentAt) -> Piece
     requires { IsPlacedFragment (packet_at packet.now.link) (length packet.now.bytes) found }
     ensures value { result ≡ piece_at packet.now found }
-    ensures begins { IsAligned result }
+    ensures begins { BeginsUnit result }
     ensures placed { IsPlacedPiece (length packet.now.bytes) result }
 {
     if found.v6 {

@@ -1,0 +1,9 @@
+use Rattle.std.proofs.Common.{[], ◌∷◌}
+use Rattle.std.proofs.lemmas.List.Elements.{All-nil, All-push}
+use Rattle.npf_pieces.specs.OpenSet.{IsTaken}
+use Rattle.npf_pieces.proofs.tests.check.Goals as goal
+
+pub sets_of-requires : goal.sets_of-requires
+sets_of-requires g c =
+    let one = c.args.one in
+    All-push IsTaken (one ∷ []) c.args.other (All-push IsTaken [] one (All-nil IsTaken) c.requires.one) c.requires.other

@@ -1,0 +1,100 @@
+// The sets that the pieces of one key make, in one pass over them.
+ghost use Rattle.std.specs.Prelude.{◌≡◌, ◌+◌, ◌<◌, false, List, [], ◌∷◌, ◌++◌, All, IfOk, length, map};
+ghost use Rattle.std.specs.Prelude.{slice_index_or};
+ghost use Rattle.npf_pieces.specs.declared.arrived.Arrived.{Arrived};
+ghost use Rattle.npf_pieces.specs.Judged.{IsJudged, pieces_of};
+ghost use Rattle.npf_pieces.specs.OpenSet.{KnowsSet, IsTaken};
+ghost use Rattle.npf_pieces.specs.Sets.{is_late, set_at, sets_from};
+
+use crate::arrived::{Arrived, Ending, SetAt};
+use crate::open_set::OpenSet;
+use npf_types::NoMemory;
+use std::alloc::Global;
+
+/// The sets of the pieces of one key, which are in the order in which they came. Each takes its time once.
+pub fn sets_of(alloc: Global, arrived: &[Arrived]) -> Result<Vec<SetAt>, NoMemory>
+    requires { All IsTaken arrived.now }
+    ensures { IfOk result (λ sets. map (set_at arrived.now) sets.items ≡ sets_from [] arrived.now) }
+{
+    let mut known = OpenSet::new(alloc)?;
+    let mut sets = Vec::new(alloc);
+    for place in 0..arrived.len() {
+        close_late(arrived, &mut known, &mut sets)?;
+        take(arrived, &mut known, &mut sets)?;
+    }
+    close_last(arrived, &mut known, &mut sets)?;
+    Ok(sets)
+}
+
+/// Ends the open set, if the piece behind it comes too late for it.
+fn close_late(
+    arrived: &[Arrived],
+    known: &mut OpenSet,
+    sets: &mut Vec<SetAt>,
+) -> Result<(), NoMemory>
+    requires taken { All IsTaken arrived.now }
+    requires judged { IsJudged arrived.now known.old sets.old.items }
+    requires more { known.old.behind < length arrived.now }
+    ensures judged { IfOk result (λ _. IsJudged arrived.now known.new sets.new.items) }
+    ensures place { IfOk result (λ _. known.new.behind ≡ known.old.behind) }
+    ensures timely { IfOk result (λ _. (d : Arrived) → is_late (pieces_of arrived.now known.new) (slice_index_or arrived.now known.new.behind d) ≡ false) }
+{
+    if !known.is_late(&arrived[known.behind]) {
+        return Ok(());
+    }
+    close(known, sets, Ending::Unfinished)?;
+    Ok(())
+}
+
+/// Takes the piece behind the open set, which comes in time for it.
+fn take(arrived: &[Arrived], known: &mut OpenSet, sets: &mut Vec<SetAt>) -> Result<(), NoMemory>
+    requires taken { All IsTaken arrived.now }
+    requires judged { IsJudged arrived.now known.old sets.old.items }
+    requires more { known.old.behind < length arrived.now }
+    requires timely { (d : Arrived) → is_late (pieces_of arrived.now known.old) (slice_index_or arrived.now known.old.behind d) ≡ false }
+    ensures judged { IfOk result (λ _. IsJudged arrived.now known.new sets.new.items) }
+    ensures place { IfOk result (λ _. known.new.behind ≡ known.old.behind + 1) }
+{
+    let place = known.behind;
+    match known.take(&arrived[place]) {
+        None => Ok(()),
+        Some(ending) => {
+            close(known, sets, ending)?;
+            Ok(())
+        }
+    }
+}
+
+/// Ends the open set, if it has pieces, where no more come.
+fn close_last(
+    arrived: &[Arrived],
+    known: &mut OpenSet,
+    sets: &mut Vec<SetAt>,
+) -> Result<(), NoMemory>
+    requires judged { IsJudged arrived.now known.old sets.old.items }
+    requires all { known.old.behind ≡ length arrived.now }
+    ensures { IfOk result (λ _. map (set_at arrived.now) sets.new.items ≡ sets_from [] arrived.now) }
+{
+    if known.first == known.behind {
+        return Ok(());
+    }
+    close(known, sets, Ending::Unfinished)?;
+    Ok(())
+}
+
+/// Ends the open set so.
+fn close(known: &mut OpenSet, sets: &mut Vec<SetAt>, ending: Ending) -> Result<(), NoMemory>
+    ensures closed { IfOk result (λ _. sets.new.items ≡ sets.old.items ++ record { first = known.old.first; behind = known.old.behind; ending = ending } ∷ []) }
+    ensures none { IfOk result (λ _. KnowsSet [] known.new) }
+    ensures first { IfOk result (λ _. known.new.first ≡ known.old.behind) }
+    ensures behind { IfOk result (λ _. known.new.behind ≡ known.old.behind) }
+{
+    let (first, behind) = (known.first, known.behind);
+    sets.push(SetAt {
+        first,
+        behind,
+        ending,
+    })?;
+    known.restart(behind);
+    Ok(())
+}
