@@ -1,5 +1,5 @@
 -- What the program answers, by how the work on its words ended.
-use Rattle.std.proofs.Common.{◌≡◌, ◌≢◌, ◌⊎◌, ◌∙◌, inl, inr, ℕ, false, List, [], refl, sym, subst, arith}
+use Rattle.std.proofs.Common.{◌≡◌, ◌≢◌, ◌⊎◌, ◌∙◌, ⊎_elim, inl, inr, ℕ, false, List, [], refl, sym, subst, arith}
 use Rattle.std.proofs.lemmas.Bool.{false≢true}
 use Rattle.npf_outside.specs.Sink.{Appends, SinkMoment}
 use Rattle.npf_ctl_messages.specs.declared.fault.CommandFault.{CommandFault}
@@ -61,13 +61,13 @@ module _ (words : List (List ℕ)) (before after : Moment) where
     -- what was said of a fault with its cause is an answer
     pub said_fault : (fault : CommandFault) → MeetsFault words before after fault → SaysFault old new fault status → AnswersWords words before after old new status
     said_fault fault cause (SaysFault.told is line passed) =
-        AnswersWords.refused (record { fault = fault; status_is = is; cause = cause; line = line; flushed = λ not. passed })
-    said_fault fault cause (SaysFault.untold none) = AnswersWords.refused (record {
+        AnswersWords.refused (record { fault = fault; status_is = is; cause = cause; line = inl line; flushed = λ not. passed })
+    said_fault fault cause (SaysFault.untold memory put) = AnswersWords.refused (record {
       fault = NoMemory;
-      status_is = none.memory;
+      status_is = memory;
       cause = MeetsFault.in_memory (put_before fault cause) (kept_before fault cause);
-      line = inr (inr none);
-      flushed = λ not. absurd (not none.memory);
+      line = inr (record { memory = memory; put = ⊎_elim inl (λ whole. inr (fault, (cause, whole))) put });
+      flushed = λ not. absurd (not memory);
     })
 
     pub was_done : AnswersWords words before after old new status → status ≡ 0 → DoesWords words before after × (after.out.waiting ≡ 0) × Appends old.held new.held []

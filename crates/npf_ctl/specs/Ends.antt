@@ -18,7 +18,7 @@ use Rattle.npf_ctl_prepare.specs.View.{run_plan_of}
 use Rattle.npf_traffic.specs.declared.packet.Packet.{Packet}
 use Rattle.npf_runner.specs.declared.phase.Spread.{Spread}
 use Rattle.npf_runner.specs.Plays.{PlaysPhases}
-use Rattle.npf_ctl.specs.Faults.{IsFaulted, MeetsFault, PutsLine, PutsNoLine}
+use Rattle.npf_ctl.specs.Faults.{IsFaulted, MeetsFault, PutsLine}
 use Rattle.npf_ctl.specs.Generated.{HoldsWorkload, PreparesOf}
 use Rattle.npf_ctl.specs.Running.{Moment}
 use Rattle.npf_ctl.specs.Top.{DoesWords}
@@ -57,11 +57,12 @@ abbrev pub EndsIn : List (List ℕ) → Moment → Moment → Result (Unit {0}) 
 EndsIn words before after (Ok _) = DoesWords words before after × (after.out.waiting ≡ 0)
 EndsIn words before after (Err fault) = MeetsFault words before after fault
 
--- the fault's line was put and flushed, or a front of it where the sink failed, and the status is the fault's; or memory was wanting for it
+-- the fault's line was put and flushed, or a front of it where the sink failed, and the status is the fault's; or memory was wanting for it, and nothing or
+-- that line was put
 pub data SaysFault (old new : SinkMoment) (fault : CommandFault) (status : ℕ) : Type 0 where
-  told : status ≡ status_of_fault fault → PutsLine old new (message_line fault) status → (new.waiting ≡ 0) ⊎ Rose old.faults new.faults →
+  told : status ≡ status_of_fault fault → PutsLine old new (message_line fault) → (new.waiting ≡ 0) ⊎ Rose old.faults new.faults →
       SaysFault old new fault status
-  untold : PutsNoLine old new status → SaysFault old new fault status
+  untold : status ≡ 1 → Appends old.held new.held [] ⊎ Appends old.held new.held (message_line fault) → SaysFault old new fault status
 
 -- the words were answered with this status
 pub data AnswersWords (words : List (List ℕ)) (before after : Moment) (old new : SinkMoment) (status : ℕ) : Type 0 where

@@ -20,17 +20,9 @@ use Rattle.npf_ctl.specs.Generated.{HoldsWorkload, PreparesOf}
 use Rattle.npf_ctl.specs.Running.{Moment, IsReported}
 use Rattle.npf_ctl.specs.Texts.{TextOf}
 
--- with status 1 alone: nothing was put, or the line of a fault before memory ran out
-pub record PutsNoLine (old new : SinkMoment) (status : ℕ) : Type 0 where
-  pub memory : status ≡ 1
-  pub put : Appends old.held new.held [] ⊎ ((fault : CommandFault) × Appends old.held new.held (message_line fault))
-
--- The line was put on the error sink; or a front of it, where the sink's own count rose; or, with status 1 alone, it wasn't.
-abbrev pub PutsLine : SinkMoment → SinkMoment → List ℕ → ℕ → Type 0
-PutsLine old new line status =
-    Appends old.held new.held line
-    ⊎ (Rose old.faults new.faults × AppendsFront old.held new.held line)
-    ⊎ PutsNoLine old new status
+-- The line was put on the error sink; or a front of it, where the sink's own count rose.
+abbrev pub PutsLine : SinkMoment → SinkMoment → List ℕ → Type 0
+PutsLine old new line = Appends old.held new.held line ⊎ (Rose old.faults new.faults × AppendsFront old.held new.held line)
 
 module _ (before after : Moment) where
   -- nothing was put on the output
@@ -75,10 +67,15 @@ module _ (words : List (List ℕ)) (before after : Moment) where
         IsReported run before after plan outputs outcomes → after.out.waiting ≡ 0 → MeetsFault (Unwritten name)
     in_memory : PutsNothing before after ⊎ PutsFront → KeepsFiles before after → MeetsFault NoMemory
 
+  -- with status 1 alone: nothing was put, or the line of a fault that was met before memory ran out
+  pub record PutsNoLine (old new : SinkMoment) (status : ℕ) : Type 0 where
+    pub memory : status ≡ 1
+    pub put : Appends old.held new.held [] ⊎ ((fault : CommandFault) × (MeetsFault fault × Appends old.held new.held (message_line fault)))
+
   -- the first fault was met and told: its line doesn't wait, unless the error sink failed or memory was wanting
   pub record IsFaulted (old new : SinkMoment) (status : ℕ) : Type 0 where
     pub fault : CommandFault
     pub status_is : status ≡ status_of_fault fault
     pub cause : MeetsFault fault
-    pub line : PutsLine old new (message_line fault) status
+    pub line : PutsLine old new (message_line fault) ⊎ PutsNoLine old new status
     pub flushed : status ≢ 1 → (new.waiting ≡ 0) ⊎ Rose old.faults new.faults
