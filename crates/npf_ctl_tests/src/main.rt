@@ -5,6 +5,7 @@
 
 mod captures;
 mod folder;
+mod gate;
 mod packets;
 mod preparing;
 mod rows;

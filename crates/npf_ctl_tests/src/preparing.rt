@@ -1,4 +1,4 @@
-// Rows that prepare a run: files, the calls that fail, and the slots of the table of connections.
+// Rows that prepare a run: files, the calls that fail, the slots of the table of connections, and whether the gate tells what it counted.
 use crate::captures::{addresses, capture_header, frame, record};
 use crate::setting::Setting;
 use crate::texts::{hex_bytes, unescaped};
@@ -22,6 +22,10 @@ pub fn prepare(setting: &mut Setting, word: &str, text: &str) -> Result<()> {
     match word {
         "slots" => {
             setting.slots = text.parse()?;
+            Ok(())
+        }
+        "gate" => {
+            setting.gate = true;
             Ok(())
         }
         "fail" => plan_fault(setting, text),

@@ -1,4 +1,5 @@
 // A run of npfctl over files in memory.
+use crate::gate::Around;
 use crate::setting::{NOTHING, Setting};
 use crate::texts::{print_lines, words_in};
 use anyhow::{Result, anyhow};
@@ -6,7 +7,6 @@ use npf_ctl::npfctl_top;
 use npf_flow::FlowLaw;
 use npf_oneturn::OneTurn;
 use npf_outside::{Files, MemFiles, MemSink};
-use npf_runner::NoGate;
 use npf_types::NoMemory;
 use std::alloc::Global;
 use std::sync::Wait;
@@ -29,11 +29,13 @@ pub fn run<R: Print + AllocGlobal + Threads + Wait + Sync>(
 ) -> Result<()> {
     let mut files = setting.folder.files()?;
     files.fail(setting.failing.file)?;
-    let Answer { status, out, err } = call(rt, setting, text, &mut files)?;
+    let gate = Around::new();
+    let Answer { status, out, err } = call(rt, setting, text, &mut files, &gate)?;
     setting.failing = NOTHING;
     println!(rt; " -> {status}")?;
     print_lines(rt, "", out.bytes())?;
     print_lines(rt, "! ", err.bytes())?;
+    print_gate(rt, setting, &gate)?;
     print_written(rt, setting, &mut files)
 }
 
@@ -42,6 +44,7 @@ fn call<R: AllocGlobal + Threads + Wait + Sync>(
     setting: &Setting,
     text: &str,
     files: &mut MemFiles,
+    gate: &Around,
 ) -> Result<Answer> {
     let alloc = rt.alloc();
     let words = words_in(alloc, text)?;
@@ -57,7 +60,7 @@ fn call<R: AllocGlobal + Threads + Wait + Sync>(
         &mut err,
         &conns,
         &mut pass,
-        &NoGate,
+        gate,
     );
     Ok(Answer { status, out, err })
 }
@@ -66,6 +69,16 @@ fn sink(alloc: Global, failing: u64) -> Result<MemSink, NoMemory> {
     let mut sink = MemSink::new(alloc)?;
     sink.fail(failing)?;
     Ok(sink)
+}
+
+// Prints what the gate counted where the setting asks for it, once.
+fn print_gate(rt: &impl Print, setting: &mut Setting, gate: &Around) -> Result<()> {
+    if setting.gate {
+        let (begun, ended) = gate.counts();
+        println!(rt; "gate: {begun} began, {ended} ended")?;
+    }
+    setting.gate = false;
+    Ok(())
 }
 
 fn print_written(rt: &impl Print, setting: &Setting, files: &mut MemFiles) -> Result<()> {

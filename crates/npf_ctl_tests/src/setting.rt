@@ -26,6 +26,8 @@ pub struct Setting {
     /// The slots of the table of connections.
     pub slots: u32,
     pub failing: Failing,
+    /// Whether the gate of the next run tells what it counted.
+    pub gate: bool,
 }
 
 impl Setting {
@@ -36,6 +38,7 @@ impl Setting {
             folder: Folder::new(alloc),
             slots: FEW_SLOTS,
             failing: NOTHING,
+            gate: false,
         }
     }
 }
