@@ -1,7 +1,7 @@
 // Generated runs, and what their files hold.
 use crate::setting::Setting;
-use crate::texts::print_lines;
 use anyhow::{Context, Result, bail};
+use npf_fixtures::texts::print_lines;
 use npf_gen::{Workload, capture_has_length, capture_reads_again, generate, sums_verify};
 use npf_pcap::read_capture;
 use npf_types::limits::MAX_CAPTURE_BYTES;
@@ -24,8 +24,8 @@ pub fn generate_run(
 pub fn print_texts(rt: &impl Print, setting: &Setting) -> Result<()> {
     let workload = workload(setting)?;
     println!(rt)?;
-    print_lines(rt, workload.conf.as_slice())?;
-    print_lines(rt, workload.script.as_slice())
+    print_lines(rt, "  ", workload.conf.as_slice())?;
+    print_lines(rt, "  ", workload.script.as_slice())
 }
 
 /// Prints bytes of its capture: `FROM COUNT`.

@@ -9,7 +9,6 @@ mod rows;
 mod schedules;
 mod scripts;
 mod setting;
-mod texts;
 
 use anyhow::{Context, Result};
 use rows::answer_line;

@@ -1,10 +1,10 @@
 // The lines of a report, of outcomes that are written in words.
 use crate::setting::Setting;
-use crate::texts::print_lines;
 use anyhow::{Context, Result, bail};
 use npf_core::{ConnId, Found};
 use npf_ctl_output::put_total;
 use npf_engine::{Outcome, Refusal};
+use npf_fixtures::texts::print_lines;
 use npf_outside::MemSink;
 use npf_packet::BadPacket;
 use npf_report::line;
@@ -29,9 +29,9 @@ pub fn print_outcome(
     let iface = parse_name("wm0")?;
     println!(rt)?;
     let first = line(rt.alloc(), 1, iface, Dir::In, &outcome)?;
-    print_lines(rt, first.as_slice())?;
+    print_lines(rt, "  ", first.as_slice())?;
     let last = line(rt.alloc(), 1_000_000, iface, Dir::Out, &outcome)?;
-    print_lines(rt, last.as_slice())?;
+    print_lines(rt, "  ", last.as_slice())?;
     setting.outcomes.push(outcome)?;
     Ok(())
 }
@@ -44,7 +44,7 @@ pub fn print_total(rt: &(impl Print + AllocGlobal), setting: &mut Setting) -> Re
         bail!("no total");
     }
     setting.outcomes.clear();
-    print_lines(rt, sink.bytes())
+    print_lines(rt, "  ", sink.bytes())
 }
 
 /// `skip`, `fragment WHY`, `cut AT`, `bad AT`, `conn OPENER PLACE pass|block [LOG]`, `none CONFIG [LOG]`, `pass CONFIG RULE KEPT [LOG]`,

@@ -4,10 +4,10 @@ use crate::outcomes::{print_outcome, print_total};
 use crate::schedules::{print_counts, print_schedule};
 use crate::scripts::{print_line, print_script};
 use crate::setting::Setting;
-use crate::texts::{print_lines, words_in};
 use anyhow::{Result, bail};
 use npf_ctl_messages::{CommandFault, message};
 use npf_ctl_words::read_words;
+use npf_fixtures::texts::{print_lines, words_in};
 
 /// Prints the row of a line, if it has one, and its answer.
 pub fn answer_line(
@@ -57,5 +57,5 @@ fn print_words(rt: &(impl Print + AllocGlobal), text: &str) -> Result<()> {
 fn print_memory(rt: &(impl Print + AllocGlobal)) -> Result<()> {
     let fault = CommandFault::NoMemory;
     println!(rt; " -> {}", fault.status())?;
-    print_lines(rt, message(rt.alloc(), &fault)?.as_slice())
+    print_lines(rt, "  ", message(rt.alloc(), &fault)?.as_slice())
 }

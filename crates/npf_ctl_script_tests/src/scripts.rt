@@ -1,7 +1,7 @@
 // What the text of a script is read to.
-use crate::texts::{print_lines, unescaped};
 use anyhow::{Result, bail};
 use npf_ctl_script::{Script, ScriptFault, ScriptLine, read_script};
+use npf_fixtures::texts::{print_lines, unescaped};
 use npf_types::limits::MAX_TEXT_BYTES;
 use npf_types::{Addr, Dir, Name, Prefix};
 use std::alloc::{AllocError, Global};
@@ -11,7 +11,7 @@ use std::str;
 pub fn print_script(rt: &(impl Print + AllocGlobal), text: &str) -> Result<()> {
     println!(rt)?;
     let shown = shown(rt.alloc(), &unescaped(rt.alloc(), text)?)?;
-    print_lines(rt, shown.as_bytes())
+    print_lines(rt, "  ", shown.as_bytes())
 }
 
 /// Prints what a script is read to whose third line is this one, and whose fourth has no form.
@@ -19,7 +19,7 @@ pub fn print_line(rt: &(impl Print + AllocGlobal), text: &str) -> Result<()> {
     println!(rt)?;
     let script = format!(in rt.alloc(); "# comment\nphase\n{text}\nfly\n")?;
     let shown = shown(rt.alloc(), &unescaped(rt.alloc(), &script)?)?;
-    print_lines(rt, shown.as_bytes())
+    print_lines(rt, "  ", shown.as_bytes())
 }
 
 /// The script of a text.

@@ -11,7 +11,6 @@ mod preparing;
 mod rows;
 mod runs;
 mod setting;
-mod texts;
 
 use anyhow::{Context, Result};
 use rows::answer_line;

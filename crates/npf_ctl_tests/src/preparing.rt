@@ -1,8 +1,8 @@
 // Rows that prepare a run: files, the calls that fail, the slots of the table of connections, and whether the gate tells what it counted.
 use crate::captures::{addresses, capture_header, frame, record};
 use crate::setting::Setting;
-use crate::texts::{hex_bytes, unescaped};
 use anyhow::{Context, Result, bail};
+use npf_fixtures::texts::{hex_bytes, unescaped};
 
 /// Prepares what a row says so many times, with the number of the time in place of `%`.
 pub fn prepare_times(setting: &mut Setting, text: &str) -> Result<()> {

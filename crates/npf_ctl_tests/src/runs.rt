@@ -1,9 +1,9 @@
 // A run of npfctl over files in memory.
 use crate::gate::Around;
 use crate::setting::{NOTHING, Setting};
-use crate::texts::{print_lines, words_in};
 use anyhow::{Result, anyhow};
 use npf_ctl::npfctl_top;
+use npf_fixtures::texts::{print_lines, words_in};
 use npf_flow::FlowLaw;
 use npf_oneturn::OneTurn;
 use npf_outside::{Files, MemFiles, MemSink};

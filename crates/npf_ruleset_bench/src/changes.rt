@@ -1,7 +1,7 @@
 // How long it takes to make, change and copy a table of 131,072 prefixes.
 use crate::draws::{Draws, PREFIXES, SEED, Sort};
-use crate::work::Work;
 use anyhow::Error;
+use npf_fixtures::work::Work;
 use npf_lpm::Lpm;
 use npf_types::{NoMemory, Prefix};
 use std::time::Instant;

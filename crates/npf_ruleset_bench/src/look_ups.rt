@@ -1,7 +1,7 @@
 // How long look-ups take in tables of 131,072 prefixes.
 use crate::draws::{Draws, PREFIXES, SEED, Sort};
-use crate::work::Work;
 use anyhow::Error;
+use npf_fixtures::work::Work;
 use npf_lpm::Lpm;
 use npf_types::{Addr, NoMemory, Prefix};
 use std::alloc::Global;

@@ -12,7 +12,6 @@ mod packet;
 mod programs;
 mod text;
 mod walks;
-mod work;
 
 use anyhow::Error;
 use asked::{Measure, asked};

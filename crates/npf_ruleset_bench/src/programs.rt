@@ -4,9 +4,9 @@ ghost use Rattle.std.specs.Prelude.{false};
 use crate::loaded::loaded;
 use crate::packet::{self, Record};
 use crate::text;
-use crate::work::Work;
 use anyhow::Error;
 use npf_bpfvm::{Cop, run};
+use npf_fixtures::work::Work;
 use npf_ruleset::{Config, FlatRule};
 use std::time::Instant;
 

@@ -2,8 +2,8 @@
 use crate::loaded::loaded;
 use crate::packet::{self, Record};
 use crate::text::{self, Match};
-use crate::work::Work;
 use anyhow::Error;
+use npf_fixtures::work::Work;
 use npf_packet::{Decoded, decode, decoded_is_packet};
 use npf_ruleset::{Config, walk};
 use npf_types::limits::MAX_PACKET_BYTES;

@@ -1,8 +1,8 @@
 // The flows of the keys' connections, and how long a packet's step takes of flows in a hash map of the library.
 use crate::drawn::{Draws, KEYS, key};
-use crate::work::{Work, or_few};
 use anyhow::Error;
 use npf_core::Law;
+use npf_fixtures::work::{Work, or_few};
 use npf_flow::{Flow, FlowArg, FlowLaw, open_flow};
 use npf_types::{Action, Change, Key, Way};
 use std::alloc::{AllocError, Global};

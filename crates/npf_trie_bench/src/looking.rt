@@ -6,10 +6,10 @@ ghost use Rattle.npf_trie_bench.specs.Rests.{HasNothing};
 
 use crate::drawn::{Draws, KEYS, Order};
 use crate::filling::fill;
-use crate::work::{Work, or_few};
 use anyhow::Error;
 use npf_cells::{CellPass, Cells};
 use npf_epoch::{enter, leave};
+use npf_fixtures::work::{Work, or_few};
 use npf_flow::FlowLaw;
 use npf_paths::Fnv;
 use npf_trie::look;

@@ -12,7 +12,6 @@ mod looking;
 mod mapped;
 mod publishing;
 mod table;
-mod work;
 
 use anyhow::Error;
 use asked::{Measure, asked};

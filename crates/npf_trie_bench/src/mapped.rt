@@ -3,9 +3,9 @@ ghost use Rattle.std.specs.Prelude.{◌<◌};
 ghost use Rattle.std.specs.Thread.{IsSync};
 
 use crate::drawn::{Draws, KEYS, Order, key};
-use crate::work::{Work, or_few};
 use anyhow::Error;
 use npf_core::{ConnId, Found};
+use npf_fixtures::work::{Work, or_few};
 use npf_types::{Key, Way};
 use std::alloc::{AllocError, Global};
 use std::collections::HashMap;

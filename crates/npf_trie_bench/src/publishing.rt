@@ -1,9 +1,9 @@
 // How long a read takes of a published number while none is published: by this project's reader, and by `left_right`'s own handle.
 ghost use Rattle.std.specs.Prelude.{◌<◌, length};
 
-use crate::work::{Work, or_few};
 use anyhow::Error;
 use left_right::{Absorb, ReadHandle, new_from_empty};
+use npf_fixtures::work::{Work, or_few};
 use npf_publish::{ConfReader, Publisher};
 use std::alloc::{AllocError, Global};
 use std::sync::Wait;

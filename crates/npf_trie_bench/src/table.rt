@@ -5,10 +5,10 @@ ghost use Rattle.npf_connections.specs.Stay.{IsIn, IsOut};
 
 use crate::drawn::{Draws, KEYS, key};
 use crate::flows::{PACKET, flow};
-use crate::work::{Work, or_few};
 use anyhow::Error;
 use npf_connections::Connections;
 use npf_core::{Held, Stepped};
+use npf_fixtures::work::{Work, or_few};
 use npf_flow::FlowLaw;
 use npf_oneturn::OneTurn;
 use npf_types::{Key, Way};
