@@ -1,0 +1,5 @@
+pub mod KeyLemmas
+pub mod OrderLemmas
+pub mod ConnLemmas
+pub mod LineLemmas
+pub mod TextLemmas
