@@ -1,0 +1,6 @@
+pub mod CopyLemmas
+pub mod BuiltLemmas
+pub mod LoadLemmas
+pub mod RoomLemmas
+pub mod SlotLemmas
+pub mod SortLemmas
