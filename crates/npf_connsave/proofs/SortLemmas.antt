@@ -20,7 +20,7 @@ use Rattle.npf_core.specs.Machine.{Machine, stage_of, is_key, IsLive}
 use Rattle.npf_core.proofs.EqualityLemmas.{is_key-Decides}
 use Rattle.npf_flow.specs.declared.flow.Flow.{Flow}
 use Rattle.npf_saved.specs.declared.saved.Saved.{Saved}
-use Rattle.npf_saved_file.specs.Conns.{AreDistinct, AreRising, IsBefore}
+use Rattle.npf_saved_file.specs.Conns.{AreDistinct, AreRising, ComesBefore}
 use Rattle.npf_connsave.specs.Copied.{AreCopied, IsCopied, forward_keys}
 use Rattle.npf_connsave.specs.Saving.{AreSavedOf, IsSavedOf}
 

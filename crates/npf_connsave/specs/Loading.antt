@@ -61,7 +61,7 @@ abbrev pub loaded_conns : List (ConnId × Saved) → List Saved
 loaded_conns made = map (λ one. one.1) made
 
 -- the text's connections were loaded, one behind the other, and by nothing else; so the table's text is that text
-pub record Loads (names : List Name) (text : List ℕ) (old new : View) : Type 0 where
+pub record LoadsSaved (names : List Name) (text : List ℕ) (old new : View) : Type 0 where
   pub made : List (ConnId × Saved)
   pub file : IsSavedFile text names (loaded_conns made)
   pub entries : new.history ≡ loaded_entries old.number made
@@ -72,7 +72,7 @@ abbrev pub AreFree : Machine Flow → List Key → Type 0
 AreFree k keys = (key : Key) → Contains keys key → k.holder key ≡ None
 
 -- the pass is the same one of its table, in or out as it was, and its count of full sweeps didn't fall
-pub record IsSameTable (old new : View) : Type 0 where
+pub record StaysSole (old new : View) : Type 0 where
   pub slots : new.slots ≡ old.slots
   pub number : new.number ≡ old.number
   pub entered : new.entered ≡ old.entered
@@ -112,9 +112,9 @@ pub record LeavesFront (old new : View) (all : List Saved) : Type 0 where
   pub sweeps : old.sweeps + 1 ≤ new.sweeps
 
 -- why a text isn't loaded: without a node for a key a front of its connections stays, and else the table wasn't asked
-abbrev pub RefusesLoad : List Name → List ℕ → View → View → SavedFault → Type 0
-RefusesLoad names text old new SavedNoNode = (all : List Saved) × MayLoad text names old.slots all × LeavesFront old new all
-RefusesLoad names text old new (BadSaved line) = RefusesSaved text names old.slots (BadSaved line) × (new ≡ old)
-RefusesLoad names text old new (OtherInterfaces line) = RefusesSaved text names old.slots (OtherInterfaces line) × (new ≡ old)
-RefusesLoad names text old new (TooManySaved count) = RefusesSaved text names old.slots (TooManySaved count) × (new ≡ old)
-RefusesLoad names text old new NoMemory = new ≡ old
+abbrev pub RefusesLoaded : List Name → List ℕ → View → View → SavedFault → Type 0
+RefusesLoaded names text old new SavedNoNode = (all : List Saved) × MayLoad text names old.slots all × LeavesFront old new all
+RefusesLoaded names text old new (BadSaved line) = RefusesSaved text names old.slots (BadSaved line) × (new ≡ old)
+RefusesLoaded names text old new (OtherInterfaces line) = RefusesSaved text names old.slots (OtherInterfaces line) × (new ≡ old)
+RefusesLoaded names text old new (TooManySaved count) = RefusesSaved text names old.slots (TooManySaved count) × (new ≡ old)
+RefusesLoaded names text old new NoMemory = new ≡ old

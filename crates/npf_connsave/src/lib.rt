@@ -10,6 +10,7 @@
 // whatever the table.
 #![tactic(auto)]
 
+pub mod laws;
 mod loading;
 mod saving;
 

@@ -6,8 +6,8 @@ ghost use Rattle.npf_core.specs.Machine.{HoldsNone};
 ghost use Rattle.npf_connections.specs.Pass.{all_places};
 ghost use Rattle.npf_connections.specs.Stay.{IsIn, IsOut};
 ghost use Rattle.npf_flow.specs.Flows.{flow_law};
-ghost use Rattle.npf_saved_file.specs.Conns.{AreDistinct, AreSavedConns, given, saved_keys};
-ghost use Rattle.npf_connsave.specs.Loading.{AreFree, IsSameTable, LeavesFront, Loads, RefusesKey, RefusesKeys, RefusesLoad, StartsAll, hold_entries_of, key_entries};
+ghost use Rattle.npf_saved_file.specs.Conns.{AreDistinct, AreSavedConns, key_list, saved_keys};
+ghost use Rattle.npf_connsave.specs.Loading.{AreFree, StaysSole, LeavesFront, LoadsSaved, RefusesKey, RefusesKeys, RefusesLoaded, StartsAll, hold_entries_of, key_entries};
 
 use npf_connections::Connections;
 use npf_core::{ConnId, Held};
@@ -21,7 +21,7 @@ use std::sync::Wait;
 /// The connections of loaded text carry the number of no packet.
 const NO_PACKET: u64 = 0;
 
-/// Loads the connections of the text, which has at most `MAX_SAVED_BYTES` bytes, into a new table,
+/// LoadsSaved the connections of the text, which has at most `MAX_SAVED_BYTES` bytes, into a new table,
 /// for a run of these interfaces. The pass owns all reader places. The text is refused as
 /// `read_saved` refuses it, before the table is asked; and with `SavedNoNode` where the table had
 /// no node for a key: then the connections before it stay.
@@ -39,8 +39,8 @@ pub fn load<R: Wait, C: Connections<FlowLaw>>(
     requires short { length text.now ≤ MAX_SAVED_BYTES }
     ensures out { IsOut flow_law (C.fits conns.now) C.view pass.new }
     ensures sole { (C.view pass.new).places ≡ all_places }
-    ensures loads { OnOk result (Loads names.now text.now (C.view pass.old) (C.view pass.new)) }
-    ensures refused { IfErr result (RefusesLoad names.now text.now (C.view pass.old) (C.view pass.new)) }
+    ensures loads { OnOk result (LoadsSaved names.now text.now (C.view pass.old) (C.view pass.new)) }
+    ensures refused { IfErr result (RefusesLoaded names.now text.now (C.view pass.old) (C.view pass.new)) }
 {
     let saved = read_saved(alloc, text, names, conns.slots())?;
     conns.enter(rt, pass);
@@ -69,7 +69,7 @@ fn start_all<R: Wait, C: Connections<FlowLaw>>(
     requires room { length all.now ≤ (C.view pass.old).slots }
     ensures inside { IsIn flow_law (C.fits conns.now) C.view pass.new }
     ensures idle { (C.view pass.new).builds ≡ [] }
-    ensures same { IsSameTable (C.view pass.old) (C.view pass.new) }
+    ensures same { StaysSole (C.view pass.old) (C.view pass.new) }
     ensures all { result ≡ true → StartsAll (C.view pass.old) (C.view pass.new) all.now }
     ensures refused { result ≡ false → LeavesFront (C.view pass.old) (C.view pass.new) all.now }
 {
@@ -103,7 +103,7 @@ fn hold_keys<R: Wait, C: Connections<FlowLaw>>(
     requires apart { AreDistinct (saved_keys saved.now) }
     ensures inside { IsIn flow_law (C.fits conns.now) C.view pass.new }
     ensures builds { (C.view pass.new).builds ≡ id ∷ [] }
-    ensures same { IsSameTable (C.view pass.old) (C.view pass.new) }
+    ensures same { StaysSole (C.view pass.old) (C.view pass.new) }
     ensures holds { result ≡ true → (C.view pass.new).history ≡ (C.view pass.old).history ++ key_entries (C.view pass.old).number id saved.now }
     ensures refused { result ≡ false → RefusesKeys (C.view pass.old) (C.view pass.new) id saved.now }
 {
@@ -125,10 +125,10 @@ fn hold_key<R: Wait, C: Connections<FlowLaw>>(
     requires builds { (C.view pass.old).builds ≡ id ∷ [] }
     requires sole { (C.view pass.old).places ≡ all_places }
     requires bare { HoldsNone (state_of flow_law (C.view pass.old).history) id way }
-    requires free { AreFree (state_of flow_law (C.view pass.old).history) (given key) }
+    requires free { AreFree (state_of flow_law (C.view pass.old).history) (key_list key) }
     ensures inside { IsIn flow_law (C.fits conns.now) C.view pass.new }
     ensures builds { (C.view pass.new).builds ≡ id ∷ [] }
-    ensures same { IsSameTable (C.view pass.old) (C.view pass.new) }
+    ensures same { StaysSole (C.view pass.old) (C.view pass.new) }
     ensures holds { result ≡ true → (C.view pass.new).history ≡ (C.view pass.old).history ++ hold_entries_of (C.view pass.old).number id way key }
     ensures refused { result ≡ false → RefusesKey (C.view pass.old) (C.view pass.new) }
 {

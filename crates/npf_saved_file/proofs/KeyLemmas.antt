@@ -11,7 +11,7 @@ use Rattle.std.proofs.lemmas.Slice.Eq.{bytes_eq-Decides}
 use Rattle.npf_types.specs.declared.key.Key.{Key}
 use Rattle.npf_types.specs.contracts.key.KeyPartialEq.TheImpl as key_eq
 use Rattle.npf_types.specs.contracts.key.KeyEq.TheImpl.Laws.{laws-law}
-use Rattle.npf_saved_file.specs.Conns.{AreDistinct, HasKeys, TakesKeys, given}
+use Rattle.npf_saved_file.specs.Conns.{AreDistinct, HasKeys, TakesKeys, key_list}
 
 -- keys are told apart by `==`
 abbrev pub same_key : Key → Key → Bool
@@ -53,7 +53,7 @@ one_more keys key all new =
 
 -- what a set answers to a key says whether it had it
 pub key_taken : (set new known : List Key) (key : Key) (added : Bool) → HasKeys set known → AreDistinct known
-    → ((q : Key) → has_key new q ≡ cond (same_key key q) true (has_key set q)) → added ≡ not (has_key set key) → TakesKeys known (given (Some key)) new added
+    → ((q : Key) → has_key new q ≡ cond (same_key key q) true (has_key set q)) → added ≡ not (has_key set key) → TakesKeys known (key_list (Some key)) new added
 key_taken set new known key added has all put answered = by added answered where
   held : (q : Key) → Contains new q → Contains (known ++ key ∷ []) q
   held q there = at (same_key key q) refl where
@@ -81,7 +81,7 @@ key_taken set new known key added has all put answered = by added answered where
     on false e = cc
 
 -- keys are taken one behind the other
-pub no_key_taken : (set known : List Key) → HasKeys set known → AreDistinct known → TakesKeys known (given None) set true
+pub no_key_taken : (set known : List Key) → HasKeys set known → AreDistinct known → TakesKeys known (key_list None) set true
 no_key_taken set known has all = (subst AreDistinct (sym (append-nil known)) all, subst (HasKeys set) (sym (append-nil known)) has)
 
 pub not_taken : (known keys more : List Key) (set other : List Key) → TakesKeys known keys set false → TakesKeys known (keys ++ more) other false

@@ -12,13 +12,13 @@ use Rattle.npf_saved.specs.declared.saved.Saved.{Saved}
 use Rattle.npf_saved.specs.Fields.{FitsSaved}
 
 -- the key, if there is one
-abbrev pub given : Option Key → List Key
-given None = []
-given (Some key) = key ∷ []
+abbrev pub key_list : Option Key → List Key
+key_list None = []
+key_list (Some key) = key ∷ []
 
 -- the keys that a connection holds
 abbrev pub saved_keys : Saved → List Key
-saved_keys saved = saved.forward ∷ (given saved.port ++ given saved.backward)
+saved_keys saved = saved.forward ∷ (key_list saved.port ++ key_list saved.backward)
 
 -- the first of its sixteen-digit numbers begins with 0, as that of a packet's key does and that of a port's doesn't
 abbrev pub IsPacketKey : Key → Type 0
@@ -34,17 +34,17 @@ source_port_key None = None
 source_port_key (Some source) = key_at source.addr source.port
 
 -- the keys of the connection's ways are of the kinds that these ways have
-pub record IsPlaced (saved : Saved) : Type 0 where
+pub record HasKeysOfItsWays (saved : Saved) : Type 0 where
   pub forward : IsPacketKey saved.forward
   pub backward : IfSome saved.backward IsPacketKey
   pub port : saved.port ≡ source_port_key saved.flow.there.src
 
 -- by its numbers, the first first
-abbrev pub IsBefore : Saved → Saved → Type 0
-IsBefore one other = slice_cmp nat_cmp one.forward.0 other.forward.0 ≡ Less
+abbrev pub ComesBefore : Saved → Saved → Type 0
+ComesBefore one other = slice_cmp nat_cmp one.forward.0 other.forward.0 ≡ Less
 
 abbrev pub AreRising : List Saved → Type 0
-AreRising conns = AllPairs IsBefore conns
+AreRising conns = AllPairs ComesBefore conns
 
 abbrev pub AreDistinct : List Key → Type 0
 AreDistinct keys = AllPairs (λ one other. one ≢ other) keys
@@ -52,7 +52,7 @@ AreDistinct keys = AllPairs (λ one other. one ≢ other) keys
 -- a saved file may list these: each has keys of its ways' kinds, they rise by their forward keys, and no key is held twice
 pub record AreSavedConns (conns : List Saved) : Type 0 where
   pub fit : All FitsSaved conns
-  pub placed : All IsPlaced conns
+  pub placed : All HasKeysOfItsWays conns
   pub rising : AreRising conns
   pub distinct : AreDistinct (flat_map saved_keys conns)
 

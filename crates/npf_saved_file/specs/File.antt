@@ -13,6 +13,15 @@ pub record IsSavedFile (text : List ℕ) (names : List Name) (conns : List Saved
   pub names : All FitsName names
   pub conns : AreSavedConns conns
 
+-- and that of no others
+pub record IsOnlySavedFile (text : List ℕ) (names : List Name) (conns : List Saved) : Type 0 where
+  pub file : IsSavedFile text names conns
+  pub only : (others : List Name) (all : List Saved) → IsSavedFile text others all → (others ≡ names) × (all ≡ conns)
+
+-- it is that of none
+abbrev pub IsNoSavedFile : List ℕ → Type 0
+IsNoSavedFile text = (names : List Name) (conns : List Saved) → ¬ IsSavedFile text names conns
+
 abbrev pub is_line_feed : ℕ → Bool
 is_line_feed byte = byte == 10
 

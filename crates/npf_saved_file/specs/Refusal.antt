@@ -9,8 +9,8 @@ use Rattle.npf_saved.specs.Spelling.{head_line}
 use Rattle.npf_saved_file.specs.declared.fault.SavedFault.{SavedFault}
 use Rattle.npf_saved_file.specs.declared.fault.SavedFault.TheVariants.{BadSaved, OtherInterfaces, TooManySaved, SavedNoNode, NoMemory}
 use Rattle.npf_saved_file.specs.Conns.{AreSavedConns}
-use Rattle.npf_saved_file.specs.File.{IsFirstLine, IsSavedFile}
-use Rattle.npf_saved_file.specs.Lines.{IsBadBehind}
+use Rattle.npf_saved_file.specs.File.{IsFirstLine, IsNoSavedFile, IsOnlySavedFile}
+use Rattle.npf_saved_file.specs.Lines.{IsBadSavedLine}
 
 -- the first line isn't the head, or no line feed ends it
 pub record IsBadHead (text : List ℕ) (number : ℕ) : Type 0 where
@@ -27,11 +27,12 @@ pub record IsBadLine (text : List ℕ) (number : ℕ) : Type 0 where
   pub good : AreSavedConns conns
   pub counted : number ≡ length names + length conns + 2
   pub some : rest ≢ []
-  pub bad : (line behind : List ℕ) → IsFirstLine rest line behind → IsBadBehind conns line
+  pub bad : (line behind : List ℕ) → IsFirstLine rest line behind → IsBadSavedLine conns line
 
--- the line of this number, from 1, is the first bad one
-abbrev pub IsFirstBadSaved : List ℕ → ℕ → Type 0
-IsFirstBadSaved text number = IsBadHead text number ⊎ IsBadLine text number
+-- the line of this number, from 1, is the first bad one; so the text is none of a saved file
+pub record IsFirstBadSaved (text : List ℕ) (number : ℕ) : Type 0 where
+  pub bad : IsBadHead text number ⊎ IsBadLine text number
+  pub none : IsNoSavedFile text
 
 -- up to this place the lists are the same, and there they aren't, or one of them ends
 pub record IsFirstDifference {X : Type 0} (one other : List X) (place : ℕ) : Type 0 where
@@ -42,7 +43,7 @@ pub record IsFirstDifference {X : Type 0} (one other : List X) (place : ℕ) : T
 pub record HasOtherInterfaces (text : List ℕ) (names : List Name) (line : ℕ) : Type 0 where
   pub others : List Name
   pub conns : List Saved
-  pub file : IsSavedFile text others conns
+  pub file : IsOnlySavedFile text others conns
   pub place : ℕ
   pub first : IsFirstDifference others names place
   pub counted : line ≡ place + 2
@@ -50,7 +51,7 @@ pub record HasOtherInterfaces (text : List ℕ) (names : List Name) (line : ℕ)
 -- the file lists so many connections, and they are more than the slots
 pub record HasTooMany (text : List ℕ) (names : List Name) (slots count : ℕ) : Type 0 where
   pub conns : List Saved
-  pub file : IsSavedFile text names conns
+  pub file : IsOnlySavedFile text names conns
   pub counted : count ≡ length conns
   pub many : slots < count
 
@@ -64,7 +65,7 @@ RefusesSaved text names slots NoMemory = Unit {0}
 
 -- the file may be loaded: it is one of these interfaces, and there is a slot for each connection
 pub record MayLoad (text : List ℕ) (names : List Name) (slots : ℕ) (conns : List Saved) : Type 0 where
-  pub file : IsSavedFile text names conns
+  pub file : IsOnlySavedFile text names conns
   pub room : length conns ≤ slots
 
 -- why its lines aren't taken

@@ -3,7 +3,7 @@ ghost use Rattle.std.specs.Prelude.{◌≡◌, ◌↔◌, ◌∷◌, ◌++◌, [
 ghost use Rattle.std.specs.List.{flat_map};
 ghost use Rattle.npf_types.specs.declared.key.Key.{Key as KeyType};
 ghost use Rattle.npf_saved.specs.Fields.{FitsSaved};
-ghost use Rattle.npf_saved_file.specs.Conns.{AddsConn, AreDistinct, AreRising, AreSavedConns, HasKeys, IsPacketKey, IsPlaced, TakesKeys, given, saved_keys, source_port_key};
+ghost use Rattle.npf_saved_file.specs.Conns.{AddsConn, AreDistinct, AreRising, AreSavedConns, HasKeys, IsPacketKey, HasKeysOfItsWays, TakesKeys, key_list, saved_keys, source_port_key};
 
 use npf_key::port_key;
 use npf_saved::Saved;
@@ -37,7 +37,7 @@ pub(crate) fn add_conn(
 
 /// Whether the connection's keys are of the kinds of their ways.
 fn is_placed(saved: &Saved) -> bool
-    ensures { IsTrue result ↔ IsPlaced saved.now }
+    ensures { IsTrue result ↔ HasKeysOfItsWays saved.now }
 {
     is_packet_key(&saved.forward)
         && saved.backward.is_none_or(|key| is_packet_key(&key))
@@ -82,7 +82,7 @@ fn take_keys(keys: &mut HashSet<Key>, saved: &Saved) -> Result<bool, NoMemory>
 /// Takes the key into the set, if there is one. False where it is there.
 fn take_key(keys: &mut HashSet<Key>, key: Option<Key>) -> Result<bool, NoMemory>
     ensures { IfOk result (λ taken. (known : List KeyType) → HasKeys keys.old.keys known
-        → AreDistinct known → TakesKeys known (given key) keys.new.keys taken) }
+        → AreDistinct known → TakesKeys known (key_list key) keys.new.keys taken) }
 {
     match key {
         None => Ok(true),

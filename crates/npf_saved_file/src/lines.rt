@@ -1,8 +1,9 @@
 // The lines of a saved file, taken one behind the other.
 ghost use Rattle.std.specs.Prelude.{◌≡◌, ◌≤◌, [], IfErr, IfOk, List, MatchOption, length, position, ℕ};
+ghost use Rattle.npf_types.specs.Reading.{IsOnly};
 ghost use Rattle.npf_saved.specs.File.{IsIfLine};
 ghost use Rattle.npf_saved.specs.Spelling.{head_line};
-ghost use Rattle.npf_saved_file.specs.File.{IsFirstLine, IsSavedFile, is_line_feed};
+ghost use Rattle.npf_saved_file.specs.File.{IsFirstLine, IsOnlySavedFile, is_line_feed};
 ghost use Rattle.npf_saved_file.specs.Lines.{AreTaken, IsNoInterface, TakesLine};
 ghost use Rattle.npf_saved_file.specs.Refusal.{RefusesLines};
 
@@ -29,7 +30,7 @@ pub(crate) struct Lines {
 /// memory.
 pub(crate) fn take_lines(alloc: Global, text: &[u8]) -> Result<Lines, SavedFault>
     requires { length text.now ≤ MAX_SAVED_BYTES }
-    ensures ok { IfOk result (λ lines. IsSavedFile text.now lines.names.items lines.conns.items) }
+    ensures ok { IfOk result (λ lines. IsOnlySavedFile text.now lines.names.items lines.conns.items) }
     ensures err { IfErr result (RefusesLines text.now) }
 {
     let mut number = 1u32;
@@ -117,7 +118,7 @@ fn next_interface(
 ) -> Result<Option<Name>, NoMemory>
     ensures { IfOk result (λ found. MatchOption found
         (IsNoInterface conns.now line.now)
-        (λ name. (conns.now ≡ []) × IsIfLine line.now name)) }
+        (λ name. (conns.now ≡ []) × IsOnly IsIfLine line.now name)) }
 {
     if !conns.is_empty() {
         return Ok(None);
