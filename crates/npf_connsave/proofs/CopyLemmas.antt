@@ -89,7 +89,7 @@ module _ (k : Machine Flow) where
       apart = so_far.apart;
     } where
       below : (s : ℕ) → s < slot + 1 → (s < slot) ⊎ (s ≡ slot)
-      below s near = omega arith
+      below s near = grind arith
       by : (id : ConnId) (key : Key) → IsLive (stage_of k id) → Holds k id Forward key → (id.slot < slot) ⊎ (id.slot ≡ slot)
           → (saved : Saved) × Contains conns saved × (saved.forward ≡ key)
       by id key live holds (inl near) = so_far.all id key near live holds
@@ -112,7 +112,7 @@ module _ (k : Machine Flow) where
               (all_pairs_push (λ one other. one ≢ other) (forward_keys conns) saved.forward so_far.apart (differs as));
         } where
       below : (s : ℕ) → s < slot + 1 → (s < slot) ⊎ (s ≡ slot)
-      below s near = omega arith
+      below s near = grind arith
       by : IsSavedAs k kept.id saved → (id : ConnId) (key : Key) → IsLive (stage_of k id) → Holds k id Forward key → (id.slot < slot) ⊎ (id.slot ≡ slot)
           → (other : Saved) × Contains (conns ++ saved ∷ []) other × (other.forward ≡ key)
       by as id key live holds (inl near) =

@@ -32,37 +32,50 @@ if_lacks name = lacks_both 10 32 (105 ∷ 102 ∷ []) (name_bytes name) refl ref
 
 change_lacks : (change : Change) → lacks 10 (change_text change) ≡ true
 change_lacks change =
-    lacks_both 10 47 (or_dash end_text change.src) _ (end_lacks 10 refl change.src refl refl) refl
-    (lacks_both 10 47 (or_dash end_text change.dst) _ (end_lacks 10 refl change.dst refl refl) refl (bit_lacks 10 refl refl change.neutral))
+    lacks_both 10 47 (or_dash end_text change.src) (or_dash end_text change.dst ++ 47 ∷ bit_text change.neutral) (end_lacks 10 refl change.src refl refl) refl
+    (lacks_both 10 47 (or_dash end_text change.dst) (bit_text change.neutral) (end_lacks 10 refl change.dst refl refl) refl (bit_lacks 10 refl refl change.neutral))
 
 action_lacks : (action : Action) → FitsAction action → lacks 10 (action_text action) ≡ true
 action_lacks action fits =
-    lacks_both 10 44 (or_dash decimal action.min_ttl) _ (byte_lacks 10 foreign refl action.min_ttl fits.min_ttl) refl
-    (lacks_both 10 44 (or_dash decimal action.max_mss) _ (size_lacks 10 foreign refl action.max_mss fits.max_mss) refl
-    (lacks_both 10 44 (bit_text action.no_df) _ (bit_lacks 10 refl refl action.no_df) refl
-    (or_dash_lacks FitsName name_bytes 10 refl (λ name _. name_lacks name) action.log fits.log)))
+    let log = or_dash name_bytes action.log in
+    let flag = bit_text action.no_df in
+    let size = or_dash decimal action.max_mss in
+    let logged = or_dash_lacks FitsName name_bytes 10 refl (λ name _. name_lacks name) action.log fits.log in
+    let flagged = lacks_both 10 44 flag log (bit_lacks 10 refl refl action.no_df) refl logged in
+    let sized = lacks_both 10 44 size (flag ++ 44 ∷ log) (size_lacks 10 foreign refl action.max_mss fits.max_mss) refl flagged in
+    lacks_both 10 44 (or_dash decimal action.min_ttl) (size ++ 44 ∷ (flag ++ 44 ∷ log)) (byte_lacks 10 foreign refl action.min_ttl fits.min_ttl) refl sized
 
 kind_lacks : (kind : FlowKind) → FitsKind kind → lacks 10 (kind_text kind) ≡ true
 kind_lacks (Tcp state) fits =
-    lacks_both 10 58 (116 ∷ []) _ refl refl
-    (lacks_both 10 58 (decimal (phase_number state.phase)) _ (decimal_lacks 10 (phase_number state.phase) (phase_small state.phase) foreign) refl
-    (lacks_both 10 58 (bit_text state.strict) _ (bit_lacks 10 refl refl state.strict) refl
-    (lacks_both 10 58 (side_text state.forward) (side_text state.backward) (side_lacks 10 foreign refl refl state.forward fits.0) refl
-    (side_lacks 10 foreign refl refl state.backward fits.1))))
+    let phase = decimal (phase_number state.phase) in
+    let strict = bit_text state.strict in
+    let forward = side_text state.forward in
+    let backward = side_text state.backward in
+    let sides = lacks_both 10 58 forward backward (side_lacks 10 foreign refl refl state.forward fits.0) refl (side_lacks 10 foreign refl refl state.backward fits.1) in
+    let flags = lacks_both 10 58 strict (forward ++ 58 ∷ backward) (bit_lacks 10 refl refl state.strict) refl sides in
+    let phases = lacks_both 10 58 phase (strict ++ 58 ∷ (forward ++ 58 ∷ backward)) (decimal_lacks 10 (phase_number state.phase) (phase_small state.phase) foreign) refl flags in
+    lacks_both 10 58 (116 ∷ []) (phase ++ 58 ∷ (strict ++ 58 ∷ (forward ++ 58 ∷ backward))) refl refl phases
 kind_lacks (Other true) fits = refl
 kind_lacks (Other false) fits = refl
 
 pub conn_lacks : (saved : Saved) → FitsSaved saved → lacks 10 (conn_line saved) ≡ true
 conn_lacks saved fits =
-    lacks_both 10 32 (99 ∷ 111 ∷ 110 ∷ 110 ∷ []) _ refl refl
-    (lacks_both 10 32 (key_text saved.forward) _ (key_lacks 10 refl saved.forward refl) refl
-    (lacks_both 10 32 (or_dash key_text saved.port) _ (optional_key_lacks 10 refl saved.port refl refl) refl
-    (lacks_both 10 32 (or_dash key_text saved.backward) _ (optional_key_lacks 10 refl saved.backward refl refl) refl
-    (lacks_both 10 32 (kind_text saved.flow.kind) _ (kind_lacks saved.flow.kind fits.flow.kind) refl
-    (lacks_both 10 32 (decimal saved.flow.last) _ (decimal_lacks 10 saved.flow.last fits.flow.last foreign) refl
-    (lacks_both 10 32 (change_text saved.flow.there) _ (change_lacks saved.flow.there) refl
-    (lacks_both 10 32 (change_text saved.flow.back) (action_text saved.flow.action) (change_lacks saved.flow.back) refl
-    (action_lacks saved.flow.action fits.flow.action))))))))
+    let forward = key_text saved.forward in
+    let port = or_dash key_text saved.port in
+    let backward = or_dash key_text saved.backward in
+    let kind = kind_text saved.flow.kind in
+    let last = decimal saved.flow.last in
+    let there = change_text saved.flow.there in
+    let back = change_text saved.flow.back in
+    let action = action_text saved.flow.action in
+    let one = lacks_both 10 32 back action (change_lacks saved.flow.back) refl (action_lacks saved.flow.action fits.flow.action) in
+    let two = lacks_both 10 32 there (back ++ 32 ∷ action) (change_lacks saved.flow.there) refl one in
+    let three = lacks_both 10 32 last (there ++ 32 ∷ (back ++ 32 ∷ action)) (decimal_lacks 10 saved.flow.last fits.flow.last foreign) refl two in
+    let four = lacks_both 10 32 kind (last ++ 32 ∷ (there ++ 32 ∷ (back ++ 32 ∷ action))) (kind_lacks saved.flow.kind fits.flow.kind) refl three in
+    let five = lacks_both 10 32 backward (kind ++ 32 ∷ (last ++ 32 ∷ (there ++ 32 ∷ (back ++ 32 ∷ action)))) (optional_key_lacks 10 refl saved.backward refl refl) refl four in
+    let six = lacks_both 10 32 port (backward ++ 32 ∷ (kind ++ 32 ∷ (last ++ 32 ∷ (there ++ 32 ∷ (back ++ 32 ∷ action))))) (optional_key_lacks 10 refl saved.port refl refl) refl five in
+    let seven = lacks_both 10 32 forward (port ++ 32 ∷ (backward ++ 32 ∷ (kind ++ 32 ∷ (last ++ 32 ∷ (there ++ 32 ∷ (back ++ 32 ∷ action)))))) (key_lacks 10 refl saved.forward refl) refl six in
+    lacks_both 10 32 (99 ∷ 111 ∷ 110 ∷ 110 ∷ []) (forward ++ 32 ∷ (port ++ 32 ∷ (backward ++ 32 ∷ (kind ++ 32 ∷ (last ++ 32 ∷ (there ++ 32 ∷ (back ++ 32 ∷ action))))))) refl refl seven
 
 -- so what it is followed by begins at its line feed
 pub ends_there : (text line rest : List ℕ) → text ≡ ended_line line ++ rest → lacks 10 line ≡ true → IsFirstLine text line rest

@@ -1,5 +1,6 @@
 -- Keys that are taken into a set.
 use Rattle.std.proofs.Common.{◌≡◌, ◌≢◌, ◌<◌, ◌+◌, ◌↔◌, ℕ, Bool, true, false, not, cond, Option, Some, None, List, [], ◌∷◌, ◌++◌, Contains, length, get_or, refl, sym, ap, subst, ◌∙◌, ◌||◌, true≢false, append-nil, append_assoc, inl, inr, arith}
+use Rattle.std.specs.Prelude.{◌⊎◌}
 use Rattle.std.specs.Cmp.{IsEquivalence}
 use Rattle.std.specs.List.{AllPairs, list_any}
 use Rattle.std.specs.Str.{bytes_eq}
@@ -66,10 +67,10 @@ key_taken set new known key added has all put answered = by added answered where
   kept q there = at (same_key key q) refl where
     at : (b : Bool) → same_key key q ≡ b → Contains new q
     at true is = key_there new q (put q ∙ ap (λ b. cond b true (has_key set q)) is)
-    at false is = elim (Contains-push_cases known key q there) [
-      inl old ↦ key_there new q (put q ∙ ap (λ b. cond b true (has_key set q)) is ∙ key_found set q ((has q).1 old))
-    | inr last ↦ absurd (true≢false (sym (ap (same_key key) (sym last) ∙ is) ∙ same_key_laws.refl key))
-    ]
+    at false is = from (Contains-push_cases known key q there) where
+      from : Contains known q ⊎ (key ≡ q) → Contains new q
+      from (inl old) = key_there new q (put q ∙ ap (λ b. cond b true (has_key set q)) is ∙ key_found set q ((has q).1 old))
+      from (inr last) = absurd (true≢false (sym (same_key_laws.refl key) ∙ ap (same_key key) last ∙ is))
   by : (b : Bool) → b ≡ not (has_key set key) → TakesKeys known (key ∷ []) new b
   by true is = (one_more known key all (λ there. true≢false (sym (key_found set key ((has key).1 there)) ∙ off (has_key set key) (sym is))), λ q. (held q, kept q)) where
     off : (b : Bool) → not b ≡ true → b ≡ false
@@ -90,4 +91,4 @@ not_taken known keys more set other again all = again (distinct_front (known ++ 
 pub more_taken : (known keys more set : List Key) (taken : Bool) → TakesKeys (known ++ keys) more set taken → TakesKeys known (keys ++ more) set taken
 more_taken known keys more set true takes =
     (subst AreDistinct (append_assoc known keys more) takes.0, subst (HasKeys set) (append_assoc known keys more) takes.1)
-more_taken known keys more set false again all = again (subst AreDistinct (sym (append_assoc known keys more)) all)
+more_taken known keys more set false again = λ all. again (subst AreDistinct (sym (append_assoc known keys more)) all)

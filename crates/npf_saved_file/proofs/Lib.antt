@@ -5,3 +5,5 @@ pub mod LineLemmas
 pub mod FeedLemmas
 pub mod TextLemmas
 pub mod OnlyLemmas
+pub mod DifferenceLemmas
+pub mod TakenLemmas

@@ -11,7 +11,7 @@ use Rattle.npf_saved.specs.declared.saved.Saved.{Saved}
 use Rattle.npf_saved.specs.Fields.{FitsName, FitsSaved}
 use Rattle.npf_saved.specs.File.{IsConnLine, IsIfLine, conn_lines, ended_line, name_lines, saved_text}
 use Rattle.npf_saved.specs.Spelling.{conn_line, head_line, if_line}
-use Rattle.npf_saved_file.specs.Conns.{AreDistinct, AreSavedConns, ComesBefore, saved_keys}
+use Rattle.npf_saved_file.specs.Conns.{AreDistinct, AreSavedConns, ComesBefore, HasKeysOfItsWays, saved_keys}
 use Rattle.npf_saved_file.specs.File.{IsFirstLine, IsNoSavedFile, IsSavedFile}
 use Rattle.npf_saved_file.specs.Lines.{IsBadSavedLine, IsNoInterface}
 use Rattle.npf_saved_file.proofs.FeedLemmas.{conn_lacks, ends_there, if_lacks}
@@ -63,8 +63,8 @@ has_line text line behind first none =
     absurd (omega (arith, long, short))
 
 -- a front of good connections is good
-all_front : {P : Saved → Type 0} (conns more : List Saved) → All P (conns ++ more) → All P conns
-all_front {P} conns more all k d within =
+all_front : (P : Saved → Type 0) (conns more : List Saved) → All P (conns ++ more) → All P conns
+all_front P conns more all k d within =
     let long = length-append conns more in
     subst P (get_or_append_left conns more d k within) (all k d (omega (arith, long, within)))
 
@@ -77,8 +77,8 @@ rising_front conns more all i j d near within =
 
 good_front : (conns more : List Saved) → AreSavedConns (conns ++ more) → AreSavedConns conns
 good_front conns more good = record {
-  fit = all_front conns more good.fit;
-  placed = all_front conns more good.placed;
+  fit = all_front FitsSaved conns more good.fit;
+  placed = all_front HasKeysOfItsWays conns more good.placed;
   rising = rising_front conns more good.rising;
   distinct = distinct_front (flat_map saved_keys conns) (flat_map saved_keys more) (subst AreDistinct (flat_map-append saved_keys conns more) good.distinct);
 }
@@ -92,7 +92,7 @@ name_fits names name more all = All-contains FitsName (names ++ name ∷ more) n
 
 -- no line is both
 not_both : (name : Name) (saved : Saved) → ¬ (if_line name ≡ conn_line saved)
-not_both name saved same = absurd cc
+not_both name saved same = let first : 105 ≡ 99 = ap (λ (line : List ℕ). get_or line 0 0) same in absurd (omega (arith, first))
 
 module _ (names : List Name) (conns : List Saved) (rest line behind : List ℕ) (others : List Name) (all : List Saved) (first : IsFirstLine rest line behind)
     (named : All FitsName others) (good : AreSavedConns all) where
@@ -136,9 +136,9 @@ module _ (names : List Name) (conns : List Saved) (rest line behind : List ℕ) 
 
   pub after_conn : Follows names conns rest others all → (saved : Saved) → IsNoInterface conns line → IsOnly IsConnLine line saved
       → Follows names (conns ++ saved ∷ []) behind others all
-  after_conn follows saved no is = by (next_is follows) where
+  after_conn follows saved no_name is = by (next_is follows) where
     by : IsNext → Follows names (conns ++ saved ∷ []) behind others all
-    by (IsNext.interface name more last _ _ none if _) = absurd (no none name if)
+    by (IsNext.interface name more last _ _ none if _) = absurd (no_name none name if)
     by (IsNext.connection other last named listed conn left) = record {
       more = [];
       last = last;
@@ -175,13 +175,13 @@ no_file text names conns rest so_far some none others all file = by follows.more
   by : (more : List Name) (last : List Saved) → all ≡ conns ++ last → rest ≡ name_lines more ++ conn_lines last → ⊥
   by [] [] listed left = some left
   by [] (saved ∷ last) listed left =
-      none (conn_line saved) (conn_lines last) (conn_first saved last rest (last_fits conns saved last (subst AreSavedConns listed file.conns)) left)
+      none (conn_line saved) (conn_lines last) (conn_first saved last rest (last_fits conns saved last (subst AreSavedConns listed file.good)) left)
   by (name ∷ more) last listed left = none (if_line name) (name_lines more ++ conn_lines last) (name_first name more last rest left)
 
 pub no_file_behind : (text : List ℕ) (names : List Name) (conns : List Saved) (rest line behind : List ℕ) → IsSoFar text names conns rest → IsFirstLine rest line behind
     → IsBadSavedLine conns line → IsNoSavedFile text
 no_file_behind text names conns rest line behind so_far first bad others all file =
-    not_bad names conns rest line behind others all first file.names file.conns (so_far others all file) bad
+    not_bad names conns rest line behind others all first file.named file.good (so_far others all file) bad
 
 pub no_file_without_head : (text : List ℕ) → ((behind : List ℕ) → ¬ IsFirstLine text head_line behind) → IsNoSavedFile text
 no_file_without_head text none names conns file =

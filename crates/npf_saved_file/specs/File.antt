@@ -10,8 +10,8 @@ use Rattle.npf_saved_file.specs.Conns.{AreSavedConns}
 -- the text is that of these interfaces and connections, which may stand in this order
 pub record IsSavedFile (text : List ℕ) (names : List Name) (conns : List Saved) : Type 0 where
   pub spelled : text ≡ saved_text names conns
-  pub names : All FitsName names
-  pub conns : AreSavedConns conns
+  pub named : All FitsName names
+  pub good : AreSavedConns conns
 
 -- and that of no others
 pub record IsOnlySavedFile (text : List ℕ) (names : List Name) (conns : List Saved) : Type 0 where

@@ -3,11 +3,12 @@ ghost use Rattle.std.specs.Prelude.{◌≡◌, ◌↔◌, ◌∷◌, ◌++◌, [
 ghost use Rattle.std.specs.List.{flat_map};
 ghost use Rattle.npf_types.specs.declared.key.Key.{Key as KeyType};
 ghost use Rattle.npf_saved.specs.Fields.{FitsSaved};
-ghost use Rattle.npf_saved_file.specs.Conns.{AddsConn, AreDistinct, AreRising, AreSavedConns, HasKeys, IsPacketKey, HasKeysOfItsWays, TakesKeys, key_list, saved_keys, source_port_key};
+ghost use Rattle.npf_saved_file.specs.Conns.{AddsConn, AreDistinct, AreRising, AreSavedConns, ComesBefore, HasKeys, IsPacketKey, HasKeysOfItsWays, TakesKeys, key_list, saved_keys, source_port_key};
 
 use npf_key::port_key;
 use npf_saved::Saved;
 use npf_types::{End, Key, NoMemory};
+use std::cmp::Ordering;
 use std::collections::HashSet;
 
 /// The least first number of a key that begins with another digit than 0, in sixteen digits.
@@ -65,8 +66,14 @@ fn rises(conns: &[Saved], saved: &Saved) -> bool
 {
     match conns.last() {
         None => true,
-        Some(last) => last.forward < saved.forward,
+        Some(last) => is_before(last, saved),
     }
+}
+
+fn is_before(one: &Saved, other: &Saved) -> bool
+    ensures { IsTrue result ↔ ComesBefore one.now other.now }
+{
+    matches!(one.forward.cmp(&other.forward), Ordering::Less)
 }
 
 /// Takes the connection's keys into the set. False where one is there.
@@ -74,9 +81,13 @@ fn take_keys(keys: &mut HashSet<Key>, saved: &Saved) -> Result<bool, NoMemory>
     ensures { IfOk result (λ taken. (known : List KeyType) → HasKeys keys.old.keys known
         → AreDistinct known → TakesKeys known (saved_keys saved.now) keys.new.keys taken) }
 {
-    Ok(take_key(keys, Some(saved.forward))?
-        && take_key(keys, saved.port)?
-        && take_key(keys, saved.backward)?)
+    if !take_key(keys, Some(saved.forward))? {
+        return Ok(false);
+    }
+    if !take_key(keys, saved.port)? {
+        return Ok(false);
+    }
+    take_key(keys, saved.backward)
 }
 
 /// Takes the key into the set, if there is one. False where it is there.

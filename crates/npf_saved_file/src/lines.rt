@@ -61,8 +61,13 @@ fn behind_head(text: &[u8]) -> Option<&[u8]>
         ((behind : List ℕ) → ¬ IsFirstLine text.now head_line behind)
         (λ behind. IsFirstLine text.now head_line behind.now) }
 {
-    let (line, behind) = first_line(text)?;
-    (line == HEAD).then_some(behind)
+    let Some((line, behind)) = first_line(text) else {
+        return None;
+    };
+    if line == HEAD {
+        return Some(behind);
+    }
+    None
 }
 
 /// The first line without its line feed, and what stands behind that; None where there is no line
@@ -72,7 +77,9 @@ fn first_line(text: &[u8]) -> Option<(&[u8], &[u8])>
         ((line behind : List ℕ) → ¬ IsFirstLine text.now line behind)
         (λ parts. IsFirstLine text.now parts.0.now parts.1.now) }
 {
-    let at = line_feed_place(text)?;
+    let Some(at) = line_feed_place(text) else {
+        return None;
+    };
     Some((&text[..at], &text[at + 1..]))
 }
 

@@ -43,13 +43,14 @@ fn first_difference(one: &[Name], other: &[Name]) -> Option<usize>
     ensures differs { MatchOption result (one.now ≡ other.now) (IsFirstDifference one.now other.now) }
     ensures within { IfSome result (λ place. place ≤ length one.now) }
 {
-    for (place, name) in one.iter().enumerate() {
-        if other.get(place) != Some(name) {
+    let shared = one.len().min(other.len());
+    for place in 0..shared {
+        if one[place] != other[place] {
             return Some(place);
         }
     }
-    if one.len() < other.len() {
-        return Some(one.len());
+    if one.len() == other.len() {
+        return None;
     }
-    None
+    Some(shared)
 }
