@@ -15,8 +15,6 @@ mod guess_flow;
 mod line;
 mod saved;
 mod spelling;
-#[cfg(test)]
-mod tests;
 mod words;
 mod writing;
 

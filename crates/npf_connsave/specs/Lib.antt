@@ -1,0 +1,4 @@
+pub mod Copied
+pub mod Laws
+pub mod Loading
+pub mod Saving

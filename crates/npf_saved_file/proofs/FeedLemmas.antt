@@ -1,0 +1,87 @@
+-- No line feed stands in a line.
+use Rattle.std.proofs.Common.{◌≡◌, ◌<◌, ◌≤◌, ◌^◌, ◌==◌, ◌&&◌, ℕ, Bool, true, false, not, Option, Some, None, IfSome, List, [], ◌∷◌, ◌++◌, length, take, refl, sym, ap, ◌∙◌, lit≤, arith}
+use Rattle.std.specs.Prelude.{nat_le, nat_lt, slice_index}
+use Rattle.std.specs.Char.{digit_value}
+use Rattle.std.specs.Fmt.{decimal}
+use Rattle.std.specs.List.{before_first, list_all}
+use Rattle.std.proofs.lemmas.Bool.{and_parts}
+use Rattle.npf_types.specs.declared.action.Action.{Action}
+use Rattle.npf_types.specs.declared.change.Change.{Change}
+use Rattle.npf_types.specs.declared.name.Name.{Name}
+use Rattle.npf_types.specs.Name.{name_bytes}
+use Rattle.npf_types.specs.NameText.{is_name_byte}
+use Rattle.npf_flow.specs.declared.flow.FlowKind.{FlowKind}
+use Rattle.npf_flow.specs.declared.flow.FlowKind.TheVariants.{Tcp, Other}
+use Rattle.npf_saved.specs.declared.saved.Saved.{Saved}
+use Rattle.npf_saved.specs.Fields.{FitsAction, FitsKind, FitsName, FitsSaved}
+use Rattle.npf_saved.specs.File.{ended_line}
+use Rattle.npf_saved.specs.Spelling.{action_text, bit_text, change_text, conn_line, end_text, if_line, key_text, kind_text, or_dash, phase_number, side_text, state_text}
+use Rattle.npf_saved.proofs.CutLemmas.{lacks, lacks_both, word_before}
+use Rattle.npf_saved.proofs.FieldLemmas.{byte_lacks, end_lacks, key_lacks, optional_key_lacks, phase_small, side_lacks, size_lacks}
+use Rattle.npf_saved.proofs.WordLemmas.{bit_lacks, decimal_lacks, lacks_by, or_dash_lacks}
+use Rattle.npf_saved_file.specs.File.{IsFirstLine, is_line_feed}
+
+foreign : 10 ≤ digit_value 10
+foreign = lit≤ tt
+
+name_lacks : (name : Name) → lacks 10 (name_bytes name) ≡ true
+name_lacks name = lacks_by is_name_byte 10 refl (name_bytes name) (and_parts _ (list_all is_name_byte (name_bytes name)) name.named).1
+
+pub if_lacks : (name : Name) → lacks 10 (if_line name) ≡ true
+if_lacks name = lacks_both 10 32 (105 ∷ 102 ∷ []) (name_bytes name) refl refl (name_lacks name)
+
+change_lacks : (change : Change) → lacks 10 (change_text change) ≡ true
+change_lacks change =
+    lacks_both 10 47 (or_dash end_text change.src) (or_dash end_text change.dst ++ 47 ∷ bit_text change.neutral) (end_lacks 10 refl change.src refl refl) refl
+    (lacks_both 10 47 (or_dash end_text change.dst) (bit_text change.neutral) (end_lacks 10 refl change.dst refl refl) refl (bit_lacks 10 refl refl change.neutral))
+
+action_lacks : (action : Action) → FitsAction action → lacks 10 (action_text action) ≡ true
+action_lacks action fits =
+    let log = or_dash name_bytes action.log in
+    let flag = bit_text action.no_df in
+    let size = or_dash decimal action.max_mss in
+    let logged = or_dash_lacks FitsName name_bytes 10 refl (λ name _. name_lacks name) action.log fits.log in
+    let flagged = lacks_both 10 44 flag log (bit_lacks 10 refl refl action.no_df) refl logged in
+    let sized = lacks_both 10 44 size (flag ++ 44 ∷ log) (size_lacks 10 foreign refl action.max_mss fits.max_mss) refl flagged in
+    lacks_both 10 44 (or_dash decimal action.min_ttl) (size ++ 44 ∷ (flag ++ 44 ∷ log)) (byte_lacks 10 foreign refl action.min_ttl fits.min_ttl) refl sized
+
+kind_lacks : (kind : FlowKind) → FitsKind kind → lacks 10 (kind_text kind) ≡ true
+kind_lacks (Tcp state) fits =
+    let phase = decimal (phase_number state.phase) in
+    let strict = bit_text state.strict in
+    let forward = side_text state.forward in
+    let backward = side_text state.backward in
+    let sides = lacks_both 10 58 forward backward (side_lacks 10 foreign refl refl state.forward fits.0) refl (side_lacks 10 foreign refl refl state.backward fits.1) in
+    let flags = lacks_both 10 58 strict (forward ++ 58 ∷ backward) (bit_lacks 10 refl refl state.strict) refl sides in
+    let phases = lacks_both 10 58 phase (strict ++ 58 ∷ (forward ++ 58 ∷ backward)) (decimal_lacks 10 (phase_number state.phase) (phase_small state.phase) foreign) refl flags in
+    lacks_both 10 58 (116 ∷ []) (phase ++ 58 ∷ (strict ++ 58 ∷ (forward ++ 58 ∷ backward))) refl refl phases
+kind_lacks (Other true) fits = refl
+kind_lacks (Other false) fits = refl
+
+pub conn_lacks : (saved : Saved) → FitsSaved saved → lacks 10 (conn_line saved) ≡ true
+conn_lacks saved fits =
+    let forward = key_text saved.forward in
+    let port = or_dash key_text saved.port in
+    let backward = or_dash key_text saved.backward in
+    let kind = kind_text saved.flow.kind in
+    let last = decimal saved.flow.last in
+    let there = change_text saved.flow.there in
+    let back = change_text saved.flow.back in
+    let action = action_text saved.flow.action in
+    let one = lacks_both 10 32 back action (change_lacks saved.flow.back) refl (action_lacks saved.flow.action fits.flow.action) in
+    let two = lacks_both 10 32 there (back ++ 32 ∷ action) (change_lacks saved.flow.there) refl one in
+    let three = lacks_both 10 32 last (there ++ 32 ∷ (back ++ 32 ∷ action)) (decimal_lacks 10 saved.flow.last fits.flow.last foreign) refl two in
+    let four = lacks_both 10 32 kind (last ++ 32 ∷ (there ++ 32 ∷ (back ++ 32 ∷ action))) (kind_lacks saved.flow.kind fits.flow.kind) refl three in
+    let five = lacks_both 10 32 backward (kind ++ 32 ∷ (last ++ 32 ∷ (there ++ 32 ∷ (back ++ 32 ∷ action)))) (optional_key_lacks 10 refl saved.backward refl refl) refl four in
+    let six = lacks_both 10 32 port (backward ++ 32 ∷ (kind ++ 32 ∷ (last ++ 32 ∷ (there ++ 32 ∷ (back ++ 32 ∷ action))))) (optional_key_lacks 10 refl saved.port refl refl) refl five in
+    let seven = lacks_both 10 32 forward (port ++ 32 ∷ (backward ++ 32 ∷ (kind ++ 32 ∷ (last ++ 32 ∷ (there ++ 32 ∷ (back ++ 32 ∷ action)))))) (key_lacks 10 refl saved.forward refl) refl six in
+    lacks_both 10 32 (99 ∷ 111 ∷ 110 ∷ 110 ∷ []) (forward ++ 32 ∷ (port ++ 32 ∷ (backward ++ 32 ∷ (kind ++ 32 ∷ (last ++ 32 ∷ (there ++ 32 ∷ (back ++ 32 ∷ action))))))) refl refl seven
+
+-- so what it is followed by begins at its line feed
+pub ends_there : (text line rest : List ℕ) → text ≡ ended_line line ++ rest → lacks 10 line ≡ true → IsFirstLine text line rest
+ends_there text line rest is lack = record { spelled = is; whole = sym (word_before 10 text line rest (is ∙ again) lack) } where
+  again : ended_line line ++ rest ≡ line ++ 10 ∷ rest
+  again = by line where
+    by : (l : List ℕ) → (l ++ 10 ∷ []) ++ rest ≡ l ++ 10 ∷ rest
+    by [] = refl
+    by (x ∷ l) = ap (λ t. x ∷ t) (by l)

@@ -1,0 +1,4 @@
+pub mod Conns
+pub mod File
+pub mod Lines
+pub mod Refusal
