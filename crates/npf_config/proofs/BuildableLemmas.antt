@@ -1,4 +1,4 @@
--- What a text means can be built: it has few rules, maps and tables, and each rule can be compiled.
+-- What a text means can be built: it has few rules, maps, tables and procedures, and each rule can be compiled.
 use Rattle.std.proofs.Common.{◌≡◌, ◌≤◌, ℕ, List, [], ◌++◌, All, length, refl, sym, ap, subst, ◌∙◌, arith}
 use Rattle.std.specs.List.{flat_map}
 use Rattle.npf_types.specs.declared.limits.TheConstants.{MAX_MAPS, MAX_PROCEDURES, MAX_RULES, MAX_TABLES}
@@ -24,7 +24,7 @@ use Rattle.npf_ruleset.specs.Refusal.{IsBuildable}
 use Rattle.npf_config.specs.RulePlaces.{inspected_places}
 use Rattle.npf_config.specs.Tables.{HasTextName}
 use Rattle.npf_config.specs.Text.{Means}
-use Rattle.npf_config.proofs.CountLemmas.{inspected_limited, maps_placed, rules_placed, tables_limited, within_places}
+use Rattle.npf_config.proofs.CountLemmas.{inspected_limited, maps_placed, procedures_limited, rules_placed, tables_limited, within_places}
 use Rattle.npf_config.proofs.ModelLemmas.{groups_compilable}
 use Rattle.npf_config.proofs.NoneLemmas.{back, front}
 use Rattle.npf_config.proofs.TextNameLemmas.{tree_text}
@@ -91,6 +91,12 @@ module _ (tree : Tree) (none : limit_faults tree ≡ []) where
       let same = maps_placed ifaces (declared_in tree.stmts) [] tree.stmts in
       omega arith
 
+  pub few_procedures : (ifaces : List Iface) → length ((model_of tree ifaces).procedures) ≤ MAX_PROCEDURES
+  few_procedures ifaces =
+      let few = within_places Of.Procedures MAX_PROCEDURES tree.stmts (back (past_rules ++ past_tables ++ past_maps) past_procedures none) in
+      let same = procedures_limited tree.stmts in
+      omega arith
+
 module _ (ifaces : List Iface) (text : List ℕ) (tree : Tree) (model : Model) (means : Means ifaces text tree model) where
   -- each rule of the model has a place in the text
   pub places : length (inspected_places tree.stmts) ≡ length (all_rules model.groups)
@@ -113,3 +119,6 @@ module _ (ifaces : List Iface) (text : List ℕ) (tree : Tree) (model : Model) (
   -- the files of the model's tables are named by text
   pub text_names : All HasTextName model.tables
   text_names = subst (λ (m : Model). All HasTextName m.tables) (sym means.elaborated.meant) (tree_text tree means.written.parsed)
+
+  pub procedures_few : length model.procedures ≤ MAX_PROCEDURES
+  procedures_few = subst (λ (m : Model). length m.procedures ≤ MAX_PROCEDURES) (sym means.elaborated.meant) (few_procedures tree (limits_kept tree model means.checked) ifaces)

@@ -18,7 +18,7 @@ use Rattle.npf_model.specs.Verdict.{all_rules, rules_at, rules_of}
 use Rattle.npf_expand_values.specs.Atom.{Env}
 use Rattle.npf_expand_values.specs.Declarations.{Declared, table_name, table_names}
 use Rattle.npf_expand_values.specs.Variable.{Definition, env_of}
-use Rattle.npf_expand.specs.Elaborates.{behind, default_group, gathered, maps_of, named_group}
+use Rattle.npf_expand.specs.Elaborates.{behind, default_group, gathered, maps_of, named_group, procedures_of}
 use Rattle.npf_expand.specs.Group.{item_of_tree}
 use Rattle.npf_check.specs.Limit.{limited_places, past_faults, past_limit, rule_place}
 use Rattle.npf_config.specs.RulePlaces.{default_rule_places, inspected_places, named_rule_places}
@@ -136,6 +136,24 @@ tables_limited (stmt ∷ stmts) =
     let names = length-append (table_name stmt) (table_names stmts) in
     let spans = length-append (limited_places Of.Tables stmt) (flat_map (limited_places Of.Tables) stmts) in
     omega (arith, here, rest, names, spans)
+
+one_procedure : (stmt : Stmt) → length (procedures_of stmt) ≡ length (limited_places Of.Procedures stmt)
+one_procedure (Stmt.Procedure name calls span) = refl
+one_procedure (Stmt.Table name kind file span) = refl
+one_procedure (Stmt.Group head items span) = refl
+one_procedure (Stmt.Define var values span) = refl
+one_procedure (Stmt.Set name value span) = refl
+one_procedure (Stmt.Alg name span) = refl
+one_procedure (Stmt.Map iface kind proto left arrow right pass span) = refl
+
+pub procedures_limited : (stmts : List Stmt) → length (flat_map procedures_of stmts) ≡ length (flat_map (limited_places Of.Procedures) stmts)
+procedures_limited [] = refl
+procedures_limited (stmt ∷ stmts) =
+    let here = one_procedure stmt in
+    let rest = procedures_limited stmts in
+    let procedures = length-append (procedures_of stmt) (flat_map procedures_of stmts) in
+    let spans = length-append (limited_places Of.Procedures stmt) (flat_map (limited_places Of.Procedures) stmts) in
+    omega (arith, here, rest, procedures, spans)
 
 within_by : (quantity : Excess) (most : ℕ) (spans : List Span) → past_limit quantity most (slice_get spans most) ≡ []
     → ((span : Span) × (most < length spans) × (slice_get spans most ≡ Some span) × (get_or spans most span ≡ span)) ⊎ ((length spans ≤ most) × (slice_get spans most ≡ None))

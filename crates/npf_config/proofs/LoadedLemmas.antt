@@ -1,8 +1,7 @@
 -- What is loaded can be changed: it has few tables, and each of its rulesets gives the number 1 next.
-use Rattle.std.proofs.Common.{◌≡◌, ◌≤◌, ℕ, Option, Result, Ok, Err, List, [], ◌∷◌, ◌++◌, All, get_or, length, map, refl, sym, ap, subst, ◌∙◌, arith}
+use Rattle.std.proofs.Common.{◌≡◌, ◌≤◌, ℕ, Option, List, [], ◌∷◌, ◌++◌, All, get_or, length, map, refl, sym, ap, subst, ◌∙◌, arith}
 use Rattle.std.specs.Global.{Global, Vec}
 use Rattle.std.specs.List.{flat_map}
-use Rattle.std.specs.Result.{IfOk}
 use Rattle.std.specs.Arc.{arc_value}
 use Rattle.std.specs.declared.sync.Arc.{Arc}
 use Rattle.std.proofs.lemmas.List.{length-append, length-map}
@@ -135,12 +134,3 @@ module _ (ifaces : List Iface) (text : List ℕ) (contents : Option FileTree) (t
         (subst (λ (all : List TableDecl). HaveKinds all tables.items) (are ∙ ap (λ (m : Model). m.tables) (sym of_model)) kinds);
     few = subst (λ (v : Vec (Arc Table Global)). entry_count (entries v.items) ≤ MAX_TABLE_ENTRIES) (sym with_tables) first.few;
   }
-
-  pub all_loaded : {E : Type 0} (result : Result Config E) → IfOk result (λ config. config.model ≡ model) → IfOk result (λ config. config.tables ≡ tables)
-      → IfOk result IsLoaded
-  all_loaded (Ok config) of_model with_tables = is_loaded config of_model with_tables
-  all_loaded (Err fault) of_model with_tables = tt
-
-  pub all_first_ids : {E : Type 0} (result : Result Config E) → IfOk result (λ config. config.model ≡ model) → IfOk result (λ config. HasNextIds 1 config.model)
-  all_first_ids (Ok config) of_model = subst (HasNextIds 1) (sym of_model) (first_ids ifaces text tree model means)
-  all_first_ids (Err fault) of_model = tt

@@ -18,4 +18,4 @@ mod tables;
 mod text;
 
 pub use fault::LoadFault;
-pub use loading::load;
+pub use loading::{load, load_placed};

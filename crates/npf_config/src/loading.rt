@@ -1,7 +1,7 @@
 ghost use Rattle.std.specs.Prelude.{◌≤◌, length, IfOk, IfErr, OnOk};
 ghost use Rattle.npf_outside.specs.Files.{SameReadFaults};
 ghost use Rattle.npf_ruleset.specs.Configuration.{configuration};
-ghost use Rattle.npf_config.specs.FirstConfiguration.{IsFirstConfiguration};
+ghost use Rattle.npf_config.specs.FirstConfiguration.{IsFirstConfiguration, IsFirstConfigurationTo};
 ghost use Rattle.npf_config.specs.Loaded.{HasNextIds, IsLoaded};
 ghost use Rattle.npf_config.specs.Reading.{OnlyReads};
 ghost use Rattle.npf_config.specs.Refusal.{RefusesLoad};
@@ -13,7 +13,8 @@ use crate::text::read_text;
 use npf_model::Ifaces;
 use npf_outside::Files;
 use npf_ruleset::Config;
-use npf_types::limits::MAX_TEXT_BYTES;
+use npf_types::Span;
+use npf_types::limits::{MAX_PROCEDURES, MAX_TEXT_BYTES};
 use std::alloc::Global;
 
 /// Loads a configuration of npf.conf(5), of at most `MAX_TEXT_BYTES` bytes, for a run with these interfaces. The first fault that
@@ -38,7 +39,28 @@ pub fn load<F: Files>(
     ensures reads { OnlyReads (F.moment files.old) (F.moment files.new) }
     ensures faultless { OnOk result (SameReadFaults (F.moment files.old) (F.moment files.new)) }
 {
+    let (config, _) = load_placed(alloc, text, ifaces, files)?;
+    Ok(config)
+}
+
+/// The same, with the place where the text ends.
+pub fn load_placed<F: Files>(
+    alloc: Global,
+    text: &[u8],
+    ifaces: &Ifaces,
+    files: &mut F,
+) -> Result<(Config, Span), LoadFault>
+    requires { length text.now ≤ MAX_TEXT_BYTES }
+    ensures first { IfOk result (λ read. IsFirstConfigurationTo ifaces.now.list (F.moment files.old).contents text.now (configuration read.0) read.1) }
+    ensures loaded { IfOk result (λ read. IsLoaded read.0) }
+    ensures ids { IfOk result (λ read. HasNextIds 1 read.0.model) }
+    ensures procedures { IfOk result (λ read. length read.0.model.procedures ≤ MAX_PROCEDURES) }
+    ensures refuses { IfErr result (RefusesLoad ifaces.now.list text.now (F.moment files.old) (F.moment files.new)) }
+    ensures reads { OnlyReads (F.moment files.old) (F.moment files.new) }
+    ensures faultless { OnOk result (SameReadFaults (F.moment files.old) (F.moment files.new)) }
+{
     let (tree, model) = read_text(alloc, text, ifaces)?;
     let tables = read_tables(alloc, model.tables.as_slice(), files)?;
-    compile_rules(alloc, &tree, model, tables)
+    let config = compile_rules(alloc, &tree, model, tables)?;
+    Ok((config, tree.end))
 }
