@@ -4,11 +4,11 @@ use Rattle.std.specs.List.{AllZip}
 use Rattle.std.specs.List.Sorted.{IsNonDecreasing}
 use Rattle.std.proofs.lemmas.List.Elements.{All-nil, All-cons, All-head, All-tail}
 use Rattle.npf_model.specs.Configuration.{Configuration}
-use Rattle.npf_runner_dealing.specs.Dealing.{of_lane}
+use Rattle.npf_runner_dealing.specs.Lanes.{of_lane}
 use Rattle.npf_engine.specs.Histories.{History}
 use Rattle.npf_traffic.specs.declared.packet.Packet.{Packet}
 use Rattle.npf_runner.specs.declared.phase.Spread.{Spread}
-use Rattle.npf_runner.specs.Dealing.{IsWorkerOf}
+use Rattle.npf_runner.specs.Spread.{IsWorkerOf}
 use Rattle.npf_runner.specs.Job.{Handled, Job, job_arrival, numbered_from}
 use Rattle.npf_runner.specs.Played.{outcomes_of, outputs_of}
 use Rattle.npf_runner.specs.Plays.{AreAnswered, AsksBetween, asked_by}

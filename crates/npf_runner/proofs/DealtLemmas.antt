@@ -2,7 +2,7 @@
 use Rattle.std.proofs.Common.{◌≡◌, ℕ, ◌==◌, ◌≤◌, ◌<◌, ◌+◌, Bool, true, false, List, [], ◌∷◌, All, cond, map, get_or, length, refl, sym, ap, subst, ◌∙◌, arith, suc, zero}
 use Rattle.std.specs.List.{range_with_len}
 use Rattle.std.proofs.lemmas.List.{length-map}
-use Rattle.npf_runner_dealing.specs.Dealing.{of_lane, IsDealt}
+use Rattle.npf_runner_dealing.specs.Lanes.{of_lane, IsDealt}
 use Rattle.npf_runner_dealing.proofs.LaneLemmas.{get_or-map}
 use Rattle.npf_traffic.specs.declared.packet.Packet.{Packet}
 use Rattle.npf_runner.specs.declared.worker.Worker.{Worker}
@@ -11,7 +11,7 @@ use Rattle.npf_runner.specs.Job.{Job, IsJob, with_numbers, numbered_from}
 use Rattle.npf_traffic.specs.Packet.{IsShortPacket}
 use Rattle.npf_runner.proofs.JobLemmas.{jobs_numbered, numbered_length}
 use Rattle.npf_runner.proofs.RegatherLemmas.{All-dealt}
-use Rattle.npf_runner.proofs.RunningLemmas.{All-unmap}
+use Rattle.npf_runner.proofs.TaskLemmas.{All-unmap}
 
 -- a lane's numbers are those of its packets
 abbrev IsNumbered : List ℕ → List Packet → List Job → Type 0

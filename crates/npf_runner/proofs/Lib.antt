@@ -13,9 +13,9 @@ pub mod PlayedLemmas
 pub mod RegatherLemmas
 pub mod RestLemmas
 pub mod RunLemmas
-pub mod RunningLemmas
 pub mod ShowLemmas
 pub mod SourceLemmas
 pub mod SweepLemmas
+pub mod TaskLemmas
 pub mod TurnLemmas
 pub mod WorksLemmas

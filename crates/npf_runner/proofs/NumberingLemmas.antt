@@ -2,7 +2,7 @@
 use Rattle.std.proofs.Common.{◌≡◌, ◌⊎◌, ℕ, ◌==◌, ◌≤◌, ◌<◌, ◌+◌, Bool, true, false, List, [], ◌∷◌, length, refl, sym, subst, ◌∙◌, ⊎_elim, inl, inr, arith}
 use Rattle.std.specs.List.{Contains}
 use Rattle.std.proofs.lemmas.Bool.Decides.{Decides-eqb}
-use Rattle.npf_runner_dealing.specs.Dealing.{of_lane}
+use Rattle.npf_runner_dealing.specs.Lanes.{of_lane}
 use Rattle.npf_runner_dealing.proofs.LaneLemmas.{of_lane-yes, of_lane-no}
 use Rattle.npf_runner_passes.proofs.NumberLemmas.{in_none, first_or_later}
 use Rattle.npf_traffic.specs.declared.packet.Packet.{Packet}

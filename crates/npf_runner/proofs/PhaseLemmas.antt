@@ -17,10 +17,10 @@ use Rattle.npf_connections.specs.Worn.{ClaimsLast, last_epoch}
 use Rattle.npf_flow.specs.Flows.{flow_law}
 use Rattle.npf_model.specs.Configuration.{Configuration}
 use Rattle.npf_publish.specs.ConfReader.{IsNewReader, least_number}
-use Rattle.npf_runner_passes.specs.Gathering.{IsTakenIn}
-use Rattle.npf_runner_passes.specs.Spreading.{IsGiven}
+use Rattle.npf_runner_passes.specs.Whole.{IsTakenIn}
+use Rattle.npf_runner_passes.specs.Parts.{IsGiven}
 use Rattle.npf_runner_passes.proofs.NumberLemmas.{in_none, first_or_later}
-use Rattle.npf_runner_dealing.specs.Dealing.{of_lane}
+use Rattle.npf_runner_dealing.specs.Lanes.{of_lane}
 use Rattle.npf_engine.specs.Histories.{FlowEntry, History, entries_of}
 use Rattle.npf_traffic.specs.declared.packet.Packet.{Packet}
 use Rattle.npf_runner.specs.declared.phase.Command.{Command}
@@ -35,7 +35,7 @@ use Rattle.npf_runner.specs.Job.{Handled, Job, numbered_from}
 use Rattle.npf_runner.specs.Lanes.{HasWorked}
 use Rattle.npf_runner.specs.Played.{outcomes_of, outputs_of}
 use Rattle.npf_runner.specs.Plays.{AreAnswered, AreFresh, AreInTurn, GivesBack, IsExpiry, IsOfPacket, IsPhase, LeavesNoDue, PlaysPhase, published_by}
-use Rattle.npf_runner.specs.Running.{RunsPhase}
+use Rattle.npf_runner.specs.Task.{RunsPhase}
 use Rattle.npf_runner.proofs.AnswerLemmas.{somes, asked_by_lane, reads_between, reads_rise, IsShown, answers_zip, all_between, are_answered}
 use Rattle.npf_runner.proofs.CarryLemmas.{CarryNone, in_filter}
 use Rattle.npf_runner.proofs.CommandLemmas.{expiry_prefix, freed_prefix, frees_say, kill_of}
@@ -43,7 +43,7 @@ use Rattle.npf_runner.proofs.ExpiryLemmas.{not_killed, was_live}
 use Rattle.npf_runner.proofs.LaneLemmas.{Zips, Merges, merges}
 use Rattle.npf_runner.proofs.PairLemmas.{at_all}
 use Rattle.npf_runner.proofs.RegatherLemmas.{AtPlace, at_place, of_none}
-use Rattle.npf_runner.proofs.RunningLemmas.{All-workers}
+use Rattle.npf_runner.proofs.TaskLemmas.{All-workers}
 use Rattle.npf_runner.proofs.ShowLemmas.{InPhase, freed_is, phase_adds, lane_jobs, lane_done, lane_in_phase, lane_answers, lane_in_turn}
 use Rattle.npf_runner.proofs.SourceLemmas.{OfLane, shown, of_last, lane_went, source}
 use Rattle.npf_runner.proofs.JobLemmas.{numbered_length}

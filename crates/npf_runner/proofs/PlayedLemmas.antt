@@ -4,7 +4,7 @@ use Rattle.std.specs.Global.{Vec}
 use Rattle.std.specs.List.{AllZip}
 use Rattle.std.proofs.lemmas.List.{length-append, length-map}
 use Rattle.npf_connections.specs.Pass.{Pass}
-use Rattle.npf_runner_dealing.specs.Dealing.{queue_items}
+use Rattle.npf_runner_dealing.specs.Lanes.{queue_items}
 use Rattle.npf_engine.specs.declared.outcome.Outcome.{Outcome}
 use Rattle.npf_engine.specs.Histories.{FlowEntry}
 use Rattle.npf_model.specs.Configuration.{Configuration}

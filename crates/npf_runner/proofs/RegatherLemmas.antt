@@ -8,7 +8,7 @@ use Rattle.std.proofs.lemmas.Slice.Zip.{AllZip-long}
 use Rattle.npf_connections.specs.Pass.{Pass}
 use Rattle.npf_model.specs.Configuration.{Configuration}
 use Rattle.npf_publish.specs.declared.conf_reader.ConfReader.{ConfReader}
-use Rattle.npf_runner_dealing.specs.Dealing.{of_lane, queue_items, IsDealt}
+use Rattle.npf_runner_dealing.specs.Lanes.{of_lane, queue_items, IsDealt}
 use Rattle.npf_runner_dealing.proofs.LaneLemmas.{of_lane-no, get_or-map}
 use Rattle.npf_engine.specs.Histories.{FlowEntry}
 use Rattle.npf_runner.specs.declared.crew.Queues.{Queues}
@@ -18,7 +18,7 @@ use Rattle.npf_runner.specs.Crew.{AreQueuesOf, jobs_of, worker_of_lane, jobs_of_
 use Rattle.npf_runner.specs.Job.{Handled, Job}
 use Rattle.npf_runner.specs.Lanes.{HasWorked}
 use Rattle.npf_runner.specs.Played.{outcomes_of, outputs_of}
-use Rattle.npf_runner.specs.Running.{RunsCrew}
+use Rattle.npf_runner.specs.Task.{RunsCrew}
 use Rattle.npf_runner.specs.Works.{WorksThrough}
 use Rattle.npf_runner.proofs.LaneLemmas.{Zips, merges}
 use Rattle.npf_runner.proofs.PairLemmas.{At, at_zip, at_left, at_right}

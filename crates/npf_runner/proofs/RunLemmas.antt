@@ -17,7 +17,7 @@ use Rattle.npf_runner.specs.declared.phase.Spread.{Spread}
 use Rattle.npf_runner.specs.Job.{Handled, numbered_from}
 use Rattle.npf_runner.specs.Played.{outcomes_of, outputs_of}
 use Rattle.npf_runner.specs.Plays.{IsUnnumbered, PlaysPhases, PlaysPhase, PlaysFrom, packets_in, published_by}
-use Rattle.npf_runner.specs.Running.{LeavesNoDead, RunsPhase, RunsPhases}
+use Rattle.npf_runner.specs.Task.{LeavesNoDead, RunsPhase, RunsPhases}
 use Rattle.npf_runner.proofs.CarryLemmas.{CarryNone, not_true, not_both}
 use Rattle.npf_runner.proofs.CommandLemmas.{frees_say}
 use Rattle.npf_runner.proofs.JobLemmas.{packets_first, numbered_length}

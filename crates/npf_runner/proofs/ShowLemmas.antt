@@ -10,11 +10,11 @@ use Rattle.npf_connections.specs.Pass.{Pass, IsPass, all_places}
 use Rattle.npf_connections.proofs.AddLemmas.{adds_alone}
 use Rattle.npf_flow.specs.Flows.{flow_law}
 use Rattle.npf_model.specs.Configuration.{Configuration}
-use Rattle.npf_runner_dealing.specs.Dealing.{of_lane}
+use Rattle.npf_runner_dealing.specs.Lanes.{of_lane}
 use Rattle.npf_runner_dealing.proofs.LaneLemmas.{get_or-map}
 use Rattle.npf_publish.specs.ConfReader.{reader_range, least_number}
-use Rattle.npf_runner_passes.specs.Gathering.{IsTakenIn}
-use Rattle.npf_runner_passes.specs.Spreading.{IsGiven}
+use Rattle.npf_runner_passes.specs.Whole.{IsTakenIn}
+use Rattle.npf_runner_passes.specs.Parts.{IsGiven}
 use Rattle.npf_runner_passes.proofs.NumberLemmas.{in_none, none_added}
 use Rattle.npf_engine.specs.Histories.{FlowEntry, History, carries}
 use Rattle.npf_traffic.specs.declared.packet.Packet.{Packet}
@@ -24,7 +24,7 @@ use Rattle.npf_runner.specs.declared.worker.Lane.{Lane}
 use Rattle.npf_runner.specs.Crew.{jobs_of, jobs_of_lane, done_of_lane, worker_of_lane}
 use Rattle.npf_runner.specs.Job.{Handled, numbered_from}
 use Rattle.npf_runner.specs.Lanes.{HasWorked}
-use Rattle.npf_runner.specs.Running.{RunsPhase}
+use Rattle.npf_runner.specs.Task.{RunsPhase}
 use Rattle.npf_runner.proofs.CarryLemmas.{CarryNone, none_in_both, not_true, not_both}
 use Rattle.npf_runner.proofs.CommandLemmas.{commands_carry_none, frees_say}
 use Rattle.npf_runner.proofs.NumberingLemmas.{in_phase, apart_in_lane, in_one_lane}

@@ -4,8 +4,8 @@ use Rattle.std.specs.List.{Contains}
 use Rattle.std.proofs.lemmas.List.Elements.{All-head, All-tail, Contains-append_cases, Contains-append_right}
 use Rattle.npf_connections.specs.Pass.{Pass}
 use Rattle.npf_model.specs.Configuration.{Configuration}
-use Rattle.npf_runner_passes.specs.Gathering.{numbers, IsTakenIn}
-use Rattle.npf_runner_passes.specs.Spreading.{IsGiven}
+use Rattle.npf_runner_passes.specs.Whole.{numbers, IsTakenIn}
+use Rattle.npf_runner_passes.specs.Parts.{IsGiven}
 use Rattle.npf_runner_passes.proofs.NumberLemmas.{in_none, first_of, later_of, first_or_later}
 use Rattle.npf_engine.specs.Histories.{FlowEntry, History}
 use Rattle.npf_runner.specs.declared.phase.Command.{Command}
@@ -14,7 +14,7 @@ use Rattle.npf_runner.specs.declared.worker.Worker.{Worker}
 use Rattle.npf_runner.specs.Crew.{done_of_lane, jobs_of_lane}
 use Rattle.npf_runner.specs.Job.{Handled}
 use Rattle.npf_runner.specs.Lanes.{HasWorked}
-use Rattle.npf_runner.specs.Running.{RunsCrew}
+use Rattle.npf_runner.specs.Task.{RunsCrew}
 use Rattle.npf_runner.proofs.CarryLemmas.{in_filter}
 use Rattle.npf_runner.proofs.CommandLemmas.{Grew, OfCommands, commands_grew}
 use Rattle.npf_runner.proofs.PairLemmas.{At, at_zip, at_all, finds}

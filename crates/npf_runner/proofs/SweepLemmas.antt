@@ -6,9 +6,9 @@ use Rattle.std.proofs.lemmas.List.{get_or_default}
 use Rattle.npf_connections.specs.Pass.{Pass}
 use Rattle.npf_model.specs.Configuration.{Configuration}
 use Rattle.npf_publish.specs.declared.conf_reader.ConfReader.{ConfReader}
-use Rattle.npf_runner_dealing.specs.Dealing.{IsDealt}
+use Rattle.npf_runner_dealing.specs.Lanes.{IsDealt}
 use Rattle.npf_runner_dealing.proofs.LaneLemmas.{dealt_low, dealt_first, dealt_rest}
-use Rattle.npf_runner_passes.specs.Gathering.{sweep_counts}
+use Rattle.npf_runner_passes.specs.Whole.{sweep_counts}
 use Rattle.npf_engine.specs.Histories.{FlowEntry}
 use Rattle.npf_engine.specs.Outcome.{lacks_node}
 use Rattle.npf_runner.specs.declared.phase.Command.{Command}
@@ -18,7 +18,7 @@ use Rattle.npf_runner.specs.Crew.{done_of_lane, jobs_of_lane}
 use Rattle.npf_runner.specs.Job.{Handled, Job}
 use Rattle.npf_runner.specs.Lanes.{HasWorked}
 use Rattle.npf_runner.specs.Played.{outcomes_of}
-use Rattle.npf_runner.specs.Running.{RunsPhase}
+use Rattle.npf_runner.specs.Task.{RunsPhase}
 use Rattle.npf_runner.specs.Works.{WorksThrough}
 
 -- how many of them lacked a node

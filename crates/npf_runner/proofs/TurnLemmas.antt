@@ -3,7 +3,7 @@ use Rattle.std.proofs.Common.{◌≡◌, ℕ, ◌==◌, ◌<◌, ◌+◌, Bool, 
 use Rattle.std.specs.Prelude.{slice_index}
 use Rattle.std.specs.List.{Contains}
 use Rattle.std.proofs.lemmas.Bool.Decides.{Decides-eqb}
-use Rattle.npf_runner_dealing.specs.Dealing.{of_lane}
+use Rattle.npf_runner_dealing.specs.Lanes.{of_lane}
 use Rattle.npf_runner_dealing.proofs.LaneLemmas.{of_lane-yes, of_lane-no}
 use Rattle.npf_engine.specs.Histories.{History}
 use Rattle.npf_runner_passes.proofs.NumberLemmas.{first_of, later_of}

@@ -1,6 +1,6 @@
 -- Workers and their lanes, in parts.
 use Rattle.std.specs.Prelude.{◌≡◌, ℕ, ◌≤◌, ◌+◌, List, [], All, length, map, vec_capacity}
-use Rattle.npf_runner_dealing.specs.Dealing.{queue_items}
+use Rattle.npf_runner_dealing.specs.Lanes.{queue_items}
 use Rattle.npf_engine.specs.declared.outcome.Outcome.{Outcome}
 use Rattle.npf_runner.specs.declared.crew.Queues.{Queues}
 use Rattle.npf_runner.specs.declared.crew.Room.{Room}

@@ -1,9 +1,9 @@
 pub mod Commands
 pub mod Crew
-pub mod Dealing
 pub mod Job
 pub mod Lanes
 pub mod Played
 pub mod Plays
-pub mod Running
+pub mod Spread
+pub mod Task
 pub mod Works

@@ -23,7 +23,7 @@ use Rattle.npf_runner.specs.declared.phase.Command.{Command}
 use Rattle.npf_runner.specs.declared.phase.Command.TheVariants.{Publish, Expire}
 use Rattle.npf_runner.specs.declared.phase.Phase.{Phase}
 use Rattle.npf_runner.specs.declared.phase.Spread.{Spread}
-use Rattle.npf_runner.specs.Dealing.{IsWorkerOf}
+use Rattle.npf_runner.specs.Spread.{IsWorkerOf}
 
 -- a packet with its number as it arrives
 abbrev pub arriving : ℕ → Packet → Arrival

@@ -1,6 +1,6 @@
 // What a phase needs, made before it begins.
 ghost use Rattle.std.specs.Prelude.{◌≡◌, ◌≤◌, ◌+◌, ◌++◌, [], All, IfOk, map, vec_len, vec_capacity, Contains};
-ghost use Rattle.npf_runner_dealing.specs.Dealing.{vec_items, queue_items};
+ghost use Rattle.npf_runner_dealing.specs.Lanes.{vec_items, queue_items};
 ghost use Rattle.npf_runner.specs.Crew.{HasRoomFor, IsEquipped, numbers_of_worker, packets_of_worker, worker_of_lane, pass_of_lane, outcomes_of_lane, packets_of_lane};
 
 use crate::worker::{Lane, Worker};

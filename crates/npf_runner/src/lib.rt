@@ -13,17 +13,18 @@
 mod control;
 mod crew;
 mod gate;
+mod numbers;
 mod phase;
 mod played;
-mod playing;
-mod running;
-mod side_by_side;
+mod run;
+mod shared;
 mod spread;
-mod taking;
+mod task;
+mod threads;
 mod worker;
 
 pub use gate::{Gate, NoGate};
 pub use npf_traffic::{FragWhy, Packet, PacketBytes};
 pub use phase::{Command, Phase, Spread};
 pub use played::Played;
-pub use playing::play;
+pub use run::play;

@@ -2,7 +2,7 @@ ghost use Rattle.std.specs.Prelude.{◌≡◌, ◌≤◌, ◌<◌, ◌+◌, ◌^
 ghost use Rattle.std.specs.List.{AllZip};
 ghost use Rattle.npf_key.specs.Port.{source_port, destination_port};
 ghost use Rattle.npf_packet.specs.Decoding.{Decodes};
-ghost use Rattle.npf_runner.specs.Dealing.{flow_number, IsWorkerOf, worker_by_flow};
+ghost use Rattle.npf_runner.specs.Spread.{flow_number, IsWorkerOf, worker_by_flow};
 ghost use Rattle.npf_runner.specs.Job.{job_arrival, numbered_from};
 ghost use Rattle.npf_runner.specs.Plays.{arriving};
 ghost use Rattle.npf_traffic.specs.Packet.{IsShortPacket};

@@ -8,11 +8,11 @@ ghost use Rattle.npf_runner.specs.Lanes.{CanWork, HasWorked};
 ghost use Rattle.npf_runner.specs.Works.{IsHandled};
 
 use crate::gate::Gate;
+use crate::shared::Shared;
 use npf_connections::Connections;
 use npf_engine::Outcome;
 use npf_flow::FlowLaw;
 use npf_publish::ConfReader;
-use npf_ruleset::Config;
 use npf_traffic::Packet;
 use std::sync::Wait;
 
@@ -33,17 +33,14 @@ pub struct Lane<'a, P: Drop> {
     pub worker: Worker<'a>,
 }
 
-/// Handles a worker's packets in order where they stand, `gate` being told of each.
+/// Handles a worker's packets in order where they stand, the gate being told of each.
 pub fn work<R: Wait, C: Connections<FlowLaw>, G: Gate>(
-    rt: &R,
-    conns: &C,
-    gate: &G,
-    configs: &[Config],
+    shared: &Shared<'_, R, C, G>,
     lane: &mut Lane<'_, C::Pass>,
 )
-    requires can { CanWork (C.fits conns.now) C.view (length configs.now) lane.old }
-    ensures out { IsOut flow_law (C.fits conns.now) C.view lane.new.pass }
-    ensures worked { HasWorked C.view (configurations configs.now) lane.old lane.new }
+    requires can { CanWork (C.fits shared.now.conns.now) C.view (length shared.now.configs.now) lane.old }
+    ensures out { IsOut flow_law (C.fits shared.now.conns.now) C.view lane.new.pass }
+    ensures worked { HasWorked C.view (configurations shared.now.configs.now) lane.old lane.new }
 {
     let Lane { pass, worker } = lane;
     let Worker {
@@ -55,50 +52,37 @@ pub fn work<R: Wait, C: Connections<FlowLaw>, G: Gate>(
     } = worker;
     for place in 0..packets.len() {
         let n = numbers[place];
-        let outcome = handle(
-            rt,
-            conns,
-            gate,
-            configs,
-            pass,
-            reader,
-            *number,
-            n,
-            &mut packets[place],
-        );
+        let outcome = handle(shared, pass, reader, *number, n, &mut packets[place]);
         outcomes.push_reserved(outcome);
     }
 }
 
-/// Handles a worker's packet of this number, of which `gate` is told, unless it is a fragment that is held.
+/// Handles a worker's packet of this number, of which the gate is told, unless it is a fragment that is held.
 fn handle<R: Wait, C: Connections<FlowLaw>, G: Gate>(
-    rt: &R,
-    conns: &C,
-    gate: &G,
-    configs: &[Config],
+    shared: &Shared<'_, R, C, G>,
     pass: &mut C::Pass,
     reader: &mut ConfReader,
     worker: u32,
     number: u64,
     packet: &mut Packet<'_>,
 ) -> Outcome
-    requires out { IsOut flow_law (C.fits conns.now) C.view pass.old }
+    requires out { IsOut flow_law (C.fits shared.now.conns.now) C.view pass.old }
     requires place { 1 ≤ (C.view pass.old).places }
     requires short { IsJob (record { number = number; packet = packet.old }) }
-    requires numbers { (reader_range reader.old).last < length configs.now }
-    ensures out { IsOut flow_law (C.fits conns.now) C.view pass.new }
-    ensures handled { IsHandled (configurations configs.now) (C.view pass.old) (C.view pass.new) reader.old reader.new (record { number = number; packet = packet.old }) (record { outcome = result; packet = packet.new }) }
+    requires numbers { (reader_range reader.old).last < length shared.now.configs.now }
+    ensures out { IsOut flow_law (C.fits shared.now.conns.now) C.view pass.new }
+    ensures handled { IsHandled (configurations shared.now.configs.now) (C.view pass.old) (C.view pass.new) reader.old reader.new (record { number = number; packet = packet.old }) (record { outcome = result; packet = packet.new }) }
 {
     if let Some(why) = packet.held {
         return Outcome::Fragment { why };
     }
-    gate.before(worker, number);
+    shared.gate.before(worker, number);
     let outcome = npf_engine::packet(
-        rt,
-        conns,
+        shared.rt,
+        shared.conns,
         pass,
         reader,
-        configs,
+        shared.configs,
         number,
         packet.time,
         packet.link,
@@ -106,6 +90,6 @@ fn handle<R: Wait, C: Connections<FlowLaw>, G: Gate>(
         packet.dir,
         packet.bytes.as_mut_slice(),
     );
-    gate.after(worker, number);
+    shared.gate.after(worker, number);
     outcome
 }

@@ -3,7 +3,7 @@ use Rattle.std.proofs.Common.{◌≡◌, ℕ, ◌==◌, ◌<◌, Bool, true, fal
 use Rattle.std.proofs.lemmas.Bool.Decides.{Decides-eqb}
 use Rattle.std.proofs.lemmas.List.{append_assoc, get_or-set_same, get_or-set_other, length-set, get_or_default}
 use Rattle.std.proofs.lemmas.List.Elements.{All-head, All-tail}
-use Rattle.npf_runner_dealing.specs.Dealing.{of_lane, IsDealt}
+use Rattle.npf_runner_dealing.specs.Lanes.{of_lane, IsDealt}
 
 pub get_or-map : {X Y : Type 0} (f : X → Y) (xs : List X) (i : ℕ) (d : X) (e : Y) → i < length xs → get_or (map f xs) i e ≡ f (get_or xs i d)
 get_or-map f [] i d e low = absurd (omega arith)

@@ -1,3 +1,3 @@
-pub mod GatheringLemmas
 pub mod NumberLemmas
-pub mod SpreadingLemmas
+pub mod PartsLemmas
+pub mod WholeLemmas

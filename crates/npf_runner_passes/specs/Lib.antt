@@ -1,2 +1,2 @@
-pub mod Gathering
-pub mod Spreading
+pub mod Parts
+pub mod Whole

@@ -1,5 +1,5 @@
 // What holds of every pass that was split and is whole again. The function does nothing: it is a theorem.
-ghost use Rattle.npf_runner_passes.specs.Gathering.{GathersAll};
+ghost use Rattle.npf_runner_passes.specs.Whole.{GathersAll};
 
 use npf_core::Law;
 

@@ -6,9 +6,9 @@
 // proved from the contract of `Connections`, whatever the table.
 #![tactic(auto)]
 
-mod gathering;
 pub mod laws;
-mod spreading;
+mod parts;
+mod whole;
 
-pub use gathering::take_in;
-pub use spreading::split_off;
+pub use parts::split_off;
+pub use whole::take_in;

@@ -2,7 +2,7 @@ use Rattle.std.proofs.Common.{rules, ◌≡◌, ◌+◌, [], ◌∷◌, ◌++◌
 use Rattle.std.specs.List.{Contains}
 use Rattle.std.specs.Vec.Iter.{into_iter_items}
 use Rattle.std.proofs.lemmas.List.Elements.{All-push, All-pop, All-contains_itself, All-nil}
-use Rattle.npf_runner_dealing.specs.Dealing.{vec_items}
+use Rattle.npf_runner_dealing.specs.Lanes.{vec_items}
 use Rattle.npf_publish.specs.declared.conf_reader.ConfReader.{ConfReader}
 use Rattle.npf_runner.specs.declared.worker.Worker.{Worker}
 use Rattle.npf_runner.specs.Crew.{IsEquipped, numbers_of_worker, packets_of_worker}

@@ -1,7 +1,7 @@
 use Rattle.std.proofs.Common.{rules, ◌≡◌, ◌<◌, ◌+◌, [], ◌∷◌, ◌++◌, All, take, get_or, length, sym, subst}
 use Rattle.std.specs.List.{AllZip}
 use Rattle.std.proofs.lemmas.List.Elements.{All-push}
-use Rattle.npf_runner.specs.Dealing.{IsWorkerOf}
+use Rattle.npf_runner.specs.Spread.{IsWorkerOf}
 use Rattle.npf_runner.specs.Job.{Job, job_arrival, numbered_from}
 use Rattle.npf_runner.specs.Plays.{arriving}
 use Rattle.npf_runner.proofs.JobLemmas.{numbered_more, zip_push}

@@ -1,6 +1,6 @@
 use Rattle.std.proofs.Common.{◌≡◌, ◌≤◌, ◌<◌, ◌+◌, All, take, length, vec_len, vec_capacity}
 use Rattle.std.specs.List.{AllZip}
-use Rattle.npf_runner.specs.Dealing.{IsWorkerOf}
+use Rattle.npf_runner.specs.Spread.{IsWorkerOf}
 use Rattle.npf_runner.specs.Job.{job_arrival, numbered_from}
 use Rattle.npf_runner.proofs.spread.workers_of.Given as goal
 

@@ -27,7 +27,7 @@ handle-outcome-requires-clause-short g c lifetimes outlives =
 pub loop-place-preserved : goal.loop-place-preserved
 loop-place-preserved g c =
     let V = g.C.Connections.view in
-    let configs = configurations c.args.configs.now in
+    let configs = configurations c.args.shared.now.configs.now in
     let i = c.loop-place.place in
     let first = c.args.lane.now in
     let numbers = first.worker.numbers.items in
@@ -71,7 +71,7 @@ loop-place-preserved g c =
 pub returns-clause-worked : goal.returns-clause-worked
 returns-clause-worked g c =
     let V = g.C.Connections.view in
-    let configs = configurations c.args.configs.now in
+    let configs = configurations c.args.shared.now.configs.now in
     let first = c.args.lane.now in
     let numbers = first.worker.numbers.items in
     let pass = V c.loop-place.pass in

@@ -10,7 +10,7 @@ use Rattle.npf_runner.proofs.worker.work.Given as goal
 
 abbrev pub invariant-loop-place : goal.invariant-loop-place
 invariant-loop-place g l =
-    IsOut flow_law (g.C.Connections.fits l.conns) g.C.Connections.view l.pass
+    IsOut flow_law (g.C.Connections.fits l.shared.conns.now) g.C.Connections.view l.pass
     × IsRested (g.C.Connections.view l.initial.pass) (g.C.Connections.view l.pass)
     × All IsJob (with_numbers (drop l.place l.numbers.items) (drop l.place l.packets.items))
     × (reader_range l.reader ≡ reader_range l.initial.reader)
@@ -18,5 +18,5 @@ invariant-loop-place g l =
     × (vec_len l.outcomes ≡ l.place)
     × (vec_len l.initial.packets ≤ vec_capacity l.outcomes)
     × ((new : _) (next : _) (dones : List _) →
-    WorksThrough (configurations l.configs) (g.C.Connections.view l.pass) l.reader (with_numbers (drop l.place l.numbers.items) (drop l.place l.packets.items)) new next dones →
-    WorksThrough (configurations l.configs) (g.C.Connections.view l.initial.pass) l.initial.reader (with_numbers l.numbers.items l.initial.packets.items) new next (handled l.outcomes.items l.packets.items ++ dones))
+    WorksThrough (configurations l.shared.configs.now) (g.C.Connections.view l.pass) l.reader (with_numbers (drop l.place l.numbers.items) (drop l.place l.packets.items)) new next dones →
+    WorksThrough (configurations l.shared.configs.now) (g.C.Connections.view l.initial.pass) l.initial.reader (with_numbers l.numbers.items l.initial.packets.items) new next (handled l.outcomes.items l.packets.items ++ dones))

@@ -1,4 +1,4 @@
-use Rattle.npf_runner_passes.proofs.GatheringLemmas.{gathers_all}
+use Rattle.npf_runner_passes.proofs.WholeLemmas.{gathers_all}
 use Rattle.npf_runner_passes.proofs.laws.gathering_law.Goals as goal
 
 pub returns : goal.returns

@@ -1,0 +1,193 @@
+// One phase: its packets and its commands, side by side.
+ghost use Rattle.std.specs.Prelude.{◌≡◌, ◌≤◌, ◌<◌, ◌+◌, ◌^◌, ◌++◌, List, All, IfOk, length, map, vec_len, vec_capacity};
+ghost use Rattle.std.specs.List.{AllZip};
+ghost use Rattle.npf_connections.specs.Pass.{all_places};
+ghost use Rattle.npf_connections.specs.Stay.{IsLater, IsOut};
+ghost use Rattle.npf_runner_dealing.specs.Lanes.{IsDealt};
+ghost use Rattle.npf_flow.specs.Flows.{flow_law};
+ghost use Rattle.npf_publish.specs.ConfReader.{IsNewReader, reader_range};
+ghost use Rattle.npf_publish.specs.Publisher.{published_number, publisher_range};
+ghost use Rattle.npf_engine.specs.Handles.{configurations};
+ghost use Rattle.npf_runner.specs.Crew.{AreQueuesOf, HasJobs, HasRoomFor, IsEquipped, jobs_of};
+ghost use Rattle.npf_runner.specs.Spread.{IsWorkerOf};
+ghost use Rattle.npf_runner.specs.Job.{job_arrival, numbered_from};
+ghost use Rattle.npf_runner.specs.Played.{outcomes_of, outputs_of};
+ghost use Rattle.npf_runner.specs.Plays.{published_by};
+ghost use Rattle.npf_traffic.specs.Packet.{IsShortPacket};
+ghost use Rattle.npf_runner.specs.Task.{LeavesNoDead, RunsCrew, RunsPhase};
+
+use crate::crew::{Queues, Room, apart, lanes_with, workers_with};
+use crate::gate::Gate;
+use crate::phase::{Command, Spread};
+use crate::numbers::numbers_from;
+use crate::played::Answers;
+use crate::shared::Shared;
+use crate::spread::workers_of;
+use crate::threads::side_by_side;
+use crate::worker::Worker;
+use npf_connections::Connections;
+use npf_flow::FlowLaw;
+use npf_publish::Publisher;
+use npf_runner_dealing::{deal, gather};
+use npf_runner_passes::{split_off, take_in};
+use npf_traffic::Packet;
+use npf_types::NoMemory;
+use std::alloc::Global;
+use std::sync::Wait;
+use std::thread::Threads;
+
+/// A phase's packets, the number of the first, how they are dealt to so many workers, and the last configuration that was published.
+#[derive(Drop)]
+pub struct Task<'a> {
+    pub packets: Vec<Packet<'a>>,
+    pub first: u64,
+    pub workers: u32,
+    pub spread: Spread,
+    pub last: u64,
+}
+
+/// Which worker each packet goes to, the workers, and the publisher that they read from.
+struct Prepared<'a> {
+    order: Vec<u32>,
+    crew: Vec<Worker<'a>>,
+    publisher: Publisher,
+}
+
+/// Runs a phase, and adds what became of its packets to all that was there.
+pub fn run_phase<'a, R: Threads + Wait + Sync, C: Connections<FlowLaw>, G: Gate>(
+    shared: &Shared<'_, R, C, G>,
+    pass: &mut C::Pass,
+    task: Task<'a>,
+    commands: &[Command],
+    all: Answers<'a>,
+) -> Result<Answers<'a>, NoMemory>
+    requires out { IsOut flow_law (C.fits shared.now.conns.now) C.view pass.old }
+    requires places { (C.view pass.old).places ≡ all_places }
+    requires workers { (1 ≤ task.workers) × (task.workers ≤ 64) }
+    requires first { (1 ≤ task.first) × (task.first + vec_len task.packets < 2 ^ 64) }
+    requires short { All IsShortPacket task.packets.items }
+    requires numbers { task.last + published_by commands.now < length shared.now.configs.now }
+    requires for_outcomes { vec_len all.outcomes + vec_len task.packets ≤ vec_capacity all.outcomes }
+    requires for_packets { vec_len all.packets + vec_len task.packets ≤ vec_capacity all.packets }
+    ensures out { IsOut flow_law (C.fits shared.now.conns.now) C.view pass.new }
+    ensures later { IsLater (C.view pass.old) (C.view pass.new) }
+    ensures clean { LeavesNoDead (C.view pass.old) (C.view pass.new) }
+    ensures runs { IfOk result (λ done. (dones : List _) × (done.outcomes.items ≡ all.entry.outcomes.items ++ outcomes_of dones) × (done.packets.items ≡ all.entry.packets.items ++ outputs_of dones) × RunsPhase C.view (configurations shared.now.configs.now) task.entry.workers task.entry.spread (C.view pass.old) (C.view pass.new) task.entry.last commands.now (numbered_from task.entry.first task.entry.packets.items) dones) }
+    ensures outcomes_capacity { IfOk result (λ done. vec_capacity all.entry.outcomes ≤ vec_capacity done.outcomes) }
+    ensures packets_capacity { IfOk result (λ done. vec_capacity all.entry.packets ≤ vec_capacity done.packets) }
+{
+    let room = Room::for_workers(shared.alloc, task.workers, &task.packets)?;
+    let Prepared {
+        order,
+        crew,
+        mut publisher,
+    } = prepare(shared.rt, shared.alloc, task, count_published(commands))?;
+    let ran = run_crew(shared, pass, crew, room, commands, &mut publisher);
+    publisher.close(shared.rt);
+    let queues = ran?;
+    let order = order.as_slice();
+    Ok(Answers {
+        outcomes: gather(order, queues.outcomes, all.outcomes),
+        packets: gather(order, queues.packets, all.packets),
+    })
+}
+
+/// What a phase needs that publishes so many configurations.
+fn prepare<'a, R: Wait>(
+    rt: &R,
+    alloc: Global,
+    task: Task<'a>,
+    published: u64,
+) -> Result<Prepared<'a>, NoMemory>
+    requires workers { (1 ≤ task.workers) × (task.workers ≤ 64) }
+    requires first { (1 ≤ task.first) × (task.first + vec_len task.packets < 2 ^ 64) }
+    requires short { All IsShortPacket task.packets.items }
+    requires numbers { task.last + published < 2 ^ 64 }
+    ensures places { IfOk result (λ made. vec_len made.order ≡ vec_len task.entry.packets) }
+    ensures spreads { IfOk result (λ made. AllZip (λ job worker. IsWorkerOf task.entry.spread task.entry.workers (job_arrival job) worker) (numbered_from task.entry.first task.entry.packets.items) made.order.items) }
+    ensures dealt { IfOk result (λ made. IsDealt made.order.items (numbered_from task.entry.first task.entry.packets.items) (map jobs_of made.crew.items)) }
+    ensures count { IfOk result (λ made. vec_len made.crew ≡ task.entry.workers) }
+    ensures jobs { IfOk result (λ made. All HasJobs made.crew.items) }
+    ensures ready { IfOk result (λ made. All IsEquipped made.crew.items) }
+    ensures readers { IfOk result (λ made. All (λ worker. IsNewReader (record { first = task.entry.last; last = task.entry.last + published }) worker.reader) made.crew.items) }
+    ensures number { IfOk result (λ made. published_number made.publisher ≡ task.entry.last) }
+    ensures range { IfOk result (λ made. publisher_range made.publisher ≡ record { first = task.entry.last; last = task.entry.last + published }) }
+{
+    let Task {
+        packets,
+        first,
+        workers,
+        spread,
+        last,
+    } = task;
+    let order = workers_of(alloc, packets.as_slice(), first, spread, workers)?;
+    let numbers = numbers_from(alloc, first, packets.len())?;
+    let numbers = deal(alloc, numbers, order.as_slice(), workers)?;
+    let packets = deal(alloc, packets, order.as_slice(), workers)?;
+    let (publisher, readers) = Publisher::new(rt, alloc, workers, last, last + published)?;
+    match workers_with(alloc, numbers, packets, readers) {
+        Ok(crew) => Ok(Prepared {
+            order,
+            crew,
+            publisher,
+        }),
+        Err(NoMemory) => {
+            publisher.close(rt);
+            Err(NoMemory)
+        }
+    }
+}
+
+/// Runs the workers beside the control task, with passes that are split off the pass and taken in again. Where memory runs out
+/// before they begin, the pass stays whole.
+fn run_crew<'a, R: Threads + Wait + Sync, C: Connections<FlowLaw>, G: Gate>(
+    shared: &Shared<'_, R, C, G>,
+    pass: &mut C::Pass,
+    crew: Vec<Worker<'a>>,
+    room: Room<'a, C::Pass>,
+    commands: &[Command],
+    publisher: &mut Publisher,
+) -> Result<Queues<'a>, NoMemory>
+    requires out { IsOut flow_law (C.fits shared.now.conns.now) C.view pass.old }
+    requires places { (C.view pass.old).places ≡ all_places }
+    requires crew { (1 ≤ vec_len crew) × (vec_len crew ≤ 64) }
+    requires ready { All IsEquipped crew.items }
+    requires jobs { All HasJobs crew.items }
+    requires readers { All (λ worker. (reader_range worker.reader).last < length shared.now.configs.now) crew.items }
+    requires numbers { published_number publisher.old + published_by commands.now ≤ (publisher_range publisher.old).last }
+    requires room { HasRoomFor (vec_len crew) room }
+    ensures out { IsOut flow_law (C.fits shared.now.conns.now) C.view pass.new }
+    ensures later { IsLater (C.view pass.old) (C.view pass.new) }
+    ensures clean { LeavesNoDead (C.view pass.old) (C.view pass.new) }
+    ensures runs { IfOk result (λ queues. (dones : List (List _)) × AreQueuesOf dones queues × RunsCrew C.view (configurations shared.now.configs.now) (C.view pass.old) (C.view pass.new) commands.now crew.entry.items dones) }
+{
+    let count = crew.len() as u32 + 1;
+    let mut passes = split_off(shared.rt, shared.alloc, shared.conns, pass, count)?;
+    let own = passes.pop().unwrap();
+    let Room {
+        lanes,
+        mut others,
+        queues,
+    } = room;
+    let lanes = lanes_with(crew, &mut passes, lanes);
+    let ((own, published), lanes) = side_by_side(shared, own, commands, publisher, lanes);
+    let queues = apart(lanes, &mut others, queues);
+    others.push_reserved(own);
+    take_in(shared.rt, shared.conns, pass, others);
+    shared.conns.collect(shared.rt, pass);
+    published?;
+    Ok(queues)
+}
+
+/// How many configurations the commands publish.
+pub fn count_published(commands: &[Command]) -> u64
+    ensures { result ≡ published_by commands.now }
+{
+    let mut count = 0;
+    for command in commands {
+        if matches!(command, Command::Publish(_)) {
+            count += 1;
+        }
+    }
+    count
+}
