@@ -61,12 +61,13 @@ one_list (x ∷ xs) (y ∷ ys) rx ry forth back =
     (λ s there. later y ys s (λ same. absurd (not_itself x (subst (ComesBefore x) (sym same ∙ sym first) (first_before x s xs rx there)))) (forth s (in_rest x s xs there)))
     (λ s there. later x xs s (λ same. absurd (not_itself y (subst (ComesBefore y) (sym same ∙ first) (first_before y s ys ry there)))) (back s (in_rest y s ys there))) in
     ap (λ (s : Saved). s ∷ xs) first ∙ ap (λ (l : List Saved). y ∷ l) rest where
-  heads : (y ≡ x) ⊎ Contains ys x → (x ≡ y) ⊎ Contains xs y → x ≡ y
-  heads (inl same) _ = sym same
-  heads (inr there) (inl same) = same
-  heads (inr there) (inr also) = absurd (not_both y x (first_before y x ys ry there) (first_before x y xs rx also))
-  later : (one : Saved) (rest : List Saved) (s : Saved) → ¬ (one ≡ s) → Contains (one ∷ rest) s → Contains rest s
-  later one rest s differs there = elim (first_or_rest one s rest there) [ inl same ↦ absurd (differs same) | inr in_it ↦ in_it ]
+      heads : (y ≡ x) ⊎ Contains ys x → (x ≡ y) ⊎ Contains xs y → x ≡ y
+      heads (inl same) _ = sym same
+      heads (inr there) (inl same) = same
+      heads (inr there) (inr also) = absurd (not_both y x (first_before y x ys ry there) (first_before x y xs rx also))
+
+      later : (one : Saved) (rest : List Saved) (s : Saved) → ¬ (one ≡ s) → Contains (one ∷ rest) s → Contains rest s
+      later one rest s differs there = elim (first_or_rest one s rest there) [ inl same ↦ absurd (differs same) | inr in_it ↦ in_it ]
 
 module _ (k : Machine Flow) (one_key : HoldsOneAWay k) where
   same_key : (id : ConnId) (way : Way) (key other : Option Key) → HoldsIf k id way key → HoldsIf k id way other → key ≡ other

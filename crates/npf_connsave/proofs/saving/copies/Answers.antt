@@ -37,10 +37,10 @@ loop-slot-preserved g c =
       out = c.copy_slot.ensures.out;
       same = c.copy_slot.ensures.same ∙ c.loop-slot.invariant.same;
       copied = elim c.match-saved_of.branch [
-        in-Some-saved_of+in_ok-push w ↦
+        | in-Some-saved_of+in_ok-push w ↦
             subst (AreCopied k (slot + 1)) (sym (ap (λ (v : _). v.items) w.saved-is ∙ w.in_ok-push.ensures.items))
             (one_more k conns slot c.loop-slot.invariant.copied one kept w.in-Some-saved_of.conn is (sym w.in-Some-saved_of.ensures))
-      | in_default-saved_of w ↦
+        | in_default-saved_of w ↦
             subst (AreCopied k (slot + 1)) (sym (ap (λ (v : _). v.items) w.saved-is)) (keyless_more k conns slot c.loop-slot.invariant.copied kept is (sym w.in_default-saved_of.ensures))
       ];
     }
