@@ -48,7 +48,10 @@ module _ (k : Machine Flow) where
 
   -- who holds one key that way is one
   pub one_holder : (id other : ConnId) (key : Key) → Holds k id Forward key → Holds k other Forward key → id ≡ other
-  one_holder id other key one two = let both = sym one ∙ two in cc
+  one_holder id other key one two =
+      let both : Some (record { id = id; way = Forward }) ≡ Some (record { id = other; way = Forward }) = sym one ∙ two in
+      let found : record { id = id; way = Forward } ≡ record { id = other; way = Forward } = cc in
+      ap (λ (f : Found). f.id) found
 
   stage_live : (id : ConnId) (flow : Flow) (steps : ℕ) → stage_of k id ≡ Live flow steps → IsLive (stage_of k id)
   stage_live id flow steps is = subst IsLive (sym is) tt
@@ -90,6 +93,7 @@ module _ (k : Machine Flow) where
     } where
       below : (s : ℕ) → s < slot + 1 → (s < slot) ⊎ (s ≡ slot)
       below s near = grind arith
+
       by : (id : ConnId) (key : Key) → IsLive (stage_of k id) → Holds k id Forward key → (id.slot < slot) ⊎ (id.slot ≡ slot)
           → (saved : Saved) × Contains conns saved × (saved.forward ≡ key)
       by id key live holds (inl near) = so_far.all id key near live holds
@@ -103,30 +107,32 @@ module _ (k : Machine Flow) where
 
     pub one_more : HoldsOneAWay k → (kept : Kept Flow) (saved : Saved) → IsKept k slot kept → saved_of kept ≡ Some saved → AreCopied k (slot + 1) (conns ++ saved ∷ [])
     one_more one kept saved is e =
-        let as = saved_as slot kept is kept.forward saved is.forward e in
+        let mine = saved_as slot kept is kept.forward saved is.forward e in
         record {
           each = All-push (IsCopied k (slot + 1)) conns saved (All-weaker (IsCopied k slot) (IsCopied k (slot + 1)) further conns so_far.each)
-              (record { id = kept.id; there = let there = is.there in omega arith; is = as });
-          all = λ id key near live holds. by as id key live holds (below id.slot near);
+              (record { id = kept.id; there = let there = is.there in omega arith; is = mine });
+          all = λ id key near live holds. by mine id key live holds (below id.slot near);
           apart = subst (λ (keys : List Key). AllPairs (λ one other. one ≢ other) keys) (sym (map-append (λ (s : Saved). s.forward) conns (saved ∷ [])))
-              (all_pairs_push (λ one other. one ≢ other) (forward_keys conns) saved.forward so_far.apart (differs as));
+              (all_pairs_push (λ one other. one ≢ other) (forward_keys conns) saved.forward so_far.apart (differs mine));
         } where
-      below : (s : ℕ) → s < slot + 1 → (s < slot) ⊎ (s ≡ slot)
-      below s near = grind arith
-      by : IsSavedAs k kept.id saved → (id : ConnId) (key : Key) → IsLive (stage_of k id) → Holds k id Forward key → (id.slot < slot) ⊎ (id.slot ≡ slot)
-          → (other : Saved) × Contains (conns ++ saved ∷ []) other × (other.forward ≡ key)
-      by as id key live holds (inl near) =
-          let old = so_far.all id key near live holds in
-          (old.0, Contains-append_left conns (saved ∷ []) old.0 old.1, old.2)
-      by as id key live holds (inr here) =
-          (saved, Contains-push conns saved, one kept.id Forward saved.forward key as.forward (kept_holds slot kept is id key here live holds))
-      differs : IsSavedAs k kept.id saved → (n : ℕ) (d : Key) → n < length (forward_keys conns) → get_or (forward_keys conns) n d ≢ saved.forward
-      differs as n d within same =
-          let near : n < length conns = omega (arith, within, length-map conns (λ (s : Saved). s.forward)) in
-          let old = so_far.each n saved near in
-          let at : get_or (forward_keys conns) n d ≡ (get_or conns n saved).forward = get_or-map (λ (s : Saved). s.forward) conns n saved d near in
-          let holds : Holds k old.id Forward saved.forward = subst (Holds k old.id Forward) (sym at ∙ same) old.is.forward in
-          let id : old.id ≡ kept.id = one_holder old.id kept.id saved.forward holds as.forward in
-          let there = old.there in
-          let here = ap (λ (i : ConnId). i.slot) id ∙ is.there in
-          absurd (omega (arith, there, here))
+          below : (s : ℕ) → s < slot + 1 → (s < slot) ⊎ (s ≡ slot)
+          below s near = grind arith
+
+          by : IsSavedAs k kept.id saved → (id : ConnId) (key : Key) → IsLive (stage_of k id) → Holds k id Forward key → (id.slot < slot) ⊎ (id.slot ≡ slot)
+              → (other : Saved) × Contains (conns ++ saved ∷ []) other × (other.forward ≡ key)
+          by mine id key live holds (inl near) =
+              let old = so_far.all id key near live holds in
+              (old.0, Contains-append_left conns (saved ∷ []) old.0 old.1, old.2)
+          by mine id key live holds (inr here) =
+              (saved, Contains-push conns saved, one kept.id Forward saved.forward key mine.forward (kept_holds slot kept is id key here live holds))
+
+          differs : IsSavedAs k kept.id saved → (n : ℕ) (d : Key) → n < length (forward_keys conns) → get_or (forward_keys conns) n d ≢ saved.forward
+          differs mine n d within same =
+              let near : n < length conns = omega (arith, within, length-map conns (λ (s : Saved). s.forward)) in
+              let old = so_far.each n saved near in
+              let at : get_or (forward_keys conns) n d ≡ (get_or conns n saved).forward = get_or-map (λ (s : Saved). s.forward) conns n saved d near in
+              let holds : Holds k old.id Forward saved.forward = subst (Holds k old.id Forward) (sym at ∙ same) old.is.forward in
+              let id : old.id ≡ kept.id = one_holder old.id kept.id saved.forward holds mine.forward in
+              let there = old.there in
+              let here = ap (λ (i : ConnId). i.slot) id ∙ is.there in
+              absurd (omega (arith, there, here))

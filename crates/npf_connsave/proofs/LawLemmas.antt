@@ -25,7 +25,7 @@ use Rattle.npf_flow.specs.Flows.{flow_law}
 use Rattle.npf_saved.specs.declared.saved.Saved.{Saved}
 use Rattle.npf_saved.specs.File.{saved_text}
 use Rattle.npf_saved_file.specs.Conns.{AreRising, ComesBefore}
-use Rattle.npf_connsave.specs.Laws.{OneSavedText, SavesAsLoaded}
+use Rattle.npf_connsave.specs.Laws.{OneSavedText}
 use Rattle.npf_connsave.specs.Saving.{AreSavedOf, IsSavedAs, IsSavedText, saved_flow}
 use Rattle.npf_connsave.proofs.CopyLemmas.{one_holder, saved_live}
 
@@ -61,12 +61,13 @@ one_list (x ∷ xs) (y ∷ ys) rx ry forth back =
     (λ s there. later y ys s (λ same. absurd (not_itself x (subst (ComesBefore x) (sym same ∙ sym first) (first_before x s xs rx there)))) (forth s (in_rest x s xs there)))
     (λ s there. later x xs s (λ same. absurd (not_itself y (subst (ComesBefore y) (sym same ∙ first) (first_before y s ys ry there)))) (back s (in_rest y s ys there))) in
     ap (λ (s : Saved). s ∷ xs) first ∙ ap (λ (l : List Saved). y ∷ l) rest where
-  heads : (y ≡ x) ⊎ Contains ys x → (x ≡ y) ⊎ Contains xs y → x ≡ y
-  heads (inl same) _ = sym same
-  heads (inr there) (inl same) = same
-  heads (inr there) (inr also) = absurd (not_both y x (first_before y x ys ry there) (first_before x y xs rx also))
-  later : (one : Saved) (rest : List Saved) (s : Saved) → ¬ (one ≡ s) → Contains (one ∷ rest) s → Contains rest s
-  later one rest s differs there = elim (first_or_rest one s rest there) [ inl same ↦ absurd (differs same) | inr in_it ↦ in_it ]
+      heads : (y ≡ x) ⊎ Contains ys x → (x ≡ y) ⊎ Contains xs y → x ≡ y
+      heads (inl same) _ = sym same
+      heads (inr there) (inl same) = same
+      heads (inr there) (inr also) = absurd (not_both y x (first_before y x ys ry there) (first_before x y xs rx also))
+
+      later : (one : Saved) (rest : List Saved) (s : Saved) → ¬ (one ≡ s) → Contains (one ∷ rest) s → Contains rest s
+      later one rest s differs there = elim (first_or_rest one s rest there) [ inl same ↦ absurd (differs same) | inr in_it ↦ in_it ]
 
 module _ (k : Machine Flow) (one_key : HoldsOneAWay k) where
   same_key : (id : ConnId) (way : Way) (key other : Option Key) → HoldsIf k id way key → HoldsIf k id way other → key ≡ other
@@ -88,12 +89,12 @@ module _ (k : Machine Flow) (one_key : HoldsOneAWay k) where
 
   among : (conns others : List Saved) → AreSavedOf k conns → AreSavedOf k others → (saved : Saved) → Contains conns saved → Contains others saved
   among conns others one two saved there =
-      let as = All-contains (λ (s : Saved). (id : ConnId) × IsSavedAs k id s) conns saved one.each there in
-      let also = two.all as.0 saved.forward (saved_live k as.0 saved as.1) as.1.forward in
+      let mine = All-contains (λ (s : Saved). (id : ConnId) × IsSavedAs k id s) conns saved one.each there in
+      let also = two.all mine.0 saved.forward (saved_live k mine.0 saved mine.1) mine.1.forward in
       let other = also.0 in
       let is = All-contains (λ (s : Saved). (id : ConnId) × IsSavedAs k id s) others other two.each also.1 in
-      let id : is.0 ≡ as.0 = one_holder k is.0 as.0 saved.forward (subst (λ (key : Key). k.holder key ≡ Some (record { id = is.0; way = Forward })) also.2 is.1.forward) as.1.forward in
-      let same : other ≡ saved = one_saved as.0 other saved (subst (λ (i : ConnId). IsSavedAs k i other) id is.1) as.1 in
+      let id : is.0 ≡ mine.0 = one_holder k is.0 mine.0 saved.forward (subst (λ (key : Key). k.holder key ≡ Some (record { id = is.0; way = Forward })) also.2 is.1.forward) mine.1.forward in
+      let same : other ≡ saved = one_saved mine.0 other saved (subst (λ (i : ConnId). IsSavedAs k i other) id is.1) mine.1 in
       subst (Contains others) same also.1
 
   pub one_saved_list : (conns others : List Saved) → AreSavedOf k conns → AreSavedOf k others → conns ≡ others
@@ -103,6 +104,3 @@ pub one_saved_text : OneSavedText
 one_saved_text slots history names text other legal one two =
     let k = state_of flow_law history in
     one.spelled ∙ ap (saved_text names) (one_saved_list k (hold_one_a_way flow_law slots history legal) one.conns two.conns one.saved two.saved) ∙ sym two.spelled
-
-pub saves_again : SavesAsLoaded
-saves_again slots names text saved old new legal loads saving = one_saved_text slots new.history names saved text legal saving loads.same

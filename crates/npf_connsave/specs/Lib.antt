@@ -1,4 +1,3 @@
 pub mod Copied
 pub mod Laws
-pub mod Loading
 pub mod Saving

@@ -55,6 +55,7 @@ module _ (one other : List Name) (place : ℕ) where
   ends_here least differ same = record { same = same; differs = by (which (length one) (length other) least differ) } where
     which : (m n : ℕ) → place ≡ min m n → m ≢ n → ((place ≡ m) × (m < n)) ⊎ ((place ≡ n) × (n < m))
     which m n is apart = grind arith
+
     by : ((place ≡ length one) × (length one < length other)) ⊎ ((place ≡ length other) × (length other < length one)) → slice_get one place ≢ slice_get other place
     by (inl mine) alike =
         let none = slice_get_past one place (let at = mine.0 in omega (arith, at)) in

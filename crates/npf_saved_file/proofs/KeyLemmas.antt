@@ -63,6 +63,7 @@ key_taken set new known key added has all put answered = by added answered where
     at false is =
         let old = sym (put q ∙ ap (λ b. cond b true (has_key set q)) is) ∙ key_found new q there in
         Contains-append_left known (key ∷ []) q ((has q).0 (key_there set q old))
+
   kept : (q : Key) → Contains (known ++ key ∷ []) q → Contains new q
   kept q there = at (same_key key q) refl where
     at : (b : Bool) → same_key key q ≡ b → Contains new q
@@ -71,6 +72,7 @@ key_taken set new known key added has all put answered = by added answered where
       from : Contains known q ⊎ (key ≡ q) → Contains new q
       from (inl old) = key_there new q (put q ∙ ap (λ b. cond b true (has_key set q)) is ∙ key_found set q ((has q).1 old))
       from (inr last) = absurd (true≢false (sym (same_key_laws.refl key) ∙ ap (same_key key) last ∙ is))
+
   by : (b : Bool) → b ≡ not (has_key set key) → TakesKeys known (key ∷ []) new b
   by true is = (one_more known key all (λ there. true≢false (sym (key_found set key ((has key).1 there)) ∙ off (has_key set key) (sym is))), λ q. (held q, kept q)) where
     off : (b : Bool) → not b ≡ true → b ≡ false

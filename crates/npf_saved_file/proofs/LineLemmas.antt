@@ -28,7 +28,7 @@ pub no_line : (text : List ℕ) → position is_line_feed text ≡ None → (lin
 no_line text none line behind first =
     let same : line ≡ text = first.whole ∙ sym (none_before is_line_feed text none) in
     let long : length text ≡ length line + 1 + length behind =
-        ap length first.spelled ∙ length-append (ended_line line) behind ∙ ap (λ n. n + length behind) (length-append line (10 ∷ [])) in
+    ap length first.spelled ∙ length-append (ended_line line) behind ∙ ap (λ n. n + length behind) (length-append line (10 ∷ [])) in
     let short = ap length same in
     absurd (omega (arith, long, short))
 
@@ -39,5 +39,5 @@ one_line text line behind other rest one two = two.whole ∙ sym one.whole
 pub shorter : (text line behind : List ℕ) → IsFirstLine text line behind → length behind + length line + 1 ≡ length text
 shorter text line behind first =
     let long : length text ≡ length line + 1 + length behind =
-        ap length first.spelled ∙ length-append (ended_line line) behind ∙ ap (λ n. n + length behind) (length-append line (10 ∷ [])) in
+    ap length first.spelled ∙ length-append (ended_line line) behind ∙ ap (λ n. n + length behind) (length-append line (10 ∷ [])) in
     omega (arith, long)

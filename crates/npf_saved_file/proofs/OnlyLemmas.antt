@@ -58,7 +58,7 @@ one_behind text line behind other rest one two =
 has_line : (text line behind : List ℕ) → IsFirstLine text line behind → text ≢ []
 has_line text line behind first none =
     let long : length text ≡ length line + 1 + length behind =
-        ap length first.spelled ∙ length-append (ended_line line) behind ∙ ap (λ n. n + length behind) (length-append line (10 ∷ [])) in
+    ap length first.spelled ∙ length-append (ended_line line) behind ∙ ap (λ n. n + length behind) (length-append line (10 ∷ [])) in
     let short = ap length none in
     absurd (omega (arith, long, short))
 
@@ -172,6 +172,7 @@ pub no_file : (text : List ℕ) (names : List Name) (conns : List Saved) (rest :
 no_file text names conns rest so_far some none others all file = by follows.more follows.last follows.listed follows.left where
   follows : Follows names conns rest others all
   follows = so_far others all file
+
   by : (more : List Name) (last : List Saved) → all ≡ conns ++ last → rest ≡ name_lines more ++ conn_lines last → ⊥
   by [] [] listed left = some left
   by [] (saved ∷ last) listed left =

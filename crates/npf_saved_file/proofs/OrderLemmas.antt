@@ -28,6 +28,7 @@ pub rises_behind : (conns : List Saved) (last saved : Saved) → AreRising conns
 rises_behind conns last saved all some is next = all_pairs_push ComesBefore conns saved all (λ k d within. at k d within (near_or_last k (length conns) within)) where
   end : (d : Saved) → get_or conns (length conns - 1) d ≡ last
   end d = let within : length conns - 1 < length conns = omega (arith, some) in get_or_default conns (length conns - 1) d last within ∙ sym is
+
   at : (k : ℕ) (d : Saved) → k < length conns → (k ≡ length conns - 1) ⊎ (k < length conns - 1) → ComesBefore (get_or conns k d) saved
   at k d within (inl here) = subst (λ (one : Saved). ComesBefore one saved) (sym (ap (λ n. get_or conns n d) here ∙ end d)) next
   at k d within (inr there) =

@@ -17,4 +17,4 @@ mod lines;
 mod reading;
 
 pub use fault::SavedFault;
-pub use reading::{read_saved, MAX_SAVED_BYTES};
+pub use reading::{MAX_SAVED_BYTES, read_saved};

@@ -10,7 +10,7 @@ ghost use Rattle.npf_saved_file.specs.Refusal.{RefusesLines};
 use crate::conns::add_conn;
 use crate::fault::SavedFault;
 use crate::reading::MAX_SAVED_BYTES;
-use npf_saved::{conn_of_line, if_of_line, Saved};
+use npf_saved::{Saved, conn_of_line, if_of_line};
 use npf_types::{Key, Name, NoMemory};
 use std::alloc::Global;
 use std::collections::HashSet;
@@ -118,11 +118,7 @@ impl Lines {
 }
 
 /// The interface whose line this is, if no connection stands before it.
-fn next_interface(
-    alloc: Global,
-    conns: &[Saved],
-    line: &[u8],
-) -> Result<Option<Name>, NoMemory>
+fn next_interface(alloc: Global, conns: &[Saved], line: &[u8]) -> Result<Option<Name>, NoMemory>
     ensures { IfOk result (λ found. MatchOption found
         (IsNoInterface conns.now line.now)
         (λ name. (conns.now ≡ []) × IsOnly IsIfLine line.now name)) }

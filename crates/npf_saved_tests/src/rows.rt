@@ -33,7 +33,12 @@ pub fn answer_line(
 /// What a line is, and whether it is written again as it is read.
 fn told_line(alloc: Global, line: &str) -> Result<String> {
     if let Some(saved) = conn_of_line(alloc, line.as_bytes())? {
-        return told_again(alloc, "connection", line, &saved_text(alloc, &[], &[saved])?);
+        return told_again(
+            alloc,
+            "connection",
+            line,
+            &saved_text(alloc, &[], &[saved])?,
+        );
     }
     if let Some(name) = if_of_line(alloc, line.as_bytes())? {
         return told_again(alloc, "interface", line, &saved_text(alloc, &[name], &[])?);

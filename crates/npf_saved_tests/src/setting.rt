@@ -25,7 +25,10 @@ impl Setting {
     /// From here on the word stands for the line.
     pub fn name_line(&mut self, alloc: Global, text: &str) -> Result<()> {
         let (word, line) = text.split_once(' ').context("no line")?;
-        let named = (String::from_str(alloc, word)?, String::from_str(alloc, line)?);
+        let named = (
+            String::from_str(alloc, word)?,
+            String::from_str(alloc, line)?,
+        );
         self.lines.push(named)?;
         Ok(())
     }
@@ -36,7 +39,8 @@ impl Setting {
         self.slots = words.next().context("no slots")?.parse::<u32>()?;
         self.names = Vec::new(alloc);
         for word in words {
-            self.names.push(Name::of(word.as_bytes()).context("no name")?)?;
+            self.names
+                .push(Name::of(word.as_bytes()).context("no name")?)?;
         }
         Ok(())
     }

@@ -19,7 +19,7 @@ returns c =
     let set = c.take_keys.new.keys.keys in
     let rising = subst (λ (cs : List Saved). AreRising (cs ++ saved ∷ [])) c.deref.ensures.value (c.if-not-rises.ensures.0 refl) in
     let takes = subst (TakesKeys (flat_map saved_keys conns) (saved_keys saved) set) c.if-not-branch.false
-        (c.in_ok-take_keys.ensures (flat_map saved_keys conns) c.requires.known c.requires.good.distinct) in
+    (c.in_ok-take_keys.ensures (flat_map saved_keys conns) c.requires.known c.requires.good.distinct) in
     let both = added conns saved set c.requires.good c.requires.fits (c.if-not-is_placed.ensures.0 refl) rising takes in
     let pushed = c.in_ok-push.ensures.items in
     (pushed, subst AreSavedConns (sym pushed) both.0, subst (λ (cs : List Saved). HasKeys set (flat_map saved_keys cs)) (sym pushed) both.1)
