@@ -39,8 +39,9 @@ use Rattle.npf_cells_rule.specs.Cells.{IsCells}
 use Rattle.npf_cells_rule.specs.Views.{seat_side}
 use Rattle.npf_cells_rule.proofs.MetLemmas.{met_at, unowned}
 use Rattle.npf_cells_takes.specs.PrivateKinds.{MayStoreInSlot}
+use Rattle.npf_cells_lives.specs.Turns.{Running}
 
-module _ {S A R F : Type 0} (m : Meaning S A R) (digest : Key → ℕ) (layout : Layout) (s : State F (CellView S A R)) (kept : IsCells m digest layout s) where
+module _ {S A R : Type 0} (m : Meaning S A R) (digest : Key → ℕ) (layout : Layout) (s : State (Running S) (CellView S A R)) (kept : IsCells m digest layout s) where
   abbrev k : Machine S
   k = state_of m kept.log
 
