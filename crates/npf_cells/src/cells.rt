@@ -56,7 +56,8 @@ impl<L: Law, H: KeyHash> Cells<L, H> {
     ghost use Rattle.npf_cells_rule.specs.Views.{with_epochs};
     ghost use Rattle.npf_cells_moves.specs.Kinds.{IsSole, unpinned};
     ghost use Rattle.npf_cells_moves.specs.Moves.{joined_pools, joined_trie};
-    ghost use Rattle.npf_cells_rule.specs.Passes.{IsPassOf, cell_pass};
+    ghost use Rattle.npf_cells.specs.Cells.{IsPassIn};
+    ghost use Rattle.npf_cells_rule.specs.Passes.{cell_pass};
     ghost use Rattle.npf_cells_rule.specs.Stood.{StoodSo};
     ghost use Rattle.npf_cells_words.specs.Layout.{reader_at};
 
@@ -69,7 +70,7 @@ impl<L: Law, H: KeyHash> Cells<L, H> {
         requires slots { (1 ≤ slots) × (slots ≤ 65536) }
         requires nodes { (16 ≤ nodes) × (nodes ≤ 262144) }
         ensures layout { IfOk result (λ made. made.0.table.shared.key ≡ record { slots = slots; nodes = nodes }) }
-        ensures own { IfOk result (λ made. IsPassOf made.0.table.shared.key made.0.table.shared.table_id made.1.seat.table_id made.1.readers.items made.1.seat.me) }
+        ensures own { IfOk result (λ made. IsPassIn made.0 made.1) }
         ensures first { IfOk result (λ made. IsFirstPass slots (cell_pass made.1.seat.me.0)) }
         ensures legal { IfOk result (λ made. IsPass L.meaning (cell_pass made.1.seat.me.0)) }
         ensures idle { IfOk result (λ made. made.1.seat.me.0.epochs.pin ≡ Idle) }
@@ -99,11 +100,11 @@ impl<L: Law, H: KeyHash> Cells<L, H> {
 
     /// A pass gives up one of its reader places to a new one, which has seen what it has. All else that it knows and owns stays its own.
     pub fn split(&self, pass: &mut CellPass<L>) -> CellPass<L>
-        requires own { IsPassOf self.now.table.shared.key self.now.table.shared.table_id pass.old.seat.table_id pass.old.readers.items pass.old.seat.me }
+        requires own { IsPassIn self.now pass.old }
         requires out { pass.old.seat.me.0.epochs.pin ≡ Idle }
         requires places { 2 ≤ (cell_pass pass.old.seat.me.0).places }
-        ensures own { IsPassOf self.now.table.shared.key self.now.table.shared.table_id pass.new.seat.table_id pass.new.readers.items pass.new.seat.me }
-        ensures given { IsPassOf self.now.table.shared.key self.now.table.shared.table_id result.seat.table_id result.readers.items result.seat.me }
+        ensures own { IsPassIn self.now pass.new }
+        ensures given { IsPassIn self.now result }
         ensures splits { IsSplit (cell_pass pass.old.seat.me.0) (cell_pass pass.new.seat.me.0) (cell_pass result.seat.me.0) }
         ensures given_idle { result.seat.me.0.epochs.pin ≡ Idle }
         ensures given_unread { result.seat.me.0.epochs ≡ idle_side }
@@ -125,15 +126,15 @@ impl<L: Law, H: KeyHash> Cells<L, H> {
 
     /// A pass takes another in, with its reader places, and sees what either has seen. Its counts become the sums of both.
     pub fn join(&self, pass: &mut CellPass<L>, other: CellPass<L>)
-        requires own { IsPassOf self.now.table.shared.key self.now.table.shared.table_id pass.old.seat.table_id pass.old.readers.items pass.old.seat.me }
-        requires other_own { IsPassOf self.now.table.shared.key self.now.table.shared.table_id other.seat.table_id other.readers.items other.seat.me }
+        requires own { IsPassIn self.now pass.old }
+        requires other_own { IsPassIn self.now other }
         requires out { pass.old.seat.me.0.epochs.pin ≡ Idle }
         requires other_out { other.seat.me.0.epochs.pin ≡ Idle }
         requires done { pass.old.seat.me.0.pools.builds ≡ [] }
         requires other_done { other.seat.me.0.pools.builds ≡ [] }
         requires other_nodes { other.seat.me.0.pools.nodes ≡ [] }
         requires other_turn { other.seat.me.0.turn ≡ None }
-        ensures own { IsPassOf self.now.table.shared.key self.now.table.shared.table_id pass.new.seat.table_id pass.new.readers.items pass.new.seat.me }
+        ensures own { IsPassIn self.now pass.new }
         ensures idle { pass.new.seat.me.0.epochs.pin ≡ Idle }
         ensures pools { pass.new.seat.me.0.pools ≡ joined_pools pass.old.seat.me.0.pools other.seat.me.0.pools }
         ensures epochs { pass.new.seat.me.0.epochs ≡ joined_epochs pass.old.seat.me.0.epochs other.seat.me.0.epochs }
@@ -150,8 +151,8 @@ impl<L: Law, H: KeyHash> Cells<L, H> {
 
     /// Loads the epoch, and begins a new scan of the readers.
     pub fn load_epoch(&self, pass: &mut CellPass<L>) -> u64
-        requires own { IsPassOf self.now.table.shared.key self.now.table.shared.table_id pass.old.seat.table_id pass.old.readers.items pass.old.seat.me }
-        ensures own { IsPassOf self.now.table.shared.key self.now.table.shared.table_id pass.new.seat.table_id pass.new.readers.items pass.new.seat.me }
+        requires own { IsPassIn self.now pass.old }
+        ensures own { IsPassIn self.now pass.new }
         ensures met { IsMet pass.old.seat.me.0.epochs result }
         ensures sole { IsSole pass.old.seat.me.0 result }
         ensures next { pass.new.seat.me ≡ with_epochs pass.old.seat.me (loading pass.old.seat.me.0.epochs result) }
@@ -161,10 +162,10 @@ impl<L: Law, H: KeyHash> Cells<L, H> {
 
     /// Pins the epoch that was loaded last. What is protected is fixed only by `protect`.
     pub fn pin(&self, pass: &mut CellPass<L>, epoch: u64)
-        requires own { IsPassOf self.now.table.shared.key self.now.table.shared.table_id pass.old.seat.table_id pass.old.readers.items pass.old.seat.me }
+        requires own { IsPassIn self.now pass.old }
         requires idle { pass.old.seat.me.0.epochs.pin ≡ Idle }
         requires loaded { HasLoaded pass.old.seat.me.0.epochs epoch }
-        ensures own { IsPassOf self.now.table.shared.key self.now.table.shared.table_id pass.new.seat.table_id pass.new.readers.items pass.new.seat.me }
+        ensures own { IsPassIn self.now pass.new }
         ensures next { pass.new.seat.me ≡ with_epochs pass.old.seat.me (pinning pass.old.seat.me.0.epochs epoch) }
     {
         let place = reader_place(pass.readers[0]);
@@ -175,9 +176,9 @@ impl<L: Law, H: KeyHash> Cells<L, H> {
 
     /// Loads the epoch again: until `unpin` it is at most one more than the answer.
     pub fn protect(&self, pass: &mut CellPass<L>) -> u64
-        requires own { IsPassOf self.now.table.shared.key self.now.table.shared.table_id pass.old.seat.table_id pass.old.readers.items pass.old.seat.me }
+        requires own { IsPassIn self.now pass.old }
         requires pinned { (epoch : ℕ) × (pass.old.seat.me.0.epochs.pin ≡ Pinned epoch) }
-        ensures own { IsPassOf self.now.table.shared.key self.now.table.shared.table_id pass.new.seat.table_id pass.new.readers.items pass.new.seat.me }
+        ensures own { IsPassIn self.now pass.new }
         ensures met { IsMet pass.old.seat.me.0.epochs result }
         ensures sole { IsSole pass.old.seat.me.0 result }
         ensures next { pass.new.seat.me ≡ with_epochs pass.old.seat.me (protecting pass.old.seat.me.0.epochs result) }
@@ -189,10 +190,10 @@ impl<L: Law, H: KeyHash> Cells<L, H> {
 
     /// Ends what was pinned, and with it what the pass read in this stay.
     pub fn unpin(&self, pass: &mut CellPass<L>)
-        requires own { IsPassOf self.now.table.shared.key self.now.table.shared.table_id pass.old.seat.table_id pass.old.readers.items pass.old.seat.me }
+        requires own { IsPassIn self.now pass.old }
         requires pinned { ¬ (pass.old.seat.me.0.epochs.pin ≡ Idle) }
         requires unlocked { pass.old.seat.me.0.trie.locks ≡ [] }
-        ensures own { IsPassOf self.now.table.shared.key self.now.table.shared.table_id pass.new.seat.table_id pass.new.readers.items pass.new.seat.me }
+        ensures own { IsPassIn self.now pass.new }
         ensures next { pass.new.seat.me ≡ unpinned pass.old.seat.me }
     {
         let reader = pass.readers[0];
@@ -203,9 +204,9 @@ impl<L: Law, H: KeyHash> Cells<L, H> {
 
     /// Loads a reader word: 0 where it is idle, otherwise the pinned epoch and one.
     pub fn scan_reader(&self, pass: &mut CellPass<L>, reader: u32) -> u64
-        requires own { IsPassOf self.now.table.shared.key self.now.table.shared.table_id pass.old.seat.table_id pass.old.readers.items pass.old.seat.me }
+        requires own { IsPassIn self.now pass.old }
         requires reader { reader < all_places }
-        ensures own { IsPassOf self.now.table.shared.key self.now.table.shared.table_id pass.new.seat.table_id pass.new.readers.items pass.new.seat.me }
+        ensures own { IsPassIn self.now pass.new }
         ensures next { pass.new.seat.me ≡ with_epochs pass.old.seat.me (scanning pass.old.seat.me.0.epochs reader result) }
         ensures stood { StoodSo L.meaning H.digest self.now.table.shared.key pass.old.seat.me.0 (reader_at reader) result }
     {
@@ -213,10 +214,10 @@ impl<L: Law, H: KeyHash> Cells<L, H> {
     }
 
     fn scan_reader_as<W: Told>(&self, pass: &mut CellPass<L>, reader: u32) -> u64
-        requires own { IsPassOf self.now.table.shared.key self.now.table.shared.table_id pass.old.seat.table_id pass.old.readers.items pass.old.seat.me }
+        requires own { IsPassIn self.now pass.old }
         requires reader { reader < all_places }
         requires aim { W.told.layout ≡ self.now.table.shared.key }
-        ensures own { IsPassOf self.now.table.shared.key self.now.table.shared.table_id pass.new.seat.table_id pass.new.readers.items pass.new.seat.me }
+        ensures own { IsPassIn self.now pass.new }
         ensures next { pass.new.seat.me ≡ with_epochs pass.old.seat.me (scanning pass.old.seat.me.0.epochs reader result) }
         ensures stood { StoodSo L.meaning H.digest self.now.table.shared.key pass.old.seat.me.0 (reader_at reader) result }
     {
@@ -227,11 +228,11 @@ impl<L: Law, H: KeyHash> Cells<L, H> {
 
     /// Raises the epoch by one, unless it is another by now. Answers whether it did.
     pub fn advance(&self, pass: &mut CellPass<L>, epoch: u64) -> bool
-        requires own { IsPassOf self.now.table.shared.key self.now.table.shared.table_id pass.old.seat.table_id pass.old.readers.items pass.old.seat.me }
+        requires own { IsPassIn self.now pass.old }
         requires loaded { HasLoaded pass.old.seat.me.0.epochs epoch }
         requires below { epoch < last_epoch }
         requires scanned { HasScannedAll pass.old.seat.me.0.epochs }
-        ensures own { IsPassOf self.now.table.shared.key self.now.table.shared.table_id pass.new.seat.table_id pass.new.readers.items pass.new.seat.me }
+        ensures own { IsPassIn self.now pass.new }
         ensures met { IsMet pass.old.seat.me.0.epochs pass.new.seat.me.0.epochs.met }
         ensures sole { IsSole pass.old.seat.me.0 pass.new.seat.me.0.epochs.met }
         ensures next { pass.new.seat.me ≡ with_epochs pass.old.seat.me (advancing pass.old.seat.me.0.epochs pass.new.seat.me.0.epochs.met) }

@@ -27,7 +27,8 @@ impl<L: Law, H: KeyHash> Cells<L, H> {
     ghost use Rattle.std.specs.Prelude.{◌≡◌};
     ghost use Rattle.npf_cells_holds.specs.HoldKinds.{MayHoldSo, HoldsAt};
     ghost use Rattle.npf_cells_holds.specs.LookKinds.{StandsOnPath};
-    ghost use Rattle.npf_cells_rule.specs.Passes.{IsPassOf, IsProtected};
+    ghost use Rattle.npf_cells.specs.Cells.{IsPassIn};
+    ghost use Rattle.npf_cells_rule.specs.Passes.{IsProtected};
     ghost use Rattle.npf_cells_words.specs.Places.{IsInTrie};
 
     // Loads a place of the path of a key that is to be held.
@@ -39,13 +40,13 @@ impl<L: Law, H: KeyHash> Cells<L, H> {
         key: &Key,
         way: Way,
     ) -> Cell
-        requires own { IsPassOf self.now.table.shared.key self.now.table.shared.table_id pass.old.seat.table_id pass.old.readers.items pass.old.seat.me }
+        requires own { IsPassIn self.now pass.old }
         requires place { IsInTrie self.now.table.shared.key place }
         requires protected { IsProtected pass.old.seat.me.0.epochs.pin }
         requires stands { StandsOnPath H.digest pass.old.seat.me.0.trie key.now place }
         requires may { MayHoldSo L.meaning pass.old.seat.me.0 id way }
         requires aim { (W.told.layout ≡ self.now.table.shared.key) × (W.told.id ≡ id) × (W.told.key ≡ key.now) × (W.told.way ≡ way) × (W.told.place ≡ place) }
-        ensures own { IsPassOf self.now.table.shared.key self.now.table.shared.table_id pass.new.seat.table_id pass.new.readers.items pass.new.seat.me }
+        ensures own { IsPassIn self.now pass.new }
         ensures holds { HoldsAt L.meaning H.digest self.now.table.shared.key id key.now way place result pass.old.seat.me pass.new.seat.me }
     {
         let word = self.layout.trie_place(place);

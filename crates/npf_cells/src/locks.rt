@@ -42,14 +42,15 @@ impl<L: Law, H: KeyHash> Cells<L, H> {
     ghost use Rattle.npf_cells_holds.specs.LockKinds.{GotLock, locking, unlocking};
     ghost use Rattle.npf_cells_words.specs.Places.{IsLockOf, lock_at};
     ghost use Rattle.npf_cells_rule.specs.Views.{with_trie};
-    ghost use Rattle.npf_cells_rule.specs.Passes.{IsPassOf, IsProtected};
+    ghost use Rattle.npf_cells.specs.Cells.{IsPassIn};
+    ghost use Rattle.npf_cells_rule.specs.Passes.{IsProtected};
 
     /// Tries to get a lock. Answers whether it did: false exactly where a pass had it.
     pub fn try_lock(&self, pass: &mut CellPass<L>, lock: Lock) -> bool
-        requires own { IsPassOf self.now.table.shared.key self.now.table.shared.table_id pass.old.seat.table_id pass.old.readers.items pass.old.seat.me }
+        requires own { IsPassIn self.now pass.old }
         requires lock { IsLockOf self.now.table.shared.key lock }
         requires protected { IsProtected pass.old.seat.me.0.epochs.pin }
-        ensures own { IsPassOf self.now.table.shared.key self.now.table.shared.table_id pass.new.seat.table_id pass.new.readers.items pass.new.seat.me }
+        ensures own { IsPassIn self.now pass.new }
         ensures gets { result ≡ true → pass.new.seat.me ≡ with_trie pass.old.seat.me (locking lock pass.old.seat.me.0.trie) }
         ensures same { result ≡ false → pass.new.seat.me ≡ pass.old.seat.me }
         ensures answers { GotLock L.meaning H.digest self.now.table.shared.key pass.old.seat.me.0 lock result }
@@ -58,11 +59,11 @@ impl<L: Law, H: KeyHash> Cells<L, H> {
     }
 
     fn try_lock_as<W: Told>(&self, pass: &mut CellPass<L>, lock: Lock) -> bool
-        requires own { IsPassOf self.now.table.shared.key self.now.table.shared.table_id pass.old.seat.table_id pass.old.readers.items pass.old.seat.me }
+        requires own { IsPassIn self.now pass.old }
         requires lock { IsLockOf self.now.table.shared.key lock }
         requires protected { IsProtected pass.old.seat.me.0.epochs.pin }
         requires aim { (W.told.layout ≡ self.now.table.shared.key) × (W.told.lock ≡ lock) }
-        ensures own { IsPassOf self.now.table.shared.key self.now.table.shared.table_id pass.new.seat.table_id pass.new.readers.items pass.new.seat.me }
+        ensures own { IsPassIn self.now pass.new }
         ensures gets { result ≡ true → pass.new.seat.me ≡ with_trie pass.old.seat.me (locking lock pass.old.seat.me.0.trie) }
         ensures same { result ≡ false → pass.new.seat.me ≡ pass.old.seat.me }
         ensures answers { GotLock L.meaning H.digest self.now.table.shared.key pass.old.seat.me.0 lock result }
@@ -77,23 +78,23 @@ impl<L: Law, H: KeyHash> Cells<L, H> {
 
     /// Stores the state of a node, or of a place of the root, whose lock the pass has: 0 frees the lock, 1 keeps it.
     pub fn store_node(&self, pass: &mut CellPass<L>, lock: Lock, state: u64)
-        requires own { IsPassOf self.now.table.shared.key self.now.table.shared.table_id pass.old.seat.table_id pass.old.readers.items pass.old.seat.me }
+        requires own { IsPassIn self.now pass.old }
         requires lock { IsLockOf self.now.table.shared.key lock }
         requires locked { Contains pass.old.seat.me.0.trie.locks lock }
         requires state { state < 2 }
-        ensures own { IsPassOf self.now.table.shared.key self.now.table.shared.table_id pass.new.seat.table_id pass.new.readers.items pass.new.seat.me }
+        ensures own { IsPassIn self.now pass.new }
         ensures next { pass.new.seat.me ≡ with_trie pass.old.seat.me (unlocking self.now.table.shared.key lock state pass.old.seat.me.0.trie) }
     {
         self.store_node_as::<Brand>(pass, lock, state);
     }
 
     fn store_node_as<W: Told>(&self, pass: &mut CellPass<L>, lock: Lock, state: u64)
-        requires own { IsPassOf self.now.table.shared.key self.now.table.shared.table_id pass.old.seat.table_id pass.old.readers.items pass.old.seat.me }
+        requires own { IsPassIn self.now pass.old }
         requires lock { IsLockOf self.now.table.shared.key lock }
         requires locked { Contains pass.old.seat.me.0.trie.locks lock }
         requires state { state < 2 }
         requires aim { (W.told.layout ≡ self.now.table.shared.key) × (W.told.lock ≡ lock) × (W.told.state ≡ state) }
-        ensures own { IsPassOf self.now.table.shared.key self.now.table.shared.table_id pass.new.seat.table_id pass.new.readers.items pass.new.seat.me }
+        ensures own { IsPassIn self.now pass.new }
         ensures next { pass.new.seat.me ≡ with_trie pass.old.seat.me (unlocking self.now.table.shared.key lock state pass.old.seat.me.0.trie) }
     {
         let word = self.layout.lock_place(lock);

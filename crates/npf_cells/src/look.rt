@@ -41,18 +41,19 @@ impl<L: Law, H: KeyHash> Cells<L, H> {
     ghost use Rattle.npf_cells_holds.specs.Aims.{MayAim, TellsAim, aim_key};
     ghost use Rattle.npf_cells_holds.specs.LookKinds.{StandsOnPath, LooksAt, IsLeafOf, ShowsKey, ShowsStoredKey, reading};
     ghost use Rattle.npf_cells_rule.specs.Views.{with_trie};
-    ghost use Rattle.npf_cells_rule.specs.Passes.{IsPassOf, IsProtected};
+    ghost use Rattle.npf_cells.specs.Cells.{IsPassIn};
+    ghost use Rattle.npf_cells_rule.specs.Passes.{IsProtected};
     ghost use Rattle.npf_cells_words.specs.Places.{IsInTrie};
 
     /// Loads a place of the trie that is on the key's path, where the pass stands there. A node leads on. To look, any other cell is the
     /// end, and its answer from this load on. To hold, the leaf of the same key is the end.
     pub fn load_place(&self, pass: &mut CellPass<L>, place: Place, aim: &Aim) -> Cell
-        requires own { IsPassOf self.now.table.shared.key self.now.table.shared.table_id pass.old.seat.table_id pass.old.readers.items pass.old.seat.me }
+        requires own { IsPassIn self.now pass.old }
         requires place { IsInTrie self.now.table.shared.key place }
         requires protected { IsProtected pass.old.seat.me.0.epochs.pin }
         requires stands { StandsOnPath H.digest pass.old.seat.me.0.trie (aim_key aim.now) place }
         requires aim { MayAim L.meaning pass.old.seat.me.0 aim.now }
-        ensures own { IsPassOf self.now.table.shared.key self.now.table.shared.table_id pass.new.seat.table_id pass.new.readers.items pass.new.seat.me }
+        ensures own { IsPassIn self.now pass.new }
         ensures tells { TellsAim L.meaning H.digest self.now.table.shared.key aim.now place result pass.old.seat.me pass.new.seat.me }
     {
         match aim {
@@ -62,12 +63,12 @@ impl<L: Law, H: KeyHash> Cells<L, H> {
     }
 
     fn look_place<W: Told>(&self, pass: &mut CellPass<L>, place: Place, n: u64, key: &Key) -> Cell
-        requires own { IsPassOf self.now.table.shared.key self.now.table.shared.table_id pass.old.seat.table_id pass.old.readers.items pass.old.seat.me }
+        requires own { IsPassIn self.now pass.old }
         requires place { IsInTrie self.now.table.shared.key place }
         requires protected { IsProtected pass.old.seat.me.0.epochs.pin }
         requires stands { StandsOnPath H.digest pass.old.seat.me.0.trie key.now place }
         requires aim { (W.told.layout ≡ self.now.table.shared.key) × (W.told.packet ≡ n) × (W.told.key ≡ key.now) × (W.told.place ≡ place) }
-        ensures own { IsPassOf self.now.table.shared.key self.now.table.shared.table_id pass.new.seat.table_id pass.new.readers.items pass.new.seat.me }
+        ensures own { IsPassIn self.now pass.new }
         ensures looks { LooksAt L.meaning H.digest self.now.table.shared.key n key.now place result pass.old.seat.me pass.new.seat.me }
     {
         let word = self.layout.trie_place(place);
@@ -80,11 +81,11 @@ impl<L: Law, H: KeyHash> Cells<L, H> {
 
     /// Loads a word of the key of the leaf that the pass loaded last in this stay, or of a connection that it is building.
     pub fn load_key(&self, pass: &mut CellPass<L>, slot: u32, way: Way, word: u32) -> u64
-        requires own { IsPassOf self.now.table.shared.key self.now.table.shared.table_id pass.old.seat.table_id pass.old.readers.items pass.old.seat.me }
+        requires own { IsPassIn self.now pass.old }
         requires slot { slot < self.now.table.shared.key.slots }
         requires word { word < 5 }
         requires fixed { IsLeafOf pass.old.seat.me.0.trie slot way ⊎ IsBuiltIn pass.old.seat.me.0.pools.builds slot }
-        ensures own { IsPassOf self.now.table.shared.key self.now.table.shared.table_id pass.new.seat.table_id pass.new.readers.items pass.new.seat.me }
+        ensures own { IsPassIn self.now pass.new }
         ensures next { pass.new.seat.me ≡ with_trie pass.old.seat.me (reading pass.old.seat.me.0.trie) }
         ensures shows { ShowsKey pass.old.seat.me.0.trie slot way word result }
         ensures stored { ShowsStoredKey self.now.table.shared.key pass.old.seat.me.0.pools.stored slot way word result }
@@ -93,11 +94,11 @@ impl<L: Law, H: KeyHash> Cells<L, H> {
     }
 
     fn load_key_as<W: Told>(&self, pass: &mut CellPass<L>, slot: u32, way: Way, word: u32) -> u64
-        requires own { IsPassOf self.now.table.shared.key self.now.table.shared.table_id pass.old.seat.table_id pass.old.readers.items pass.old.seat.me }
+        requires own { IsPassIn self.now pass.old }
         requires slot { slot < self.now.table.shared.key.slots }
         requires word { word < 5 }
         requires aim { (W.told.layout ≡ self.now.table.shared.key) × (W.told.number ≡ slot) × (W.told.way ≡ way) × (W.told.word ≡ word) }
-        ensures own { IsPassOf self.now.table.shared.key self.now.table.shared.table_id pass.new.seat.table_id pass.new.readers.items pass.new.seat.me }
+        ensures own { IsPassIn self.now pass.new }
         ensures next { pass.new.seat.me ≡ with_trie pass.old.seat.me (reading pass.old.seat.me.0.trie) }
         ensures shows { ShowsKey pass.old.seat.me.0.trie slot way word result }
         ensures stored { ShowsStoredKey self.now.table.shared.key pass.old.seat.me.0.pools.stored slot way word result }

@@ -55,7 +55,8 @@ impl<L: Law, H: KeyHash> Cells<L, H> {
     ghost use Rattle.std.specs.Int.{bit_at};
     ghost use Rattle.npf_cells_words.specs.declared.layout.Pool.TheVariants.{Slots, Nodes};
     ghost use Rattle.npf_cells_words.specs.Layout.{pool_at, pool_places, pool_words, place_word};
-    ghost use Rattle.npf_cells_rule.specs.Passes.{IsPassOf, IsProtected};
+    ghost use Rattle.npf_cells.specs.Cells.{IsPassIn};
+    ghost use Rattle.npf_cells_rule.specs.Passes.{IsProtected};
     ghost use Rattle.npf_cells_rule.specs.Stood.{StoodSo};
     ghost use Rattle.npf_cells_takes.specs.PoolKinds.{NeedsNode, sweeping, claiming_node, giving_back};
     ghost use Rattle.npf_cells_rule.specs.Views.{with_pools};
@@ -64,10 +65,10 @@ impl<L: Law, H: KeyHash> Cells<L, H> {
     /// Loads a word of a pool: a bit for each of 64 places, set where it is taken or past the last place. At a word of the slots the pass
     /// then sees all of the history.
     pub fn load_pool(&self, pass: &mut CellPass<L>, pool: Pool, word: u32) -> u64
-        requires own { IsPassOf self.now.table.shared.key self.now.table.shared.table_id pass.old.seat.table_id pass.old.readers.items pass.old.seat.me }
+        requires own { IsPassIn self.now pass.old }
         requires word { word < pool_words (pool_places self.now.table.shared.key pool) }
         requires needs { pool ≡ Nodes → NeedsNode H.digest pass.old.seat.me.0 }
-        ensures own { IsPassOf self.now.table.shared.key self.now.table.shared.table_id pass.new.seat.table_id pass.new.readers.items pass.new.seat.me }
+        ensures own { IsPassIn self.now pass.new }
         ensures nodes { pool ≡ Nodes → pass.new.seat.me ≡ with_pools pass.old.seat.me (sweeping (pool_words self.now.table.shared.key.nodes) word pass.old.seat.me.0.pools result) }
         ensures slots { pool ≡ Slots → HasSeenSlots L.meaning self.now.table.shared.key word result pass.old.seat.me pass.new.seat.me }
         ensures stood { StoodSo L.meaning H.digest self.now.table.shared.key pass.old.seat.me.0 (pool_at self.now.table.shared.key pool + word) result }
@@ -76,10 +77,10 @@ impl<L: Law, H: KeyHash> Cells<L, H> {
     }
 
     fn load_pool_as<W: Told>(&self, pass: &mut CellPass<L>, pool: Pool, word: u32) -> u64
-        requires own { IsPassOf self.now.table.shared.key self.now.table.shared.table_id pass.old.seat.table_id pass.old.readers.items pass.old.seat.me }
+        requires own { IsPassIn self.now pass.old }
         requires word { word < pool_words (pool_places self.now.table.shared.key pool) }
         requires aim { (W.told.layout ≡ self.now.table.shared.key) × (W.told.pool ≡ pool) × (W.told.word ≡ word) }
-        ensures own { IsPassOf self.now.table.shared.key self.now.table.shared.table_id pass.new.seat.table_id pass.new.readers.items pass.new.seat.me }
+        ensures own { IsPassIn self.now pass.new }
         ensures nodes { pool ≡ Nodes → pass.new.seat.me ≡ with_pools pass.old.seat.me (sweeping (pool_words self.now.table.shared.key.nodes) word pass.old.seat.me.0.pools result) }
         ensures slots { pool ≡ Slots → HasSeenSlots L.meaning self.now.table.shared.key word result pass.old.seat.me pass.new.seat.me }
         ensures stood { StoodSo L.meaning H.digest self.now.table.shared.key pass.old.seat.me.0 (pool_at self.now.table.shared.key pool + word) result }
@@ -93,11 +94,11 @@ impl<L: Law, H: KeyHash> Cells<L, H> {
     /// Claims a place, unless it is taken. Answers whether it did. A node is then the pass's own. In a slot the pass is then building
     /// its next connection, for the packet n.
     pub fn claim(&self, pass: &mut CellPass<L>, pool: Pool, place: u32, n: u64) -> bool
-        requires own { IsPassOf self.now.table.shared.key self.now.table.shared.table_id pass.old.seat.table_id pass.old.readers.items pass.old.seat.me }
+        requires own { IsPassIn self.now pass.old }
         requires place { place < pool_places self.now.table.shared.key pool }
         requires protected { IsProtected pass.old.seat.me.0.epochs.pin }
         requires needs { pool ≡ Nodes → NeedsNode H.digest pass.old.seat.me.0 }
-        ensures own { IsPassOf self.now.table.shared.key self.now.table.shared.table_id pass.new.seat.table_id pass.new.readers.items pass.new.seat.me }
+        ensures own { IsPassIn self.now pass.new }
         ensures slot { pool ≡ Slots → result ≡ true → HasClaimed L.meaning n place pass.old.seat.me pass.new.seat.me }
         ensures node { pool ≡ Nodes → pass.new.seat.me ≡ with_pools pass.old.seat.me (claiming_node place pass.old.seat.me.0.pools pass.new.seat.me.0.pools.found) }
         ensures unowned { pool ≡ Nodes → result ≡ true → ¬ (Contains pass.old.seat.me.0.pools.nodes place) }
@@ -114,9 +115,9 @@ impl<L: Law, H: KeyHash> Cells<L, H> {
 
     // Takes a node, unless it is taken. Answers whether it did; the pass didn't own the node then.
     fn claim_node(&self, pass: &mut CellPass<L>, node: u32) -> bool
-        requires own { IsPassOf self.now.table.shared.key self.now.table.shared.table_id pass.old.seat.table_id pass.old.readers.items pass.old.seat.me }
+        requires own { IsPassIn self.now pass.old }
         requires node { node < self.now.table.shared.key.nodes }
-        ensures own { IsPassOf self.now.table.shared.key self.now.table.shared.table_id pass.new.seat.table_id pass.new.readers.items pass.new.seat.me }
+        ensures own { IsPassIn self.now pass.new }
         ensures next { pass.new.seat.me ≡ with_pools pass.old.seat.me (claiming_node node pass.old.seat.me.0.pools pass.new.seat.me.0.pools.found) }
         ensures stood { StoodSo L.meaning H.digest self.now.table.shared.key pass.old.seat.me.0 (place_word self.now.table.shared.key Nodes node) pass.new.seat.me.0.pools.found }
         ensures unowned { result ≡ true → ¬ (Contains pass.old.seat.me.0.pools.nodes node) }
@@ -126,10 +127,10 @@ impl<L: Law, H: KeyHash> Cells<L, H> {
     }
 
     fn claim_node_as<W: Told>(&self, pass: &mut CellPass<L>, node: u32) -> bool
-        requires own { IsPassOf self.now.table.shared.key self.now.table.shared.table_id pass.old.seat.table_id pass.old.readers.items pass.old.seat.me }
+        requires own { IsPassIn self.now pass.old }
         requires node { node < self.now.table.shared.key.nodes }
         requires aim { (W.told.layout ≡ self.now.table.shared.key) × (W.told.number ≡ node) }
-        ensures own { IsPassOf self.now.table.shared.key self.now.table.shared.table_id pass.new.seat.table_id pass.new.readers.items pass.new.seat.me }
+        ensures own { IsPassIn self.now pass.new }
         ensures next { pass.new.seat.me ≡ with_pools pass.old.seat.me (claiming_node node pass.old.seat.me.0.pools pass.new.seat.me.0.pools.found) }
         ensures stood { StoodSo L.meaning H.digest self.now.table.shared.key pass.old.seat.me.0 (place_word self.now.table.shared.key Nodes node) pass.new.seat.me.0.pools.found }
         ensures unowned { result ≡ true → ¬ (Contains pass.old.seat.me.0.pools.nodes node) }
@@ -145,11 +146,11 @@ impl<L: Law, H: KeyHash> Cells<L, H> {
 
     /// Gives a node back that the pass owns.
     pub fn give_back(&self, pass: &mut CellPass<L>, pool: Pool, place: u32)
-        requires own { IsPassOf self.now.table.shared.key self.now.table.shared.table_id pass.old.seat.table_id pass.old.readers.items pass.old.seat.me }
+        requires own { IsPassIn self.now pass.old }
         requires pool { pool ≡ Nodes }
         requires place { place < self.now.table.shared.key.nodes }
         requires owned { Contains pass.old.seat.me.0.pools.nodes place }
-        ensures own { IsPassOf self.now.table.shared.key self.now.table.shared.table_id pass.new.seat.table_id pass.new.readers.items pass.new.seat.me }
+        ensures own { IsPassIn self.now pass.new }
         ensures next { pass.new.seat.me ≡ with_pools pass.old.seat.me (giving_back place pass.old.seat.me.0.pools pass.new.seat.me.0.pools.found) }
         ensures stood { StoodSo L.meaning H.digest self.now.table.shared.key pass.old.seat.me.0 (place_word self.now.table.shared.key Nodes place) pass.new.seat.me.0.pools.found }
     {
@@ -157,12 +158,12 @@ impl<L: Law, H: KeyHash> Cells<L, H> {
     }
 
     fn give_back_as<W: Told>(&self, pass: &mut CellPass<L>, pool: Pool, place: u32)
-        requires own { IsPassOf self.now.table.shared.key self.now.table.shared.table_id pass.old.seat.table_id pass.old.readers.items pass.old.seat.me }
+        requires own { IsPassIn self.now pass.old }
         requires pool { pool ≡ Nodes }
         requires place { place < self.now.table.shared.key.nodes }
         requires owned { Contains pass.old.seat.me.0.pools.nodes place }
         requires aim { (W.told.layout ≡ self.now.table.shared.key) × (W.told.number ≡ place) }
-        ensures own { IsPassOf self.now.table.shared.key self.now.table.shared.table_id pass.new.seat.table_id pass.new.readers.items pass.new.seat.me }
+        ensures own { IsPassIn self.now pass.new }
         ensures next { pass.new.seat.me ≡ with_pools pass.old.seat.me (giving_back place pass.old.seat.me.0.pools pass.new.seat.me.0.pools.found) }
         ensures stood { StoodSo L.meaning H.digest self.now.table.shared.key pass.old.seat.me.0 (place_word self.now.table.shared.key Nodes place) pass.new.seat.me.0.pools.found }
     {

@@ -37,16 +37,16 @@ impl<L: Law, H: KeyHash> Cells<L, H> {
     ghost use Rattle.std.specs.Prelude.{◌≡◌, ◌<◌, ◌⊎◌};
     ghost use Rattle.npf_cells_lives.specs.Conns.{IsBuiltIn};
     ghost use Rattle.npf_cells_words.specs.Layout.{field_count, pool_places};
-    ghost use Rattle.npf_cells_rule.specs.Passes.{IsPassOf};
+    ghost use Rattle.npf_cells.specs.Cells.{IsPassIn};
     ghost use Rattle.npf_cells_takes.specs.PrivateKinds.{ShowsInc, ShowsLeafInc, ShowsTurnInc, HasLeafIn, HasTurnIn, MayStore, stored_in};
 
     /// Loads the incarnation of a slot in which the pass is building a connection, of the leaf that it loaded last, or of the Live or Dead
     /// connection whose turn it has: that connection's, or the one before it where the pass that is building it hasn't stored it yet.
     pub fn load_inc(&self, pass: &mut CellPass<L>, slot: u32) -> u64
-        requires own { IsPassOf self.now.table.shared.key self.now.table.shared.table_id pass.old.seat.table_id pass.old.readers.items pass.old.seat.me }
+        requires own { IsPassIn self.now pass.old }
         requires slot { slot < self.now.table.shared.key.slots }
         requires fixed { IsBuiltIn pass.old.seat.me.0.pools.builds slot ⊎ HasLeafIn pass.old.seat.me.0.trie slot ⊎ HasTurnIn pass.old.seat.me.0.turn slot }
-        ensures own { IsPassOf self.now.table.shared.key self.now.table.shared.table_id pass.new.seat.table_id pass.new.readers.items pass.new.seat.me }
+        ensures own { IsPassIn self.now pass.new }
         ensures same { pass.new.seat.me ≡ pass.old.seat.me }
         ensures shows { ShowsInc pass.old.seat.me.0.pools slot result }
         ensures leaf { ShowsLeafInc pass.old.seat.me.0.trie slot result }
@@ -56,10 +56,10 @@ impl<L: Law, H: KeyHash> Cells<L, H> {
     }
 
     fn load_inc_as<W: Told>(&self, pass: &mut CellPass<L>, slot: u32) -> u64
-        requires own { IsPassOf self.now.table.shared.key self.now.table.shared.table_id pass.old.seat.table_id pass.old.readers.items pass.old.seat.me }
+        requires own { IsPassIn self.now pass.old }
         requires slot { slot < self.now.table.shared.key.slots }
         requires aim { W.told.number ≡ slot }
-        ensures own { IsPassOf self.now.table.shared.key self.now.table.shared.table_id pass.new.seat.table_id pass.new.readers.items pass.new.seat.me }
+        ensures own { IsPassIn self.now pass.new }
         ensures same { pass.new.seat.me ≡ pass.old.seat.me }
         ensures shows { ShowsInc pass.old.seat.me.0.pools slot result }
         ensures leaf { ShowsLeafInc pass.old.seat.me.0.trie slot result }
@@ -82,11 +82,11 @@ impl<L: Law, H: KeyHash> Cells<L, H> {
         field: u32,
         value: u64,
     )
-        requires own { IsPassOf self.now.table.shared.key self.now.table.shared.table_id pass.old.seat.table_id pass.old.readers.items pass.old.seat.me }
+        requires own { IsPassIn self.now pass.old }
         requires place { place < pool_places self.now.table.shared.key pool }
         requires field { field < field_count pool }
         requires may { MayStore L.meaning pass.old.seat.me.0 pool place field value }
-        ensures own { IsPassOf self.now.table.shared.key self.now.table.shared.table_id pass.new.seat.table_id pass.new.readers.items pass.new.seat.me }
+        ensures own { IsPassIn self.now pass.new }
         ensures next { pass.new.seat.me ≡ stored_in pool place field value pass.old.seat.me }
     {
         self.store_private_as::<Brand>(pass, pool, place, field, value);
@@ -100,12 +100,12 @@ impl<L: Law, H: KeyHash> Cells<L, H> {
         field: u32,
         value: u64,
     )
-        requires own { IsPassOf self.now.table.shared.key self.now.table.shared.table_id pass.old.seat.table_id pass.old.readers.items pass.old.seat.me }
+        requires own { IsPassIn self.now pass.old }
         requires place { place < pool_places self.now.table.shared.key pool }
         requires field { field < field_count pool }
         requires may { MayStore L.meaning pass.old.seat.me.0 pool place field value }
         requires aim { (W.told.layout ≡ self.now.table.shared.key) × (W.told.pool ≡ pool) × (W.told.number ≡ place) × (W.told.field ≡ field) }
-        ensures own { IsPassOf self.now.table.shared.key self.now.table.shared.table_id pass.new.seat.table_id pass.new.readers.items pass.new.seat.me }
+        ensures own { IsPassIn self.now pass.new }
         ensures next { pass.new.seat.me ≡ stored_in pool place field value pass.old.seat.me }
     {
         let word = self.layout.field_place(pool, place, field);

@@ -37,7 +37,8 @@ impl<L: Law, H: KeyHash> Cells<L, H> {
     ghost use Rattle.std.specs.Prelude.{◌≡◌};
     ghost use Rattle.npf_cells_rule.specs.Views.{with_trie};
     ghost use Rattle.npf_paths.specs.Paths.{IsEnd};
-    ghost use Rattle.npf_cells_rule.specs.Passes.{IsPassOf, IsProtected};
+    ghost use Rattle.npf_cells.specs.Cells.{IsPassIn};
+    ghost use Rattle.npf_cells_rule.specs.Passes.{IsProtected};
     ghost use Rattle.npf_cells_holds.specs.PublishKinds.{aim_now, MayPublish, MayPublishFor, Published, HasHeld, SeesLocked, publishing};
     ghost use Rattle.npf_cells_words.specs.Places.{IsInTrie};
 
@@ -45,11 +46,11 @@ impl<L: Law, H: KeyHash> Cells<L, H> {
     /// where nothing stands; where the leaf of another key does, new nodes go there that lead on to both, one a level, down to and with
     /// the one at which the keys part. Without an aim what stands there is stored again.
     pub fn publish_place(&self, pass: &mut CellPass<L>, place: Place, cell: Cell, aim: Option<&Aim>)
-        requires own { IsPassOf self.now.table.shared.key self.now.table.shared.table_id pass.old.seat.table_id pass.old.readers.items pass.old.seat.me }
+        requires own { IsPassIn self.now pass.old }
         requires place { IsInTrie self.now.table.shared.key place }
         requires protected { IsProtected pass.old.seat.me.0.epochs.pin }
         requires may { MayPublish L.meaning H.digest self.now.table.shared.key pass.old.seat.me.0 place cell (aim_now aim) }
-        ensures own { IsPassOf self.now.table.shared.key self.now.table.shared.table_id pass.new.seat.table_id pass.new.readers.items pass.new.seat.me }
+        ensures own { IsPassIn self.now pass.new }
         ensures published { Published L.meaning H.digest self.now.table.shared.key place cell (aim_now aim.entry) pass.old.seat.me pass.new.seat.me }
     {
         match aim {
@@ -61,11 +62,11 @@ impl<L: Law, H: KeyHash> Cells<L, H> {
     }
 
     fn publish_same(&self, pass: &mut CellPass<L>, place: Place, cell: Cell)
-        requires own { IsPassOf self.now.table.shared.key self.now.table.shared.table_id pass.old.seat.table_id pass.old.readers.items pass.old.seat.me }
+        requires own { IsPassIn self.now pass.old }
         requires place { IsInTrie self.now.table.shared.key place }
         requires sees { SeesLocked pass.old.seat.me.0.trie place cell }
         requires end { IsEnd cell }
-        ensures own { IsPassOf self.now.table.shared.key self.now.table.shared.table_id pass.new.seat.table_id pass.new.readers.items pass.new.seat.me }
+        ensures own { IsPassIn self.now pass.new }
         ensures next { pass.new.seat.me ≡ with_trie pass.old.seat.me (publishing pass.old.seat.me.0.trie) }
     {
         let word = self.layout.trie_place(place);
@@ -83,12 +84,12 @@ impl<L: Law, H: KeyHash> Cells<L, H> {
         key: &Key,
         way: Way,
     )
-        requires own { IsPassOf self.now.table.shared.key self.now.table.shared.table_id pass.old.seat.table_id pass.old.readers.items pass.old.seat.me }
+        requires own { IsPassIn self.now pass.old }
         requires place { IsInTrie self.now.table.shared.key place }
         requires protected { IsProtected pass.old.seat.me.0.epochs.pin }
         requires may { MayPublishFor L.meaning H.digest self.now.table.shared.key pass.old.seat.me.0 id key.now way place cell }
         requires aim { (W.told.layout ≡ self.now.table.shared.key) × (W.told.id ≡ id) × (W.told.key ≡ key.now) × (W.told.way ≡ way) × (W.told.place ≡ place) × (W.told.cell ≡ cell) }
-        ensures own { IsPassOf self.now.table.shared.key self.now.table.shared.table_id pass.new.seat.table_id pass.new.readers.items pass.new.seat.me }
+        ensures own { IsPassIn self.now pass.new }
         ensures held { HasHeld L.meaning H.digest self.now.table.shared.key id key.now way place cell pass.old.seat.me pass.new.seat.me }
     {
         let word = self.layout.trie_place(place);

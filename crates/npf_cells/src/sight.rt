@@ -18,13 +18,13 @@ impl<L: Law> Play<Running<L::State>, CellView<L::State, L::Arg, L::Reply>> for S
 }
 
 impl<L: Law, H: KeyHash> Cells<L, H> {
-    ghost use Rattle.npf_cells_rule.specs.Passes.{IsPassOf};
+    ghost use Rattle.npf_cells.specs.Cells.{IsPassIn};
     ghost use Rattle.npf_cells_turns.specs.SightKinds.{HasSeen};
 
     /// The pass sees all of the history, to which it adds nothing.
     pub fn see(&self, pass: &mut CellPass<L>)
-        requires own { IsPassOf self.now.table.shared.key self.now.table.shared.table_id pass.old.seat.table_id pass.old.readers.items pass.old.seat.me }
-        ensures own { IsPassOf self.now.table.shared.key self.now.table.shared.table_id pass.new.seat.table_id pass.new.readers.items pass.new.seat.me }
+        requires own { IsPassIn self.now pass.old }
+        ensures own { IsPassIn self.now pass.new }
         ensures sees { HasSeen L.meaning pass.old.seat.me pass.new.seat.me }
     {
         self.table.shared.load::<SeesAll<L>>(&mut pass.seat, EPOCH);

@@ -29,16 +29,17 @@ impl<L: Law, H: KeyHash> Cells<L, H> {
     ghost use Rattle.std.specs.Int.{bit_at};
     ghost use Rattle.npf_cells_words.specs.declared.layout.Pool.TheVariants.{Slots};
     ghost use Rattle.npf_cells_words.specs.Layout.{place_word};
-    ghost use Rattle.npf_cells_rule.specs.Passes.{IsPassOf, IsProtected};
+    ghost use Rattle.npf_cells.specs.Cells.{IsPassIn};
+    ghost use Rattle.npf_cells_rule.specs.Passes.{IsProtected};
     ghost use Rattle.npf_cells_rule.specs.Stood.{StoodSo};
     ghost use Rattle.npf_cells_takes.specs.SlotKinds.{HasClaimed, HasSeenSlots};
 
     // Claims a slot for the packet n, unless it is claimed. Answers whether it did.
     pub(crate) fn claim_slot(&self, pass: &mut CellPass<L>, slot: u32, n: u64) -> bool
-        requires own { IsPassOf self.now.table.shared.key self.now.table.shared.table_id pass.old.seat.table_id pass.old.readers.items pass.old.seat.me }
+        requires own { IsPassIn self.now pass.old }
         requires slot { slot < self.now.table.shared.key.slots }
         requires protected { IsProtected pass.old.seat.me.0.epochs.pin }
-        ensures own { IsPassOf self.now.table.shared.key self.now.table.shared.table_id pass.new.seat.table_id pass.new.readers.items pass.new.seat.me }
+        ensures own { IsPassIn self.now pass.new }
         ensures claims { result ≡ true → HasClaimed L.meaning n slot pass.old.seat.me pass.new.seat.me }
         ensures loses { result ≡ false → HasSeenSlots L.meaning self.now.table.shared.key (slot / 64) pass.new.seat.me.0.pools.found pass.old.seat.me pass.new.seat.me }
         ensures stood { StoodSo L.meaning H.digest self.now.table.shared.key pass.old.seat.me.0 (place_word self.now.table.shared.key Slots slot) pass.new.seat.me.0.pools.found }
@@ -48,11 +49,11 @@ impl<L: Law, H: KeyHash> Cells<L, H> {
     }
 
     fn claim_slot_as<W: Told>(&self, pass: &mut CellPass<L>, slot: u32, n: u64) -> bool
-        requires own { IsPassOf self.now.table.shared.key self.now.table.shared.table_id pass.old.seat.table_id pass.old.readers.items pass.old.seat.me }
+        requires own { IsPassIn self.now pass.old }
         requires slot { slot < self.now.table.shared.key.slots }
         requires protected { IsProtected pass.old.seat.me.0.epochs.pin }
         requires aim { (W.told.layout ≡ self.now.table.shared.key) × (W.told.number ≡ slot) × (W.told.packet ≡ n) }
-        ensures own { IsPassOf self.now.table.shared.key self.now.table.shared.table_id pass.new.seat.table_id pass.new.readers.items pass.new.seat.me }
+        ensures own { IsPassIn self.now pass.new }
         ensures claims { result ≡ true → HasClaimed L.meaning n slot pass.old.seat.me pass.new.seat.me }
         ensures loses { result ≡ false → HasSeenSlots L.meaning self.now.table.shared.key (slot / 64) pass.new.seat.me.0.pools.found pass.old.seat.me pass.new.seat.me }
         ensures stood { StoodSo L.meaning H.digest self.now.table.shared.key pass.old.seat.me.0 (place_word self.now.table.shared.key Slots slot) pass.new.seat.me.0.pools.found }

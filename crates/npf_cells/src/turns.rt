@@ -58,17 +58,17 @@ impl<L: Law, W: ToldAct<L::State, L::Arg>> Play<
 
 impl<L: Law, H: KeyHash> Cells<L, H> {
     ghost use Rattle.std.specs.Prelude.{◌≡◌, ◌<◌, true, false, None, [], ◌∷◌};
-    ghost use Rattle.npf_cells_rule.specs.Passes.{IsPassOf};
+    ghost use Rattle.npf_cells.specs.Cells.{IsPassIn};
     ghost use Rattle.npf_cells_turns.specs.EndKinds.{MayEnd, TellsEnd};
     ghost use Rattle.npf_cells_turns.specs.TurnKinds.{GotTurn, HasTaken, HasTurn};
 
     /// Tries to get a slot's turn. Answers whether it did: false exactly where a pass had it. The pass then carries what the slot held,
     /// which it moves by `exchange`.
     pub fn try_turn(&self, pass: &mut CellPass<L>, slot: u32) -> bool
-        requires own { IsPassOf self.now.table.shared.key self.now.table.shared.table_id pass.old.seat.table_id pass.old.readers.items pass.old.seat.me }
+        requires own { IsPassIn self.now pass.old }
         requires slot { slot < self.now.table.shared.key.slots }
         requires turnless { pass.old.seat.me.0.turn ≡ None }
-        ensures own { IsPassOf self.now.table.shared.key self.now.table.shared.table_id pass.new.seat.table_id pass.new.readers.items pass.new.seat.me }
+        ensures own { IsPassIn self.now pass.new }
         ensures takes { result ≡ true → HasTaken slot pass.old.seat.me pass.new.seat.me }
         ensures same { result ≡ false → pass.new.seat.me ≡ pass.old.seat.me }
         ensures answers { GotTurn L.meaning H.digest self.now.table.shared.key pass.old.seat.me.0 slot result }
@@ -77,11 +77,11 @@ impl<L: Law, H: KeyHash> Cells<L, H> {
     }
 
     fn try_turn_as<W: Told>(&self, pass: &mut CellPass<L>, slot: u32) -> bool
-        requires own { IsPassOf self.now.table.shared.key self.now.table.shared.table_id pass.old.seat.table_id pass.old.readers.items pass.old.seat.me }
+        requires own { IsPassIn self.now pass.old }
         requires slot { slot < self.now.table.shared.key.slots }
         requires turnless { pass.old.seat.me.0.turn ≡ None }
         requires aim { (W.told.layout ≡ self.now.table.shared.key) × (W.told.number ≡ slot) }
-        ensures own { IsPassOf self.now.table.shared.key self.now.table.shared.table_id pass.new.seat.table_id pass.new.readers.items pass.new.seat.me }
+        ensures own { IsPassIn self.now pass.new }
         ensures takes { result ≡ true → HasTaken slot pass.old.seat.me pass.new.seat.me }
         ensures same { result ≡ false → pass.new.seat.me ≡ pass.old.seat.me }
         ensures answers { GotTurn L.meaning H.digest self.now.table.shared.key pass.old.seat.me.0 slot result }
@@ -102,9 +102,9 @@ impl<L: Law, H: KeyHash> Cells<L, H> {
         slot: u32,
         flow: Option<(L::State, u64)>,
     ) -> Option<(L::State, u64)>
-        requires own { IsPassOf self.now.table.shared.key self.now.table.shared.table_id pass.old.seat.table_id pass.old.readers.items pass.old.seat.me }
+        requires own { IsPassIn self.now pass.old }
         requires turn { HasTurn pass.old.seat.me.0 slot }
-        ensures own { IsPassOf self.now.table.shared.key self.now.table.shared.table_id pass.new.seat.table_id pass.new.readers.items pass.new.seat.me }
+        ensures own { IsPassIn self.now pass.new }
         ensures gives { pass.old.seat.me.1 ≡ (slot, result) ∷ [] }
         ensures next { pass.new.seat.me ≡ (pass.old.seat.me.0, (slot, flow) ∷ []) }
     {
@@ -116,10 +116,10 @@ impl<L: Law, H: KeyHash> Cells<L, H> {
     /// Gives the slot's turn up, and makes the act's entry, if any. The slot then holds what the pass carried, and its phase is as the pass
     /// stored it: both have to be as the act leaves the connection.
     pub fn end_turn(&self, pass: &mut CellPass<L>, slot: u32, act: &TurnAct<'_, L::State, L::Arg>)
-        requires own { IsPassOf self.now.table.shared.key self.now.table.shared.table_id pass.old.seat.table_id pass.old.readers.items pass.old.seat.me }
+        requires own { IsPassIn self.now pass.old }
         requires slot { slot < self.now.table.shared.key.slots }
         requires may { MayEnd L.meaning act.now slot pass.old.seat.me }
-        ensures own { IsPassOf self.now.table.shared.key self.now.table.shared.table_id pass.new.seat.table_id pass.new.readers.items pass.new.seat.me }
+        ensures own { IsPassIn self.now pass.new }
         ensures tells { TellsEnd L.meaning act.now pass.old.seat.me pass.new.seat.me }
     {
         self.end_turn_as::<Brand>(pass, slot, act);
@@ -131,11 +131,11 @@ impl<L: Law, H: KeyHash> Cells<L, H> {
         slot: u32,
         act: &TurnAct<'_, L::State, L::Arg>,
     )
-        requires own { IsPassOf self.now.table.shared.key self.now.table.shared.table_id pass.old.seat.table_id pass.old.readers.items pass.old.seat.me }
+        requires own { IsPassIn self.now pass.old }
         requires slot { slot < self.now.table.shared.key.slots }
         requires may { MayEnd L.meaning act.now slot pass.old.seat.me }
         requires aim { W.act ≡ act.now }
-        ensures own { IsPassOf self.now.table.shared.key self.now.table.shared.table_id pass.new.seat.table_id pass.new.readers.items pass.new.seat.me }
+        ensures own { IsPassIn self.now pass.new }
         ensures tells { TellsEnd L.meaning act.now pass.old.seat.me pass.new.seat.me }
     {
         let word = self.layout.field_place(Pool::Slots, slot, TURN);

@@ -26,17 +26,17 @@ impl<L: Law, H: KeyHash, W: Told> Play<Running<L::State>, CellView<L::State, L::
 impl<L: Law, H: KeyHash> Cells<L, H> {
     ghost use Rattle.std.specs.Prelude.{◌≡◌, ◌<◌};
     ghost use Rattle.npf_cells_words.specs.Layout.{field_at, pool_places};
-    ghost use Rattle.npf_cells_rule.specs.Passes.{IsPassOf};
+    ghost use Rattle.npf_cells.specs.Cells.{IsPassIn};
     ghost use Rattle.npf_cells_rule.specs.Stood.{StoodSo};
     ghost use Rattle.npf_cells_turns.specs.WordKinds.{IsLoadField, ShowsStored};
 
     /// Loads the state or the parent of a node, or the phase or a note of a connection. The fields are those of docs/ARCHITECTURE.md,
     /// counted from 0.
     pub fn load_word(&self, pass: &mut CellPass<L>, pool: Pool, place: u32, field: u32) -> u64
-        requires own { IsPassOf self.now.table.shared.key self.now.table.shared.table_id pass.old.seat.table_id pass.old.readers.items pass.old.seat.me }
+        requires own { IsPassIn self.now pass.old }
         requires place { place < pool_places self.now.table.shared.key pool }
         requires field { IsLoadField pool field }
-        ensures own { IsPassOf self.now.table.shared.key self.now.table.shared.table_id pass.new.seat.table_id pass.new.readers.items pass.new.seat.me }
+        ensures own { IsPassIn self.now pass.new }
         ensures same { pass.new.seat.me ≡ pass.old.seat.me }
         ensures stored { ShowsStored self.now.table.shared.key pass.old.seat.me.0.pools.stored pool place field result }
         ensures stood { StoodSo L.meaning H.digest self.now.table.shared.key pass.old.seat.me.0 (field_at self.now.table.shared.key pool place field) result }
@@ -51,11 +51,11 @@ impl<L: Law, H: KeyHash> Cells<L, H> {
         place: u32,
         field: u32,
     ) -> u64
-        requires own { IsPassOf self.now.table.shared.key self.now.table.shared.table_id pass.old.seat.table_id pass.old.readers.items pass.old.seat.me }
+        requires own { IsPassIn self.now pass.old }
         requires place { place < pool_places self.now.table.shared.key pool }
         requires field { IsLoadField pool field }
         requires aim { (W.told.layout ≡ self.now.table.shared.key) × (W.told.pool ≡ pool) × (W.told.number ≡ place) × (W.told.field ≡ field) }
-        ensures own { IsPassOf self.now.table.shared.key self.now.table.shared.table_id pass.new.seat.table_id pass.new.readers.items pass.new.seat.me }
+        ensures own { IsPassIn self.now pass.new }
         ensures same { pass.new.seat.me ≡ pass.old.seat.me }
         ensures stored { ShowsStored self.now.table.shared.key pass.old.seat.me.0.pools.stored pool place field result }
         ensures stood { StoodSo L.meaning H.digest self.now.table.shared.key pass.old.seat.me.0 (field_at self.now.table.shared.key pool place field) result }

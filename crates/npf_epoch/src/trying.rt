@@ -1,7 +1,7 @@
 ghost use Rattle.std.specs.Prelude.{◌≡◌, ◌↔◌, ◌⊎◌, ◌+◌, ◌≤◌, ◌<◌, ◌==◌, ◌||◌, true, false, [], if◌then◌else◌};
 ghost use Rattle.npf_cells_pins.specs.Epochs.{HasScannedAll};
 ghost use Rattle.npf_cells_rule.specs.Views.{with_epochs};
-ghost use Rattle.npf_cells_rule.specs.Passes.{IsPassOf};
+ghost use Rattle.npf_cells.specs.Cells.{IsPassIn};
 ghost use Rattle.npf_connections.specs.Worn.{last_epoch};
 ghost use Rattle.npf_epoch.specs.Tries.{CanRaise, IsHindered, scanning_on};
 
@@ -12,8 +12,8 @@ use npf_paths::KeyHash;
 /// Raises the epoch by one where no reader is pinned in an older one. Answers whether this call did; where a reader hindered it, its word
 /// stood so.
 pub fn try_advance<L: Law, H: KeyHash>(cells: &Cells<L, H>, pass: &mut CellPass<L>) -> bool
-    requires own { IsPassOf cells.now.table.shared.key cells.now.table.shared.table_id pass.old.seat.table_id pass.old.readers.items pass.old.seat.me }
-    ensures own { IsPassOf cells.now.table.shared.key cells.now.table.shared.table_id pass.new.seat.table_id pass.new.readers.items pass.new.seat.me }
+    requires own { IsPassIn cells.now pass.old }
+    ensures own { IsPassIn cells.now pass.new }
     ensures same { pass.new.seat.me ≡ with_epochs pass.old.seat.me pass.new.seat.me.0.epochs }
     ensures pin { pass.new.seat.me.0.epochs.pin ≡ pass.old.seat.me.0.epochs.pin }
     ensures moved { pass.new.seat.me.0.epochs.raises ≡ pass.old.seat.me.0.epochs.raises + (if result then 1 else 0) }
@@ -40,11 +40,11 @@ pub fn scan_readers<L: Law, H: KeyHash>(
     pass: &mut CellPass<L>,
     epoch: u64,
 ) -> bool
-    requires own { IsPassOf cells.now.table.shared.key cells.now.table.shared.table_id pass.old.seat.table_id pass.old.readers.items pass.old.seat.me }
+    requires own { IsPassIn cells.now pass.old }
     requires loaded { pass.old.seat.me.0.epochs.loaded ≡ epoch }
     requires below { epoch < last_epoch }
     requires begun { pass.old.seat.me.0.epochs.behind ≡ [] }
-    ensures own { IsPassOf cells.now.table.shared.key cells.now.table.shared.table_id pass.new.seat.table_id pass.new.readers.items pass.new.seat.me }
+    ensures own { IsPassIn cells.now pass.new }
     ensures next { pass.new.seat.me ≡ with_epochs pass.old.seat.me (scanning_on pass.old.seat.me.0.epochs pass.new.seat.me.0.epochs) }
     ensures all { result ≡ true → HasScannedAll pass.new.seat.me.0.epochs }
     ensures answers { (result ≡ true) ↔ (pass.new.seat.me.0.epochs.behind ≡ []) }

@@ -3,7 +3,8 @@ ghost use Rattle.std.specs.Int.{bit_at};
 ghost use Rattle.npf_cells_words.specs.declared.layout.Pool.TheVariants.{Slots, Nodes};
 ghost use Rattle.npf_cells_words.specs.Layout.{pool_places, pool_words};
 ghost use Rattle.npf_connections.specs.Beginning.{IsFullBetween};
-ghost use Rattle.npf_cells_rule.specs.Passes.{IsPassOf, IsProtected, cell_pass};
+ghost use Rattle.npf_cells.specs.Cells.{IsPassIn};
+ghost use Rattle.npf_cells_rule.specs.Passes.{IsProtected, cell_pass};
 ghost use Rattle.npf_cells_takes.specs.PoolKinds.{NeedsNode};
 ghost use Rattle.npf_cells_rule.specs.Views.{with_pools};
 ghost use Rattle.npf_cells_takes.specs.SlotKinds.{HasClaimed};
@@ -23,10 +24,10 @@ pub fn take<L: Law, H: KeyHash>(
     pool: Pool,
     n: u64,
 ) -> Option<u32>
-    requires own { IsPassOf cells.now.table.shared.key cells.now.table.shared.table_id pass.old.seat.table_id pass.old.readers.items pass.old.seat.me }
+    requires own { IsPassIn cells.now pass.old }
     requires protected { IsProtected pass.old.seat.me.0.epochs.pin }
     requires needs { pool ≡ Nodes → NeedsNode H.digest pass.old.seat.me.0 }
-    ensures own { IsPassOf cells.now.table.shared.key cells.now.table.shared.table_id pass.new.seat.table_id pass.new.readers.items pass.new.seat.me }
+    ensures own { IsPassIn cells.now pass.new }
     ensures within { IfSome result (λ place. place < pool_places cells.now.table.shared.key pool) }
     ensures claims { IfSome result (λ slot. pool ≡ Slots → HasClaimed L.meaning n slot pass.old.seat.me pass.new.seat.me) }
     ensures unowned { IfSome result (λ node. pool ≡ Nodes → ¬ (Contains pass.old.seat.me.0.pools.nodes node)) }
@@ -56,9 +57,9 @@ fn find_clear<L: Law, H: KeyHash>(
     pass: &mut CellPass<L>,
     pool: Pool,
 ) -> Option<u32>
-    requires own { IsPassOf cells.now.table.shared.key cells.now.table.shared.table_id pass.old.seat.table_id pass.old.readers.items pass.old.seat.me }
+    requires own { IsPassIn cells.now pass.old }
     requires needs { pool ≡ Nodes → NeedsNode H.digest pass.old.seat.me.0 }
-    ensures own { IsPassOf cells.now.table.shared.key cells.now.table.shared.table_id pass.new.seat.table_id pass.new.readers.items pass.new.seat.me }
+    ensures own { IsPassIn cells.now pass.new }
     ensures within { IfSome result (λ place. place < pool_places cells.now.table.shared.key pool) }
     ensures searches { IfSome result (λ place. pool ≡ Nodes → pass.new.seat.me ≡ with_pools pass.old.seat.me (searching pass.old.seat.me.0.pools pass.new.seat.me.0.pools)) }
     ensures sees { pool ≡ Slots → HasSeenMore L.meaning pass.old.seat.me pass.new.seat.me }

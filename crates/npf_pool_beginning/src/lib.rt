@@ -5,7 +5,8 @@
 #![tactic(auto)]
 
 ghost use Rattle.std.specs.Prelude.{◌≡◌, IfSome};
-ghost use Rattle.npf_cells_rule.specs.Passes.{IsPassOf, IsProtected};
+ghost use Rattle.npf_cells.specs.Cells.{IsPassIn};
+ghost use Rattle.npf_cells_rule.specs.Passes.{IsProtected};
 ghost use Rattle.npf_pool_beginning.specs.Begins.{HasBegun, KeepsStay};
 
 use npf_cells::{CellPass, Cells, Pool};
@@ -24,9 +25,9 @@ pub fn begin<L: Law, H: KeyHash>(
     cells: &Cells<L, H>,
     pass: &mut CellPass<L>,
 ) -> Option<ConnId>
-    requires own { IsPassOf cells.now.table.shared.key cells.now.table.shared.table_id pass.old.seat.table_id pass.old.readers.items pass.old.seat.me }
+    requires own { IsPassIn cells.now pass.old }
     requires protected { IsProtected pass.old.seat.me.0.epochs.pin }
-    ensures own { IsPassOf cells.now.table.shared.key cells.now.table.shared.table_id pass.new.seat.table_id pass.new.readers.items pass.new.seat.me }
+    ensures own { IsPassIn cells.now pass.new }
     ensures begun { IfSome result (λ id. HasBegun L.meaning cells.now.table.shared.key pass.new.seat.me.0 id) }
     ensures keeps { KeepsStay pass.old.seat.me.0 pass.new.seat.me.0 }
 {

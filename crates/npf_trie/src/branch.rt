@@ -2,7 +2,7 @@ ghost use Rattle.std.specs.Prelude.{◌≡◌, ◌+◌, ◌≤◌, ◌<◌, ℕ,
 ghost use Rattle.npf_paths.specs.Digits.{PartsAt};
 ghost use Rattle.npf_paths.specs.declared.place.Place.TheVariants.{Node};
 ghost use Rattle.npf_paths.specs.Growing.{IsBranch};
-ghost use Rattle.npf_cells_rule.specs.Passes.{IsPassOf};
+ghost use Rattle.npf_cells.specs.Cells.{IsPassIn};
 ghost use Rattle.npf_cells_rule.specs.Views.{with_pools};
 ghost use Rattle.npf_cells_holds.specs.PublishKinds.{cell_stored};
 ghost use Rattle.npf_cells_leaves.specs.Trie.{digits_of};
@@ -34,11 +34,11 @@ pub(crate) fn build_branch<L: Law, H: KeyHash>(
     leaf: Cell,
     other_leaf: Cell,
 )
-    requires own { IsPassOf cells.now.table.shared.key cells.now.table.shared.table_id pass.old.seat.table_id pass.old.readers.items pass.old.seat.me }
+    requires own { IsPassIn cells.now pass.old }
     requires some { 1 ≤ length nodes.now }
     requires nodes { HasNewNodes cells.now.table.shared.key pass.old.seat.me.0.pools nodes.now }
     requires parts { PartsAt (H.digest key.now) key.now (H.digest other.now) other.now (level + length nodes.now) }
-    ensures own { IsPassOf cells.now.table.shared.key cells.now.table.shared.table_id pass.new.seat.table_id pass.new.readers.items pass.new.seat.me }
+    ensures own { IsPassIn cells.now pass.new }
     ensures next { pass.new.seat.me ≡ with_pools pass.old.seat.me (record pass.old.seat.me.0.pools { stored = pass.new.seat.me.0.pools.stored }) }
     ensures branch { IsBranch (digits_of H.digest key.now) (digits_of H.digest other.now) (cell_stored cells.now.table.shared.key pass.new.seat.me.0.pools.stored) leaf other_leaf (level + 1) (slice_index nodes.now 0) nodes.now }
     ensures keys { KeepsStoredKeys cells.now.table.shared.key pass.old.seat.me.0.pools.stored pass.new.seat.me.0.pools.stored }
@@ -65,13 +65,13 @@ fn build_below<L: Law, H: KeyHash>(
     mine: &Tip,
     theirs: &Tip,
 )
-    requires own { IsPassOf cells.now.table.shared.key cells.now.table.shared.table_id pass.old.seat.table_id pass.old.readers.items pass.old.seat.me }
+    requires own { IsPassIn cells.now pass.old }
     requires some { 1 ≤ length nodes.now }
     requires nodes { HasNewNodes cells.now.table.shared.key pass.old.seat.me.0.pools nodes.now }
     requires mine { mine.now.hash ≡ H.digest mine.now.key }
     requires theirs { theirs.now.hash ≡ H.digest theirs.now.key }
     requires parts { PartsAt mine.now.hash mine.now.key theirs.now.hash theirs.now.key (level + length nodes.now) }
-    ensures own { IsPassOf cells.now.table.shared.key cells.now.table.shared.table_id pass.new.seat.table_id pass.new.readers.items pass.new.seat.me }
+    ensures own { IsPassIn cells.now pass.new }
     ensures next { pass.new.seat.me ≡ with_pools pass.old.seat.me (record pass.old.seat.me.0.pools { stored = pass.new.seat.me.0.pools.stored }) }
     ensures branch { IsBranch (digits_of H.digest mine.now.key) (digits_of H.digest theirs.now.key) (cell_stored cells.now.table.shared.key pass.new.seat.me.0.pools.stored) mine.now.leaf theirs.now.leaf (level + 1) (slice_index nodes.now 0) nodes.now }
     ensures outside { KeepsOutside cells.now.table.shared.key nodes.now pass.old.seat.me.0.pools.stored pass.new.seat.me.0.pools.stored }
@@ -99,10 +99,10 @@ fn fill_node<L: Law, H: KeyHash>(
     theirs: u32,
     other: Cell,
 )
-    requires own { IsPassOf cells.now.table.shared.key cells.now.table.shared.table_id pass.old.seat.table_id pass.old.readers.items pass.old.seat.me }
+    requires own { IsPassIn cells.now pass.old }
     requires exists { node < cells.now.table.shared.key.nodes }
     requires owned { Contains pass.old.seat.me.0.pools.nodes node }
-    ensures own { IsPassOf cells.now.table.shared.key cells.now.table.shared.table_id pass.new.seat.table_id pass.new.readers.items pass.new.seat.me }
+    ensures own { IsPassIn cells.now pass.new }
     ensures next { pass.new.seat.me ≡ with_pools pass.old.seat.me (record pass.old.seat.me.0.pools { stored = pass.new.seat.me.0.pools.stored }) }
     ensures cells { (digit : ℕ) → digit < 16 → cell_stored cells.now.table.shared.key pass.new.seat.me.0.pools.stored (Node node digit) ≡ forked_cell mine leaf theirs other digit }
     ensures outside { KeepsOutside cells.now.table.shared.key (node ∷ []) pass.old.seat.me.0.pools.stored pass.new.seat.me.0.pools.stored }

@@ -1,5 +1,6 @@
 ghost use Rattle.std.specs.Prelude.{◌≡◌};
-ghost use Rattle.npf_cells_rule.specs.Passes.{IsPassOf, IsProtected};
+ghost use Rattle.npf_cells.specs.Cells.{IsPassIn};
+ghost use Rattle.npf_cells_rule.specs.Passes.{IsProtected};
 ghost use Rattle.npf_trie.specs.HoldKey.{CanHold, IsAtPlace, StepsSo};
 
 use crate::keys::store_key;
@@ -19,11 +20,11 @@ pub(crate) fn fill<L: Law, H: KeyHash>(
     wanted: &Wanted,
     point: Point,
 ) -> Step
-    requires own { IsPassOf cells.now.table.shared.key cells.now.table.shared.table_id pass.old.seat.table_id pass.old.readers.items pass.old.seat.me }
+    requires own { IsPassIn cells.now pass.old }
     requires protected { IsProtected pass.old.seat.me.0.epochs.pin }
     requires can { CanHold L.meaning cells.now.table.shared.key pass.old.seat.me.0 wanted.now.id wanted.now.way }
     requires at { IsAtPlace H.digest cells.now.table.shared.key pass.old.seat.me.0 wanted.now.key point }
-    ensures own { IsPassOf cells.now.table.shared.key cells.now.table.shared.table_id pass.new.seat.table_id pass.new.readers.items pass.new.seat.me }
+    ensures own { IsPassIn cells.now pass.new }
     ensures steps { StepsSo L.meaning H.digest cells.now.table.shared.key wanted.now point result pass.old.seat.me pass.new.seat.me }
 {
     store_key(cells, pass, wanted.id.slot, wanted.way, &wanted.key);

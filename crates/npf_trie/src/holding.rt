@@ -1,7 +1,8 @@
 ghost use Rattle.std.specs.Prelude.{◌≡◌, ◌<◌};
 ghost use Rattle.npf_paths.specs.Digits.{digit_of};
 ghost use Rattle.npf_paths.specs.declared.place.Place.TheVariants as Places;
-ghost use Rattle.npf_cells_rule.specs.Passes.{IsPassOf, IsProtected};
+ghost use Rattle.npf_cells.specs.Cells.{IsPassIn};
+ghost use Rattle.npf_cells_rule.specs.Passes.{IsProtected};
 ghost use Rattle.npf_trie.specs.HoldKey.{CanHold, SettlesHold, IsAtPlace, StepsSo};
 
 use crate::fill::fill;
@@ -24,10 +25,10 @@ pub fn hold<L: Law, H: KeyHash>(
     key: Key,
     way: Way,
 ) -> Held
-    requires own { IsPassOf cells.now.table.shared.key cells.now.table.shared.table_id pass.old.seat.table_id pass.old.readers.items pass.old.seat.me }
+    requires own { IsPassIn cells.now pass.old }
     requires protected { IsProtected pass.old.seat.me.0.epochs.pin }
     requires can { CanHold L.meaning cells.now.table.shared.key pass.old.seat.me.0 id way }
-    ensures own { IsPassOf cells.now.table.shared.key cells.now.table.shared.table_id pass.new.seat.table_id pass.new.readers.items pass.new.seat.me }
+    ensures own { IsPassIn cells.now pass.new }
     ensures answers { SettlesHold L.meaning cells.now.table.shared.key id key way result pass.old.seat.me pass.new.seat.me }
 {
     let hash = H::hash(&key);
@@ -68,11 +69,11 @@ fn step<L: Law, H: KeyHash>(
     wanted: &Wanted,
     point: Point,
 ) -> Step
-    requires own { IsPassOf cells.now.table.shared.key cells.now.table.shared.table_id pass.old.seat.table_id pass.old.readers.items pass.old.seat.me }
+    requires own { IsPassIn cells.now pass.old }
     requires protected { IsProtected pass.old.seat.me.0.epochs.pin }
     requires can { CanHold L.meaning cells.now.table.shared.key pass.old.seat.me.0 wanted.now.id wanted.now.way }
     requires at { IsAtPlace H.digest cells.now.table.shared.key pass.old.seat.me.0 wanted.now.key point }
-    ensures own { IsPassOf cells.now.table.shared.key cells.now.table.shared.table_id pass.new.seat.table_id pass.new.readers.items pass.new.seat.me }
+    ensures own { IsPassIn cells.now pass.new }
     ensures steps { StepsSo L.meaning H.digest cells.now.table.shared.key wanted.now point result pass.old.seat.me pass.new.seat.me }
 {
     match cells.load_place(pass, point.place, &wanted.aim()) {

@@ -1,7 +1,7 @@
 ghost use Rattle.std.specs.Prelude.{◌≡◌, ◌<◌};
 ghost use Rattle.npf_paths.specs.declared.place.Place.{Place};
 ghost use Rattle.npf_cells_words.specs.Layout.{key_field};
-ghost use Rattle.npf_cells_rule.specs.Passes.{IsPassOf};
+ghost use Rattle.npf_cells.specs.Cells.{IsPassIn};
 ghost use Rattle.npf_cells_rule.specs.Views.{with_pools};
 ghost use Rattle.npf_cells_holds.specs.PublishKinds.{HasStoredKey, cell_stored};
 ghost use Rattle.npf_cells_words.specs.Places.{IsInTrie};
@@ -23,10 +23,10 @@ pub(crate) fn store_key<L: Law, H: KeyHash>(
     way: Way,
     key: &Key,
 )
-    requires own { IsPassOf cells.now.table.shared.key cells.now.table.shared.table_id pass.old.seat.table_id pass.old.readers.items pass.old.seat.me }
+    requires own { IsPassIn cells.now pass.old }
     requires slot { slot < cells.now.table.shared.key.slots }
     requires may { MayStoreKey L.meaning pass.old.seat.me.0 slot way }
-    ensures own { IsPassOf cells.now.table.shared.key cells.now.table.shared.table_id pass.new.seat.table_id pass.new.readers.items pass.new.seat.me }
+    ensures own { IsPassIn cells.now pass.new }
     ensures next { pass.new.seat.me ≡ with_pools pass.old.seat.me (record pass.old.seat.me.0.pools { stored = pass.new.seat.me.0.pools.stored }) }
     ensures stores { HasStoredKey cells.now.table.shared.key pass.new.seat.me.0.pools.stored slot way key.now }
     ensures cells { (p : Place) → IsInTrie cells.now.table.shared.key p → cell_stored cells.now.table.shared.key pass.new.seat.me.0.pools.stored p ≡ cell_stored cells.now.table.shared.key pass.old.seat.me.0.pools.stored p }

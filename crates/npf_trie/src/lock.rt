@@ -2,7 +2,8 @@ ghost use Rattle.std.specs.Prelude.{◌≡◌, [], ◌∷◌};
 ghost use Rattle.npf_cells_holds.specs.LockKinds.{locking};
 ghost use Rattle.npf_cells_words.specs.Places.{IsLockOf};
 ghost use Rattle.npf_cells_rule.specs.Views.{with_trie};
-ghost use Rattle.npf_cells_rule.specs.Passes.{IsPassOf, IsProtected};
+ghost use Rattle.npf_cells.specs.Cells.{IsPassIn};
+ghost use Rattle.npf_cells_rule.specs.Passes.{IsProtected};
 
 use npf_cells::{CellPass, Cells};
 use npf_core::Law;
@@ -19,10 +20,10 @@ pub(crate) fn lock<L: Law, H: KeyHash>(
     pass: &mut CellPass<L>,
     lock: Lock,
 )
-    requires own { IsPassOf cells.now.table.shared.key cells.now.table.shared.table_id pass.old.seat.table_id pass.old.readers.items pass.old.seat.me }
+    requires own { IsPassIn cells.now pass.old }
     requires lock { IsLockOf cells.now.table.shared.key lock }
     requires protected { IsProtected pass.old.seat.me.0.epochs.pin }
-    ensures own { IsPassOf cells.now.table.shared.key cells.now.table.shared.table_id pass.new.seat.table_id pass.new.readers.items pass.new.seat.me }
+    ensures own { IsPassIn cells.now pass.new }
     ensures gets { pass.new.seat.me ≡ with_trie pass.old.seat.me (locking lock pass.old.seat.me.0.trie) }
 {
     for _ in rt.forever() {
@@ -35,10 +36,10 @@ pub(crate) fn lock<L: Law, H: KeyHash>(
 
 /// Frees the one lock that the pass has.
 pub(crate) fn unlock<L: Law, H: KeyHash>(cells: &Cells<L, H>, pass: &mut CellPass<L>, lock: Lock)
-    requires own { IsPassOf cells.now.table.shared.key cells.now.table.shared.table_id pass.old.seat.table_id pass.old.readers.items pass.old.seat.me }
+    requires own { IsPassIn cells.now pass.old }
     requires lock { IsLockOf cells.now.table.shared.key lock }
     requires only { pass.old.seat.me.0.trie.locks ≡ lock ∷ [] }
-    ensures own { IsPassOf cells.now.table.shared.key cells.now.table.shared.table_id pass.new.seat.table_id pass.new.readers.items pass.new.seat.me }
+    ensures own { IsPassIn cells.now pass.new }
     ensures frees { pass.new.seat.me ≡ with_trie pass.old.seat.me (record pass.old.seat.me.0.trie { locks = [] }) }
 {
     cells.store_node(pass, lock, FREE);

@@ -1,6 +1,7 @@
 ghost use Rattle.std.specs.Prelude.{◌≡◌, ◌<◌};
 ghost use Rattle.npf_cells_holds.specs.LookKinds.{IsLeafOf};
-ghost use Rattle.npf_cells_rule.specs.Passes.{IsPassOf, IsProtected};
+ghost use Rattle.npf_cells.specs.Cells.{IsPassIn};
+ghost use Rattle.npf_cells_rule.specs.Passes.{IsProtected};
 ghost use Rattle.npf_trie.specs.LookUp.{RoseBy, LooksUpKey, ComparesWords, NamesHolder};
 
 use crate::walk::end_of;
@@ -19,9 +20,9 @@ pub fn look<L: Law, H: KeyHash>(
     n: u64,
     key: Key,
 ) -> Option<Found>
-    requires own { IsPassOf cells.now.table.shared.key cells.now.table.shared.table_id pass.old.seat.table_id pass.old.readers.items pass.old.seat.me }
+    requires own { IsPassIn cells.now pass.old }
     requires protected { IsProtected pass.old.seat.me.0.epochs.pin }
-    ensures own { IsPassOf cells.now.table.shared.key cells.now.table.shared.table_id pass.new.seat.table_id pass.new.readers.items pass.new.seat.me }
+    ensures own { IsPassIn cells.now pass.new }
     ensures looks { LooksUpKey L.meaning n key result pass.old.seat.me pass.new.seat.me }
     ensures places { RoseBy 95 pass.old.seat.me.0.trie.places pass.new.seat.me.0.trie.places }
     ensures words { RoseBy 5 pass.old.seat.me.0.trie.words pass.new.seat.me.0.trie.words }
@@ -40,10 +41,10 @@ fn holder_of<L: Law, H: KeyHash>(
     way: Way,
     key: &Key,
 ) -> Option<Found>
-    requires own { IsPassOf cells.now.table.shared.key cells.now.table.shared.table_id pass.old.seat.table_id pass.old.readers.items pass.old.seat.me }
+    requires own { IsPassIn cells.now pass.old }
     requires slot { slot < cells.now.table.shared.key.slots }
     requires leaf { IsLeafOf pass.old.seat.me.0.trie slot way }
-    ensures own { IsPassOf cells.now.table.shared.key cells.now.table.shared.table_id pass.new.seat.table_id pass.new.readers.items pass.new.seat.me }
+    ensures own { IsPassIn cells.now pass.new }
     ensures compares { ComparesWords 5 pass.old.seat.me pass.new.seat.me }
     ensures holder { NamesHolder pass.old.seat.me.0.trie.leaf key.now result }
 {

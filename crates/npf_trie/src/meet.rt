@@ -1,7 +1,7 @@
 ghost use Rattle.std.specs.Prelude.{◌≡◌, ◌<◌, length, Some};
 ghost use Rattle.npf_cells_leaves.specs.declared.trie.LoadedLeaf.{LoadedLeaf};
 ghost use Rattle.npf_cells_holds.specs.LookKinds.{IsLeafOf};
-ghost use Rattle.npf_cells_rule.specs.Passes.{IsPassOf};
+ghost use Rattle.npf_cells.specs.Cells.{IsPassIn};
 ghost use Rattle.npf_trie.specs.HoldKey.{TellsMet};
 ghost use Rattle.npf_trie.specs.LookUp.{ComparesWords};
 
@@ -19,10 +19,10 @@ pub(crate) fn meet<L: Law, H: KeyHash>(
     way: Way,
     key: &Key,
 ) -> Met
-    requires own { IsPassOf cells.now.table.shared.key cells.now.table.shared.table_id pass.old.seat.table_id pass.old.readers.items pass.old.seat.me }
+    requires own { IsPassIn cells.now pass.old }
     requires slot { slot < cells.now.table.shared.key.slots }
     requires leaf { IsLeafOf pass.old.seat.me.0.trie slot way }
-    ensures own { IsPassOf cells.now.table.shared.key cells.now.table.shared.table_id pass.new.seat.table_id pass.new.readers.items pass.new.seat.me }
+    ensures own { IsPassIn cells.now pass.new }
     ensures compares { ComparesWords 5 pass.old.seat.me pass.new.seat.me }
     ensures met { (leaf : LoadedLeaf) → pass.old.seat.me.0.trie.leaf ≡ Some leaf → length leaf.key.0 ≡ 5 → TellsMet leaf key.now result }
 {

@@ -1,6 +1,7 @@
 ghost use Rattle.std.specs.Prelude.{◌≡◌, ◌≤◌, ◌<◌, ℕ, [], length, IfSome, IfNone, Contains};
 ghost use Rattle.npf_paths.specs.LevelLaw.{AreApart};
-ghost use Rattle.npf_cells_rule.specs.Passes.{IsPassOf, IsProtected};
+ghost use Rattle.npf_cells.specs.Cells.{IsPassIn};
+ghost use Rattle.npf_cells_rule.specs.Passes.{IsProtected};
 ghost use Rattle.npf_cells_rule.specs.Views.{with_pools};
 ghost use Rattle.npf_cells_holds.specs.PublishKinds.{nodes_but};
 ghost use Rattle.npf_trie.specs.Nodes.{NeedsNodes, TakesNodes, FindsTooFew, left_with};
@@ -19,11 +20,11 @@ pub(crate) fn take_nodes<L: Law, H: KeyHash>(
     pass: &mut CellPass<L>,
     count: u32,
 ) -> Option<ArrayVec<u32, 94>>
-    requires own { IsPassOf cells.now.table.shared.key cells.now.table.shared.table_id pass.old.seat.table_id pass.old.readers.items pass.old.seat.me }
+    requires own { IsPassIn cells.now pass.old }
     requires protected { IsProtected pass.old.seat.me.0.epochs.pin }
     requires none { pass.old.seat.me.0.pools.nodes ≡ [] }
     requires needs { NeedsNodes H.digest pass.old.seat.me.0 count }
-    ensures own { IsPassOf cells.now.table.shared.key cells.now.table.shared.table_id pass.new.seat.table_id pass.new.readers.items pass.new.seat.me }
+    ensures own { IsPassIn cells.now pass.new }
     ensures takes { IfSome result (λ nodes. TakesNodes cells.now.table.shared.key count nodes.items pass.old.seat.me pass.new.seat.me) }
     ensures none { IfNone result (FindsTooFew cells.now.table.shared.key pass.old.seat.me pass.new.seat.me) }
 {
@@ -46,12 +47,12 @@ pub(crate) fn give_all<L: Law, H: KeyHash>(
     pass: &mut CellPass<L>,
     nodes: &ArrayVec<u32, 94>,
 )
-    requires own { IsPassOf cells.now.table.shared.key cells.now.table.shared.table_id pass.old.seat.table_id pass.old.readers.items pass.old.seat.me }
+    requires own { IsPassIn cells.now pass.old }
     requires within { (node : ℕ) → Contains nodes.now.items node → node < cells.now.table.shared.key.nodes }
     requires apart { AreApart nodes.now.items }
     requires owned { (node : ℕ) → Contains nodes.now.items node → Contains pass.old.seat.me.0.pools.nodes node }
     requires all { nodes_but nodes.now.items pass.old.seat.me.0.pools.nodes ≡ [] }
-    ensures own { IsPassOf cells.now.table.shared.key cells.now.table.shared.table_id pass.new.seat.table_id pass.new.readers.items pass.new.seat.me }
+    ensures own { IsPassIn cells.now pass.new }
     ensures next { pass.new.seat.me ≡ with_pools pass.old.seat.me (left_with [] pass.old.seat.me.0.pools pass.new.seat.me.0.pools) }
     ensures forgets { 1 ≤ length nodes.now.items → pass.new.seat.me.0.pools.stored ≡ [] }
     ensures same { nodes.now.items ≡ [] → pass.new.seat.me ≡ pass.old.seat.me }

@@ -1,6 +1,7 @@
 ghost use Rattle.std.specs.Prelude.{◌≡◌};
 ghost use Rattle.npf_cells_holds.specs.LookKinds.{FitsLayout};
-ghost use Rattle.npf_cells_rule.specs.Passes.{IsPassOf, IsProtected};
+ghost use Rattle.npf_cells.specs.Cells.{IsPassIn};
+ghost use Rattle.npf_cells_rule.specs.Passes.{IsProtected};
 ghost use Rattle.npf_paths.specs.Paths.{IsEnd};
 ghost use Rattle.npf_trie.specs.LookUp.{ComesToEnd};
 
@@ -16,9 +17,9 @@ pub fn end_of<L: Law, H: KeyHash>(
     n: u64,
     key: Key,
 ) -> Cell
-    requires own { IsPassOf cells.now.table.shared.key cells.now.table.shared.table_id pass.old.seat.table_id pass.old.readers.items pass.old.seat.me }
+    requires own { IsPassIn cells.now pass.old }
     requires protected { IsProtected pass.old.seat.me.0.epochs.pin }
-    ensures own { IsPassOf cells.now.table.shared.key cells.now.table.shared.table_id pass.new.seat.table_id pass.new.readers.items pass.new.seat.me }
+    ensures own { IsPassIn cells.now pass.new }
     ensures fits { FitsLayout cells.now.table.shared.key result }
     ensures comes { ComesToEnd L.meaning n key result pass.old.seat.me pass.new.seat.me }
 {

@@ -1,7 +1,8 @@
 // The keys, each held for a connection of its own.
 ghost use Rattle.std.specs.Prelude.{◌≡◌, []};
 ghost use Rattle.npf_cells_pins.specs.declared.pin.Pin.TheVariants.{Idle};
-ghost use Rattle.npf_cells_rule.specs.Passes.{IsPassOf, IsProtected};
+ghost use Rattle.npf_cells.specs.Cells.{IsPassIn};
+ghost use Rattle.npf_cells_rule.specs.Passes.{IsProtected};
 
 use crate::drawn::{KEYS, key};
 use npf_cells::{CellPass, Cells};
@@ -15,11 +16,11 @@ use std::sync::Wait;
 
 /// Holds the keys in the pass's stay, and answers how many were held before one was refused.
 pub fn fill(rt: &impl Wait, cells: &Cells<FlowLaw, Fnv>, pass: &mut CellPass<FlowLaw>) -> u32
-    requires own { IsPassOf cells.now.table.shared.key cells.now.table.shared.table_id pass.old.seat.table_id pass.old.readers.items pass.old.seat.me }
+    requires own { IsPassIn cells.now pass.old }
     requires protected { IsProtected pass.old.seat.me.0.epochs.pin }
     requires nodes { pass.old.seat.me.0.pools.nodes ≡ [] }
     requires locks { pass.old.seat.me.0.trie.locks ≡ [] }
-    ensures own { IsPassOf cells.now.table.shared.key cells.now.table.shared.table_id pass.new.seat.table_id pass.new.readers.items pass.new.seat.me }
+    ensures own { IsPassIn cells.now pass.new }
     ensures protected { IsProtected pass.new.seat.me.0.epochs.pin }
     ensures locks { pass.new.seat.me.0.trie.locks ≡ [] }
 {
@@ -38,11 +39,11 @@ fn hold_next(
     pass: &mut CellPass<FlowLaw>,
     number: u32,
 ) -> bool
-    requires own { IsPassOf cells.now.table.shared.key cells.now.table.shared.table_id pass.old.seat.table_id pass.old.readers.items pass.old.seat.me }
+    requires own { IsPassIn cells.now pass.old }
     requires protected { IsProtected pass.old.seat.me.0.epochs.pin }
     requires nodes { pass.old.seat.me.0.pools.nodes ≡ [] }
     requires locks { pass.old.seat.me.0.trie.locks ≡ [] }
-    ensures own { IsPassOf cells.now.table.shared.key cells.now.table.shared.table_id pass.new.seat.table_id pass.new.readers.items pass.new.seat.me }
+    ensures own { IsPassIn cells.now pass.new }
     ensures protected { IsProtected pass.new.seat.me.0.epochs.pin }
     ensures nodes { pass.new.seat.me.0.pools.nodes ≡ [] }
     ensures locks { pass.new.seat.me.0.trie.locks ≡ [] }

@@ -1,7 +1,8 @@
 // How long a look takes in the trie of the table without locks, on one thread and on four.
 ghost use Rattle.std.specs.Prelude.{◌≡◌, ◌≤◌, ◌<◌, [], length};
 ghost use Rattle.std.specs.Thread.{IsSync};
-ghost use Rattle.npf_cells_rule.specs.Passes.{IsPassOf, IsProtected};
+ghost use Rattle.npf_cells.specs.Cells.{IsPassIn};
+ghost use Rattle.npf_cells_rule.specs.Passes.{IsProtected};
 ghost use Rattle.npf_trie_bench.specs.Rests.{HasNothing};
 
 use crate::drawn::{Draws, KEYS, Order};
@@ -53,7 +54,7 @@ fn time_looks(
     order: Order,
     stays: u64,
 ) -> Result<(), Error>
-    requires own { IsPassOf cells.now.table.shared.key cells.now.table.shared.table_id pass.seat.table_id pass.readers.items pass.seat.me }
+    requires own { IsPassIn cells.now pass }
     requires rests { HasNothing pass.seat.me.0 }
 {
     let work = Work {
@@ -77,7 +78,7 @@ fn time_threads<R: Threads + Wait + Sync>(
     held: u32,
     stays: u64,
 ) -> Result<(), Error>
-    requires own { IsPassOf cells.now.table.shared.key cells.now.table.shared.table_id pass.seat.table_id pass.readers.items pass.seat.me }
+    requires own { IsPassIn cells.now pass }
     requires rests { HasNothing pass.seat.me.0 }
     requires places { OTHERS < length pass.seat.me.0.seats.readers }
 {
@@ -99,7 +100,7 @@ fn look_often(
     stays: u64,
     order: Order,
 ) -> u64
-    requires own { IsPassOf cells.now.table.shared.key cells.now.table.shared.table_id pass.seat.table_id pass.readers.items pass.seat.me }
+    requires own { IsPassIn cells.now pass }
     requires rests { HasNothing pass.seat.me.0 }
 {
     let mut pass = pass;
@@ -120,9 +121,9 @@ fn look_some(
     draws: &mut Draws,
     order: Order,
 ) -> u64
-    requires own { IsPassOf cells.now.table.shared.key cells.now.table.shared.table_id pass.old.seat.table_id pass.old.readers.items pass.old.seat.me }
+    requires own { IsPassIn cells.now pass.old }
     requires protected { IsProtected pass.old.seat.me.0.epochs.pin }
-    ensures own { IsPassOf cells.now.table.shared.key cells.now.table.shared.table_id pass.new.seat.table_id pass.new.readers.items pass.new.seat.me }
+    ensures own { IsPassIn cells.now pass.new }
     ensures epochs { pass.new.seat.me.0.epochs ≡ pass.old.seat.me.0.epochs }
     ensures pools { pass.new.seat.me.0.pools ≡ pass.old.seat.me.0.pools }
     ensures locks { pass.new.seat.me.0.trie.locks ≡ pass.old.seat.me.0.trie.locks }
@@ -148,7 +149,7 @@ fn look_beside<R: Threads + Wait + Sync>(
     others: u64,
     stays: u64,
 ) -> u64
-    requires own { IsPassOf cells.now.table.shared.key cells.now.table.shared.table_id pass.seat.table_id pass.readers.items pass.seat.me }
+    requires own { IsPassIn cells.now pass }
     requires rests { HasNothing pass.seat.me.0 }
     requires places { others < length pass.seat.me.0.seats.readers }
 {
@@ -160,10 +161,10 @@ fn look_beside<R: Threads + Wait + Sync>(
     let (found, more) = join(
         rt,
         move ||
-            requires { IsPassOf cells.now.table.shared.key cells.now.table.shared.table_id other.seat.table_id other.readers.items other.seat.me × HasNothing other.seat.me.0 }
+            requires { IsPassIn cells.now other × HasNothing other.seat.me.0 }
         { look_often(cells, other, others, stays, Order::Free) },
         move ||
-            requires { IsSync R.row × IsPassOf cells.now.table.shared.key cells.now.table.shared.table_id pass.seat.table_id pass.readers.items pass.seat.me × HasNothing pass.seat.me.0 × (0 < others) × (others ≤ length pass.seat.me.0.seats.readers) }
+            requires { IsSync R.row × IsPassIn cells.now pass × HasNothing pass.seat.me.0 × (0 < others) × (others ≤ length pass.seat.me.0.seats.readers) }
         { look_beside(rt, cells, pass, others - 1, stays) },
     );
     found.wrapping_add(more)

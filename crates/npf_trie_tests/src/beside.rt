@@ -1,7 +1,7 @@
 // Passes that work beside one another, each in a thread of its own.
 ghost use Rattle.std.specs.Prelude.{◌≡◌, ◌<◌, ◌≤◌, length};
 ghost use Rattle.std.specs.Thread.{IsSync};
-ghost use Rattle.npf_cells_rule.specs.Passes.{IsPassOf};
+ghost use Rattle.npf_cells.specs.Cells.{IsPassIn};
 ghost use Rattle.npf_trie_tests.specs.Hands.{RestsEmptyHanded};
 
 use crate::answers::{put, same};
@@ -45,7 +45,7 @@ fn work(
     crew: Crew,
     number: u32,
 ) -> bool
-    requires own { IsPassOf cells.now.table.shared.key cells.now.table.shared.table_id pass.seat.table_id pass.readers.items pass.seat.me }
+    requires own { IsPassIn cells.now pass }
     requires rests { RestsEmptyHanded pass.seat.me.0 }
 {
     let mut pass = pass;
@@ -72,7 +72,7 @@ fn work_beside<R: Threads + Wait + Sync>(
     crew: Crew,
     number: u32,
 ) -> bool
-    requires own { IsPassOf cells.now.table.shared.key cells.now.table.shared.table_id pass.seat.table_id pass.readers.items pass.seat.me }
+    requires own { IsPassIn cells.now pass }
     requires rests { RestsEmptyHanded pass.seat.me.0 }
     requires places { number < length pass.seat.me.0.seats.readers }
 {
@@ -84,10 +84,10 @@ fn work_beside<R: Threads + Wait + Sync>(
     let (agreed, others_agreed) = join(
         rt,
         move ||
-            requires { IsPassOf cells.now.table.shared.key cells.now.table.shared.table_id other.seat.table_id other.readers.items other.seat.me × RestsEmptyHanded other.seat.me.0 }
+            requires { IsPassIn cells.now other × RestsEmptyHanded other.seat.me.0 }
         { work(rt, cells, other, told, crew, number) },
         move ||
-            requires { IsSync R.row × IsPassOf cells.now.table.shared.key cells.now.table.shared.table_id pass.seat.table_id pass.readers.items pass.seat.me × RestsEmptyHanded pass.seat.me.0 × (0 < number) × (number ≤ length pass.seat.me.0.seats.readers) }
+            requires { IsSync R.row × IsPassIn cells.now pass × RestsEmptyHanded pass.seat.me.0 × (0 < number) × (number ≤ length pass.seat.me.0.seats.readers) }
         { work_beside(rt, cells, pass, told, crew, number - 1) },
     );
     agreed && others_agreed

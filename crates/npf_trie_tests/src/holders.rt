@@ -1,5 +1,5 @@
 // Connections that are being built and hold a key.
-ghost use Rattle.npf_cells_rule.specs.Passes.{IsPassOf};
+ghost use Rattle.npf_cells.specs.Cells.{IsPassIn};
 ghost use Rattle.npf_trie_tests.specs.Hands.{IsEmptyHanded};
 
 use crate::by_protocol::ByProtocol;
@@ -31,9 +31,9 @@ pub(crate) fn open(
     pass: &mut CellPass<FlowLaw>,
     key: Key,
 ) -> Option<(ConnId, Held)>
-    requires own { IsPassOf cells.now.table.shared.key cells.now.table.shared.table_id pass.old.seat.table_id pass.old.readers.items pass.old.seat.me }
+    requires own { IsPassIn cells.now pass.old }
     requires hands { IsEmptyHanded pass.old.seat.me.0 }
-    ensures own { IsPassOf cells.now.table.shared.key cells.now.table.shared.table_id pass.new.seat.table_id pass.new.readers.items pass.new.seat.me }
+    ensures own { IsPassIn cells.now pass.new }
     ensures hands { IsEmptyHanded pass.new.seat.me.0 }
 {
     let id = begin(rt, cells, pass)?;
@@ -47,9 +47,9 @@ pub(crate) fn find(
     pass: &mut CellPass<FlowLaw>,
     key: Key,
 ) -> Option<Found>
-    requires own { IsPassOf cells.now.table.shared.key cells.now.table.shared.table_id pass.old.seat.table_id pass.old.readers.items pass.old.seat.me }
+    requires own { IsPassIn cells.now pass.old }
     requires hands { IsEmptyHanded pass.old.seat.me.0 }
-    ensures own { IsPassOf cells.now.table.shared.key cells.now.table.shared.table_id pass.new.seat.table_id pass.new.readers.items pass.new.seat.me }
+    ensures own { IsPassIn cells.now pass.new }
     ensures hands { IsEmptyHanded pass.new.seat.me.0 }
 {
     look(cells, pass, 9, key)

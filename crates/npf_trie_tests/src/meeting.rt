@@ -1,5 +1,5 @@
 // Keys of UDP, which meet in the trie since their hash is one.
-ghost use Rattle.npf_cells_rule.specs.Passes.{IsPassOf};
+ghost use Rattle.npf_cells.specs.Cells.{IsPassIn};
 ghost use Rattle.npf_trie_tests.specs.Hands.{IsEmptyHanded};
 
 use crate::answers::{put, same};
@@ -128,9 +128,9 @@ fn tell_act(
     act: Act,
     told: &mut String,
 ) -> Result<(), Fail>
-    requires own { IsPassOf cells.now.table.shared.key cells.now.table.shared.table_id pass.old.seat.table_id pass.old.readers.items pass.old.seat.me }
+    requires own { IsPassIn cells.now pass.old }
     requires hands { IsEmptyHanded pass.old.seat.me.0 }
-    ensures own { IsPassOf cells.now.table.shared.key cells.now.table.shared.table_id pass.new.seat.table_id pass.new.readers.items pass.new.seat.me }
+    ensures own { IsPassIn cells.now pass.new }
     ensures hands { IsEmptyHanded pass.new.seat.me.0 }
 {
     match act {

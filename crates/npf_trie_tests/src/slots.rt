@@ -1,6 +1,7 @@
 // The slots of small tables, whose bits lie in a word or two, and the incarnations of what a pass claimed.
 ghost use Rattle.std.specs.Prelude.{◌≡◌};
-ghost use Rattle.npf_cells_rule.specs.Passes.{IsPassOf, IsProtected};
+ghost use Rattle.npf_cells.specs.Cells.{IsPassIn};
+ghost use Rattle.npf_cells_rule.specs.Passes.{IsProtected};
 
 use crate::answers::{put, same};
 use crate::by_protocol::ByProtocol;
@@ -33,9 +34,9 @@ fn takes_all(
     cells: &Cells<FlowLaw, ByProtocol>,
     pass: &mut CellPass<FlowLaw>,
 ) -> (bool, u32)
-    requires own { IsPassOf cells.now.table.shared.key cells.now.table.shared.table_id pass.old.seat.table_id pass.old.readers.items pass.old.seat.me }
+    requires own { IsPassIn cells.now pass.old }
     requires protected { IsProtected pass.old.seat.me.0.epochs.pin }
-    ensures own { IsPassOf cells.now.table.shared.key cells.now.table.shared.table_id pass.new.seat.table_id pass.new.readers.items pass.new.seat.me }
+    ensures own { IsPassIn cells.now pass.new }
     ensures protected { IsProtected pass.new.seat.me.0.epochs.pin }
     ensures locks { pass.new.seat.me.0.trie.locks ≡ pass.old.seat.me.0.trie.locks }
 {
@@ -65,8 +66,8 @@ fn take_in_turn(
     pass: &mut CellPass<FlowLaw>,
     other: &mut CellPass<FlowLaw>,
 ) -> u32
-    requires own { IsPassOf cells.now.table.shared.key cells.now.table.shared.table_id pass.old.seat.table_id pass.old.readers.items pass.old.seat.me }
-    requires other_own { IsPassOf cells.now.table.shared.key cells.now.table.shared.table_id other.old.seat.table_id other.old.readers.items other.old.seat.me }
+    requires own { IsPassIn cells.now pass.old }
+    requires other_own { IsPassIn cells.now other.old }
     requires protected { IsProtected pass.old.seat.me.0.epochs.pin }
     requires other_protected { IsProtected other.old.seat.me.0.epochs.pin }
 {

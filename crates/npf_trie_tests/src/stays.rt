@@ -1,7 +1,7 @@
 // A reader that pins an epoch after another pass has scanned it, and the epoch that it holds back.
 ghost use Rattle.std.specs.Prelude.{◌≡◌};
 ghost use Rattle.npf_cells_pins.specs.declared.pin.Pin.TheVariants.{Idle};
-ghost use Rattle.npf_cells_rule.specs.Passes.{IsPassOf};
+ghost use Rattle.npf_cells.specs.Cells.{IsPassIn};
 
 use crate::answers::{put, same};
 use crate::by_protocol::ByProtocol;
@@ -20,8 +20,8 @@ fn tell_held(
     other: &mut CellPass<FlowLaw>,
     told: &mut String,
 ) -> Result<(), Fail>
-    requires own { IsPassOf cells.now.table.shared.key cells.now.table.shared.table_id reader.old.seat.table_id reader.old.readers.items reader.old.seat.me }
-    requires other_own { IsPassOf cells.now.table.shared.key cells.now.table.shared.table_id other.old.seat.table_id other.old.readers.items other.old.seat.me }
+    requires own { IsPassIn cells.now reader.old }
+    requires other_own { IsPassIn cells.now other.old }
     requires idle { reader.old.seat.me.0.epochs.pin ≡ Idle }
 {
     let first = cells.load_epoch(reader);

@@ -1,5 +1,5 @@
 // What a pass does many times, and what is told of it to the passes beside it.
-ghost use Rattle.npf_cells_rule.specs.Passes.{IsPassOf};
+ghost use Rattle.npf_cells.specs.Cells.{IsPassIn};
 ghost use Rattle.npf_trie_tests.specs.Hands.{IsEmptyHanded};
 
 use crate::by_protocol::ByProtocol;
@@ -96,9 +96,9 @@ fn does(
     work: Work,
     number: u32,
 ) -> bool
-    requires own { IsPassOf cells.now.table.shared.key cells.now.table.shared.table_id pass.old.seat.table_id pass.old.readers.items pass.old.seat.me }
+    requires own { IsPassIn cells.now pass.old }
     requires hands { IsEmptyHanded pass.old.seat.me.0 }
-    ensures own { IsPassOf cells.now.table.shared.key cells.now.table.shared.table_id pass.new.seat.table_id pass.new.readers.items pass.new.seat.me }
+    ensures own { IsPassIn cells.now pass.new }
     ensures hands { IsEmptyHanded pass.new.seat.me.0 }
 {
     match work {
@@ -141,9 +141,9 @@ pub(crate) fn each(
     work: Work,
     count: u32,
 ) -> u32
-    requires own { IsPassOf cells.now.table.shared.key cells.now.table.shared.table_id pass.old.seat.table_id pass.old.readers.items pass.old.seat.me }
+    requires own { IsPassIn cells.now pass.old }
     requires hands { IsEmptyHanded pass.old.seat.me.0 }
-    ensures own { IsPassOf cells.now.table.shared.key cells.now.table.shared.table_id pass.new.seat.table_id pass.new.readers.items pass.new.seat.me }
+    ensures own { IsPassIn cells.now pass.new }
     ensures hands { IsEmptyHanded pass.new.seat.me.0 }
 {
     let mut keys = Draws::new();

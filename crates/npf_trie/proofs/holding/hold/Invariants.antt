@@ -1,4 +1,4 @@
-use Rattle.npf_cells_rule.specs.Passes.{IsPassOf}
+use Rattle.npf_cells.specs.Cells.{IsPassIn}
 use Rattle.npf_trie.specs.HoldKey.{HoldsOn, IsAtPlace}
 use Rattle.npf_trie.proofs.holding.hold.Given as goal
 
@@ -7,7 +7,7 @@ abbrev pub invariant-loop : goal.invariant-loop
 invariant-loop g l = record {
   next : (goal.iterator-loop g).can_next l.iterator';
   finite : (goal.iterator-loop g).is_finite l.iterator';
-  own : IsPassOf l.cells.table.shared.key l.cells.table.shared.table_id l.pass.seat.table_id l.pass.readers.items l.pass.seat.me;
+  own : IsPassIn l.cells l.pass;
   on : HoldsOn l.initial.pass.seat.me l.pass.seat.me;
   at : IsAtPlace g.H.KeyHash.digest l.cells.table.shared.key l.pass.seat.me.0 l.key l.point;
 }

@@ -1,13 +1,13 @@
 use Rattle.std.proofs.Common.{◌≡◌, ◌<◌, ℕ, length, reverse, Contains}
 use Rattle.npf_paths.specs.LevelLaw.{AreApart}
-use Rattle.npf_cells_rule.specs.Passes.{IsPassOf}
+use Rattle.npf_cells.specs.Cells.{IsPassIn}
 use Rattle.npf_cells_rule.specs.Views.{with_pools}
 use Rattle.npf_trie.proofs.nodes.take_nodes.Given as goal
 
 -- the pass owns the nodes that were taken, the last first
 abbrev pub invariant-loop : goal.invariant-loop
 invariant-loop g l = record {
-  own : IsPassOf l.cells.table.shared.key l.cells.table.shared.table_id l.pass.seat.table_id l.pass.readers.items l.pass.seat.me;
+  own : IsPassIn l.cells l.pass;
   counted : length l.nodes.items ≡ l.counter;
   within : (node : ℕ) → Contains l.nodes.items node → node < l.cells.table.shared.key.nodes;
   apart : AreApart l.nodes.items;

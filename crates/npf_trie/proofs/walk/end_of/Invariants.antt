@@ -1,14 +1,15 @@
 use Rattle.std.proofs.Common.{◌≡◌, ◌+◌, ◌<◌}
 use Rattle.npf_cells_holds.specs.LookKinds.{StandsOnPath, level_at}
 use Rattle.npf_cells_rule.specs.Views.{with_trie}
-use Rattle.npf_cells_rule.specs.Passes.{IsPassOf, IsProtected}
+use Rattle.npf_cells.specs.Cells.{IsPassIn}
+use Rattle.npf_cells_rule.specs.Passes.{IsProtected}
 use Rattle.npf_cells_words.specs.Places.{IsInTrie}
 use Rattle.npf_trie.proofs.walk.end_of.Given as goal
 
 -- the pass loaded a node at each level before this one, and stands at this level of the key's path
 abbrev pub invariant-loop-level : goal.invariant-loop-level
 invariant-loop-level g l = record {
-  own : IsPassOf l.cells.table.shared.key l.cells.table.shared.table_id l.pass.seat.table_id l.pass.readers.items l.pass.seat.me;
+  own : IsPassIn l.cells l.pass;
   protected : IsProtected l.pass.seat.me.0.epochs.pin;
   hashed : l.hash ≡ g.H.KeyHash.digest l.key;
   within : l.level < 95;

@@ -1,10 +1,10 @@
 use Rattle.std.proofs.Common.{◌≡◌}
-use Rattle.npf_cells_rule.specs.Passes.{IsPassOf}
+use Rattle.npf_cells.specs.Cells.{IsPassIn}
 use Rattle.npf_trie_bench.proofs.looking.look_some.Given as goal
 
 abbrev pub invariant-loop-n : goal.invariant-loop-n
 invariant-loop-n l = record {
-  own : IsPassOf l.cells.table.shared.key l.cells.table.shared.table_id l.pass.seat.table_id l.pass.readers.items l.pass.seat.me;
+  own : IsPassIn l.cells l.pass;
   epochs : l.pass.seat.me.0.epochs ≡ l.initial.pass.seat.me.0.epochs;
   pools : l.pass.seat.me.0.pools ≡ l.initial.pass.seat.me.0.pools;
   locks : l.pass.seat.me.0.trie.locks ≡ l.initial.pass.seat.me.0.trie.locks;
