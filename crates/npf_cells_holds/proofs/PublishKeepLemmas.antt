@@ -46,7 +46,6 @@ use Rattle.npf_seats.proofs.ListLemmas.{occurs_or}
 use Rattle.npf_seats.proofs.PrefixLemmas.{none_listed}
 use Rattle.npf_seats.proofs.SeatLemmas.{seats-adds}
 use Rattle.npf_seats.proofs.SumLemmas.{sum-set}
-use Rattle.npf_cells_pins.specs.Epochs.{ReaderView}
 use Rattle.npf_cells_pins.proofs.EpochLemmas.{within_last}
 use Rattle.npf_cells_leaves.specs.declared.trie.LoadedLeaf.{LoadedLeaf}
 use Rattle.npf_cells_leaves.specs.Trie.{key_in, digits_of, TrieWords, trie_words, leaf_found, holder_at, StaysLeaf, FitsTrie, Trie, all_grown}

@@ -1,5 +1,5 @@
 -- The part of the rule on turns: who has the turn of a slot, and what the slot's phase and its value say.
-use Rattle.std.specs.Prelude.{◌≡◌, ◌≢◌, ◌⊎◌, ℕ, ◌≤◌, ◌<◌, ◌==◌, Option, Some, None, List, [], ◌∷◌, length, slice_index, sum_by, if◌then◌else◌}
+use Rattle.std.specs.Prelude.{◌≡◌, ◌⊎◌, ℕ, ◌≤◌, ◌<◌, ◌==◌, Option, Some, None, List, length, slice_index, sum_by, if◌then◌else◌}
 use mathlib.Core.Option.{Option as Optional, some}
 use lib.ListN.{get_elem?}
 use Rattle.npf_core.specs.declared.slot.Slot.{Slot}

@@ -30,7 +30,6 @@ use Rattle.npf_cells_lives.specs.Conns.{entry_seat}
 use Rattle.npf_cells_rule.specs.declared.view.CellView.{CellView}
 use Rattle.npf_cells_rule.specs.Cells.{FitsAlone, IsCells}
 use Rattle.npf_cells_rule.specs.Passes.{IsPassOf, IsProtected}
-use Rattle.npf_cells_rule.specs.TableLaw.{HoldsBack}
 use Rattle.npf_cells_rule.specs.Views.{seat_side, reader_view, with_epochs}
 use Rattle.npf_cells_rule.proofs.Frames.{epochs_step, alone_still, alone_within}
 use Rattle.npf_cells_rule.proofs.SoleLemmas.{raised_alone}

@@ -1,5 +1,5 @@
 -- That each of these steps keeps the rule, and tells what it says, whatever else passes do.
-use Rattle.std.specs.Prelude.{[], None, eqb, false, length, true, ℕ, ◌+◌, ◌-◌, ◌<◌, ◌^◌, ◌≡◌, ◌≤◌}
+use Rattle.std.specs.Prelude.{[], None, eqb, false, length, true, ℕ, ◌+◌, ◌<◌, ◌^◌, ◌≡◌, ◌≤◌}
 use prog.Atomic.{either}
 use Rattle.atomic_table.specs.Table.{Allows, Joins, Me, Splits, Step}
 use Rattle.npf_types.specs.declared.key.Key.{Key}

@@ -1,6 +1,6 @@
 -- A new table keeps the rule.
 use Rattle.std.specs.List.{Contains}
-use Rattle.std.proofs.Common.{◌≡◌, ◌≢◌, ◌⊎◌, ℕ, zero, suc, ◌+◌, ◌-◌, ◌<◌, ◌≤◌, Bool, true, false, true≢false, cond, Some, None, List, [], ◌∷◌, map, length, slice_index, replicate, sum_by, refl, sym, ap, ◌∙◌, subst, ⊎_elim, inl, arith}
+use Rattle.std.proofs.Common.{◌≡◌, ℕ, zero, suc, ◌+◌, ◌<◌, ◌≤◌, Bool, true, false, true≢false, cond, Some, None, List, [], ◌∷◌, map, length, slice_index, replicate, sum_by, refl, sym, ap, ◌∙◌, subst, ⊎_elim, inl, arith}
 use Rattle.std.proofs.lemmas.List.{get_or-set_same, length-map, length-replicate}
 use Rattle.std.proofs.lemmas.List.Sums.{sum_by-cons}
 use mathlib.Core.Option.{some, some-injective, some-ne-none}

@@ -1,6 +1,5 @@
 -- A step on the word of a slot's turn or of its phase leaves all parts but that on turns.
-use Rattle.std.specs.List.{Contains}
-use Rattle.std.proofs.Common.{◌≡◌, ◌≢◌, ℕ, ◌+◌, ◌<◌, ◌≤◌, List, [], ◌∷◌, set, length, slice_index, refl, sym, ap, ◌∙◌, subst, ⊎_elim, arith, length-set}
+use Rattle.std.proofs.Common.{◌≡◌, ◌≢◌, ℕ, ◌+◌, ◌<◌, List, [], ◌∷◌, set, slice_index, refl, sym, ap, subst, ⊎_elim, arith, length-set}
 use Rattle.std.proofs.lemmas.List.{get_or-set_other}
 use mathlib.Core.Option.{some}
 use lib.ListN.{get_elem?}
@@ -34,7 +33,7 @@ use Rattle.npf_cells_lives.proofs.PoolLemmas.{pools-kept, taken-set}
 use Rattle.npf_cells_lives.proofs.StoredLemmas.{stored_kept, stored-set, no_turn}
 use Rattle.npf_cells_rule.specs.declared.view.CellView.{CellView}
 use Rattle.npf_cells_rule.specs.Cells.{FitsAlone, IsCells}
-use Rattle.npf_cells_rule.specs.Views.{seat_side, reader_view, lock_side, pool_side, trie_side, turn_side}
+use Rattle.npf_cells_rule.specs.Views.{seat_side, lock_side, pool_side, trie_side, turn_side}
 use Rattle.npf_cells_rule.proofs.Frames.{alone-set, framed, epochs_apart}
 
 module _ {S A R : Type 0} (m : Meaning S A R) (digest : Key → ℕ) (layout : Layout) where

@@ -1,7 +1,7 @@
 -- Kinds 7 to 9 keep the rule: each by its part and the frame of a step on a pool's word.
 use Rattle.std.specs.Int.{bit_at, bit_not, w64}
 use Rattle.std.specs.List.{Contains}
-use Rattle.std.proofs.Common.{◌≡◌, ◌≢◌, ℕ, ◌+◌, ◌*◌, ◌%◌, ◌^◌, ◌<◌, ◌≤◌, Bool, true, false, cond, eqb, eq-eqb, ne_eqb, List, [], ◌∷◌, set, length, slice_index, refl, sym, ap, ◌∙◌, subst, arith, length-set, bit_and, bit_or}
+use Rattle.std.proofs.Common.{◌≡◌, ◌≢◌, ℕ, ◌+◌, ◌*◌, ◌%◌, ◌^◌, ◌<◌, ◌≤◌, Bool, true, false, cond, eqb, eq-eqb, ne_eqb, List, [], ◌∷◌, set, length, slice_index, refl, sym, ap, ◌∙◌, arith, length-set, bit_and, bit_or}
 use Rattle.std.proofs.lemmas.Bool.Decides.{Decides-eqb, not_from_Decides}
 use Rattle.std.proofs.lemmas.List.{get_or-set_other, set-get_or}
 use Rattle.std.proofs.lemmas.List.Elements.{Contains-append_right}
@@ -9,7 +9,6 @@ use Rattle.std.proofs.lemmas.Nat.Bits.{bit_at-lt, bit_at_set_same, bit_at_set_ot
 use mathlib.Core.Option.{some}
 use lib.ListN.{get_elem?}
 use Rattle.atomic_table.specs.Table.{State, Me, Step, Allows, stepped, keeps}
-use Rattle.atomic_table.proofs.Lists.{at_map}
 use Rattle.npf_types.specs.declared.key.Key.{Key}
 use Rattle.npf_core.specs.History.{state_of}
 use Rattle.npf_core.specs.Machine.{Machine}
@@ -22,7 +21,6 @@ use Rattle.npf_seats.specs.Sums.{others_than, occurs}
 use Rattle.npf_seats.proofs.ListLemmas.{one_where, occurs-cons, left_same, left_others, stands_once}
 use Rattle.npf_seats.proofs.SumLemmas.{sum-set, one_of_sum}
 use Rattle.npf_cells_leaves.proofs.TrieLemmas.{knows_same}
-use Rattle.npf_cells_lives.specs.declared.pools.PoolSide.{PoolSide}
 use Rattle.npf_cells_lives.specs.declared.pools.StoredWord.{StoredWord}
 use Rattle.npf_cells_lives.specs.Pools.{node_owners, taken}
 use Rattle.npf_cells_lives.specs.Stored.{IsOwnField, FitsStored}
@@ -31,7 +29,7 @@ use Rattle.npf_cells_lives.proofs.StoredLemmas.{fits_unstored, own_same, stored_
 use Rattle.npf_cells_rule.specs.declared.view.CellView.{CellView}
 use Rattle.npf_cells_rule.specs.Cells.{IsCells}
 use Rattle.npf_cells_rule.specs.Stood.{StoodSo}
-use Rattle.npf_cells_rule.specs.Views.{seat_side, pool_side}
+use Rattle.npf_cells_rule.specs.Views.{pool_side}
 use Rattle.npf_cells_rule.proofs.Frames.{alone_still, IsPoolStep, pools_step, sight_step}
 use Rattle.npf_cells_rule.proofs.StoodLemmas.{stood_so}
 use Rattle.npf_cells_takes.proofs.SightLemmas.{seer, seer_stored, has_seen}

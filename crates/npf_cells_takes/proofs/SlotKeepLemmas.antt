@@ -39,7 +39,7 @@ use Rattle.npf_cells_lives.specs.Stored.{IsOwnField, FitsStored}
 use Rattle.npf_cells_lives.proofs.ConnLemmas.{BuildsIn}
 use Rattle.npf_cells_lives.proofs.PoolLemmas.{pools-set, taken-set}
 use Rattle.npf_cells_lives.proofs.SlotLemmas.{clear_vacant, claimed, now_taken, now_building, slot_else, taken_else, builds_more, incs_more}
-use Rattle.npf_cells_lives.proofs.StoredLemmas.{own_same, stored_kept}
+use Rattle.npf_cells_lives.proofs.StoredLemmas.{stored_kept}
 use Rattle.npf_cells_rule.specs.declared.view.CellView.{CellView}
 use Rattle.npf_cells_rule.specs.Cells.{IsCells}
 use Rattle.npf_cells_rule.specs.Passes.{IsProtected, cell_pass}

@@ -1,8 +1,7 @@
 -- What the acts at the end of a turn make of the machine.
-use Rattle.std.specs.List.{Contains, filter}
-use Rattle.std.proofs.Common.{◌≡◌, ◌≢◌, ℕ, Bool, true, false, ◌==◌, not, cond, eq-eqb, ne_eqb, List, [], ◌∷◌, refl, sym, ap, ◌∙◌, subst, ⊎_elim, inl, inr}
+use Rattle.std.specs.List.{Contains}
+use Rattle.std.proofs.Common.{◌≡◌, ◌≢◌, ℕ, Bool, true, false, ◌==◌, not, cond, eq-eqb, ne_eqb, List, refl, sym, ap, ◌∙◌, subst, ⊎_elim, inl, inr}
 use Rattle.std.proofs.lemmas.Bool.{cases_eq}
-use Rattle.std.proofs.lemmas.List.Elements.{Contains-append_left, Contains-append_right, Contains-push}
 use Rattle.npf_types.specs.declared.key.Key.{Key}
 use Rattle.npf_types.specs.declared.key.Way.{Way}
 use Rattle.npf_core.specs.declared.act.Act.TheVariants as Acts
@@ -19,7 +18,6 @@ use Rattle.npf_core.specs.NextState.{is_id, stepped, after_act}
 use Rattle.npf_core.specs.Replies.{step_answer}
 use Rattle.npf_core.proofs.EqualityLemmas.{is_id-Decides}
 use Rattle.npf_connections.specs.Answered.{without}
-use Rattle.npf_seats.proofs.PrefixLemmas.{none_listed, cons_cases}
 use Rattle.npf_cells_lives.specs.Pools.{claim_bit}
 use Rattle.npf_cells_lives.specs.Turns.{running, phase_of, StaysAt}
 use Rattle.npf_cells_lives.proofs.ConnLemmas.{building_at}

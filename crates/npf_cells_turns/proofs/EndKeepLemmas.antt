@@ -1,14 +1,13 @@
 -- Each act at the end of a turn keeps the rule, and makes its entry.
 use Rattle.std.specs.List.{Contains}
-use Rattle.std.proofs.Common.{◌≡◌, ◌≢◌, ◌⊎◌, ℕ, ◌<◌, ◌≤◌, true, Some, None, List, [], ◌∷◌, ◌++◌, cond, eq-eqb, set, length, slice_index, refl, sym, ap, ◌∙◌, subst, ⊎_elim, inl}
+use Rattle.std.proofs.Common.{◌≡◌, ◌≢◌, ℕ, ◌≤◌, true, Some, None, List, [], ◌∷◌, ◌++◌, cond, eq-eqb, set, length, refl, sym, ap, ◌∙◌, subst, ⊎_elim}
 use mathlib.Core.Option.{some}
 use lib.ListN.{get_elem?}
 use denote.Bor.{Bor}
-use Rattle.atomic_table.specs.Table.{State, Me, Step, Act, Allows, Valid, carried_after, stepped, gives}
+use Rattle.atomic_table.specs.Table.{State, Me, Step, Allows, gives}
 use Rattle.npf_types.specs.declared.key.Key.{Key}
 use Rattle.npf_types.specs.declared.key.Way.{Way}
 use Rattle.npf_core.specs.declared.act.Act.TheVariants as Acts
-use Rattle.npf_core.specs.declared.act.Why.{Why}
 use Rattle.npf_core.specs.declared.act.Why.TheVariants as Reasons
 use Rattle.npf_core.specs.declared.conn_id.ConnId.{ConnId}
 use Rattle.npf_core.specs.declared.entry.Entry.{Entry}
@@ -44,7 +43,7 @@ use Rattle.npf_cells_rule.specs.Cells.{IsCells}
 use Rattle.npf_cells_rule.specs.Passes.{cell_pass}
 use Rattle.npf_cells_turns.specs.declared.act.TurnAct.{TurnAct}
 use Rattle.npf_cells_turns.specs.declared.act.TurnAct.TheVariants.{Nothing, Start, Step as Steps, Abandoned, Expired}
-use Rattle.npf_cells_turns.specs.EndKinds.{stage_by, BuildsThere, KnowsThere, IsDueThere, MayAct, MayEnd, act_entries, building_after, given_up, acted, HasActed, TellsEnd, EndsTurn}
+use Rattle.npf_cells_turns.specs.EndKinds.{stage_by, BuildsThere, KnowsThere, IsDueThere, MayAct, MayEnd, act_entries, building_after, given_up, HasActed, TellsEnd, EndsTurn}
 use Rattle.npf_cells_turns.proofs.ActLemmas.{stepped_idle, stepped_bit, due_bit, due_settled, answer_stays, step_runs, step_phase, ActsOn, starts_on, steps_on, kills_on, still_building, building_in, not_without, in_without}
 use Rattle.npf_cells_turns.proofs.EndLemmas.{ends_alone, ends_with, adds_act, legal_after}
 

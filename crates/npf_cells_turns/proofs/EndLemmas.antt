@@ -1,6 +1,5 @@
 -- The end of a turn keeps the rule: the slot holds what the pass leaves there, and the act's entry ends the history.
-use Rattle.std.specs.List.{Contains}
-use Rattle.std.proofs.Common.{◌≡◌, ◌≢◌, ℕ, ◌+◌, ◌<◌, ◌≤◌, true, Some, None, List, [], ◌∷◌, ◌++◌, map, set, length, slice_index, refl, sym, ap, ◌∙◌, subst, ⊎_elim, inl, arith, length-set}
+use Rattle.std.proofs.Common.{◌≡◌, ◌≢◌, ℕ, ◌+◌, ◌≤◌, true, Some, None, List, [], ◌∷◌, ◌++◌, map, set, length, slice_index, refl, sym, ap, ◌∙◌, subst, ⊎_elim, inl, arith, length-set}
 use Rattle.std.proofs.lemmas.List.{get_or-set_same, map-set}
 use mathlib.Core.Option.{some}
 use lib.ListN.{get_elem?}
@@ -31,7 +30,7 @@ use Rattle.npf_cells_leaves.specs.Trie.{Trie}
 use Rattle.npf_cells_leaves.proofs.TrieLemmas.{knows_same, trie_same}
 use Rattle.npf_cells_lives.specs.declared.pools.PoolSide.{PoolSide}
 use Rattle.npf_cells_lives.specs.declared.turn.Turn.{Turn}
-use Rattle.npf_cells_lives.specs.Conns.{FitsBuilds, Conns, unstored_by, entry_seat}
+use Rattle.npf_cells_lives.specs.Conns.{FitsBuilds, Conns, entry_seat}
 use Rattle.npf_cells_lives.specs.Pools.{claim_bit, taken}
 use Rattle.npf_cells_lives.specs.Stored.{FitsStored}
 use Rattle.npf_cells_lives.specs.Turns.{Homes, Running, running, phase_of, has_turn, turn_holders, FitsTurn, Turns}

@@ -14,7 +14,7 @@ use Rattle.npf_cells_rule.specs.Passes.{Carries, IsPassOf}
 use Rattle.npf_cells_turns.specs.declared.act.TurnAct.{TurnAct}
 use Rattle.npf_cells_turns.specs.declared.act.TurnAct.TheVariants.{Nothing, Start, Step as Steps, Abandoned, Expired}
 use Rattle.npf_cells_turns.specs.EndKinds.{acted, TellsEnd}
-use Rattle.npf_cells_turns.specs.TurnKinds.{HasTaken, TriesTurn, HasTurn}
+use Rattle.npf_cells_turns.specs.TurnKinds.{TriesTurn, HasTurn}
 
 module _ {S A R : Type 0} (layout : Layout) (table seat : TableId) (readers : List ℕ) (me : Me (Running S) (CellView S A R)) where
   -- through one that changes its turn alone, and what it carries

@@ -1,14 +1,12 @@
 -- A try to get a slot's turn keeps the rule.
-use Rattle.std.proofs.Common.{◌≡◌, ◌≢◌, ℕ, ◌+◌, ◌<◌, ◌≤◌, true, eqb, Option, Some, None, List, [], ◌∷◌, set, length, slice_index, refl, sym, ap, ◌∙◌, subst, inl, arith, length-set}
-use Rattle.std.proofs.lemmas.List.{get_or-set_same, set-get_or}
+use Rattle.std.proofs.Common.{◌≡◌, ◌≢◌, ℕ, ◌<◌, ◌≤◌, true, eqb, Some, None, List, [], set, length, slice_index, refl, sym, ap, ◌∙◌, subst, inl, arith, length-set}
+use Rattle.std.proofs.lemmas.List.{get_or-set_same}
 use mathlib.Core.Option.{none, some}
 use lib.ListN.{get_elem?}
 use prog.Atomic.{either}
-use Rattle.atomic_table.specs.Seated.{TableId}
 use Rattle.atomic_table.specs.Table.{State, Me, Act, Step, stepped, Allows, Valid, carried_after, keeps, takes}
 use Rattle.atomic_table.proofs.Lists.{exchanged, set_else}
 use Rattle.npf_types.specs.declared.key.Key.{Key}
-use Rattle.npf_core.specs.declared.slot.Slot.{Slot}
 use Rattle.npf_core.specs.History.{state_of}
 use Rattle.npf_core.specs.Machine.{Machine}
 use Rattle.npf_core.specs.Meaning.{Meaning}
@@ -18,16 +16,15 @@ use Rattle.npf_cells_words.specs.Layout.{turn_field, phase_field, field_at}
 use Rattle.npf_cells_words.proofs.WordLemmas.{field_reach}
 use Rattle.npf_seats.proofs.SumLemmas.{sum-set, one_of_sum}
 use Rattle.npf_cells_lives.specs.declared.turn.Turn.{Turn}
-use Rattle.npf_cells_lives.specs.Turns.{Homes, Running, running, phase_of, phase_word, has_turn, turn_holders, FitsTurn, IsAtHome, Turns}
+use Rattle.npf_cells_lives.specs.Turns.{Homes, Running, running, has_turn, turn_holders, FitsTurn, IsAtHome, Turns}
 use Rattle.npf_cells_lives.proofs.TurnLemmas.{has_once, has_none, turns-changed}
 use Rattle.npf_cells_rule.specs.declared.view.CellView.{CellView}
 use Rattle.npf_cells_rule.specs.Cells.{IsCells}
-use Rattle.npf_cells_rule.specs.Passes.{IsPassOf}
 use Rattle.npf_cells_rule.specs.Views.{turn_side}
 use Rattle.npf_cells_rule.proofs.Frames.{alone_still}
 use Rattle.npf_cells_rule.proofs.StoodLemmas.{stood_so}
 use Rattle.npf_cells_rule.proofs.TurnFrames.{other_word, turn_step}
-use Rattle.npf_cells_turns.specs.TurnKinds.{turn_at, HasTaken, TriesTurn}
+use Rattle.npf_cells_turns.specs.TurnKinds.{turn_at, TriesTurn}
 use Rattle.npf_cells_turns.proofs.WordKeepLemmas.{still}
 
 module _ {S A R : Type 0} (m : Meaning S A R) (digest : Key → ℕ) (layout : Layout) where

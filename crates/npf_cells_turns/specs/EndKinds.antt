@@ -1,5 +1,5 @@
 -- What the end of a turn asks and tells, by what it does.
-use Rattle.std.specs.Prelude.{◌≡◌, ℕ, Option, Some, None, List, [], ◌∷◌, Contains}
+use Rattle.std.specs.Prelude.{◌≡◌, ℕ, Some, None, List, [], ◌∷◌, Contains}
 use Rattle.atomic_table.specs.Table.{Me, Step}
 use Rattle.npf_core.specs.declared.act.Act.TheVariants as Acts
 use Rattle.npf_core.specs.declared.act.Why.TheVariants as Reasons
