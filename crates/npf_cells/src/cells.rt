@@ -1,4 +1,4 @@
-ghost use Rattle.std.specs.Prelude.{◌≡◌, ◌≤◌, ◌<◌, ◌^◌, ◌+◌, ◌-◌, ◌++◌, ℕ, IfOk, length, slice_index, take, drop};
+ghost use Rattle.std.specs.Prelude.{◌≡◌, ◌≤◌, ◌<◌, ◌^◌, ◌+◌, ◌-◌, ◌++◌, ℕ, IfOk, None, length, replicate, slice_index, take, drop};
 ghost use Rattle.npf_connections.specs.Pass.{all_places};
 ghost use Rattle.npf_cells_words.specs.Layout.{pool_words, word_count};
 ghost use Rattle.npf_cells_words.specs.Opening.{opening_words, with_past};
@@ -44,7 +44,7 @@ pub struct CellPass<L: Law> {
 }
 
 impl<L: Law, H: KeyHash> Cells<L, H> {
-    ghost use Rattle.std.specs.Prelude.{◌≡◌, ◌≤◌, ◌<◌, ◌+◌, ◌^◌, ◌↔◌, ℕ, true, [], IfOk, if◌then◌else◌};
+    ghost use Rattle.std.specs.Prelude.{◌≡◌, ◌≤◌, ◌<◌, ◌+◌, ◌^◌, ◌↔◌, ℕ, true, None, [], IfOk, if◌then◌else◌};
     ghost use Rattle.npf_connections.specs.Joining.{IsSplit, IsJoined};
     ghost use Rattle.npf_connections.specs.Pass.{IsPass, IsFirstPass, all_places};
     ghost use Rattle.npf_connections.specs.Worn.{last_epoch};
@@ -76,6 +76,7 @@ impl<L: Law, H: KeyHash> Cells<L, H> {
         ensures idle { IfOk result (λ made. made.1.seat.me.0.epochs.pin ≡ Idle) }
         ensures empty { IfOk result (λ made. made.1.seat.me.0.pools ≡ empty_handed) }
         ensures unread { IfOk result (λ made. made.1.seat.me.0.trie ≡ unread_side) }
+        ensures turnless { IfOk result (λ made. made.1.seat.me.0.turn ≡ None) }
     {
         let layout = Layout { slots, nodes };
         let words = first_words(alloc, layout)?;
@@ -113,6 +114,8 @@ impl<L: Law, H: KeyHash> Cells<L, H> {
         ensures pools { pass.new.seat.me.0.pools ≡ pass.old.seat.me.0.pools }
         ensures epochs { pass.new.seat.me.0.epochs ≡ pass.old.seat.me.0.epochs }
         ensures trie { pass.new.seat.me.0.trie ≡ pass.old.seat.me.0.trie }
+        ensures given_turnless { result.seat.me.0.turn ≡ None }
+        ensures turn { pass.new.seat.me.0.turn ≡ pass.old.seat.me.0.turn }
         ensures given_legal { IsPass L.meaning (cell_pass result.seat.me.0) }
     {
         let readers = give_last(&mut pass.readers);
@@ -130,11 +133,13 @@ impl<L: Law, H: KeyHash> Cells<L, H> {
         requires done { pass.old.seat.me.0.pools.builds ≡ [] }
         requires other_done { other.seat.me.0.pools.builds ≡ [] }
         requires other_nodes { other.seat.me.0.pools.nodes ≡ [] }
+        requires other_turn { other.seat.me.0.turn ≡ None }
         ensures own { IsPassIn self.now pass.new }
         ensures idle { pass.new.seat.me.0.epochs.pin ≡ Idle }
         ensures pools { pass.new.seat.me.0.pools ≡ joined_pools pass.old.seat.me.0.pools other.seat.me.0.pools }
         ensures epochs { pass.new.seat.me.0.epochs ≡ joined_epochs pass.old.seat.me.0.epochs other.seat.me.0.epochs }
         ensures trie { pass.new.seat.me.0.trie ≡ joined_trie pass.old.seat.me.0.trie other.seat.me.0.trie }
+        ensures turn { pass.new.seat.me.0.turn ≡ pass.old.seat.me.0.turn }
         ensures joins { IsJoined (cell_pass pass.old.seat.me.0) (cell_pass other.seat.me.0) (cell_pass pass.new.seat.me.0) }
         ensures legal { IsPass L.meaning (cell_pass pass.new.seat.me.0) }
     {
@@ -266,12 +271,10 @@ fn set_past(words: &mut Vec<u64>, at: usize, places: u32)
 }
 
 // The slots of a new table.
-fn vacant_homes<S: Copy>(alloc: Global, slots: u32) -> Result<Vec<Option<(S, u64)>>, NoMemory> {
-    let mut homes = Vec::with_capacity(alloc, slots as usize)?;
-    for _ in 0..slots {
-        homes.push(None)?;
-    }
-    Ok(homes)
+fn vacant_homes<S: Copy>(alloc: Global, slots: u32) -> Result<Vec<Option<(S, u64)>>, NoMemory>
+    ensures { IfOk result (λ homes. homes.items ≡ replicate slots None) }
+{
+    Ok(vec![in alloc; None; slots as usize]?)
 }
 
 // Each reader place, in order.

@@ -38,19 +38,19 @@ impl<L: Law, H: KeyHash> Cells<L, H> {
     ghost use Rattle.npf_cells_lives.specs.Conns.{IsBuiltIn};
     ghost use Rattle.npf_cells_words.specs.Layout.{field_count, pool_places};
     ghost use Rattle.npf_cells.specs.Cells.{IsPassIn};
-    ghost use Rattle.npf_cells_rule.specs.Views.{with_pools};
-    ghost use Rattle.npf_cells_takes.specs.PrivateKinds.{ShowsInc, ShowsLeafInc, HasLeafIn, MayStore, storing};
+    ghost use Rattle.npf_cells_takes.specs.PrivateKinds.{ShowsInc, ShowsLeafInc, ShowsTurnInc, HasLeafIn, HasTurnIn, MayStore, stored_in};
 
-    /// Loads the incarnation of a slot in which the pass is building a connection, or of the leaf that it loaded last: that
-    /// connection's, or the one before it where the pass that is building it hasn't stored it yet.
+    /// Loads the incarnation of a slot in which the pass is building a connection, of the leaf that it loaded last, or of the Live or Dead
+    /// connection whose turn it has: that connection's, or the one before it where the pass that is building it hasn't stored it yet.
     pub fn load_inc(&self, pass: &mut CellPass<L>, slot: u32) -> u64
         requires own { IsPassIn self.now pass.old }
         requires slot { slot < self.now.table.shared.key.slots }
-        requires fixed { IsBuiltIn pass.old.seat.me.0.pools.builds slot ⊎ HasLeafIn pass.old.seat.me.0.trie slot }
+        requires fixed { IsBuiltIn pass.old.seat.me.0.pools.builds slot ⊎ HasLeafIn pass.old.seat.me.0.trie slot ⊎ HasTurnIn pass.old.seat.me.0.turn slot }
         ensures own { IsPassIn self.now pass.new }
         ensures same { pass.new.seat.me ≡ pass.old.seat.me }
         ensures shows { ShowsInc pass.old.seat.me.0.pools slot result }
         ensures leaf { ShowsLeafInc pass.old.seat.me.0.trie slot result }
+        ensures turn { ShowsTurnInc pass.old.seat.me.0.turn slot result }
     {
         self.load_inc_as::<Brand>(pass, slot)
     }
@@ -63,6 +63,7 @@ impl<L: Law, H: KeyHash> Cells<L, H> {
         ensures same { pass.new.seat.me ≡ pass.old.seat.me }
         ensures shows { ShowsInc pass.old.seat.me.0.pools slot result }
         ensures leaf { ShowsLeafInc pass.old.seat.me.0.trie slot result }
+        ensures turn { ShowsTurnInc pass.old.seat.me.0.turn slot result }
     {
         let word = self.layout.field_place(Pool::Slots, slot, INCARNATION);
         self.table
@@ -71,8 +72,8 @@ impl<L: Law, H: KeyHash> Cells<L, H> {
     }
 
     /// Stores in a word of a node that the pass owns, but never in its state; or in a word of a connection that it is building, but
-    /// never in its turn, as incarnation that connection's own alone, and in the words of a key only while it holds none of that way.
-    /// The fields are those of docs/ARCHITECTURE.md, counted from 0.
+    /// never in its turn or its phase, as incarnation that connection's own alone, and in the words of a key only while it holds none of
+    /// that way; or in the phase of a connection whose turn the pass has. The fields are those of docs/ARCHITECTURE.md, counted from 0.
     pub fn store_private(
         &self,
         pass: &mut CellPass<L>,
@@ -86,7 +87,7 @@ impl<L: Law, H: KeyHash> Cells<L, H> {
         requires field { field < field_count pool }
         requires may { MayStore L.meaning pass.old.seat.me.0 pool place field value }
         ensures own { IsPassIn self.now pass.new }
-        ensures next { pass.new.seat.me ≡ with_pools pass.old.seat.me (storing pool place field value pass.old.seat.me.0.pools) }
+        ensures next { pass.new.seat.me ≡ stored_in pool place field value pass.old.seat.me }
     {
         self.store_private_as::<Brand>(pass, pool, place, field, value);
     }
@@ -105,7 +106,7 @@ impl<L: Law, H: KeyHash> Cells<L, H> {
         requires may { MayStore L.meaning pass.old.seat.me.0 pool place field value }
         requires aim { (W.told.layout ≡ self.now.table.shared.key) × (W.told.pool ≡ pool) × (W.told.number ≡ place) × (W.told.field ≡ field) }
         ensures own { IsPassIn self.now pass.new }
-        ensures next { pass.new.seat.me ≡ with_pools pass.old.seat.me (storing pool place field value pass.old.seat.me.0.pools) }
+        ensures next { pass.new.seat.me ≡ stored_in pool place field value pass.old.seat.me }
     {
         let word = self.layout.field_place(pool, place, field);
         self.table

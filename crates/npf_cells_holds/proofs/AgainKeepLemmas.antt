@@ -1,6 +1,6 @@
 -- Kind 15 where what stands in a place is stored again keeps the rule.
 use Rattle.std.specs.List.{Contains}
-use Rattle.std.proofs.Common.{◌≤◌, length, ◌≡◌, ◌≢◌, ℕ, List, set, refl, sym, ap, ◌∙◌, subst, ⊎_elim, length-set}
+use Rattle.std.proofs.Common.{◌≤◌, length, ◌≡◌, ◌≢◌, ℕ, List, set, refl, sym, ap, ◌∙◌, subst, ⊎_elim, inl, length-set}
 use mathlib.Core.Option.{some}
 use lib.ListN.{get_elem?}
 use Rattle.atomic_table.specs.Table.{State, Me, Step, Allows, stepped, keeps}
@@ -27,9 +27,10 @@ use Rattle.npf_cells_lives.proofs.StoredLemmas.{stored_kept, stored-set}
 use Rattle.npf_cells_rule.specs.declared.view.CellView.{CellView}
 use Rattle.npf_cells_rule.specs.Cells.{IsCells}
 use Rattle.npf_cells_rule.specs.Views.{lock_side, pool_side, trie_side}
-use Rattle.npf_cells_rule.proofs.Frames.{alone_still, private_step}
+use Rattle.npf_cells_rule.proofs.Frames.{alone_still, private_step, turns_apart}
 use Rattle.npf_cells_holds.specs.PublishKinds.{SeesLocked, publishing, StoresAgain}
-use Rattle.npf_cells_holds.proofs.PlaceLemmas.{cell_here, cell_else, key_else, inc_else, lock_else, own_else}
+use Rattle.npf_cells_holds.proofs.PlaceLemmas.{cell_here, cell_else, key_else, inc_else, turn_else, lock_else, own_else}
+use Rattle.npf_cells_lives.specs.Turns.{Running}
 
 -- what the pass saw stands there still, on a key's path
 pub record StandsThere (digest : Key → ℕ) (t : TrieWords) (p : Place) (cell : Cell) : Type 0 where
@@ -42,8 +43,8 @@ pub record StandsThere (digest : Key → ℕ) (t : TrieWords) (p : Place) (cell 
 publishes_less : (side : TrieSide) → KnowsNoMore side (publishing side)
 publishes_less side = record { stands = λ point e. e; leaf = λ leaf e. e; seen = λ x e. absurd cc; locks = refl; answered = λ i c. c; grown = refl }
 
-module _ {S A R F : Type 0} (m : Meaning S A R) (digest : Key → ℕ) (layout : Layout) where
-  module _ (s : State F (CellView S A R)) (id : ℕ) (me : Me F (CellView S A R)) (kept : IsCells m digest layout s) (at : get_elem? s.views id ≡ some me.0) (p : Place) (inside : IsInTrie layout p) where
+module _ {S A R : Type 0} (m : Meaning S A R) (digest : Key → ℕ) (layout : Layout) where
+  module _ (s : State (Running S) (CellView S A R)) (id : ℕ) (me : Me (Running S) (CellView S A R)) (kept : IsCells m digest layout s) (at : get_elem? s.views id ≡ some me.0) (p : Place) (inside : IsInTrie layout p) where
     abbrev k : Machine S
     k = state_of m kept.log
 
@@ -84,11 +85,12 @@ module _ {S A R F : Type 0} (m : Meaning S A R) (digest : Key → ℕ) (layout :
         (stored_kept layout s.words words me.0.pools w.pools (kept.stored id me.0 at) refl (λ pool place field own. own) (own_else m digest layout s kept p inside (cell_word cell) (digits_of digest there.key) there.level are there.on_path id me.0 at))
         (λ j u ne e. stored_kept layout s.words words u.pools u.pools (kept.stored j u e) refl (λ pool place field own. own) (own_else m digest layout s kept p inside (cell_word cell) (digits_of digest there.key) there.level are there.on_path j u e)))
         (locks-same lock_side layout s.words words s.views (set s.views id w) kept.locks (lock_else m digest layout s kept p inside (cell_word cell)) (holders-set lock_side layout s.views id me.0 w at refl))
+        (turns_apart m digest layout s (place_at layout p) (cell_word cell) id me.0 w k kept at refl (λ slot field h f. turn_else m digest layout s kept p inside (cell_word cell) slot field) (λ slot. inl refl))
       where
         words : List ℕ
         words = set s.words (place_at layout p) (cell_word cell)
 
-  pub may_store_again : (st : Step F) (id n : ℕ) (p : Place) (cell : Cell) (me : Me F (CellView S A R)) → 1 ≤ length me.0.seats.readers → IsInTrie layout p → SeesLocked me.0.trie p cell →
+  pub may_store_again : (st : Step (Running S)) (id n : ℕ) (p : Place) (cell : Cell) (me : Me (Running S) (CellView S A R)) → 1 ≤ length me.0.seats.readers → IsInTrie layout p → SeesLocked me.0.trie p cell →
       Allows (IsCells m digest layout) n id me (place_at layout p) (λ _. cell_word cell) (λ _. StoresAgain st me (cell_word cell))
   may_store_again st id n p cell me place inside sees s kept homes at bound = (
     record me.0 { trie = publishing me.0.trie },

@@ -55,6 +55,7 @@ use Rattle.npf_cells_rule.proofs.PassLemmas.{pinned_in}
 use Rattle.npf_cells_holds.specs.HoldKinds.{MayHoldSo, renewed, leaf_holder, meeting, taken_by, HasMetHolder, MeetsLeaf, HoldsAt, LoadsForHold}
 use Rattle.npf_cells_holds.specs.LookKinds.{StandsOnPath, level_at, sighting, descending, FitsLayout}
 use Rattle.npf_cells_holds.proofs.LookKeepLemmas.{some_same, load_step, on, sees, fits_table, shallow}
+use Rattle.npf_cells_lives.specs.Turns.{Running}
 
 -- a hold of a key that has a holder changes no holder
 holder_stays : {S : Type 0} (k : Machine S) (key : Key) (holder asks : Found) → k.holder key ≡ Some holder → (other : Key) → (same : Bool) → is_key key other ≡ same → cond same (holder_or (k.holder other) asks) (k.holder other) ≡ k.holder other
@@ -63,8 +64,8 @@ holder_stays k key holder asks held other true e =
     ap (λ x. holder_or x asks) is ∙ sym is
 holder_stays k key holder asks held other false e = refl
 
-module _ {S A R F : Type 0} (m : Meaning S A R) (digest : Key → ℕ) (layout : Layout) where
-  module _ (s : State F (CellView S A R)) (id : ℕ) (me : Me F (CellView S A R)) (kept : IsCells m digest layout s) (at : get_elem? s.views id ≡ some me.0)
+module _ {S A R : Type 0} (m : Meaning S A R) (digest : Key → ℕ) (layout : Layout) where
+  module _ (s : State (Running S) (CellView S A R)) (id : ℕ) (me : Me (Running S) (CellView S A R)) (kept : IsCells m digest layout s) (at : get_elem? s.views id ≡ some me.0)
       (lives : me.0.seats.lives ≡ true) (settled : me.0.seats.theirs ≡ []) (place : 1 ≤ length me.0.seats.readers) (stays : IsProtected me.0.epochs.pin) (key : Key) (p : Place) (stands : StandsOnPath digest me.0.trie key p) where
     abbrev word : ℕ
     word = place_at layout p
@@ -174,7 +175,7 @@ module _ {S A R F : Type 0} (m : Meaning S A R) (digest : Key → ℕ) (layout :
         pub takes : IsCells m digest layout (stepped s word (slice_index s.words word) id me.1 asker keeps)
         takes =
             let words = set-get_or s.words word 0 in
-            entry_step m digest layout s word (slice_index s.words word) id me.1 me.0 asker kept at lives place entry refl follows refl refl (kept.stored id me.0 at) refl (alone_within asker place stays)
+            entry_step m digest layout s word (slice_index s.words word) id me.1 me.0 asker kept at lives place entry refl follows refl refl (kept.stored id me.0 at) refl refl (λ slot. inl refl) (alone_within asker place stays)
             (record { before = λ j h. ap (λ ws. slice_index ws j) words; behind = λ j h. ap (λ ws. slice_index ws j) words })
             (pools-same layout (taken pool_side kept.published k s.views) (taken pool_side kept.published k' (set s.views id asker)) s.words (set s.words word (slice_index s.words word)) kept.pools
             (length-set s.words word (slice_index s.words word)) (λ j h. ap (λ ws. slice_index ws j) words) (taken-set pool_side kept.published k s.views id me.0 asker at refl))
@@ -201,7 +202,7 @@ module _ {S A R F : Type 0} (m : Meaning S A R) (digest : Key → ℕ) (layout :
               is = refl;
             }
 
-  pub may_load_for_hold : (st : Step F) (id n : ℕ) (conn : ConnId) (key : Key) (way : Way) (p : Place) (me : Me F (CellView S A R)) → IsInTrie layout p → me.0.seats.lives ≡ true → me.0.seats.theirs ≡ [] → 1 ≤ length me.0.seats.readers → IsProtected me.0.epochs.pin →
+  pub may_load_for_hold : (st : Step (Running S)) (id n : ℕ) (conn : ConnId) (key : Key) (way : Way) (p : Place) (me : Me (Running S) (CellView S A R)) → IsInTrie layout p → me.0.seats.lives ≡ true → me.0.seats.theirs ≡ [] → 1 ≤ length me.0.seats.readers → IsProtected me.0.epochs.pin →
       StandsOnPath digest me.0.trie key p → MayHoldSo m me.0 conn way → Allows (IsCells m digest layout) n id me (place_at layout p) (λ x. x) (LoadsForHold m digest layout conn key way p st me)
   may_load_for_hold st id n conn key way p me inside lives settled place stays stands may s kept homes at bound = by_cell (cell_in layout s.words p) refl
     where
@@ -218,7 +219,7 @@ module _ {S A R F : Type 0} (m : Meaning S A R) (digest : Key → ℕ) (layout :
       told w holds = record { holds = subst (λ c. HoldsAt m digest layout conn key way p c me (w, me.1)) (cell_there layout s.words p inside) holds }
 
       Loaded : Type 0
-      Loaded = (w : CellView S A R) × (a : Act F) × Valid s.homes me.1 a × IsCells m digest layout (stepped s (place_at layout p) number id me.1 w a) × LoadsForHold m digest layout conn key way p st me number (w, carried_after me.1 a)
+      Loaded = (w : CellView S A R) × (a : Act (Running S)) × Valid s.homes me.1 a × IsCells m digest layout (stepped s (place_at layout p) number id me.1 w a) × LoadsForHold m digest layout conn key way p st me number (w, carried_after me.1 a)
 
       at_nothing : ((slot : ℕ) (leaf_way : Way) → ¬ (cell_in layout s.words p ≡ Leaf slot leaf_way)) → ((node : ℕ) → ¬ (cell_in layout s.words p ≡ Node node)) → Loaded
       at_nothing no_leaf no_node = (
@@ -287,12 +288,12 @@ module _ {S A R F : Type 0} (m : Meaning S A R) (digest : Key → ℕ) (layout :
       )
 
   -- a pass in a stay that has seen more, and knows more of the trie under the same locks, is still one of the table
-  pass_stays : (table seat : TableId) (readers : List ℕ) (me : Me F (CellView S A R)) (history : List (Entry S A R)) (side : TrieSide) → IsProtected me.0.epochs.pin → IsPassOf layout table seat readers me →
+  pass_stays : (table seat : TableId) (readers : List ℕ) (me : Me (Running S) (CellView S A R)) (history : List (Entry S A R)) (side : TrieSide) → IsProtected me.0.epochs.pin → IsPassOf layout table seat readers me →
       IsPassOf layout table seat readers (record me.0 { seats = record me.0.seats { history = history }; trie = side }, me.1)
   pass_stays table seat readers me history side stays own = record {
     same = own.same;
     words = own.words;
-    free = own.free;
+    carries = own.carries;
     sized = own.sized;
     lives = own.lives;
     theirs = own.theirs;
@@ -306,7 +307,7 @@ module _ {S A R F : Type 0} (m : Meaning S A R) (digest : Key → ℕ) (layout :
   }
 
   -- so is one that loaded a place to hold a key
-  pub own_after : (table seat : TableId) (readers : List ℕ) (conn : ConnId) (key : Key) (way : Way) (p : Place) (cell : Cell) (old now : Me F (CellView S A R)) → IsProtected old.0.epochs.pin → IsPassOf layout table seat readers old →
+  pub own_after : (table seat : TableId) (readers : List ℕ) (conn : ConnId) (key : Key) (way : Way) (p : Place) (cell : Cell) (old now : Me (Running S) (CellView S A R)) → IsProtected old.0.epochs.pin → IsPassOf layout table seat readers old →
       HoldsAt m digest layout conn key way p cell old now → IsPassOf layout table seat readers now
   own_after table seat readers conn key way p cell old now stays own holds = by_cell cell refl
     where

@@ -1,6 +1,6 @@
 -- Kinds 13 and 14 keep the rule: a lock is tried, and the state of what a pass has locked is stored.
 use Rattle.std.specs.List.{Contains}
-use Rattle.std.proofs.Common.{◌≡◌, ◌≢◌, ℕ, zero, suc, ◌+◌, ◌<◌, ◌≤◌, Bool, true, false, cond, eqb, eq-eqb, ne_eqb, List, [], ◌∷◌, map, set, length, slice_index, sum_by, refl, sym, ap, ◌∙◌, subst, ⊎_elim, arith, length-set}
+use Rattle.std.proofs.Common.{◌≡◌, ◌≢◌, ℕ, zero, suc, ◌+◌, ◌<◌, ◌≤◌, Bool, true, false, cond, eqb, eq-eqb, ne_eqb, List, [], ◌∷◌, map, set, length, slice_index, sum_by, refl, sym, ap, ◌∙◌, subst, ⊎_elim, inl, arith, length-set}
 use Rattle.std.proofs.lemmas.Bool.{cases_eq}
 use Rattle.std.proofs.lemmas.List.{get_or-set_same, get_or-set_other}
 use Rattle.std.proofs.lemmas.List.Elements.{All-contains, All-filter, All-contains_itself}
@@ -16,12 +16,11 @@ use Rattle.npf_core.specs.History.{state_of}
 use Rattle.npf_core.specs.Machine.{Machine}
 use Rattle.npf_core.specs.Meaning.{Meaning}
 use Rattle.npf_paths.specs.declared.place.Lock.{Lock}
-use Rattle.npf_paths.specs.declared.place.Lock.TheVariants as Locking
 use Rattle.npf_cells_words.specs.declared.layout.Layout.{Layout}
 use Rattle.npf_cells_words.specs.declared.layout.Pool.TheVariants.{Slots}
 use Rattle.npf_cells_words.specs.Layout.{inc_field, key_field, field_at}
 use Rattle.npf_cells_words.specs.Places.{lock_at, IsLockOf, place_at}
-use Rattle.npf_cells_words.proofs.WordLemmas.{lock_behind, lock_reach, not_place}
+use Rattle.npf_cells_words.proofs.WordLemmas.{lock_behind, lock_reach, not_place, not_slot}
 use Rattle.npf_seats.specs.Sums.{others_than, occurs}
 use Rattle.npf_seats.proofs.ListLemmas.{one_where, occurs-cons, left_same, left_others}
 use Rattle.npf_seats.proofs.PrefixLemmas.{none_listed, cons_cases}
@@ -39,18 +38,19 @@ use Rattle.npf_cells_rule.specs.declared.view.CellView.{CellView}
 use Rattle.npf_cells_rule.specs.Cells.{FitsAlone, IsCells}
 use Rattle.npf_cells_rule.specs.Passes.{IsPassOf, IsProtected}
 use Rattle.npf_cells_rule.specs.Views.{with_trie, lock_side, pool_side, trie_side}
-use Rattle.npf_cells_rule.proofs.Frames.{alone_still, alone_within, private_step}
+use Rattle.npf_cells_rule.proofs.Frames.{alone_still, alone_within, private_step, turns_apart}
 use Rattle.npf_cells_rule.proofs.StoodLemmas.{stood_so}
 use Rattle.npf_cells_holds.specs.LockKinds.{locking, locks_but, unlocking, TriesLock, StoresState}
 use Rattle.npf_cells_holds.proofs.LookKeepLemmas.{load_step}
+use Rattle.npf_cells_lives.specs.Turns.{Running}
 
 -- a pass of the table stays one through a step that changes what it knows and has of the trie, where one that isn't pinned has nothing
-pub trie_on : {S A R F : Type 0} (layout : Layout) (table seat seat' : TableId) (readers : List ℕ) (me next : Me F (CellView S A R)) (side : TrieSide) →
+pub trie_on : {S A R : Type 0} (layout : Layout) (table seat seat' : TableId) (readers : List ℕ) (me next : Me (Running S) (CellView S A R)) (side : TrieSide) →
     IsPassOf layout table seat readers me → seat' ≡ seat → next ≡ with_trie me side → (me.0.epochs.pin ≡ Idle → side.answered ≡ []) → (me.0.epochs.pin ≡ Idle → side.locks ≡ []) → IsPassOf layout table seat' readers next
 trie_on layout table seat seat' readers me next side own same is quiet free = rw is (record {
   same = same ∙ own.same;
   words = own.words;
-  free = own.free;
+  carries = own.carries;
   sized = own.sized;
   lives = own.lives;
   theirs = own.theirs;
@@ -62,11 +62,6 @@ trie_on layout table seat seat' readers me next side own same is quiet free = rw
   unanswered = quiet;
   unlocked = free;
 })
-
--- and no word of a connection
-not_slot : (layout : Layout) (slot field : ℕ) (lock : Lock) → IsLockOf layout lock → field_at layout Slots slot field ≢ lock_at layout lock
-not_slot layout slot field (Locking.Root digit) h e = absurd (omega (arith, h, e))
-not_slot layout slot field (Locking.Node node) h e = absurd (omega (arith, h, e))
 
 -- so the trie stays what it is
 lock_keeps : {S : Type 0} (layout : Layout) (k : Machine S) (words : List ℕ) (lock : Lock) (n : ℕ) → IsLockOf layout lock → KeepsTrie layout.slots k k (trie_words layout words) (trie_words layout (set words (lock_at layout lock) n))
@@ -147,8 +142,8 @@ locks-set {S} {A} {R} layout words views id v w lock n kept at long here most ot
         let one = others other ne in
         omega (arith, more, one)
 
-module _ {S A R F : Type 0} (m : Meaning S A R) (digest : Key → ℕ) (layout : Layout) where
-  module _ (s : State F (CellView S A R)) (id : ℕ) (me : Me F (CellView S A R)) (kept : IsCells m digest layout s) (at : get_elem? s.views id ≡ some me.0) (lock : Lock) (exists : IsLockOf layout lock) where
+module _ {S A R : Type 0} (m : Meaning S A R) (digest : Key → ℕ) (layout : Layout) where
+  module _ (s : State (Running S) (CellView S A R)) (id : ℕ) (me : Me (Running S) (CellView S A R)) (kept : IsCells m digest layout s) (at : get_elem? s.views id ≡ some me.0) (lock : Lock) (exists : IsLockOf layout lock) where
     abbrev word : ℕ
     word = lock_at layout lock
 
@@ -179,6 +174,7 @@ module _ {S A R F : Type 0} (m : Meaning S A R) (digest : Key → ℕ) (layout :
         (λ slot h. get_or-set_other s.words word (field_at layout Slots slot inc_field) n 0 (not_slot layout slot inc_field lock exists)) (builds-kept pool_side k s.views id me.0 w at refl refl kept.connections.each) (unstored-set pool_side s.views id me.0 w at refl))
         (stored-set pool_side layout (words' n) s.views id w (on me.0.pools (kept.stored id me.0 at)) (λ j u ne there. on u.pools (kept.stored j u there)))
         (locks-set layout s.words s.views id me.0 w lock n kept.locks at (let reach = lock_reach layout lock exists in let long = kept.connections.reach in omega (arith, reach, long)) here most others)
+        (turns_apart m digest layout s word n id me.0 w k kept at refl (λ slot field h f. get_or-set_other s.words word (field_at layout Slots slot field) n 0 (not_slot layout slot field lock exists)) (λ slot. inl refl))
       where
         on : (pools : PoolSide) → FitsStored layout s.words pools → FitsStored layout (words' n) pools
         on pools h = stored_kept layout s.words (words' n) pools pools h refl (λ pool place field own. own)
@@ -235,11 +231,11 @@ module _ {S A R F : Type 0} (m : Meaning S A R) (digest : Key → ℕ) (layout :
     stores_state (suc (suc state)) place c h = absurd (omega (arith, h))
 
   -- a try that makes the word of the lock this
-  abbrev LockTry : (st : Step F) (id : ℕ) (lock : Lock) (me : Me F (CellView S A R)) (s : State F (CellView S A R)) → ℕ → Type 0
-  LockTry st id lock me s n = (w : CellView S A R) × (a : Act F) × Valid s.homes me.1 a × IsCells m digest layout (stepped s (lock_at layout lock) n id me.1 w a)
+  abbrev LockTry : (st : Step (Running S)) (id : ℕ) (lock : Lock) (me : Me (Running S) (CellView S A R)) (s : State (Running S) (CellView S A R)) → ℕ → Type 0
+  LockTry st id lock me s n = (w : CellView S A R) × (a : Act (Running S)) × Valid s.homes me.1 a × IsCells m digest layout (stepped s (lock_at layout lock) n id me.1 w a)
       × TriesLock m digest layout lock st me (slice_index s.words (lock_at layout lock)) (w, carried_after me.1 a)
 
-  pub may_lock : (st : Step F) (id n : ℕ) (lock : Lock) (me : Me F (CellView S A R)) → me.0.seats.lives ≡ true → 1 ≤ length me.0.seats.readers → IsProtected me.0.epochs.pin → IsLockOf layout lock →
+  pub may_lock : (st : Step (Running S)) (id n : ℕ) (lock : Lock) (me : Me (Running S) (CellView S A R)) → me.0.seats.lives ≡ true → 1 ≤ length me.0.seats.readers → IsProtected me.0.epochs.pin → IsLockOf layout lock →
       Allows (IsCells m digest layout) n id me (lock_at layout lock) (λ x. either (eqb x 0) 1 x) (TriesLock m digest layout lock st me)
   may_lock st id n lock me lives place stays exists s kept homes at bound = exchanged (slice_index s.words (lock_at layout lock)) 0 1 (LockTry st id lock me s)
       (λ free. (
@@ -257,7 +253,7 @@ module _ {S A R F : Type 0} (m : Meaning S A R) (digest : Key → ℕ) (layout :
         record { stood = stood_so m digest layout s id me.0 (lock_at layout lock) (lock_at layout lock) kept at lives refl; won = λ free. absurd (taken free); lost = λ _. refl },
       ))
 
-  pub may_store_state : (st : Step F) (id n : ℕ) (lock : Lock) (state : ℕ) (me : Me F (CellView S A R)) → 1 ≤ length me.0.seats.readers → IsLockOf layout lock → Contains me.0.trie.locks lock → state < 2 →
+  pub may_store_state : (st : Step (Running S)) (id n : ℕ) (lock : Lock) (state : ℕ) (me : Me (Running S) (CellView S A R)) → 1 ≤ length me.0.seats.readers → IsLockOf layout lock → Contains me.0.trie.locks lock → state < 2 →
       Allows (IsCells m digest layout) n id me (lock_at layout lock) (λ _. state) (λ _. StoresState layout lock state st me state)
   may_store_state st id n lock state me place exists has below s kept homes at bound = (
     record me.0 { trie = unlocking layout lock state me.0.trie },

@@ -1,6 +1,6 @@
 -- Kind 11 with its look, and kind 12, keep the rule.
 use Rattle.std.specs.List.{Contains}
-use Rattle.std.proofs.Common.{◌≡◌, ℕ, zero, suc, ◌+◌, ◌/◌, ◌%◌, ◌^◌, ◌<◌, ◌≤◌, cond, eqb, eq-eqb, ne_eqb, true, true≢false, Option, Some, None, List, [], ◌∷◌, ◌++◌, map, set, length, slice_index, refl, sym, ap, ◌∙◌, subst, ⊎_elim, arith, length-set}
+use Rattle.std.proofs.Common.{◌≡◌, ℕ, zero, suc, ◌+◌, ◌/◌, ◌%◌, ◌^◌, ◌<◌, ◌≤◌, cond, eqb, eq-eqb, ne_eqb, true, true≢false, Option, Some, None, List, [], ◌∷◌, ◌++◌, map, set, length, slice_index, refl, sym, ap, ◌∙◌, subst, ⊎_elim, inl, arith, length-set}
 use Rattle.std.proofs.lemmas.List.{set-get_or}
 use mathlib.Core.Option.{some}
 use lib.ListN.{get_elem?}
@@ -51,9 +51,10 @@ use Rattle.npf_cells_rule.specs.Cells.{FitsAlone, IsCells}
 use Rattle.npf_cells_rule.specs.Passes.{IsProtected, cell_pass}
 use Rattle.npf_cells_rule.specs.Views.{seat_side, reader_view, with_trie, pool_side, trie_side}
 use Rattle.npf_cells_rule.proofs.EntryLemmas.{adds_entry, sole_entries}
-use Rattle.npf_cells_rule.proofs.Frames.{alone_still, alone_within, conns_apart, stored_apart, locks_apart, entry_step, private_step}
+use Rattle.npf_cells_rule.proofs.Frames.{alone_still, alone_within, conns_apart, stored_apart, locks_apart, turns_behind, entry_step, private_step}
 use Rattle.npf_cells_rule.proofs.PassLemmas.{pinned_in}
 use Rattle.npf_cells_holds.specs.LookKinds.{StandsOnPath, level_of, level_at, descending, TellsHolder, looked, HasLooked, FitsLayout, LooksAt, LoadsPlace, reading, LoadsKey}
+use Rattle.npf_cells_lives.specs.Turns.{Running}
 
 pub some_same : {X : Type 0} (x y : X) → Some x ≡ Some y → x ≡ y
 some_same x y e = cc
@@ -102,9 +103,9 @@ fits_layout layout (Leaf slot way) leaf node = leaf slot way refl
 fits_layout layout (Node n) leaf node = node n refl
 fits_layout layout Mark leaf node = tt
 
-module _ {S A R F : Type 0} (m : Meaning S A R) (digest : Key → ℕ) (layout : Layout) where
+module _ {S A R : Type 0} (m : Meaning S A R) (digest : Key → ℕ) (layout : Layout) where
   -- a load of a word behind the pools', after which the seat still fits
-  pub load_step : (s : State F (CellView S A R)) (i id : ℕ) (c : List (ℕ × F)) (v : CellView S A R) (side : TrieSide) (kept : IsCells m digest layout s) → get_elem? s.views id ≡ some v → root_at layout ≤ i →
+  pub load_step : (s : State (Running S) (CellView S A R)) (i id : ℕ) (c : List (ℕ × Running S)) (v : CellView S A R) (side : TrieSide) (kept : IsCells m digest layout s) → get_elem? s.views id ≡ some v → root_at layout ≤ i →
       FitsTrie digest layout.slots (state_of m kept.log) (trie_words layout s.words) side → side.locks ≡ v.trie.locks → side.grown ≡ v.trie.grown → FitsAlone (record v { trie = side }) → IsCells m digest layout (stepped s i (slice_index s.words i) id c (record v { trie = side }) keeps)
   load_step s i id c v side kept at behind fits locks grown alone =
       let w : CellView S A R = record v { trie = side } in
@@ -113,8 +114,9 @@ module _ {S A R F : Type 0} (m : Meaning S A R) (digest : Key → ℕ) (layout :
       (conns_apart m digest layout s i (slice_index s.words i) id v w kept at refl refl (λ j h. ap (λ ws. slice_index ws j) (set-get_or s.words i 0)))
       (stored_apart m digest layout s i (slice_index s.words i) id w kept (kept.stored id v at) (λ j h. ap (λ ws. slice_index ws j) (set-get_or s.words i 0)))
       (locks_apart m digest layout s i (slice_index s.words i) id v w kept at locks (λ j h. ap (λ ws. slice_index ws j) (set-get_or s.words i 0)))
+      (turns_behind m digest layout s i (slice_index s.words i) id v w kept at refl (λ j h. ap (λ ws. slice_index ws j) (set-get_or s.words i 0)))
 
-  module _ (s : State F (CellView S A R)) (id : ℕ) (me : Me F (CellView S A R)) (kept : IsCells m digest layout s) (at : get_elem? s.views id ≡ some me.0)
+  module _ (s : State (Running S) (CellView S A R)) (id : ℕ) (me : Me (Running S) (CellView S A R)) (kept : IsCells m digest layout s) (at : get_elem? s.views id ≡ some me.0)
       (lives : me.0.seats.lives ≡ true) (settled : me.0.seats.theirs ≡ []) (place : 1 ≤ length me.0.seats.readers) (stays : IsProtected me.0.epochs.pin) (packet : ℕ) (key : Key) (p : Place) (stands : StandsOnPath digest me.0.trie key p) where
     abbrev word : ℕ
     word = place_at layout p
@@ -188,7 +190,7 @@ module _ {S A R F : Type 0} (m : Meaning S A R) (digest : Key → ℕ) (layout :
     pub ends : IsCells m digest layout (stepped s word (slice_index s.words word) id me.1 looker keeps)
     ends =
         let words = set-get_or s.words word 0 in
-        entry_step m digest layout s word (slice_index s.words word) id me.1 me.0 looker kept at lives place entry refl follows refl refl (kept.stored id me.0 at) refl (alone_within looker place stays)
+        entry_step m digest layout s word (slice_index s.words word) id me.1 me.0 looker kept at lives place entry refl follows refl refl (kept.stored id me.0 at) refl refl (λ slot. inl refl) (alone_within looker place stays)
         (record { before = λ j h. ap (λ ws. slice_index ws j) words; behind = λ j h. ap (λ ws. slice_index ws j) words })
         (pools-same layout (taken pool_side kept.published k s.views) (taken pool_side kept.published k (set s.views id looker)) s.words (set s.words word (slice_index s.words word)) kept.pools
         (length-set s.words word (slice_index s.words word)) (λ j h. ap (λ ws. slice_index ws j) words) (taken-set pool_side kept.published k s.views id me.0 looker at refl))
@@ -222,7 +224,7 @@ module _ {S A R F : Type 0} (m : Meaning S A R) (digest : Key → ℕ) (layout :
     pub shallow : (node : ℕ) → t.cell p ≡ Node node → level < 94
     shallow node e = (kept.trie.nodes (digits_of digest key) level p node (are_digits digest key) on e).within
 
-  pub may_look : (st : Step F) (id n packet : ℕ) (key : Key) (p : Place) (me : Me F (CellView S A R)) → IsInTrie layout p → me.0.seats.lives ≡ true → me.0.seats.theirs ≡ [] → 1 ≤ length me.0.seats.readers → IsProtected me.0.epochs.pin →
+  pub may_look : (st : Step (Running S)) (id n packet : ℕ) (key : Key) (p : Place) (me : Me (Running S) (CellView S A R)) → IsInTrie layout p → me.0.seats.lives ≡ true → me.0.seats.theirs ≡ [] → 1 ≤ length me.0.seats.readers → IsProtected me.0.epochs.pin →
       StandsOnPath digest me.0.trie key p → Allows (IsCells m digest layout) n id me (place_at layout p) (λ x. x) (LoadsPlace m digest layout packet key p st me)
   may_look st id n packet key p me inside lives settled place stays stands s kept homes at bound = by_cell (cell_in layout s.words p) refl
     where
@@ -236,7 +238,7 @@ module _ {S A R F : Type 0} (m : Meaning S A R) (digest : Key → ℕ) (layout :
       told w looks = record { looks = subst (λ c. LooksAt m digest layout packet key p c me (w, me.1)) (cell_there layout s.words p inside) looks }
 
       Loaded : Type 0
-      Loaded = (w : CellView S A R) × (a : Act F) × Valid s.homes me.1 a × IsCells m digest layout (stepped s (place_at layout p) number id me.1 w a) × LoadsPlace m digest layout packet key p st me number (w, carried_after me.1 a)
+      Loaded = (w : CellView S A R) × (a : Act (Running S)) × Valid s.homes me.1 a × IsCells m digest layout (stepped s (place_at layout p) number id me.1 w a) × LoadsPlace m digest layout packet key p st me number (w, carried_after me.1 a)
 
       at_end : IsEnd (cell_in layout s.words p) → ((node : ℕ) → ¬ (cell_in layout s.words p ≡ Node node)) → Loaded
       at_end end other = (
@@ -266,7 +268,7 @@ module _ {S A R F : Type 0} (m : Meaning S A R) (digest : Key → ℕ) (layout :
         }),
       )
 
-  pub may_load_key : (st : Step F) (id n slot : ℕ) (way : Way) (place : ℕ) (me : Me F (CellView S A R)) → 1 ≤ length me.0.seats.readers → place < 5 →
+  pub may_load_key : (st : Step (Running S)) (id n slot : ℕ) (way : Way) (place : ℕ) (me : Me (Running S) (CellView S A R)) → 1 ≤ length me.0.seats.readers → place < 5 →
       Allows (IsCells m digest layout) n id me (field_at layout Slots slot (key_field way + place)) (λ x. x) (LoadsKey layout slot way place st me)
   may_load_key st id n slot way place me seated short s kept homes at bound = (
     record me.0 { trie = reading me.0.trie },

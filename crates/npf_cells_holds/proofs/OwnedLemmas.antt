@@ -26,6 +26,7 @@ use Rattle.npf_cells_rule.specs.declared.view.CellView.{CellView}
 use Rattle.npf_cells_rule.specs.Cells.{IsCells}
 use Rattle.npf_cells_rule.specs.Views.{pool_side}
 use Rattle.npf_cells_holds.specs.PublishKinds.{nodes_but}
+use Rattle.npf_cells_lives.specs.Turns.{Running}
 
 -- a number stands in a list, as its test says
 any_or : (x : ℕ) (ns : List ℕ) → ((list_any (λ y. y == x) ns ≡ true) × Contains ns x) ⊎ ((list_any (λ y. y == x) ns ≡ false) × (occurs x ns ≡ 0))
@@ -90,7 +91,7 @@ moved_once x ns xs apart owned = ⊎_elim
     (λ none. let left = but_same x ns xs none.0 in let no = none.1 in omega (arith, left, no))
     (any_or x ns)
 
-module _ {S A R F : Type 0} (m : Meaning S A R) (digest : Key → ℕ) (layout : Layout) (s : State F (CellView S A R)) (kept : IsCells m digest layout s) (id : ℕ) (v : CellView S A R) (at : get_elem? s.views id ≡ some v) where
+module _ {S A R : Type 0} (m : Meaning S A R) (digest : Key → ℕ) (layout : Layout) (s : State (Running S) (CellView S A R)) (kept : IsCells m digest layout s) (id : ℕ) (v : CellView S A R) (at : get_elem? s.views id ≡ some v) where
   -- who owns a node owns one that the table has, and has it once
   pub owns_there : (node : ℕ) → Contains v.pools.nodes node → node < layout.nodes
   owns_there node owns = ⊎_elim

@@ -24,8 +24,9 @@ use Rattle.npf_cells_lives.specs.Stored.{IsOwnField}
 use Rattle.npf_cells_rule.specs.declared.view.CellView.{CellView}
 use Rattle.npf_cells_rule.specs.Cells.{IsCells}
 use Rattle.npf_cells_rule.proofs.MetLemmas.{met_at, unowned}
+use Rattle.npf_cells_lives.specs.Turns.{Running}
 
-module _ {S A R F : Type 0} (m : Meaning S A R) (digest : Key → ℕ) (layout : Layout) (s : State F (CellView S A R)) (kept : IsCells m digest layout s) (p : Place) (inside : IsInTrie layout p) (value : ℕ) where
+module _ {S A R : Type 0} (m : Meaning S A R) (digest : Key → ℕ) (layout : Layout) (s : State (Running S) (CellView S A R)) (kept : IsCells m digest layout s) (p : Place) (inside : IsInTrie layout p) (value : ℕ) where
   abbrev words' : List ℕ
   words' = set s.words (place_at layout p) value
 
@@ -51,6 +52,9 @@ module _ {S A R F : Type 0} (m : Meaning S A R) (digest : Key → ℕ) (layout :
 
   pub inc_else : (slot : ℕ) → (trie_words layout words').inc slot ≡ (trie_words layout s.words).inc slot
   inc_else slot = other_word (field_at layout Slots slot inc_field) (slot_apart layout p slot inc_field inside)
+
+  pub turn_else : (slot field : ℕ) → slice_index words' (field_at layout Slots slot field) ≡ slice_index s.words (field_at layout Slots slot field)
+  turn_else slot field = other_word (field_at layout Slots slot field) (slot_apart layout p slot field inside)
 
   pub lock_else : (lock : Lock) → IsLockOf layout lock → slice_index words' (lock_at layout lock) ≡ slice_index s.words (lock_at layout lock)
   lock_else lock h = other_word (lock_at layout lock) (lock_apart layout p lock inside h)

@@ -1,6 +1,6 @@
 -- Kind 15 for a key keeps the rule, and holds the key.
 use Rattle.std.specs.List.{Contains}
-use Rattle.std.proofs.Common.{◌≡◌, ◌≢◌, ℕ, ◌+◌, ◌<◌, ◌≤◌, true, false, true≢false, cond, Option, Some, None, List, [], ◌∷◌, ◌++◌, map, set, length, slice_index, refl, sym, ap, ◌∙◌, subst, ⊎_elim, arith, length-set}
+use Rattle.std.proofs.Common.{◌≡◌, ◌≢◌, ℕ, ◌+◌, ◌<◌, ◌≤◌, true, false, true≢false, cond, Option, Some, None, List, [], ◌∷◌, ◌++◌, map, set, length, slice_index, refl, sym, ap, ◌∙◌, subst, ⊎_elim, inl, arith, length-set}
 use Rattle.std.proofs.lemmas.Grind.{same_number_lists}
 use Rattle.std.proofs.lemmas.List.{map-set, get_or-set_other}
 use mathlib.Core.Option.{some}
@@ -46,7 +46,6 @@ use Rattle.npf_seats.proofs.ListLemmas.{occurs_or}
 use Rattle.npf_seats.proofs.PrefixLemmas.{none_listed}
 use Rattle.npf_seats.proofs.SeatLemmas.{seats-adds}
 use Rattle.npf_seats.proofs.SumLemmas.{sum-set}
-use Rattle.npf_cells_pins.specs.Epochs.{ReaderView}
 use Rattle.npf_cells_pins.proofs.EpochLemmas.{within_last}
 use Rattle.npf_cells_leaves.specs.declared.trie.LoadedLeaf.{LoadedLeaf}
 use Rattle.npf_cells_leaves.specs.Trie.{key_in, digits_of, TrieWords, trie_words, leaf_found, holder_at, StaysLeaf, FitsTrie, Trie, all_grown}
@@ -66,9 +65,9 @@ use Rattle.npf_cells_lives.proofs.StoredLemmas.{fits_unstored, stored_kept, stor
 use Rattle.npf_cells_rule.specs.declared.view.CellView.{CellView}
 use Rattle.npf_cells_rule.specs.Cells.{IsCells, FitsAlone}
 use Rattle.npf_cells_rule.specs.Passes.{IsProtected, cell_pass}
-use Rattle.npf_cells_rule.specs.Views.{seat_side, reader_view, lock_side, pool_side, trie_side}
+use Rattle.npf_cells_rule.specs.Views.{seat_side, reader_view, lock_side, pool_side, trie_side, turn_side}
 use Rattle.npf_cells_rule.proofs.EntryLemmas.{adds_entry, sole_entries}
-use Rattle.npf_cells_rule.proofs.Frames.{alone-set, alone_within, framed, epochs_apart}
+use Rattle.npf_cells_rule.proofs.Frames.{alone-set, alone_within, framed, epochs_apart, turns_apart}
 use Rattle.npf_cells_rule.proofs.MetLemmas.{unowned}
 use Rattle.npf_cells_rule.proofs.PassLemmas.{pinned_in}
 use Rattle.npf_cells_holds.specs.HoldKinds.{renewed}
@@ -77,17 +76,18 @@ use Rattle.npf_cells_holds.specs.PublishKinds.{SeesLocked, stored_cell, cell_sto
 use Rattle.npf_cells_holds.proofs.AgainKeepLemmas.{stands_there}
 use Rattle.npf_cells_holds.proofs.LookKeepLemmas.{word_of, on_path}
 use Rattle.npf_cells_holds.proofs.OwnedLemmas.{owns_there, taken_moved}
-use Rattle.npf_cells_holds.proofs.PlaceLemmas.{cell_here, cell_else, key_else, inc_else, lock_else, own_else}
+use Rattle.npf_cells_holds.proofs.PlaceLemmas.{cell_here, cell_else, key_else, inc_else, turn_else, lock_else, own_else}
 use Rattle.npf_cells_holds.specs.PublishKinds.PutsFor.{fills, grows}
+use Rattle.npf_cells_lives.specs.Turns.{Running, Turns}
 
-module _ {S A R F : Type 0} (m : Meaning S A R) (digest : Key → ℕ) (layout : Layout) where
+module _ {S A R : Type 0} (m : Meaning S A R) (digest : Key → ℕ) (layout : Layout) where
   -- a store in a place of the trie, by which the pass adds an entry of its own and may publish nodes
-  publish_step : (s : State F (CellView S A R)) (i n id : ℕ) (v w : CellView S A R) (kept : IsCells m digest layout s) (published : List ℕ) → get_elem? s.views id ≡ some v → root_at layout ≤ i → v.seats.lives ≡ true → 1 ≤ length v.seats.readers →
+  publish_step : (s : State (Running S) (CellView S A R)) (i n id : ℕ) (v w : CellView S A R) (kept : IsCells m digest layout s) (published : List ℕ) → get_elem? s.views id ≡ some v → root_at layout ≤ i → v.seats.lives ≡ true → 1 ≤ length v.seats.readers →
       (entry : Entry S A R) → entry.seat ≡ id → MayFollow m layout.slots (state_of m kept.log) entry → w.seats ≡ record v.seats { history = kept.log ++ entry ∷ [] } → reader_view w ≡ reader_view v →
       ((pool : Pool) (place : ℕ) → taken pool_side published (after m (state_of m kept.log) entry) (set s.views id w) pool place ≡ taken pool_side kept.published (state_of m kept.log) s.views pool place) →
-      Trie trie_side digest layout published (after m (state_of m kept.log) entry) (set s.words i n) (set s.views id w) → Conns pool_side m layout (kept.log ++ entry ∷ []) (set s.words i n) (set s.views id w) → StoredWords pool_side layout (set s.words i n) (set s.views id w) → Locks lock_side layout (set s.words i n) (set s.views id w) → FitsAlone w →
-      (c : List (ℕ × F)) → IsCells m digest layout (stepped s i n id c w keeps)
-  publish_step s i n id v w kept published at behind lives place entry mine follows seats reads takes trie connections stored locks alone c =
+      Trie trie_side digest layout published (after m (state_of m kept.log) entry) (set s.words i n) (set s.views id w) → Conns pool_side m layout (kept.log ++ entry ∷ []) (set s.words i n) (set s.views id w) → StoredWords pool_side layout (set s.words i n) (set s.views id w) → Locks lock_side layout (set s.words i n) (set s.views id w) → Turns turn_side layout (after m (state_of m kept.log) entry) (set s.words i n) s.homes (set s.views id w) → FitsAlone w →
+      (c : List (ℕ × Running S)) → IsCells m digest layout (stepped s i n id c w keeps)
+  publish_step s i n id v w kept published at behind lives place entry mine follows seats reads takes trie connections stored locks turns alone c =
       let log = kept.log ++ entry ∷ [] in
       let state = state_of-append m kept.log entry in
       framed m digest layout s (stepped s i n id c w keeps) kept published log (length-set s.words i n)
@@ -100,12 +100,13 @@ module _ {S A R F : Type 0} (m : Meaning S A R) (digest : Key → ℕ) (layout :
       connections
       stored
       locks
+      (subst (λ k. Turns turn_side layout k (set s.words i n) s.homes (set s.views id w)) (sym state) turns)
       (alone-set s.views id w alone kept.alone)
     where
       below : (j : ℕ) → j < root_at layout → slice_index (set s.words i n) j ≡ slice_index s.words j
       below j h = get_or-set_other s.words i j n 0 (λ e. absurd (omega (arith, e, h, behind)))
 
-  module _ (s : State F (CellView S A R)) (id : ℕ) (me : Me F (CellView S A R)) (kept : IsCells m digest layout s) (at : get_elem? s.views id ≡ some me.0) (lives : me.0.seats.lives ≡ true) (settled : me.0.seats.theirs ≡ []) (place : 1 ≤ length me.0.seats.readers)
+  module _ (s : State (Running S) (CellView S A R)) (id : ℕ) (me : Me (Running S) (CellView S A R)) (kept : IsCells m digest layout s) (at : get_elem? s.views id ≡ some me.0) (lives : me.0.seats.lives ≡ true) (settled : me.0.seats.theirs ≡ []) (place : 1 ≤ length me.0.seats.readers)
       (stays : IsProtected me.0.epochs.pin) (conn : ConnId) (key : Key) (way : Way) (p : Place) (inside : IsInTrie layout p) (cell : Cell) (may : MayPublishFor m digest layout me.0 conn key way p cell) where
     abbrev k : Machine S
     k = state_of m kept.log
@@ -219,7 +220,8 @@ module _ {S A R F : Type 0} (m : Meaning S A R) (digest : Key → ℕ) (layout :
     held_so : (nodes : List ℕ) → k.holder key ≡ None →
         ((pool : Pool) (x : ℕ) → taken pool_side (nodes ++ kept.published) k' (set s.views id (holding nodes)) pool x ≡ taken pool_side kept.published k s.views pool x) →
         Trie trie_side digest layout (nodes ++ kept.published) k' words' (set s.views id (holding nodes)) → IsCells m digest layout (stepped s word (cell_word cell) id me.1 (holding nodes) keeps)
-    held_so nodes free takes trie = publish_step s word (cell_word cell) id me.0 (holding nodes) kept (nodes ++ kept.published) at (place_behind layout p) lives place entry refl (follows free) refl refl takes trie (connected nodes free) (stored_stays nodes) (locks_stay nodes) (alone_within (holding nodes) place stays) me.1
+    held_so nodes free takes trie = publish_step s word (cell_word cell) id me.0 (holding nodes) kept (nodes ++ kept.published) at (place_behind layout p) lives place entry refl (follows free) refl refl takes trie (connected nodes free) (stored_stays nodes) (locks_stay nodes)
+        (turns_apart m digest layout s word (cell_word cell) id me.0 (holding nodes) k' kept at refl (λ slot field h f. turn_else m digest layout s kept p inside (cell_word cell) slot field) (λ slot. inl refl)) (alone_within (holding nodes) place stays) me.1
 
     -- the hold ends what the pass has then seen
     pub has_held : (nodes : List ℕ) → PutsFor digest layout me.0 conn key way p cell nodes → k.holder key ≡ None → HasHeld m digest layout conn key way p cell me (holding nodes, me.1)
@@ -337,7 +339,7 @@ module _ {S A R F : Type 0} (m : Meaning S A R) (digest : Key → ℕ) (layout :
           has_held nodes puts (free_other leaf first news is known other_key sees grown),
         )
 
-  pub may_publish_for : (st : Step F) (id n : ℕ) (conn : ConnId) (key : Key) (way : Way) (p : Place) (cell : Cell) (me : Me F (CellView S A R)) → IsInTrie layout p → me.0.seats.lives ≡ true → me.0.seats.theirs ≡ [] → 1 ≤ length me.0.seats.readers → IsProtected me.0.epochs.pin →
+  pub may_publish_for : (st : Step (Running S)) (id n : ℕ) (conn : ConnId) (key : Key) (way : Way) (p : Place) (cell : Cell) (me : Me (Running S) (CellView S A R)) → IsInTrie layout p → me.0.seats.lives ≡ true → me.0.seats.theirs ≡ [] → 1 ≤ length me.0.seats.readers → IsProtected me.0.epochs.pin →
       MayPublishFor m digest layout me.0 conn key way p cell → Allows (IsCells m digest layout) n id me (place_at layout p) (λ _. cell_word cell) (λ _. PublishesFor m digest layout conn key way p cell st me (cell_word cell))
   may_publish_for st id n conn key way p cell me inside lives settled place stays may s kept homes at bound =
       let both = holds s id me kept at lives settled place stays conn key way p inside cell may may.nodes may.puts in (

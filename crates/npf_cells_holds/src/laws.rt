@@ -6,6 +6,6 @@ use npf_core::Law;
 use npf_paths::KeyHash;
 
 /// The steps on the places of the trie, on locks and on keys keep the rule, and tell what they say.
-pub fn holds_law<L: Law, H: KeyHash, F>()
-    ensures keeps { (layout : Layout) → KeepsHolds F L.meaning H.digest layout }
+pub fn holds_law<L: Law, H: KeyHash>()
+    ensures keeps { (layout : Layout) → KeepsHolds L.meaning H.digest layout }
 {}

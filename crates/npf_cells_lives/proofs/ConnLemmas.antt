@@ -46,7 +46,7 @@ building_at x inc seat built = by_test (eqb x.inc inc) refl built
     by_test true e is = ((Decides-eqb x.inc inc).0 e, is)
     by_test false e is = absurd cc
 
-one_builder : {S : Type 0} (x : Slot S) (i j : ℕ) → x.stage ≡ Building i → x.stage ≡ Building j → i ≡ j
+pub one_builder : {S : Type 0} (x : Slot S) (i j : ℕ) → x.stage ≡ Building i → x.stage ≡ Building j → i ≡ j
 one_builder x i j a b = cc
 
 module _ {S V : Type 0} (side_of : V → PoolSide) where

@@ -4,3 +4,4 @@ pub mod LockLemmas
 pub mod PoolLemmas
 pub mod SlotLemmas
 pub mod StoredLemmas
+pub mod TurnLemmas

@@ -3,3 +3,4 @@ pub mod LivesLaw
 pub mod Locks
 pub mod Pools
 pub mod Stored
+pub mod Turns

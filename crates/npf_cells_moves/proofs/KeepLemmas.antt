@@ -30,15 +30,15 @@ use Rattle.npf_cells_lives.specs.Conns.{entry_seat}
 use Rattle.npf_cells_rule.specs.declared.view.CellView.{CellView}
 use Rattle.npf_cells_rule.specs.Cells.{FitsAlone, IsCells}
 use Rattle.npf_cells_rule.specs.Passes.{IsPassOf, IsProtected}
-use Rattle.npf_cells_rule.specs.TableLaw.{HoldsBack}
 use Rattle.npf_cells_rule.specs.Views.{seat_side, reader_view, with_epochs}
 use Rattle.npf_cells_rule.proofs.Frames.{epochs_step, alone_still, alone_within}
 use Rattle.npf_cells_rule.proofs.SoleLemmas.{raised_alone}
 use Rattle.npf_cells_rule.proofs.StoodLemmas.{stood_so}
 use Rattle.npf_cells_moves.specs.Kinds.{unpinned, Loads, Pins, Protects, Unpins, Scans, RaisesEpoch}
+use Rattle.npf_cells_lives.specs.Turns.{Running}
 
-module _ {S A R F : Type 0} (m : Meaning S A R) (digest : Key → ℕ) (layout : Layout) where
-  module _ (s : State F (CellView S A R)) (id : ℕ) (c : List (ℕ × F)) (v : CellView S A R) (kept : IsCells m digest layout s) (at : get_elem? s.views id ≡ some v) where
+module _ {S A R : Type 0} (m : Meaning S A R) (digest : Key → ℕ) (layout : Layout) where
+  module _ (s : State (Running S) (CellView S A R)) (id : ℕ) (c : List (ℕ × Running S)) (v : CellView S A R) (kept : IsCells m digest layout s) (at : get_elem? s.views id ≡ some v) where
     abbrev now : ℕ
     now = epoch_word s.words
 
@@ -54,7 +54,7 @@ module _ {S A R F : Type 0} (m : Meaning S A R) (digest : Key → ℕ) (layout :
     -- a load, which changes this side alone
     pub load_keeps : (i : ℕ) (side : EpochSide) → FitsAlone (record v { epochs = side }) → Change now reader readings id (record { places = v.seats.readers; side = side }) →
         IsCells m digest layout (stepped s i (slice_index s.words i) id c (record v { epochs = side }) keeps)
-    load_keeps i side alone change = epochs_step m digest layout s i (slice_index s.words i) id c v (record v { epochs = side }) kept at refl refl (knows_same v.trie) alone (λ j h. ap (λ ws. slice_index ws j) (set-get_or s.words i 0))
+    load_keeps i side alone change = epochs_step m digest layout s i (slice_index s.words i) id c v (record v { epochs = side }) kept at refl refl (knows_same v.trie) refl alone (λ j h. ap (λ ws. slice_index ws j) (set-get_or s.words i 0))
         (subst (λ (ws : List ℕ). Epochs (epoch_word ws) (reader_word ws) (set readings id (record { places = v.seats.readers; side = side }))) (sym (set-get_or s.words i 0))
         (changed now now reader reader readings id (record { places = v.seats.readers; side = side }) kept.epochs change))
 
@@ -83,7 +83,7 @@ module _ {S A R F : Type 0} (m : Meaning S A R) (digest : Key → ℕ) (layout :
         let long = room place below in
         let words' : List ℕ = set s.words (reader_at place) (pin_word pin) in
         let epoch : epoch_word words' ≡ now = get_or-set_other s.words (reader_at place) 0 (pin_word pin) 0 (λ e. absurd (omega (arith, e))) in
-        epochs_step m digest layout s (reader_at place) (pin_word pin) id c v (record v { epochs = record v.epochs { pin = pin }; trie = trie }) kept at refl refl less alone
+        epochs_step m digest layout s (reader_at place) (pin_word pin) id c v (record v { epochs = record v.epochs { pin = pin }; trie = trie }) kept at refl refl less refl alone
         (λ j h. get_or-set_other s.words (reader_at place) j (pin_word pin) 0 (λ e. absurd (omega (arith, e, h, below))))
         (subst (λ n. Epochs n (reader_word words') (set readings id (record { places = v.seats.readers; side = record v.epochs { pin = pin } }))) (sym epoch)
         (changed now now reader (reader_word words') readings id (record { places = v.seats.readers; side = record v.epochs { pin = pin } }) kept.epochs
@@ -100,7 +100,7 @@ module _ {S A R F : Type 0} (m : Meaning S A R) (digest : Key → ℕ) (layout :
         let words' : List ℕ = set s.words 0 (v.epochs.loaded + 1) in
         let a = kept.connections.reach in
         let epoch : epoch_word words' ≡ v.epochs.loaded + 1 = get_or-set_same s.words 0 (v.epochs.loaded + 1) 0 (omega (arith, a)) in
-        epochs_step m digest layout s 0 (v.epochs.loaded + 1) id c v (record v { epochs = record v.epochs { met = now; greatest = greatest; known = known; raises = raises } }) kept at refl refl (knows_same v.trie)
+        epochs_step m digest layout s 0 (v.epochs.loaded + 1) id c v (record v { epochs = record v.epochs { met = now; greatest = greatest; known = known; raises = raises } }) kept at refl refl (knows_same v.trie) refl
         (alone_still v (record v { epochs = record v.epochs { met = now; greatest = greatest; known = known; raises = raises } }) (kept.alone id v at) place refl (λ none. none))
         (λ j h. get_or-set_other s.words 0 j (v.epochs.loaded + 1) 0 (λ e. absurd (omega (arith, e, h))))
         (subst (λ n. Epochs n (reader_word words') (set readings id (record { places = v.seats.readers; side = record v.epochs { met = now; greatest = greatest; known = known; raises = raises } }))) (sym epoch)
@@ -109,7 +109,7 @@ module _ {S A R F : Type 0} (m : Meaning S A R) (digest : Key → ℕ) (layout :
         (λ p. get_or-set_other s.words 0 (reader_at p) (v.epochs.loaded + 1) 0 (λ e. absurd (omega (arith, e))))
         within)))
 
-  pub may_load : (st : Step F) (id n : ℕ) (me : Me F (CellView S A R)) → 1 ≤ length me.0.seats.readers → Allows (IsCells m digest layout) n id me 0 (λ k. k) (Loads st me)
+  pub may_load : (st : Step (Running S)) (id n : ℕ) (me : Me (Running S) (CellView S A R)) → 1 ≤ length me.0.seats.readers → Allows (IsCells m digest layout) n id me 0 (λ k. k) (Loads st me)
   may_load st id n me place s kept homes at bound = (
     record me.0 { epochs = loading me.0.epochs (epoch_word s.words) },
     keeps,
@@ -119,7 +119,7 @@ module _ {S A R F : Type 0} (m : Meaning S A R) (digest : Key → ℕ) (layout :
     record { met = is_met (epoch_word s.words) (reader_word s.words) (map reader_view s.views) id (reader_view me.0) kept.epochs (there s id me.1 me.0 kept at); sole = λ all. raised_alone m digest layout s id me.0 kept at all; is = refl },
   )
 
-  pub may_pin : (st : Step F) (id n place epoch : ℕ) (me : Me F (CellView S A R)) → place ≡ pin_place me.0.seats.readers → 1 ≤ length me.0.seats.readers → me.0.epochs.loaded ≡ epoch → me.0.epochs.pin ≡ Idle →
+  pub may_pin : (st : Step (Running S)) (id n place epoch : ℕ) (me : Me (Running S) (CellView S A R)) → place ≡ pin_place me.0.seats.readers → 1 ≤ length me.0.seats.readers → me.0.epochs.loaded ≡ epoch → me.0.epochs.pin ≡ Idle →
       Allows (IsCells m digest layout) n id me (reader_at place) (λ _. epoch + 1) (λ _. Pins st me (epoch + 1))
   may_pin st id n place epoch me is some' loaded idle = subst (λ e. Allows (IsCells m digest layout) n id me (reader_at place) (λ _. e + 1) (λ _. Pins st me (e + 1))) loaded
       (λ s kept homes at bound. (
@@ -131,7 +131,7 @@ module _ {S A R F : Type 0} (m : Meaning S A R) (digest : Key → ℕ) (layout :
         record { is = refl },
       ))
 
-  pub may_protect : (st : Step F) (id n epoch : ℕ) (me : Me F (CellView S A R)) → me.0.epochs.pin ≡ Pinned epoch → 1 ≤ length me.0.seats.readers → Allows (IsCells m digest layout) n id me 0 (λ k. k) (Protects st me)
+  pub may_protect : (st : Step (Running S)) (id n epoch : ℕ) (me : Me (Running S) (CellView S A R)) → me.0.epochs.pin ≡ Pinned epoch → 1 ≤ length me.0.seats.readers → Allows (IsCells m digest layout) n id me 0 (λ k. k) (Protects st me)
   may_protect st id n epoch me pin place s kept homes at bound = (
     record me.0 { epochs = protecting me.0.epochs (epoch_word s.words) },
     keeps,
@@ -141,7 +141,7 @@ module _ {S A R F : Type 0} (m : Meaning S A R) (digest : Key → ℕ) (layout :
     record { met = is_met (epoch_word s.words) (reader_word s.words) (map reader_view s.views) id (reader_view me.0) kept.epochs (there s id me.1 me.0 kept at); sole = λ all. raised_alone m digest layout s id me.0 kept at all; is = refl },
   )
 
-  pub may_unpin : (st : Step F) (id n place : ℕ) (me : Me F (CellView S A R)) → place ≡ pin_place me.0.seats.readers → 1 ≤ length me.0.seats.readers → me.0.trie.locks ≡ [] →
+  pub may_unpin : (st : Step (Running S)) (id n place : ℕ) (me : Me (Running S) (CellView S A R)) → place ≡ pin_place me.0.seats.readers → 1 ≤ length me.0.seats.readers → me.0.trie.locks ≡ [] →
       Allows (IsCells m digest layout) n id me (reader_at place) (λ _. 0) (λ _. Unpins st me 0)
   may_unpin st id n place me is some' free s kept homes at bound = (
     record me.0 { epochs = unpinning me.0.epochs; trie = forgetting me.0.trie },
@@ -152,7 +152,7 @@ module _ {S A R F : Type 0} (m : Meaning S A R) (digest : Key → ℕ) (layout :
     record { is = refl },
   )
 
-  pub may_scan : (st : Step F) (id n place : ℕ) (me : Me F (CellView S A R)) → st.word ≡ reader_at place → me.0.seats.lives ≡ true → 1 ≤ length me.0.seats.readers →
+  pub may_scan : (st : Step (Running S)) (id n place : ℕ) (me : Me (Running S) (CellView S A R)) → st.word ≡ reader_at place → me.0.seats.lives ≡ true → 1 ≤ length me.0.seats.readers →
       Allows (IsCells m digest layout) n id me (reader_at place) (λ k. k) (Scans m digest layout st me)
   may_scan st id n place me is lives owns s kept homes at bound = (
     record me.0 { epochs = scanning me.0.epochs place (reader_word s.words place) },
@@ -166,22 +166,22 @@ module _ {S A R F : Type 0} (m : Meaning S A R) (digest : Key → ℕ) (layout :
   )
 
   -- the pass after a try to raise the epoch, which it found so
-  abbrev tried : Me F (CellView S A R) → ℕ → CellView S A R
+  abbrev tried : Me (Running S) (CellView S A R) → ℕ → CellView S A R
   tried me found = record me.0 { epochs = advancing me.0.epochs found }
 
-  abbrev known_after : Me F (CellView S A R) → ℕ → ℕ
+  abbrev known_after : Me (Running S) (CellView S A R) → ℕ → ℕ
   known_after me found = max me.0.epochs.known (cond (eqb found me.0.epochs.loaded) (found + 1) found)
 
-  abbrev raises_after : Me F (CellView S A R) → ℕ → ℕ
+  abbrev raises_after : Me (Running S) (CellView S A R) → ℕ → ℕ
   raises_after me found = me.0.epochs.raises + cond (eqb found me.0.epochs.loaded) 1 0
 
   -- a try that makes the epoch this
-  abbrev Try : (st : Step F) (id : ℕ) (me : Me F (CellView S A R)) (s : State F (CellView S A R)) → ℕ → Type 0
+  abbrev Try : (st : Step (Running S)) (id : ℕ) (me : Me (Running S) (CellView S A R)) (s : State (Running S) (CellView S A R)) → ℕ → Type 0
   Try st id me s k =
-      (w : CellView S A R) × (a : Act F) × Valid s.homes me.1 a × IsCells m digest layout (stepped s 0 k id me.1 w a)
+      (w : CellView S A R) × (a : Act (Running S)) × Valid s.homes me.1 a × IsCells m digest layout (stepped s 0 k id me.1 w a)
       × RaisesEpoch st me (epoch_word s.words) (w, carried_after me.1 a)
 
-  pub may_advance : (st : Step F) (id n epoch : ℕ) (me : Me F (CellView S A R)) → me.0.epochs.loaded ≡ epoch → epoch < 2 ^ 62 → HasScannedAll me.0.epochs → 1 ≤ length me.0.seats.readers →
+  pub may_advance : (st : Step (Running S)) (id n epoch : ℕ) (me : Me (Running S) (CellView S A R)) → me.0.epochs.loaded ≡ epoch → epoch < 2 ^ 62 → HasScannedAll me.0.epochs → 1 ≤ length me.0.seats.readers →
       Allows (IsCells m digest layout) n id me 0 (λ k. either (eqb k epoch) (epoch + 1) k) (RaisesEpoch st me)
   may_advance st id n epoch me loaded below all place s kept homes at bound = exchanged (epoch_word s.words) epoch (epoch + 1) (Try st id me s) hit miss
     where
@@ -234,12 +234,12 @@ module _ {S A R F : Type 0} (m : Meaning S A R) (digest : Key → ℕ) (layout :
           )
 
 -- a pass of the table stays one through a step that changes what it knows of the epoch
-pub pass_on : {S A R F : Type 0} (layout : Layout) (table seat seat' : TableId) (readers : List ℕ) (me next : Me F (CellView S A R)) (side : EpochSide) →
+pub pass_on : {S A R : Type 0} (layout : Layout) (table seat seat' : TableId) (readers : List ℕ) (me next : Me (Running S) (CellView S A R)) (side : EpochSide) →
     IsPassOf layout table seat readers me → seat' ≡ seat → next ≡ with_epochs me side → side.loaded ≤ last_epoch → (side.pin ≡ Idle → me.0.trie.answered ≡ []) → (side.pin ≡ Idle → me.0.trie.locks ≡ []) → IsPassOf layout table seat' readers next
 pass_on layout table seat seat' readers me next side own same is epoch quiet free = rw is (record {
   same = same ∙ own.same;
   words = own.words;
-  free = own.free;
+  carries = own.carries;
   sized = own.sized;
   lives = own.lives;
   theirs = own.theirs;
@@ -253,12 +253,12 @@ pass_on layout table seat seat' readers me next side own same is epoch quiet fre
 })
 
 -- and through the end of its stay
-pub left_on : {S A R F : Type 0} (layout : Layout) (table seat seat' : TableId) (readers : List ℕ) (me next : Me F (CellView S A R)) →
+pub left_on : {S A R : Type 0} (layout : Layout) (table seat seat' : TableId) (readers : List ℕ) (me next : Me (Running S) (CellView S A R)) →
     IsPassOf layout table seat readers me → seat' ≡ seat → next ≡ unpinned me → me.0.trie.locks ≡ [] → IsPassOf layout table seat' readers next
 left_on layout table seat seat' readers me next own same is free = rw is (record {
   same = same ∙ own.same;
   words = own.words;
-  free = own.free;
+  carries = own.carries;
   sized = own.sized;
   lives = own.lives;
   theirs = own.theirs;

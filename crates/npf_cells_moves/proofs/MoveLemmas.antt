@@ -1,6 +1,6 @@
 -- The base's moves keep the rule, and what they leave in the passes.
 use Rattle.std.specs.List.{Contains}
-use Rattle.std.proofs.Common.{◌≡◌, ℕ, ◌-◌, ◌≤◌, true, false, List, [], ◌∷◌, ◌++◌, map, set, length, take, drop, refl, sym, ap, ◌∙◌, subst, ⊎_elim, inl, inr, arith, append-nil, length-append}
+use Rattle.std.proofs.Common.{◌≡◌, ℕ, ◌-◌, ◌≤◌, true, false, None, List, [], ◌∷◌, ◌++◌, map, set, length, take, drop, refl, sym, ap, ◌∙◌, subst, ⊎_elim, inl, inr, arith, append-nil, length-append}
 use Rattle.std.proofs.lemmas.List.{length-drop, length-take-le, take-append-drop, append_cancel_left, get_or-take, get_or_append_left}
 use Rattle.std.proofs.lemmas.List.Elements.{Contains-append_left, Contains-append_right, Contains-push}
 use mathlib.Core.Option.{some}
@@ -34,20 +34,28 @@ use Rattle.npf_cells_lives.proofs.ConnLemmas.{fits_nothing, owes_nothing, builds
 use Rattle.npf_cells_lives.proofs.LockLemmas.{locks-same, holders-set, holders-push}
 use Rattle.npf_cells_lives.proofs.PoolLemmas.{pools-same, taken-set, taken-push}
 use Rattle.npf_cells_lives.proofs.StoredLemmas.{fits_unstored, own_same, stored_kept, stored-set, stored-push}
+use Rattle.npf_cells_lives.proofs.TurnLemmas.{TurnsStay, turns-kept, turns-push}
 use Rattle.npf_cells_rule.specs.declared.view.CellView.{CellView}
 use Rattle.npf_cells_rule.specs.Cells.{FitsAlone, IsCells}
 use Rattle.npf_cells_rule.specs.Passes.{cell_pass, IsPassOf}
-use Rattle.npf_cells_rule.specs.Views.{seat_side, reader_view, nothing_left, lock_side, pool_side, trie_side}
+use Rattle.npf_cells_rule.specs.Views.{seat_side, reader_view, nothing_left, lock_side, pool_side, trie_side, turn_side}
 use Rattle.npf_cells_rule.proofs.Frames.{pushed_side, merged_side, framed, seats_step, alone-set, alone-push, alone_still}
 use Rattle.npf_cells_moves.specs.Moves.{gives_reader, given_view, joined_pools, joined_trie, takes_in, IsBorn, HasRead}
+use Rattle.npf_cells_lives.specs.Turns.{Running, Turns}
 
-module _ {S A R F : Type 0} (m : Meaning S A R) (digest : Key → ℕ) (layout : Layout) where
-  keeps_all : (s : State F (CellView S A R)) (kept : IsCells m digest layout s) → KeepsTrie layout.slots (state_of m kept.log) (state_of m kept.log) (trie_words layout s.words) (trie_words layout s.words)
+module _ {S A R : Type 0} (m : Meaning S A R) (digest : Key → ℕ) (layout : Layout) where
+  keeps_all : (s : State (Running S) (CellView S A R)) (kept : IsCells m digest layout s) → KeepsTrie layout.slots (state_of m kept.log) (state_of m kept.log) (trie_words layout s.words) (trie_words layout s.words)
   keeps_all s kept = keeps_words layout (state_of m kept.log) (state_of m kept.log) s.words s.words (λ key. refl) (λ identity c. c) (λ j h. refl)
+
+  turns_same : (k : Machine S) (words : List ℕ) → TurnsStay {V = CellView S A R} turn_side layout k k words words
+  turns_same k words = record { turn = λ slot h. refl; phase = λ slot h. refl; slots = λ slot. inl refl }
+
+  turns_still : (s : State (Running S) (CellView S A R)) (id : ℕ) (v w : CellView S A R) (kept : IsCells m digest layout s) → get_elem? s.views id ≡ some v → w.turn ≡ v.turn → Turns turn_side layout (state_of m kept.log) s.words s.homes (set s.views id w)
+  turns_still s id v w kept at same = turns-kept turn_side layout (state_of m kept.log) (state_of m kept.log) s.words s.words s.homes s.views id v w kept.turns at same (turns_same (state_of m kept.log) s.words)
 
   -- a seat is split so
   pub splits : (id : ℕ) (v : CellView S A R) → v.seats.lives ≡ true → v.epochs.pin ≡ Idle → 2 ≤ length v.seats.readers →
-      Splits (IsCells {F = F} m digest layout) id v (gives_reader v) (given_view v)
+      Splits (IsCells m digest layout) id v (gives_reader v) (given_view v)
   splits id v lives idle places s kept at =
       framed m digest layout s (record { words = s.words; homes = s.homes; views = set s.views id (gives_reader v) ++ given_view v ∷ [] }) kept kept.published kept.log refl
       (subst (λ sides. Seats entry_seat layout.slots all_places kept.log sides) (sym (pushed_side seat_side s.views id (gives_reader v) (given_view v)))
@@ -66,6 +74,7 @@ module _ {S A R F : Type 0} (m : Meaning S A R) (digest : Key → ℕ) (layout :
       (stored-push pool_side layout s.words (set s.views id (gives_reader v)) (given_view v) (fits_unstored layout s.words (given_view v).pools refl) (stored-set pool_side layout s.words s.views id (gives_reader v) (kept.stored id v at) (λ j u ne there. kept.stored j u there)))
       (locks-same lock_side layout s.words s.words s.views (set s.views id (gives_reader v) ++ given_view v ∷ []) kept.locks (λ lock h. refl)
       (λ lock. holders-push lock_side layout (set s.views id (gives_reader v)) (given_view v) refl lock ∙ holders-set lock_side layout s.views id v (gives_reader v) at refl lock))
+      (turns-push turn_side layout (state_of m kept.log) s.words s.homes (set s.views id (gives_reader v)) (given_view v) (turns_still s id v (gives_reader v) kept at refl) refl)
       (alone-push (set s.views id (gives_reader v)) (given_view v) given_alone (alone-set s.views id (gives_reader v) (alone_still v (gives_reader v) (kept.alone id v at) some_left refl (λ none. none)) kept.alone))
     where
       some_left : 1 ≤ length (gives_reader v).seats.readers
@@ -79,8 +88,8 @@ module _ {S A R F : Type 0} (m : Meaning S A R) (digest : Key → ℕ) (layout :
 
   -- two seats are joined so
   pub joins : (id : ℕ) (v : CellView S A R) (other : ℕ) (w : CellView S A R) → v.seats.lives ≡ true → v.seats.theirs ≡ [] → v.epochs.pin ≡ Idle → 1 ≤ length v.seats.readers →
-      w.seats.lives ≡ true → w.seats.theirs ≡ [] → w.epochs.pin ≡ Idle → w.pools.nodes ≡ [] → w.pools.builds ≡ [] → w.trie.locks ≡ [] → Joins (IsCells {F = F} m digest layout) id v other w (takes_in v w) nothing_left
-  joins id v other w lives theirs idle place w-lives w-theirs w-idle w-nodes w-builds w-locks s kept at apart there =
+      w.seats.lives ≡ true → w.seats.theirs ≡ [] → w.epochs.pin ≡ Idle → w.pools.nodes ≡ [] → w.pools.builds ≡ [] → w.trie.locks ≡ [] → w.turn ≡ None → Joins (IsCells m digest layout) id v other w (takes_in v w) nothing_left
+  joins id v other w lives theirs idle place w-lives w-theirs w-idle w-nodes w-builds w-locks w-turn s kept at apart there =
       let was : get_elem? s.views other ≡ some w = sym (set_else s.views id other (takes_in v w) apart) ∙ there in
       framed m digest layout s (record { words = s.words; homes = s.homes; views = set (set s.views id (takes_in v w)) other nothing_left }) kept kept.published kept.log refl
       (subst (λ sides. Seats entry_seat layout.slots all_places kept.log sides) (sym (merged_side seat_side s.views id other (takes_in v w) nothing_left))
@@ -102,6 +111,7 @@ module _ {S A R F : Type 0} (m : Meaning S A R) (digest : Key → ℕ) (layout :
       (λ j u ne there'. stored-set pool_side layout s.words s.views id (takes_in v w) (taker_stored (kept.stored id v at)) (λ i x ne' e. kept.stored i x e) j u there'))
       (locks-same lock_side layout s.words s.words s.views (set (set s.views id (takes_in v w)) other nothing_left) kept.locks (λ lock h. refl)
       (λ lock. holders-set lock_side layout (set s.views id (takes_in v w)) other w nothing_left there (sym w-locks) lock ∙ holders-set lock_side layout s.views id v (takes_in v w) at refl lock))
+      (turns-kept turn_side layout (state_of m kept.log) (state_of m kept.log) s.words s.words s.homes (set s.views id (takes_in v w)) other w nothing_left (turns_still s id v (takes_in v w) kept at refl) there (sym w-turn) (turns_same (state_of m kept.log) s.words))
       (alone-set (set s.views id (takes_in v w)) other nothing_left (record { out = λ _. record { stands = refl; leaf = refl; seen = refl; meets = refl; answered = refl; locks = refl }; spent = λ _. refl })
       (alone-set s.views id (takes_in v w) (alone_still v (takes_in v w) (kept.alone id v at) some_left refl (λ none. record { stands = none.stands; leaf = none.leaf; seen = none.seen; meets = none.meets; answered = none.answered; locks = none.locks })) kept.alone))
     where
@@ -121,7 +131,7 @@ module _ {S A R F : Type 0} (m : Meaning S A R) (digest : Key → ℕ) (layout :
           omega (arith, one, two)
 
   -- a new seat gets its number by a load
-  pub gets_born : (st : Step F) (id n i : ℕ) (me : Me F (CellView S A R)) → me.0.seats.lives ≡ false → 1 ≤ length me.0.seats.readers →
+  pub gets_born : (st : Step (Running S)) (id n i : ℕ) (me : Me (Running S) (CellView S A R)) → me.0.seats.lives ≡ false → 1 ≤ length me.0.seats.readers →
       Allows (IsCells m digest layout) n id me i (λ k. k) (IsBorn m st me)
   gets_born st id n i me lives place s kept homes at bound =
       let v = me.0 in
@@ -130,7 +140,7 @@ module _ {S A R F : Type 0} (m : Meaning S A R) (digest : Key → ℕ) (layout :
         record v { seats = record v.seats { number = id; lives = true; others = [] } },
         keeps,
         tt,
-        seats_step m digest layout s i id me.1 v (record v { seats = record v.seats { number = id; lives = true; others = [] } }) kept at refl refl (knows_same v.trie) (alone_still v (record v { seats = record v.seats { number = id; lives = true; others = [] } }) (kept.alone id v at) place refl (λ none. none))
+        seats_step m digest layout s i id me.1 v (record v { seats = record v.seats { number = id; lives = true; others = [] } }) kept at refl refl (knows_same v.trie) refl (alone_still v (record v { seats = record v.seats { number = id; lives = true; others = [] } }) (kept.alone id v at) place refl (λ none. none))
             (seats-born entry_seat layout.slots all_places kept.log (map seat_side s.views) id v.seats kept.seats there lives place),
         record {
           number = id;
@@ -143,7 +153,7 @@ module _ {S A R F : Type 0} (m : Meaning S A R) (digest : Key → ℕ) (layout :
       )
 
   -- a seat reads what it was told by a load
-  pub reads : (st : Step F) (id n i : ℕ) (me : Me F (CellView S A R)) → me.0.seats.lives ≡ true → 1 ≤ length me.0.seats.readers →
+  pub reads : (st : Step (Running S)) (id n i : ℕ) (me : Me (Running S) (CellView S A R)) → me.0.seats.lives ≡ true → 1 ≤ length me.0.seats.readers →
       Allows (IsCells m digest layout) n id me i (λ k. k) (HasRead m st me)
   reads st id n i me lives place s kept homes at bound =
       let v = me.0 in
@@ -156,7 +166,7 @@ module _ {S A R F : Type 0} (m : Meaning S A R) (digest : Key → ℕ) (layout :
         next,
         keeps,
         tt,
-        seats_step m digest layout s i id me.1 v next kept at refl refl (knows_same v.trie) (alone_still v next (kept.alone id v at) place refl (λ none. none)) (seats-read entry_seat layout.slots all_places kept.log sides id v.seats kept.seats there lives),
+        seats_step m digest layout s i id me.1 v next kept at refl refl (knows_same v.trie) refl (alone_still v next (kept.alone id v at) place refl (λ none. none)) (seats-read entry_seat layout.slots all_places kept.log sides id v.seats kept.seats there lives),
         record {
           history = long.history;
           is = refl;
@@ -178,7 +188,7 @@ module _ {S A R F : Type 0} (m : Meaning S A R) (digest : Key → ℕ) (layout :
       )
 
 -- what a split leaves
-pub split_so : {S A R F : Type 0} (m : Meaning S A R) (st : Step F) (v : CellView S A R) (found : ℕ) (given : Me F (CellView S A R)) → v.epochs.pin ≡ Idle → 2 ≤ length v.seats.readers →
+pub split_so : {S A R : Type 0} (m : Meaning S A R) (st : Step (Running S)) (v : CellView S A R) (found : ℕ) (given : Me (Running S) (CellView S A R)) → v.epochs.pin ≡ Idle → 2 ≤ length v.seats.readers →
     IsBorn m st (given_view v, []) found given → IsSplit (cell_pass v) (cell_pass (gives_reader v)) (cell_pass given.0)
 split_so m st v found given idle places born =
     let is : given.0 ≡ record (given_view v) { seats = record (given_seat v.seats) { number = born.number; lives = true; others = [] } } = ap (λ y. y.0) born.is in
@@ -195,13 +205,13 @@ split_so m st v found given idle places born =
     }
 
 -- what a join leaves
-module _ {S A R F : Type 0} (m : Meaning S A R) (st : Step F) (v w : CellView S A R) (slots : List (ℕ × F)) (found : ℕ) (next : Me F (CellView S A R))
+module _ {S A R : Type 0} (m : Meaning S A R) (st : Step (Running S)) (v w : CellView S A R) (slots : List (ℕ × Running S)) (found : ℕ) (next : Me (Running S) (CellView S A R))
     (l : HasRead m st (takes_in v w, slots) found next) where
   abbrev read_seat : CellView S A R
   read_seat = record (takes_in v w) { seats = record (taking_seat v.seats w.seats) { history = l.history; joined = (w.seats.number ∷ w.seats.joined) ++ v.seats.joined; told = []; theirs = [] } }
 
   view : next.0 ≡ read_seat
-  view = ap (λ (y : Me F (CellView S A R)). y.0) l.is
+  view = ap (λ (y : Me (Running S) (CellView S A R)). y.0) l.is
 
   w_first : Contains (w.seats.number ∷ w.seats.joined) w.seats.number
   w_first = Contains-append_left (w.seats.number ∷ []) w.seats.joined w.seats.number (Contains-push [] w.seats.number)
@@ -238,7 +248,7 @@ module _ {S A R F : Type 0} (m : Meaning S A R) (st : Step F) (v w : CellView S 
       builds = ap (λ (y : CellView S A R). y.pools.builds) view ∙ done
 
 -- a new pass has as its own what it was given
-pub given_pass : {S A R F : Type 0} (m : Meaning S A R) (st : Step F) (v : CellView S A R) (found : ℕ) (given : Me F (CellView S A R)) → 2 ≤ length v.seats.readers →
+pub given_pass : {S A R : Type 0} (m : Meaning S A R) (st : Step (Running S)) (v : CellView S A R) (found : ℕ) (given : Me (Running S) (CellView S A R)) → 2 ≤ length v.seats.readers →
     IsBorn m st (given_view v, []) found given → IsPass m (cell_pass given.0)
 given_pass m st v found given places born =
     let is : given.0 ≡ record (given_view v) { seats = record (given_seat v.seats) { number = born.number; lives = true; others = [] } } = ap (λ y. y.0) born.is in
@@ -254,8 +264,8 @@ given_pass m st v found given places born =
     })
 
 -- the pass that gave a place up, the new one, and the one that took another in are passes of the table
-module _ {S A R F : Type 0} (m : Meaning S A R) (layout : Layout) (table seat : TableId) (readers : List ℕ) (me : Me F (CellView S A R)) (own : IsPassOf layout table seat readers me) where
-  pub giver_on : (seat' : TableId) (readers' : List ℕ) (next : Me F (CellView S A R)) → 2 ≤ length me.0.seats.readers → seat' ≡ seat → next ≡ (gives_reader me.0, me.1) →
+module _ {S A R : Type 0} (m : Meaning S A R) (layout : Layout) (table seat : TableId) (readers : List ℕ) (me : Me (Running S) (CellView S A R)) (own : IsPassOf layout table seat readers me) where
+  pub giver_on : (seat' : TableId) (readers' : List ℕ) (next : Me (Running S) (CellView S A R)) → 2 ≤ length me.0.seats.readers → seat' ≡ seat → next ≡ (gives_reader me.0, me.1) →
       readers' ≡ take (length readers - 1) readers → IsPassOf layout table seat' readers' next
   giver_on seat' readers' next places same is left =
       let kept : length (take (length me.0.seats.readers - 1) me.0.seats.readers) ≡ length me.0.seats.readers - 1 = length-take-le (length me.0.seats.readers - 1) me.0.seats.readers (omega arith) in
@@ -263,7 +273,7 @@ module _ {S A R F : Type 0} (m : Meaning S A R) (layout : Layout) (table seat : 
       rw is (record {
         same = same ∙ own.same;
         words = own.words;
-        free = own.free;
+        carries = own.carries;
         sized = own.sized;
         lives = own.lives;
         theirs = own.theirs;
@@ -276,14 +286,14 @@ module _ {S A R F : Type 0} (m : Meaning S A R) (layout : Layout) (table seat : 
         unlocked = own.unlocked;
       })
 
-  pub given_on : (st : Step F) (seat' : TableId) (readers' : List ℕ) (found : ℕ) (next : Me F (CellView S A R)) → 2 ≤ length me.0.seats.readers → seat' ≡ seat →
+  pub given_on : (st : Step (Running S)) (seat' : TableId) (readers' : List ℕ) (found : ℕ) (next : Me (Running S) (CellView S A R)) → 2 ≤ length me.0.seats.readers → seat' ≡ seat →
       IsBorn m st (given_view me.0, []) found next → readers' ≡ drop (length readers - 1) readers → IsPassOf layout table seat' readers' next
   given_on st seat' readers' found next places same born left =
       let dropped : length (drop (length me.0.seats.readers - 1) me.0.seats.readers) ≡ 1 = (let d = length-drop (length me.0.seats.readers - 1) me.0.seats.readers in omega (arith, d, places)) in
       rw born.is (record {
         same = same ∙ own.same;
         words = own.words;
-        free = refl;
+        carries = refl;
         sized = own.sized;
         lives = refl;
         theirs = refl;
@@ -296,7 +306,7 @@ module _ {S A R F : Type 0} (m : Meaning S A R) (layout : Layout) (table seat : 
         unlocked = λ _. refl;
       })
 
-  pub joined_on : (w : CellView S A R) (st : Step F) (seat' : TableId) (readers' : List ℕ) (found : ℕ) (next : Me F (CellView S A R)) → seat' ≡ seat →
+  pub joined_on : (w : CellView S A R) (st : Step (Running S)) (seat' : TableId) (readers' : List ℕ) (found : ℕ) (next : Me (Running S) (CellView S A R)) → seat' ≡ seat →
       HasRead m st (takes_in me.0 w, me.1) found next → readers' ≡ readers ++ w.seats.readers → IsPassOf layout table seat' readers' next
   joined_on w st seat' readers' found next same read joined =
       let has = length-append me.0.seats.readers w.seats.readers in
@@ -305,7 +315,7 @@ module _ {S A R F : Type 0} (m : Meaning S A R) (layout : Layout) (table seat : 
       rw read.is (record {
         same = same ∙ own.same;
         words = own.words;
-        free = own.free;
+        carries = own.carries;
         sized = own.sized;
         lives = own.lives;
         theirs = refl;

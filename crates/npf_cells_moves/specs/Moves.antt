@@ -1,5 +1,5 @@
 -- How passes are split and joined, and what the step after it tells.
-use Rattle.std.specs.Prelude.{◌≡◌, ◌≢◌, ◌⊎◌, ℕ, ◌+◌, ◌≤◌, ◌<◌, true, List, [], ◌++◌, Contains, length}
+use Rattle.std.specs.Prelude.{◌≡◌, ◌≢◌, ◌⊎◌, ℕ, ◌+◌, ◌≤◌, ◌<◌, true, None, List, [], ◌++◌, Contains, length}
 use Rattle.atomic_table.specs.Table.{Me, Step}
 use Rattle.npf_core.specs.declared.entry.Entry.{Entry}
 use Rattle.npf_core.specs.History.{Legal, IsPrefix, by}
@@ -20,7 +20,7 @@ abbrev pub gives_reader : {S A R : Type 0} → CellView S A R → CellView S A R
 gives_reader v = record v { seats = givers_seat v.seats }
 
 abbrev pub given_view : {S A R : Type 0} → CellView S A R → CellView S A R
-given_view v = record { seats = given_seat v.seats; epochs = idle_side; pools = empty_handed; trie = unread_side }
+given_view v = record { seats = given_seat v.seats; epochs = idle_side; pools = empty_handed; trie = unread_side; turn = None }
 
 abbrev pub joined_pools : PoolSide → PoolSide → PoolSide
 joined_pools mine theirs = record mine { sweeps = mine.sweeps + theirs.sweeps }
@@ -39,6 +39,7 @@ takes_in v w = record {
   epochs = joined_epochs v.epochs w.epochs;
   pools = joined_pools v.pools w.pools;
   trie = joined_trie v.trie w.trie;
+  turn = v.turn;
 }
 
 -- the new seat got its number: it is no other's, and has no entry

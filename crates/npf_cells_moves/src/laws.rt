@@ -6,6 +6,6 @@ use npf_core::Law;
 use npf_paths::KeyHash;
 
 /// The base's moves and the steps on the epoch and on the readers keep the rule, and tell what they say.
-pub fn moves_law<L: Law, H: KeyHash, F>()
-    ensures keeps { (layout : Layout) → KeepsMoves F L.meaning H.digest layout }
+pub fn moves_law<L: Law, H: KeyHash>()
+    ensures keeps { (layout : Layout) → KeepsMoves L.meaning H.digest layout }
 {}

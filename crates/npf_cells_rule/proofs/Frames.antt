@@ -1,5 +1,5 @@
 -- The rule from its parts: those that a step leaves alone stay.
-use Rattle.std.proofs.Common.{◌≡◌, ◌≢◌, ℕ, ◌+◌, ◌<◌, ◌≤◌, true, List, [], ◌∷◌, ◌++◌, map, length, set, slice_index, refl, sym, ap, ◌∙◌, subst, length-set, ⊎_elim, arith}
+use Rattle.std.proofs.Common.{◌≡◌, ◌≢◌, ℕ, ◌+◌, ◌<◌, ◌≤◌, true, List, [], ◌∷◌, ◌++◌, map, length, set, slice_index, refl, sym, ap, ◌∙◌, subst, length-set, ⊎_elim, inl, inr, arith}
 use Rattle.std.proofs.lemmas.List.{map-set, map-append, set-get_or, get_or-set_other}
 use mathlib.Core.Option.{some}
 use lib.ListN.{get_elem?}
@@ -8,13 +8,14 @@ use Rattle.atomic_table.proofs.Lists.{at_map, at_set, at_snoc}
 use Rattle.npf_types.specs.declared.key.Key.{Key}
 use Rattle.npf_core.specs.declared.entry.Entry.{Entry}
 use Rattle.npf_core.specs.History.{MayFollow, after, state_of}
+use Rattle.npf_core.specs.Machine.{Machine}
 use Rattle.npf_core.specs.Meaning.{Meaning}
 use Rattle.npf_core.proofs.HistoryLemmas.{state_of-append, Legal-append}
 use Rattle.npf_connections.specs.Pass.{all_places}
 use Rattle.npf_cells_words.specs.declared.layout.Layout.{Layout}
 use Rattle.npf_cells_words.specs.declared.layout.Pool.{Pool}
 use Rattle.npf_cells_words.specs.declared.layout.Pool.TheVariants.{Slots}
-use Rattle.npf_cells_words.specs.Layout.{pools_at, root_at, inc_field, field_at, epoch_word, reader_word}
+use Rattle.npf_cells_words.specs.Layout.{pools_at, root_at, turn_field, phase_field, inc_field, field_at, epoch_word, reader_word}
 use Rattle.npf_cells_words.specs.Places.{lock_at}
 use Rattle.npf_cells_words.proofs.WordLemmas.{lock_behind, field_behind}
 use Rattle.npf_seats.specs.Seats.{Seats}
@@ -34,10 +35,12 @@ use Rattle.npf_cells_lives.proofs.ConnLemmas.{BuildsIn, builds-kept, unstored-se
 use Rattle.npf_cells_lives.proofs.LockLemmas.{locks-same, holders-set}
 use Rattle.npf_cells_lives.proofs.PoolLemmas.{pools-same, pools-kept, taken-set}
 use Rattle.npf_cells_lives.proofs.StoredLemmas.{stored-set, stored-words}
+use Rattle.npf_cells_lives.proofs.TurnLemmas.{turns-kept}
 use Rattle.npf_cells_rule.specs.declared.view.CellView.{CellView}
 use Rattle.npf_cells_rule.specs.Cells.{FitsAlone, AllFitAlone, IsCells}
 use Rattle.npf_cells_rule.specs.Passes.{IsProtected}
-use Rattle.npf_cells_rule.specs.Views.{seat_side, reader_view, lock_side, pool_side, trie_side}
+use Rattle.npf_cells_rule.specs.Views.{seat_side, reader_view, lock_side, pool_side, trie_side, turn_side}
+use Rattle.npf_cells_lives.specs.Turns.{IsTurnField, Running, StaysAt, Turns}
 
 pub pushed_side : {X Y : Type 0} (f : X → Y) (xs : List X) (i : ℕ) (x y : X) → map f (set xs i x ++ y ∷ []) ≡ set (map f xs) i (f x) ++ f y ∷ []
 pushed_side f xs i x y = map-append f (set xs i x) (y ∷ []) ∙ ap (λ z. z ++ f y ∷ []) (map-set f xs i x)
@@ -74,12 +77,12 @@ module _ {S A R : Type 0} where
     spent = λ none. absurd (omega (arith, none, place));
   }
 
-module _ {S A R F : Type 0} (m : Meaning S A R) (digest : Key → ℕ) (layout : Layout) where
+module _ {S A R : Type 0} (m : Meaning S A R) (digest : Key → ℕ) (layout : Layout) where
   -- a state of as many words, with the parts on seats, epochs, pools and connections
-  pub framed : (s s' : State F (CellView S A R)) (kept : IsCells m digest layout s) (published : List ℕ) (log : List (Entry S A R)) → length s'.words ≡ length s.words →
+  pub framed : (s s' : State (Running S) (CellView S A R)) (kept : IsCells m digest layout s) (published : List ℕ) (log : List (Entry S A R)) → length s'.words ≡ length s.words →
       Seats entry_seat layout.slots all_places log (map seat_side s'.views) → Epochs (epoch_word s'.words) (reader_word s'.words) (map reader_view s'.views) →
-      Pools layout (taken pool_side published (state_of m log) s'.views) s'.words → Trie trie_side digest layout published (state_of m log) s'.words s'.views → Conns pool_side m layout log s'.words s'.views → StoredWords pool_side layout s'.words s'.views → Locks lock_side layout s'.words s'.views → AllFitAlone s'.views → IsCells m digest layout s'
-  framed s s' kept published log count seats epochs pools trie connections stored locks alone = record {
+      Pools layout (taken pool_side published (state_of m log) s'.views) s'.words → Trie trie_side digest layout published (state_of m log) s'.words s'.views → Conns pool_side m layout log s'.words s'.views → StoredWords pool_side layout s'.words s'.views → Locks lock_side layout s'.words s'.views → Turns turn_side layout (state_of m log) s'.words s'.homes s'.views → AllFitAlone s'.views → IsCells m digest layout s'
+  framed s s' kept published log count seats epochs pools trie connections stored locks turns alone = record {
     log = log;
     published = published;
     seats = seats;
@@ -89,25 +92,26 @@ module _ {S A R F : Type 0} (m : Meaning S A R) (digest : Key → ℕ) (layout :
     connections = connections;
     stored = stored;
     locks = locks;
+    turns = turns;
     alone = alone;
   }
 
   -- the part on connections stays where the words behind the pools' do, and what the seat builds and still has to store
-  pub conns_apart : (s : State F (CellView S A R)) (i n id : ℕ) (v w : CellView S A R) (kept : IsCells m digest layout s) → get_elem? s.views id ≡ some v → w.pools.builds ≡ v.pools.builds → w.pools.unstored ≡ v.pools.unstored →
+  pub conns_apart : (s : State (Running S) (CellView S A R)) (i n id : ℕ) (v w : CellView S A R) (kept : IsCells m digest layout s) → get_elem? s.views id ≡ some v → w.pools.builds ≡ v.pools.builds → w.pools.unstored ≡ v.pools.unstored →
       ((j : ℕ) → root_at layout ≤ j → slice_index (set s.words i n) j ≡ slice_index s.words j) → Conns pool_side m layout kept.log (set s.words i n) (set s.views id w)
   conns_apart s i n id v w kept at builds unstored words =
       conns-same pool_side m layout kept.log s.words (set s.words i n) s.views (set s.views id w) kept.connections (length-set s.words i n) (λ slot h. words (field_at layout Slots slot inc_field) (omega arith))
       (builds-kept pool_side (state_of m kept.log) s.views id v w at builds unstored kept.connections.each) (unstored-set pool_side s.views id v w at unstored)
 
   -- the part on the trie stays where the words behind the pools' do
-  pub trie_apart : (s : State F (CellView S A R)) (i n id : ℕ) (v w : CellView S A R) (kept : IsCells m digest layout s) → get_elem? s.views id ≡ some v → KnowsNoMore v.trie w.trie →
+  pub trie_apart : (s : State (Running S) (CellView S A R)) (i n id : ℕ) (v w : CellView S A R) (kept : IsCells m digest layout s) → get_elem? s.views id ≡ some v → KnowsNoMore v.trie w.trie →
       ((j : ℕ) → root_at layout ≤ j → slice_index (set s.words i n) j ≡ slice_index s.words j) → Trie trie_side digest layout kept.published (state_of m kept.log) (set s.words i n) (set s.views id w)
   trie_apart s i n id v w kept at less words =
       trie_same trie_side digest layout kept.published (state_of m kept.log) (state_of m kept.log) s.words (set s.words i n) s.views id v w kept.trie at less
       (keeps_words layout (state_of m kept.log) (state_of m kept.log) s.words (set s.words i n) (λ key. refl) (λ identity c. c) words)
 
   -- so do what passes stored and the locks, where the seat fits
-  pub stored_apart : (s : State F (CellView S A R)) (i n id : ℕ) (w : CellView S A R) → IsCells m digest layout s → FitsStored layout s.words w.pools →
+  pub stored_apart : (s : State (Running S) (CellView S A R)) (i n id : ℕ) (w : CellView S A R) → IsCells m digest layout s → FitsStored layout s.words w.pools →
       ((j : ℕ) → root_at layout ≤ j → slice_index (set s.words i n) j ≡ slice_index s.words j) → StoredWords pool_side layout (set s.words i n) (set s.views id w)
   stored_apart s i n id w kept fits words = stored-set pool_side layout (set s.words i n) s.views id w (on w.pools fits) (λ j u ne there. on u.pools (kept.stored j u there))
     where
@@ -117,16 +121,30 @@ module _ {S A R F : Type 0} (m : Meaning S A R) (digest : Key → ℕ) (layout :
       on : (side : PoolSide) → FitsStored layout s.words side → FitsStored layout (set s.words i n) side
       on side h = stored-words layout s.words (set s.words i n) side h field_same
 
-  pub locks_apart : (s : State F (CellView S A R)) (i n id : ℕ) (v w : CellView S A R) → IsCells m digest layout s → get_elem? s.views id ≡ some v → w.trie.locks ≡ v.trie.locks →
+  pub locks_apart : (s : State (Running S) (CellView S A R)) (i n id : ℕ) (v w : CellView S A R) → IsCells m digest layout s → get_elem? s.views id ≡ some v → w.trie.locks ≡ v.trie.locks →
       ((j : ℕ) → root_at layout ≤ j → slice_index (set s.words i n) j ≡ slice_index s.words j) → Locks lock_side layout (set s.words i n) (set s.views id w)
   locks_apart s i n id v w kept at same words =
       locks-same lock_side layout s.words (set s.words i n) s.views (set s.views id w) kept.locks (λ lock h. words (lock_at layout lock) (lock_behind layout lock)) (holders-set lock_side layout s.views id v w at same)
 
+  -- so does the part on turns where the words of turns and of phases do, and each slot is still at what it was
+  pub turns_apart : (s : State (Running S) (CellView S A R)) (i n id : ℕ) (v w : CellView S A R) (k' : Machine S) (kept : IsCells m digest layout s) → get_elem? s.views id ≡ some v → w.turn ≡ v.turn →
+      ((slot field : ℕ) → slot < layout.slots → IsTurnField field → slice_index (set s.words i n) (field_at layout Slots slot field) ≡ slice_index s.words (field_at layout Slots slot field)) →
+      ((slot : ℕ) → StaysAt ((state_of m kept.log).slot slot) (k'.slot slot)) → Turns turn_side layout k' (set s.words i n) s.homes (set s.views id w)
+  turns_apart s i n id v w k' kept at same words slots =
+      turns-kept turn_side layout (state_of m kept.log) k' s.words (set s.words i n) s.homes s.views id v w kept.turns at same
+      (record { turn = λ slot h. words slot turn_field h (inl refl); phase = λ slot h. words slot phase_field h (inr refl); slots = slots })
+
+  -- which is so where the words behind the pools' stay
+  pub turns_behind : (s : State (Running S) (CellView S A R)) (i n id : ℕ) (v w : CellView S A R) (kept : IsCells m digest layout s) → get_elem? s.views id ≡ some v → w.turn ≡ v.turn →
+      ((j : ℕ) → root_at layout ≤ j → slice_index (set s.words i n) j ≡ slice_index s.words j) → Turns turn_side layout (state_of m kept.log) (set s.words i n) s.homes (set s.views id w)
+  turns_behind s i n id v w kept at same words =
+      turns_apart s i n id v w (state_of m kept.log) kept at same (λ slot field h f. words (field_at layout Slots slot field) (field_behind layout Slots slot field)) (λ slot. inl refl)
+
   -- a step on a word of the part on epochs, that changes this side of one view alone
-  pub epochs_step : (s : State F (CellView S A R)) (i n id : ℕ) (c : List (ℕ × F)) (v w : CellView S A R) → IsCells m digest layout s → get_elem? s.views id ≡ some v → w.seats ≡ v.seats → w.pools ≡ v.pools → KnowsNoMore v.trie w.trie → FitsAlone w →
+  pub epochs_step : (s : State (Running S) (CellView S A R)) (i n id : ℕ) (c : List (ℕ × Running S)) (v w : CellView S A R) → IsCells m digest layout s → get_elem? s.views id ≡ some v → w.seats ≡ v.seats → w.pools ≡ v.pools → KnowsNoMore v.trie w.trie → w.turn ≡ v.turn → FitsAlone w →
       ((j : ℕ) → pools_at ≤ j → slice_index (set s.words i n) j ≡ slice_index s.words j) →
       Epochs (epoch_word (set s.words i n)) (reader_word (set s.words i n)) (set (map reader_view s.views) id (reader_view w)) → IsCells m digest layout (stepped s i n id c w keeps)
-  epochs_step s i n id c v w kept at same pools trie alone words epochs = framed s (stepped s i n id c w keeps) kept kept.published kept.log (length-set s.words i n)
+  epochs_step s i n id c v w kept at same pools trie turn alone words epochs = framed s (stepped s i n id c w keeps) kept kept.published kept.log (length-set s.words i n)
       (subst (λ sides. Seats entry_seat layout.slots all_places kept.log sides) (sym (side_same seat_side s.views id v w at same)) kept.seats)
       (subst (λ rs. Epochs (epoch_word (set s.words i n)) (reader_word (set s.words i n)) rs) (sym (map-set reader_view s.views id w)) epochs)
       (pools-same layout (taken pool_side kept.published (state_of m kept.log) s.views) (taken pool_side kept.published (state_of m kept.log) (set s.views id w)) s.words (set s.words i n) kept.pools (length-set s.words i n) words
@@ -135,12 +153,13 @@ module _ {S A R F : Type 0} (m : Meaning S A R) (digest : Key → ℕ) (layout :
       (conns_apart s i n id v w kept at (ap (λ p. p.builds) pools) (ap (λ p. p.unstored) pools) (λ j h. words j (omega (arith, h))))
       (stored_apart s i n id w kept (subst (FitsStored layout s.words) (sym pools) (kept.stored id v at)) (λ j h. words j (omega (arith, h))))
       (locks_apart s i n id v w kept at trie.locks (λ j h. words j (omega (arith, h))))
+      (turns_behind s i n id v w kept at turn (λ j h. words j (omega (arith, h))))
       (alone-set s.views id w alone kept.alone)
 
   -- a load that changes the seats' side of one view alone
-  pub seats_step : (s : State F (CellView S A R)) (i id : ℕ) (c : List (ℕ × F)) (v w : CellView S A R) (kept : IsCells m digest layout s) → get_elem? s.views id ≡ some v → reader_view w ≡ reader_view v → w.pools ≡ v.pools → KnowsNoMore v.trie w.trie → FitsAlone w →
+  pub seats_step : (s : State (Running S) (CellView S A R)) (i id : ℕ) (c : List (ℕ × Running S)) (v w : CellView S A R) (kept : IsCells m digest layout s) → get_elem? s.views id ≡ some v → reader_view w ≡ reader_view v → w.pools ≡ v.pools → KnowsNoMore v.trie w.trie → w.turn ≡ v.turn → FitsAlone w →
       Seats entry_seat layout.slots all_places kept.log (set (map seat_side s.views) id w.seats) → IsCells m digest layout (stepped s i (slice_index s.words i) id c w keeps)
-  seats_step s i id c v w kept at same pools trie alone seats = framed s (stepped s i (slice_index s.words i) id c w keeps) kept kept.published kept.log (length-set s.words i (slice_index s.words i))
+  seats_step s i id c v w kept at same pools trie turn alone seats = framed s (stepped s i (slice_index s.words i) id c w keeps) kept kept.published kept.log (length-set s.words i (slice_index s.words i))
       (subst (λ sides. Seats entry_seat layout.slots all_places kept.log sides) (sym (map-set seat_side s.views id w)) seats)
       (subst (λ (ws : List ℕ). Epochs (epoch_word ws) (reader_word ws) (map reader_view (set s.views id w))) (sym (set-get_or s.words i 0))
       (subst (λ rs. Epochs (epoch_word s.words) (reader_word s.words) rs) (sym (side_same reader_view s.views id v w at same)) kept.epochs))
@@ -150,10 +169,11 @@ module _ {S A R F : Type 0} (m : Meaning S A R) (digest : Key → ℕ) (layout :
       (conns_apart s i (slice_index s.words i) id v w kept at (ap (λ p. p.builds) pools) (ap (λ p. p.unstored) pools) (λ j h. ap (λ ws. slice_index ws j) (set-get_or s.words i 0)))
       (stored_apart s i (slice_index s.words i) id w kept (subst (FitsStored layout s.words) (sym pools) (kept.stored id v at)) (λ j h. ap (λ ws. slice_index ws j) (set-get_or s.words i 0)))
       (locks_apart s i (slice_index s.words i) id v w kept at trie.locks (λ j h. ap (λ ws. slice_index ws j) (set-get_or s.words i 0)))
+      (turns_behind s i (slice_index s.words i) id v w kept at turn (λ j h. ap (λ ws. slice_index ws j) (set-get_or s.words i 0)))
       (alone-set s.views id w alone kept.alone)
 
   -- the part on epochs stays where the words before the pools' do, and what the seat knows of it
-  pub epochs_apart : (s : State F (CellView S A R)) (i n id : ℕ) (v w : CellView S A R) → IsCells m digest layout s → get_elem? s.views id ≡ some v → reader_view w ≡ reader_view v →
+  pub epochs_apart : (s : State (Running S) (CellView S A R)) (i n id : ℕ) (v w : CellView S A R) → IsCells m digest layout s → get_elem? s.views id ≡ some v → reader_view w ≡ reader_view v →
       ((j : ℕ) → j < pools_at → slice_index (set s.words i n) j ≡ slice_index s.words j) →
       Epochs (epoch_word (set s.words i n)) (reader_word (set s.words i n)) (map reader_view (set s.views id w))
   epochs_apart s i n id v w kept at reads words =
@@ -169,10 +189,10 @@ module _ {S A R F : Type 0} (m : Meaning S A R) (digest : Key → ℕ) (layout :
           words (1 + place) (omega (arith, below))
 
   -- a step on a word of the part on pools, that changes this side of one view alone
-  pub pools_step : (s : State F (CellView S A R)) (i n id : ℕ) (c : List (ℕ × F)) (v w : CellView S A R) (kept : IsCells m digest layout s) → get_elem? s.views id ≡ some v → w.seats ≡ v.seats → reader_view w ≡ reader_view v → KnowsNoMore v.trie w.trie → FitsStored layout s.words w.pools →
-      w.pools.builds ≡ v.pools.builds → w.pools.unstored ≡ v.pools.unstored → FitsAlone w → IsPoolStep layout s.words i n →
+  pub pools_step : (s : State (Running S) (CellView S A R)) (i n id : ℕ) (c : List (ℕ × Running S)) (v w : CellView S A R) (kept : IsCells m digest layout s) → get_elem? s.views id ≡ some v → w.seats ≡ v.seats → reader_view w ≡ reader_view v → KnowsNoMore v.trie w.trie → FitsStored layout s.words w.pools →
+      w.pools.builds ≡ v.pools.builds → w.pools.unstored ≡ v.pools.unstored → w.turn ≡ v.turn → FitsAlone w → IsPoolStep layout s.words i n →
       Pools layout (taken pool_side kept.published (state_of m kept.log) (set s.views id w)) (set s.words i n) → IsCells m digest layout (stepped s i n id c w keeps)
-  pools_step s i n id c v w kept at same reads trie stored builds unstored alone words pools = framed s (stepped s i n id c w keeps) kept kept.published kept.log (length-set s.words i n)
+  pools_step s i n id c v w kept at same reads trie stored builds unstored turn alone words pools = framed s (stepped s i n id c w keeps) kept kept.published kept.log (length-set s.words i n)
       (subst (λ sides. Seats entry_seat layout.slots all_places kept.log sides) (sym (side_same seat_side s.views id v w at same)) kept.seats)
       (epochs_apart s i n id v w kept at reads words.before)
       pools
@@ -180,13 +200,14 @@ module _ {S A R F : Type 0} (m : Meaning S A R) (digest : Key → ℕ) (layout :
       (conns_apart s i n id v w kept at builds unstored words.behind)
       (stored_apart s i n id w kept stored words.behind)
       (locks_apart s i n id v w kept at trie.locks words.behind)
+      (turns_behind s i n id v w kept at turn words.behind)
       (alone-set s.views id w alone kept.alone)
 
   -- the same, where the pass also sees all of the history
-  pub sight_step : (s : State F (CellView S A R)) (i n id : ℕ) (c : List (ℕ × F)) (v w : CellView S A R) (kept : IsCells m digest layout s) → get_elem? s.views id ≡ some v → v.seats.lives ≡ true → w.seats ≡ record v.seats { history = kept.log } → reader_view w ≡ reader_view v →
-      KnowsNoMore v.trie w.trie → FitsStored layout s.words w.pools → w.pools.builds ≡ v.pools.builds → w.pools.unstored ≡ v.pools.unstored → FitsAlone w → IsPoolStep layout s.words i n →
+  pub sight_step : (s : State (Running S) (CellView S A R)) (i n id : ℕ) (c : List (ℕ × Running S)) (v w : CellView S A R) (kept : IsCells m digest layout s) → get_elem? s.views id ≡ some v → v.seats.lives ≡ true → w.seats ≡ record v.seats { history = kept.log } → reader_view w ≡ reader_view v →
+      KnowsNoMore v.trie w.trie → FitsStored layout s.words w.pools → w.pools.builds ≡ v.pools.builds → w.pools.unstored ≡ v.pools.unstored → w.turn ≡ v.turn → FitsAlone w → IsPoolStep layout s.words i n →
       Pools layout (taken pool_side kept.published (state_of m kept.log) (set s.views id w)) (set s.words i n) → IsCells m digest layout (stepped s i n id c w keeps)
-  sight_step s i n id c v w kept at lives seats reads trie stored builds unstored alone words pools = framed s (stepped s i n id c w keeps) kept kept.published kept.log (length-set s.words i n)
+  sight_step s i n id c v w kept at lives seats reads trie stored builds unstored turn alone words pools = framed s (stepped s i n id c w keeps) kept kept.published kept.log (length-set s.words i n)
       (subst (λ sides. Seats entry_seat layout.slots all_places kept.log sides) (sym (map-set seat_side s.views id w ∙ ap (λ side. set (map seat_side s.views) id side) seats))
       (seats-sees entry_seat layout.slots all_places kept.log (map seat_side s.views) id v.seats kept.seats (at_map seat_side s.views id v at) lives))
       (epochs_apart s i n id v w kept at reads words.before)
@@ -195,14 +216,15 @@ module _ {S A R F : Type 0} (m : Meaning S A R) (digest : Key → ℕ) (layout :
       (conns_apart s i n id v w kept at builds unstored words.behind)
       (stored_apart s i n id w kept stored words.behind)
       (locks_apart s i n id v w kept at trie.locks words.behind)
+      (turns_behind s i n id v w kept at turn words.behind)
       (alone-set s.views id w alone kept.alone)
 
   -- the same, where the pass also adds an entry of its own to the history
-  pub entry_step : (s : State F (CellView S A R)) (i n id : ℕ) (c : List (ℕ × F)) (v w : CellView S A R) (kept : IsCells m digest layout s) → get_elem? s.views id ≡ some v → v.seats.lives ≡ true → 1 ≤ length v.seats.readers →
-      (entry : Entry S A R) → entry.seat ≡ id → MayFollow m layout.slots (state_of m kept.log) entry → w.seats ≡ record v.seats { history = kept.log ++ entry ∷ [] } → reader_view w ≡ reader_view v → FitsStored layout s.words w.pools → w.trie.locks ≡ v.trie.locks → FitsAlone w →
+  pub entry_step : (s : State (Running S) (CellView S A R)) (i n id : ℕ) (c : List (ℕ × Running S)) (v w : CellView S A R) (kept : IsCells m digest layout s) → get_elem? s.views id ≡ some v → v.seats.lives ≡ true → 1 ≤ length v.seats.readers →
+      (entry : Entry S A R) → entry.seat ≡ id → MayFollow m layout.slots (state_of m kept.log) entry → w.seats ≡ record v.seats { history = kept.log ++ entry ∷ [] } → reader_view w ≡ reader_view v → FitsStored layout s.words w.pools → w.trie.locks ≡ v.trie.locks → w.turn ≡ v.turn → ((slot : ℕ) → StaysAt ((state_of m kept.log).slot slot) ((after m (state_of m kept.log) entry).slot slot)) → FitsAlone w →
       IsPoolStep layout s.words i n → Pools layout (taken pool_side kept.published (after m (state_of m kept.log) entry) (set s.views id w)) (set s.words i n) → Trie trie_side digest layout kept.published (after m (state_of m kept.log) entry) (set s.words i n) (set s.views id w) → BuildsIn pool_side (after m (state_of m kept.log) entry) (set s.views id w) →
       ((slot : ℕ) → slot < layout.slots → inc_word layout s.words slot + unstored_by pool_side (set s.views id w) slot ≡ ((after m (state_of m kept.log) entry).slot slot).inc) → IsCells m digest layout (stepped s i n id c w keeps)
-  entry_step s i n id c v w kept at lives place entry mine follows seats reads stored locks alone words pools trie builds incs =
+  entry_step s i n id c v w kept at lives place entry mine follows seats reads stored locks turn slots alone words pools trie builds incs =
       let log = kept.log ++ entry ∷ [] in
       let state = state_of-append m kept.log entry in
       framed s (stepped s i n id c w keeps) kept kept.published log (length-set s.words i n)
@@ -219,12 +241,14 @@ module _ {S A R F : Type 0} (m : Meaning S A R) (digest : Key → ℕ) (layout :
       })
       (stored_apart s i n id w kept stored words.behind)
       (locks_apart s i n id v w kept at locks words.behind)
+      (subst (λ k. Turns turn_side layout k (set s.words i n) s.homes (set s.views id w)) (sym state)
+      (turns_apart s i n id v w (after m (state_of m kept.log) entry) kept at turn (λ slot field h f. words.behind (field_at layout Slots slot field) (field_behind layout Slots slot field)) slots))
       (alone-set s.views id w alone kept.alone)
 
   -- a step on a word behind the pools', that changes of one view what the pass still has to store alone
-  pub private_step : (s : State F (CellView S A R)) (i n id : ℕ) (c : List (ℕ × F)) (v w : CellView S A R) (kept : IsCells m digest layout s) → get_elem? s.views id ≡ some v → root_at layout ≤ i → w.seats ≡ v.seats → reader_view w ≡ reader_view v →
-      w.pools.nodes ≡ v.pools.nodes → w.pools.builds ≡ v.pools.builds → FitsAlone w → Trie trie_side digest layout kept.published (state_of m kept.log) (set s.words i n) (set s.views id w) → Conns pool_side m layout kept.log (set s.words i n) (set s.views id w) → StoredWords pool_side layout (set s.words i n) (set s.views id w) → Locks lock_side layout (set s.words i n) (set s.views id w) → IsCells m digest layout (stepped s i n id c w keeps)
-  private_step s i n id c v w kept at behind same reads nodes builds alone trie connections stored locks = framed s (stepped s i n id c w keeps) kept kept.published kept.log (length-set s.words i n)
+  pub private_step : (s : State (Running S) (CellView S A R)) (i n id : ℕ) (c : List (ℕ × Running S)) (v w : CellView S A R) (kept : IsCells m digest layout s) → get_elem? s.views id ≡ some v → root_at layout ≤ i → w.seats ≡ v.seats → reader_view w ≡ reader_view v →
+      w.pools.nodes ≡ v.pools.nodes → w.pools.builds ≡ v.pools.builds → FitsAlone w → Trie trie_side digest layout kept.published (state_of m kept.log) (set s.words i n) (set s.views id w) → Conns pool_side m layout kept.log (set s.words i n) (set s.views id w) → StoredWords pool_side layout (set s.words i n) (set s.views id w) → Locks lock_side layout (set s.words i n) (set s.views id w) → Turns turn_side layout (state_of m kept.log) (set s.words i n) s.homes (set s.views id w) → IsCells m digest layout (stepped s i n id c w keeps)
+  private_step s i n id c v w kept at behind same reads nodes builds alone trie connections stored locks turns = framed s (stepped s i n id c w keeps) kept kept.published kept.log (length-set s.words i n)
       (subst (λ sides. Seats entry_seat layout.slots all_places kept.log sides) (sym (side_same seat_side s.views id v w at same)) kept.seats)
       (epochs_apart s i n id v w kept at reads (λ j h. below j (omega (arith, h))))
       (pools-kept layout (taken pool_side kept.published (state_of m kept.log) s.views) (taken pool_side kept.published (state_of m kept.log) (set s.views id w)) s.words (set s.words i n) kept.pools (length-set s.words i n) below (taken-set pool_side kept.published (state_of m kept.log) s.views id v w at nodes))
@@ -232,6 +256,7 @@ module _ {S A R F : Type 0} (m : Meaning S A R) (digest : Key → ℕ) (layout :
       connections
       stored
       locks
+      turns
       (alone-set s.views id w alone kept.alone)
     where
       below : (j : ℕ) → j < root_at layout → slice_index (set s.words i n) j ≡ slice_index s.words j

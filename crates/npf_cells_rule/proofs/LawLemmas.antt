@@ -1,6 +1,6 @@
 -- What the rule says of who owns a node and who builds in a slot.
 use Rattle.atomic_table.proofs.Lists.{at_map}
-use Rattle.std.proofs.Common.{map, ◌≡◌, subst, ◌≢◌, ℕ, ◌%◌, ◌<◌, ◌≤◌, slice_index, ⊎_elim, arith}
+use Rattle.std.proofs.Common.{map, ◌≢◌, ℕ, ◌%◌, ◌<◌, ◌≤◌, slice_index, ⊎_elim, arith}
 use Rattle.std.proofs.lemmas.Bool.{cases_eq}
 use Rattle.std.proofs.lemmas.Nat.Bits.{bit_at-lt}
 use Rattle.atomic_table.specs.Table.{State}
@@ -16,6 +16,7 @@ use Rattle.npf_seats.proofs.SumLemmas.{two_of_sum}
 use Rattle.npf_cells_pins.proofs.EpochLemmas.{holds_epoch_back}
 use Rattle.npf_cells_lives.specs.Pools.{node_owners}
 use Rattle.npf_cells_lives.proofs.ConnLemmas.{builds_apart}
+use Rattle.npf_cells_lives.specs.Turns.{Running}
 use Rattle.npf_cells_rule.specs.declared.view.CellView.{CellView}
 use Rattle.npf_cells_rule.specs.Cells.{IsCells}
 use Rattle.npf_cells_rule.specs.TableLaw.{BuildsAlone, OwnsAlone, HoldsBack}
@@ -27,7 +28,7 @@ builds_alone m layout digest s i j v w id other kept at there mine theirs same =
     builds_apart pool_side m layout kept.log s.words s.views i j v w id other kept.connections at there mine theirs same
 
 -- the bit of a node counts its owners
-few_owners : {S A R : Type 0} (m : Meaning S A R) (digest : Key → ℕ) (layout : Layout) (s : State ℕ (CellView S A R)) (node : ℕ) → IsCells m digest layout s → node_owners pool_side s.views node ≤ 1
+few_owners : {S A R : Type 0} (m : Meaning S A R) (digest : Key → ℕ) (layout : Layout) (s : State (Running S) (CellView S A R)) (node : ℕ) → IsCells m digest layout s → node_owners pool_side s.views node ≤ 1
 few_owners m digest layout s node kept = ⊎_elim
     (λ (h : node < layout.nodes).
     let bit = kept.pools.bits Nodes node h in

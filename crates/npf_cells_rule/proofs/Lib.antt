@@ -7,3 +7,4 @@ pub mod PassLemmas
 pub mod SoleLemmas
 pub mod StoodLemmas
 pub mod TrieLawLemmas
+pub mod TurnFrames

@@ -20,8 +20,9 @@ use Rattle.npf_seats.proofs.SumLemmas.{one_of_sum}
 use Rattle.npf_cells_leaves.specs.Trie.{TrieWords, trie_words}
 use Rattle.npf_cells_rule.specs.declared.view.CellView.{CellView}
 use Rattle.npf_cells_rule.specs.Cells.{IsCells}
+use Rattle.npf_cells_lives.specs.Turns.{Running}
 
-module _ {S A R F : Type 0} (m : Meaning S A R) (digest : Key → ℕ) (layout : Layout) (s : State F (CellView S A R)) (kept : IsCells m digest layout s) where
+module _ {S A R : Type 0} (m : Meaning S A R) (digest : Key → ℕ) (layout : Layout) (s : State (Running S) (CellView S A R)) (kept : IsCells m digest layout s) where
   abbrev t : TrieWords
   t = trie_words layout s.words
 

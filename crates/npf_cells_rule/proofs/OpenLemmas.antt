@@ -1,11 +1,12 @@
 -- A new table keeps the rule.
 use Rattle.std.specs.List.{Contains}
-use Rattle.std.proofs.Common.{◌≡◌, ◌≢◌, ◌⊎◌, ℕ, zero, suc, ◌+◌, ◌-◌, ◌<◌, ◌≤◌, Bool, true, false, true≢false, cond, List, [], ◌∷◌, length, slice_index, replicate, sum_by, refl, sym, ap, ◌∙◌, subst, ⊎_elim, inl, arith}
-use Rattle.std.proofs.lemmas.List.{get_or-set_same, length-replicate}
+use Rattle.std.proofs.Common.{◌≡◌, ℕ, zero, suc, ◌+◌, ◌<◌, ◌≤◌, Bool, true, false, true≢false, cond, Some, None, List, [], ◌∷◌, map, length, slice_index, replicate, sum_by, refl, sym, ap, ◌∙◌, subst, ⊎_elim, inl, arith}
+use Rattle.std.proofs.lemmas.List.{get_or-set_same, length-map, length-replicate}
 use Rattle.std.proofs.lemmas.List.Sums.{sum_by-cons}
 use mathlib.Core.Option.{some, some-injective, some-ne-none}
 use lib.ListN.{get_elem?}
 use Rattle.atomic_table.specs.Table.{opening as table_opening}
+use Rattle.atomic_table.proofs.Lists.{at_map}
 use Rattle.npf_types.specs.declared.key.Key.{Key}
 use Rattle.npf_core.specs.declared.entry.Entry.{Entry}
 use Rattle.npf_core.specs.Machine.{opening}
@@ -19,7 +20,7 @@ use Rattle.npf_paths.proofs.LevelLemmas.{bare_has_levels}
 use Rattle.npf_cells_words.specs.declared.layout.Layout.{Layout}
 use Rattle.npf_cells_words.specs.declared.layout.Pool.{Pool}
 use Rattle.npf_cells_words.specs.declared.layout.Pool.TheVariants.{Slots, Nodes}
-use Rattle.npf_cells_words.specs.Layout.{inc_field, field_at, word_count, epoch_word, reader_word}
+use Rattle.npf_cells_words.specs.Layout.{turn_field, inc_field, phase_field, field_at, word_count, epoch_word, reader_word}
 use Rattle.npf_cells_words.specs.Opening.{opening_words}
 use Rattle.npf_cells_words.specs.Places.{lock_at, is_in_trie, place_at}
 use Rattle.npf_cells_words.proofs.WordLemmas.{lock_behind, place_behind}
@@ -34,6 +35,7 @@ use Rattle.npf_cells_pins.specs.Epochs.{ReaderView, pin_place, FitsEpochs, all_r
 use Rattle.npf_cells_pins.proofs.EpochLemmas.{idle_holds}
 use Rattle.npf_cells_leaves.specs.Trie.{trie_words, holder_at, FitsTrie}
 use Rattle.npf_cells_leaves.proofs.TrieLemmas.{fits_unread}
+use Rattle.npf_cells_lives.specs.declared.turn.Turn.{Turn}
 use Rattle.npf_cells_lives.specs.Conns.{FitsBuilds, inc_word, unstored_by, entry_seat}
 use Rattle.npf_cells_lives.specs.Locks.{has_lock, lock_holders}
 use Rattle.npf_cells_lives.specs.Pools.{taken}
@@ -42,12 +44,19 @@ use Rattle.npf_cells_lives.proofs.ConnLemmas.{fits_nothing}
 use Rattle.npf_cells_lives.proofs.StoredLemmas.{fits_unstored}
 use Rattle.npf_cells_rule.specs.declared.view.CellView.{CellView}
 use Rattle.npf_cells_rule.specs.Cells.{FitsAlone, IsCells, first_cell_view}
-use Rattle.npf_cells_rule.specs.Views.{reader_view, lock_side, pool_side}
+use Rattle.npf_cells_rule.specs.Views.{reader_view, lock_side, pool_side, turn_side}
+use Rattle.npf_cells_lives.specs.Turns.{Running, has_turn, turn_holders, FitsTurn, Turns}
 
 -- no cell is said by 0
 nothing_in : (b : Bool) (word : ℕ) → word ≡ 0 → cond b (cell_of word) Empty ≡ Empty
 nothing_in true word e = ap cell_of e
 nothing_in false word e = refl
+
+-- what stands in each place of copies
+replicated : {X : Type 0} (x : X) (n i : ℕ) → i < n → get_elem? (replicate n x) i ≡ some x
+replicated x zero i h = absurd (omega (arith, h))
+replicated x (suc n) zero h = refl
+replicated x (suc n) (suc i) h = replicated x n i (omega (arith, h))
 
 module _ {S A R : Type 0} (layout : Layout) where
   abbrev view : CellView S A R
@@ -87,8 +96,8 @@ module _ {S A R : Type 0} (layout : Layout) where
   untaken v none Nodes p = let a = sum_by-cons (λ (u : CellView S A R). occurs p u.pools.nodes) v [] in let b : occurs p v.pools.nodes ≡ 0 = ap (occurs p) none in omega (arith, a, b)
 
   -- the rule of a new table
-  pub opens : {F : Type 0} (m : Meaning S A R) (digest : Key → ℕ) (words : List ℕ) (homes : List F) → words ≡ opening_words layout → IsCells m digest layout (table_opening words homes (first_cell_view {S = S} {A = A} {R = R} layout))
-  opens m digest words homes is = rw is (record {
+  pub opens : (m : Meaning S A R) (digest : Key → ℕ) (words : List ℕ) (homes : List (Running S)) → words ≡ opening_words layout → homes ≡ replicate layout.slots None → IsCells m digest layout (table_opening words homes (first_cell_view {S = S} {A = A} {R = R} layout))
+  opens m digest words homes is vacant = rw (is, vacant) (record {
     log = [];
     published = [];
     seats = first_seats;
@@ -118,6 +127,7 @@ module _ {S A R : Type 0} (layout : Layout) where
     connections = record { reach = count layout; legal = tt; each = builds_none; incs = no_incs };
     stored = unstored;
     locks = record { says = λ lock h. behind layout (lock_at layout lock) (lock_behind layout lock) ∙ sym (unheld lock); alone = λ lock h. (let none = unheld lock in omega (arith, none)) };
+    turns = first_turns;
     alone = alone;
   })
     where
@@ -160,6 +170,25 @@ module _ {S A R : Type 0} (layout : Layout) where
 
       unheld : (lock : Lock) → lock_holders lock_side layout (view ∷ []) lock ≡ 0
       unheld lock = sum_by-cons (λ (u : CellView S A R). has_lock layout lock u.trie.locks) view []
+
+      no_turns : (slot : ℕ) → turn_holders turn_side (view ∷ []) slot ≡ 0
+      no_turns slot = sum_by-cons (λ (u : CellView S A R). has_turn slot u.turn) view []
+
+      first_turns : Turns {S = S} turn_side layout opening (opening_words layout) (map some (replicate layout.slots None)) (view ∷ [])
+      first_turns = record {
+        reach = length-map (replicate layout.slots None) some ∙ length-replicate layout.slots None;
+        says = λ slot h. behind layout (field_at layout Slots slot turn_field) (omega arith) ∙ sym (no_turns slot);
+        alone = λ slot h. (let none = no_turns slot in omega (arith, none));
+        home = λ slot h none. record {
+          there = at_map some (replicate layout.slots None) slot None (replicated None layout.slots slot h);
+          phase = behind layout (field_at layout Slots slot phase_field) (omega arith);
+        };
+        each = turnless;
+      }
+        where
+          turnless : (j : ℕ) (v : CellView S A R) (turn : Turn S) → get_elem? (view ∷ []) j ≡ some v → v.turn ≡ Some turn → FitsTurn {S = S} layout opening (opening_words layout) turn
+          turnless zero v turn e has = absurd (let no : None ≡ Some turn = ap (λ (u : CellView S A R). u.turn) (some-injective _ _ e) ∙ has in cc)
+          turnless (suc j) v turn e has = absurd (some-ne-none v (sym e))
 
       alone : (j : ℕ) (v : CellView S A R) → get_elem? (view ∷ []) j ≡ some v → FitsAlone v
       alone zero v e = subst (λ (u : CellView S A R). FitsAlone u) (some-injective _ _ e)

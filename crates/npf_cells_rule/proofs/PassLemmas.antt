@@ -1,13 +1,14 @@
 -- A pass of the table stays one.
-use Rattle.std.proofs.Common.{◌≡◌, ℕ, List, ◌∙◌, true, refl}
+use Rattle.std.proofs.Common.{◌≡◌, ℕ, Option, None, List, [], ◌∙◌, true, refl}
 use Rattle.atomic_table.specs.Seated.{TableId}
 use Rattle.atomic_table.specs.Table.{Me}
 use Rattle.npf_cells_words.specs.declared.layout.Layout.{Layout}
 use Rattle.npf_cells_pins.specs.declared.pin.Pin.{Pin}
 use Rattle.npf_cells_pins.specs.declared.pin.Pin.TheVariants.{Idle, Pinned, Protected}
 use Rattle.npf_cells_lives.specs.declared.pools.PoolSide.{PoolSide}
+use Rattle.npf_cells_lives.specs.declared.turn.Turn.{Turn}
 use Rattle.npf_cells_rule.specs.declared.view.CellView.{CellView}
-use Rattle.npf_cells_rule.specs.Passes.{IsPassOf, is_pinned, IsProtected}
+use Rattle.npf_cells_rule.specs.Passes.{Carries, IsPassOf, is_pinned, IsProtected}
 use Rattle.npf_cells_rule.specs.Views.{with_pools}
 
 -- a pass of the table stays one through a step that changes what it knows and has of the pools
@@ -16,7 +17,7 @@ pub pools_on : {S A R F : Type 0} (layout : Layout) (table seat seat' : TableId)
 pools_on layout table seat seat' readers me next side own same is = rw is (record {
   same = same ∙ own.same;
   words = own.words;
-  free = own.free;
+  carries = own.carries;
   sized = own.sized;
   lives = own.lives;
   theirs = own.theirs;
@@ -34,3 +35,7 @@ pub pinned_in : (pin : Pin) → IsProtected pin → is_pinned pin ≡ true
 pinned_in Idle h = absurd h
 pinned_in (Pinned epoch) h = refl
 pinned_in (Protected pinned epoch) h = refl
+
+-- a pass without a turn carries nothing
+pub turnless_free : {S F : Type 0} {turn : Option (Turn S)} {carried : List (ℕ × F)} → turn ≡ None → Carries turn carried → carried ≡ []
+turnless_free {carried = carried} none carries = rw none at carries

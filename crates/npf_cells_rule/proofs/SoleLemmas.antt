@@ -16,8 +16,9 @@ use Rattle.npf_cells_pins.specs.Epochs.{ReaderView}
 use Rattle.npf_cells_rule.specs.declared.view.CellView.{CellView}
 use Rattle.npf_cells_rule.specs.Cells.{IsCells}
 use Rattle.npf_cells_rule.specs.Views.{seat_side, reader_view, nothing_left}
+use Rattle.npf_cells_lives.specs.Turns.{Running}
 
-module _ {S A R F : Type 0} (m : Meaning S A R) (digest : Key → ℕ) (layout : Layout) (s : State F (CellView S A R)) (id : ℕ) (v : CellView S A R) (kept : IsCells m digest layout s) (at : get_elem? s.views id ≡ some v)
+module _ {S A R : Type 0} (m : Meaning S A R) (digest : Key → ℕ) (layout : Layout) (s : State (Running S) (CellView S A R)) (id : ℕ) (v : CellView S A R) (kept : IsCells m digest layout s) (at : get_elem? s.views id ≡ some v)
     (all : length v.seats.readers ≡ all_places) where
   pub others_spent : (i : ℕ) (u : CellView S A R) → i ≢ id → get_elem? s.views i ≡ some u → u ≡ nothing_left
   others_spent i u ne there =

@@ -1,5 +1,5 @@
 -- The rule of the table without locks: seven parts, over its words and the sides of the views, and what it says of each pass by itself.
-use Rattle.std.specs.Prelude.{◌≡◌, ℕ, true, List, [], map, length}
+use Rattle.std.specs.Prelude.{◌≡◌, ℕ, true, None, List, [], map, length}
 use mathlib.Core.Option.{some}
 use lib.ListN.{get_elem?}
 use Rattle.atomic_table.specs.Table.{State}
@@ -20,7 +20,8 @@ use Rattle.npf_cells_lives.specs.Pools.{taken, Pools, empty_handed}
 use Rattle.npf_cells_lives.specs.Stored.{StoredWords}
 use Rattle.npf_cells_rule.specs.declared.view.CellView.{CellView}
 use Rattle.npf_cells_rule.specs.Passes.{IsProtected}
-use Rattle.npf_cells_rule.specs.Views.{seat_side, reader_view, lock_side, pool_side, trie_side, nothing_left}
+use Rattle.npf_cells_rule.specs.Views.{seat_side, reader_view, lock_side, pool_side, trie_side, turn_side, nothing_left}
+use Rattle.npf_cells_lives.specs.Turns.{Running, Turns}
 
 -- what the rule says of one pass by itself: one that isn't protected walked nowhere and has no lock, and one that owns no reader place,
 -- whose seat is spent, is nothing at all
@@ -32,7 +33,7 @@ abbrev pub AllFitAlone : {S A R : Type 0} → List (CellView S A R) → Type 0
 AllFitAlone {S} {A} {R} views = (j : ℕ) (v : CellView S A R) → get_elem? views j ≡ some v → FitsAlone v
 
 -- the rule
-pub record IsCells {S A R F : Type 0} (m : Meaning S A R) (digest : Key → ℕ) (layout : Layout) (s : State F (CellView S A R)) : Type 0 where
+pub record IsCells {S A R : Type 0} (m : Meaning S A R) (digest : Key → ℕ) (layout : Layout) (s : State (Running S) (CellView S A R)) : Type 0 where
   pub log : List (Entry S A R)
   pub published : List ℕ
   pub seats : Seats entry_seat layout.slots all_places log (map seat_side s.views)
@@ -42,6 +43,7 @@ pub record IsCells {S A R F : Type 0} (m : Meaning S A R) (digest : Key → ℕ)
   pub connections : Conns pool_side m layout log s.words s.views
   pub stored : StoredWords pool_side layout s.words s.views
   pub locks : Locks lock_side layout s.words s.views
+  pub turns : Turns turn_side layout (state_of m log) s.words s.homes s.views
   pub alone : AllFitAlone s.views
 
 -- the first pass, which owns all reader places
@@ -61,4 +63,5 @@ first_cell_view layout = record {
   epochs = idle_side;
   pools = empty_handed;
   trie = unread_side;
+  turn = None;
 }

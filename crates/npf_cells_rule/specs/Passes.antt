@@ -1,5 +1,5 @@
 -- What a pass of the table shows, and which passes belong to a table.
-use Rattle.std.specs.Prelude.{◌≡◌, ℕ, ◌≤◌, ◌<◌, Bool, true, false, List, [], length}
+use Rattle.std.specs.Prelude.{◌≡◌, ℕ, ◌≤◌, ◌<◌, Bool, true, false, Option, Some, None, List, [], ◌∷◌, length}
 use Rattle.atomic_table.specs.Seated.{TableId}
 use Rattle.atomic_table.specs.Table.{Me}
 use Rattle.npf_core.specs.declared.entry.Entry.{Entry}
@@ -10,6 +10,7 @@ use Rattle.npf_cells_words.specs.Layout.{word_count}
 use Rattle.npf_cells_pins.specs.declared.pin.Pin.{Pin}
 use Rattle.npf_cells_pins.specs.declared.pin.Pin.TheVariants.{Idle, Pinned, Protected}
 use Rattle.npf_cells_pins.specs.Epochs.{pin_place}
+use Rattle.npf_cells_lives.specs.declared.turn.Turn.{Turn}
 use Rattle.npf_cells_rule.specs.declared.view.CellView.{CellView}
 
 -- a pass is in a stay from its pin on
@@ -39,11 +40,16 @@ cell_pass v = record {
   epoch = v.epochs.greatest;
 }
 
+-- a pass carries the value of the slot whose turn it has, and nothing else
+abbrev pub Carries : {S F : Type 0} → Option (Turn S) → List (ℕ × F) → Type 0
+Carries {S} {F} None carried = carried ≡ []
+Carries {S} {F} (Some turn) carried = (value : F) × (carried ≡ (turn.slot, value) ∷ [])
+
 -- a pass of this table, between two calls: it has its number and all that it was told, and knows which reader places it owns
 pub record IsPassOf {S A R F : Type 0} (layout : Layout) (table seat : TableId) (readers : List ℕ) (me : Me F (CellView S A R)) : Type 0 where
   pub same : seat ≡ table
   pub words : table.words ≡ word_count layout
-  pub free : me.1 ≡ []
+  pub carries : Carries me.0.turn me.1
   pub sized : me.0.seats.about ≡ layout.slots
   pub lives : me.0.seats.lives ≡ true
   pub theirs : me.0.seats.theirs ≡ []

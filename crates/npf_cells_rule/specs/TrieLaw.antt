@@ -14,28 +14,29 @@ use Rattle.npf_cells_words.specs.declared.layout.Layout.{Layout}
 use Rattle.npf_cells_leaves.specs.declared.trie.LoadedLeaf.{LoadedLeaf}
 use Rattle.npf_cells_leaves.specs.declared.trie.PathPlace.{PathPlace}
 use Rattle.npf_cells_leaves.specs.Trie.{digits_of, trie_words, holder_at}
+use Rattle.npf_cells_lives.specs.Turns.{Running}
 use Rattle.npf_cells_rule.specs.declared.view.CellView.{CellView}
 use Rattle.npf_cells_rule.specs.Cells.{IsCells}
 
 -- what stands where a key's path ends names the key's holder after the history
 abbrev pub EndsNameHolders : {S A R : Type 0} → Meaning S A R → Layout → Type 0
 EndsNameHolders {S} {A} {R} m layout =
-    (digest : Key → ℕ) (s : State ℕ (CellView S A R)) (kept : IsCells m digest layout s) (key : Key) (level : ℕ) (p : Place) → EndsAt (digits_of digest key) (trie_words layout s.words).cell level p →
+    (digest : Key → ℕ) (s : State (Running S) (CellView S A R)) (kept : IsCells m digest layout s) (key : Key) (level : ℕ) (p : Place) → EndsAt (digits_of digest key) (trie_words layout s.words).cell level p →
     (state_of m kept.log).holder key ≡ holder_at (trie_words layout s.words) ((trie_words layout s.words).cell p) key
 
 -- the words of a leaf that a pass loaded in its stay are as they were, and its connection is claimed
-pub record IsLeafKept {S A R : Type 0} (m : Meaning S A R) (digest : Key → ℕ) (layout : Layout) (s : State ℕ (CellView S A R)) (kept : IsCells m digest layout s) (leaf : LoadedLeaf) : Type 0 where
+pub record IsLeafKept {S A R : Type 0} (m : Meaning S A R) (digest : Key → ℕ) (layout : Layout) (s : State (Running S) (CellView S A R)) (kept : IsCells m digest layout s) (leaf : LoadedLeaf) : Type 0 where
   pub key : (trie_words layout s.words).key leaf.slot leaf.way ≡ leaf.key
   pub inc : (trie_words layout s.words).inc leaf.slot ≡ leaf.inc
   pub claimed : IsClaimed (stage_of (state_of m kept.log) (record { slot = leaf.slot; inc = leaf.inc }))
 
 abbrev pub LeavesAreKept : {S A R : Type 0} → Meaning S A R → Layout → Type 0
 LeavesAreKept {S} {A} {R} m layout =
-    (digest : Key → ℕ) (s : State ℕ (CellView S A R)) (kept : IsCells m digest layout s) (j : ℕ) (v : CellView S A R) (leaf : LoadedLeaf) →
+    (digest : Key → ℕ) (s : State (Running S) (CellView S A R)) (kept : IsCells m digest layout s) (j : ℕ) (v : CellView S A R) (leaf : LoadedLeaf) →
     get_elem? s.views j ≡ some v → v.trie.leaf ≡ Some leaf → IsLeafKept m digest layout s kept leaf
 
 -- the node in which a pass stands is no pass's own
 abbrev pub NodesAreKept : {S A R : Type 0} → Meaning S A R → Layout → Type 0
 NodesAreKept {S} {A} {R} m layout =
-    (digest : Key → ℕ) (s : State ℕ (CellView S A R)) (i j node digit : ℕ) (u v : CellView S A R) (point : PathPlace) → IsCells m digest layout s →
+    (digest : Key → ℕ) (s : State (Running S) (CellView S A R)) (i j node digit : ℕ) (u v : CellView S A R) (point : PathPlace) → IsCells m digest layout s →
     get_elem? s.views i ≡ some u → get_elem? s.views j ≡ some v → v.trie.stands ≡ Some point → point.place ≡ Places.Node node digit → ¬ (Contains u.pools.nodes node)

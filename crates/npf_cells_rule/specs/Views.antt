@@ -1,5 +1,5 @@
 -- The sides of a view, and views of which one side changes.
-use Rattle.std.specs.Prelude.{ℕ, List}
+use Rattle.std.specs.Prelude.{ℕ, Option, None, List}
 use Rattle.atomic_table.specs.Table.{Me}
 use Rattle.npf_core.specs.declared.entry.Entry.{Entry}
 use Rattle.npf_paths.specs.declared.place.Lock.{Lock}
@@ -10,6 +10,7 @@ use Rattle.npf_cells_pins.specs.Epochs.{ReaderView, idle_side}
 use Rattle.npf_cells_leaves.specs.declared.trie.TrieSide.{TrieSide}
 use Rattle.npf_cells_leaves.specs.Trie.{unread_side}
 use Rattle.npf_cells_lives.specs.declared.pools.PoolSide.{PoolSide}
+use Rattle.npf_cells_lives.specs.declared.turn.Turn.{Turn}
 use Rattle.npf_cells_lives.specs.Pools.{empty_handed}
 use Rattle.npf_cells_rule.specs.declared.view.CellView.{CellView}
 
@@ -29,6 +30,10 @@ trie_side v = v.trie
 abbrev pub lock_side : {S A R : Type 0} → CellView S A R → List Lock
 lock_side v = v.trie.locks
 
+-- the turn that a pass has
+abbrev pub turn_side : {S A R : Type 0} → CellView S A R → Option (Turn S)
+turn_side v = v.turn
+
 -- the pass after a step that changes only what it knows of the epoch
 abbrev pub with_epochs : {S A R F : Type 0} → Me F (CellView S A R) → EpochSide → Me F (CellView S A R)
 with_epochs me side = (record me.0 { epochs = side }, me.1)
@@ -39,7 +44,7 @@ with_trie me side = (record me.0 { trie = side }, me.1)
 
 -- what is left of a pass that was joined into another
 abbrev pub nothing_left : {S A R : Type 0} → CellView S A R
-nothing_left = record { seats = spent_seat 0; epochs = idle_side; pools = empty_handed; trie = unread_side }
+nothing_left = record { seats = spent_seat 0; epochs = idle_side; pools = empty_handed; trie = unread_side; turn = None }
 
 -- the pass after a step that changes only what it knows and has of the pools
 abbrev pub with_pools : {S A R F : Type 0} → Me F (CellView S A R) → PoolSide → Me F (CellView S A R)

@@ -1,5 +1,5 @@
 use npf_cells_leaves::TrieSide;
-use npf_cells_lives::PoolSide;
+use npf_cells_lives::{PoolSide, Turn};
 use npf_cells_pins::EpochSide;
 use npf_core::Entry;
 use npf_seats::SeatSide;
@@ -10,4 +10,6 @@ pub struct CellView<S, A, R> {
     pub epochs: EpochSide,
     pub pools: PoolSide,
     pub trie: TrieSide,
+    /// The turn that it has, if any.
+    pub turn: Option<Turn<S>>,
 }

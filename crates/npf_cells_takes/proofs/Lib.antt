@@ -1,3 +1,4 @@
+pub mod PhaseKeepLemmas
 pub mod PoolKeepLemmas
 pub mod PrivateKeepLemmas
 pub mod PrivateTrieLemmas

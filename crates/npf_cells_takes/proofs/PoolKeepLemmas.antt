@@ -1,7 +1,7 @@
 -- Kinds 7 to 9 keep the rule: each by its part and the frame of a step on a pool's word.
 use Rattle.std.specs.Int.{bit_at, bit_not, w64}
 use Rattle.std.specs.List.{Contains}
-use Rattle.std.proofs.Common.{◌≡◌, ◌≢◌, ℕ, ◌+◌, ◌*◌, ◌%◌, ◌^◌, ◌<◌, ◌≤◌, Bool, true, false, cond, eqb, eq-eqb, ne_eqb, List, [], ◌∷◌, set, length, slice_index, refl, sym, ap, ◌∙◌, subst, arith, length-set, bit_and, bit_or}
+use Rattle.std.proofs.Common.{◌≡◌, ◌≢◌, ℕ, ◌+◌, ◌*◌, ◌%◌, ◌^◌, ◌<◌, ◌≤◌, Bool, true, false, cond, eqb, eq-eqb, ne_eqb, List, [], ◌∷◌, set, length, slice_index, refl, sym, ap, ◌∙◌, arith, length-set, bit_and, bit_or}
 use Rattle.std.proofs.lemmas.Bool.Decides.{Decides-eqb, not_from_Decides}
 use Rattle.std.proofs.lemmas.List.{get_or-set_other, set-get_or}
 use Rattle.std.proofs.lemmas.List.Elements.{Contains-append_right}
@@ -9,7 +9,6 @@ use Rattle.std.proofs.lemmas.Nat.Bits.{bit_at-lt, bit_at_set_same, bit_at_set_ot
 use mathlib.Core.Option.{some}
 use lib.ListN.{get_elem?}
 use Rattle.atomic_table.specs.Table.{State, Me, Step, Allows, stepped, keeps}
-use Rattle.atomic_table.proofs.Lists.{at_map}
 use Rattle.npf_types.specs.declared.key.Key.{Key}
 use Rattle.npf_core.specs.History.{state_of}
 use Rattle.npf_core.specs.Machine.{Machine}
@@ -22,7 +21,6 @@ use Rattle.npf_seats.specs.Sums.{others_than, occurs}
 use Rattle.npf_seats.proofs.ListLemmas.{one_where, occurs-cons, left_same, left_others, stands_once}
 use Rattle.npf_seats.proofs.SumLemmas.{sum-set, one_of_sum}
 use Rattle.npf_cells_leaves.proofs.TrieLemmas.{knows_same}
-use Rattle.npf_cells_lives.specs.declared.pools.PoolSide.{PoolSide}
 use Rattle.npf_cells_lives.specs.declared.pools.StoredWord.{StoredWord}
 use Rattle.npf_cells_lives.specs.Pools.{node_owners, taken}
 use Rattle.npf_cells_lives.specs.Stored.{IsOwnField, FitsStored}
@@ -31,11 +29,12 @@ use Rattle.npf_cells_lives.proofs.StoredLemmas.{fits_unstored, own_same, stored_
 use Rattle.npf_cells_rule.specs.declared.view.CellView.{CellView}
 use Rattle.npf_cells_rule.specs.Cells.{IsCells}
 use Rattle.npf_cells_rule.specs.Stood.{StoodSo}
-use Rattle.npf_cells_rule.specs.Views.{seat_side, pool_side}
+use Rattle.npf_cells_rule.specs.Views.{pool_side}
 use Rattle.npf_cells_rule.proofs.Frames.{alone_still, IsPoolStep, pools_step, sight_step}
 use Rattle.npf_cells_rule.proofs.StoodLemmas.{stood_so}
 use Rattle.npf_cells_takes.proofs.SightLemmas.{seer, seer_stored, has_seen}
 use Rattle.npf_cells_takes.specs.PoolKinds.{sweeping, claiming_node, giving_back, Sweeps, ClaimsNode, GivesNodeBack}
+use Rattle.npf_cells_lives.specs.Turns.{Running}
 
 -- a step on the word of a place is one on the pools' words
 pub pool_step : (layout : Layout) (words : List ℕ) (pool : Pool) (place n : ℕ) → place < pool_places layout pool → IsPoolStep layout words (place_word layout pool place) n
@@ -45,9 +44,9 @@ pool_step layout words pool place n within =
       behind = λ j h. get_or-set_other words (place_word layout pool place) j n 0 (λ e. absurd (let high = lies.1 in omega (arith, e, h, high)));
     }
 
-module _ {S A R F : Type 0} (m : Meaning S A R) (digest : Key → ℕ) (layout : Layout) where
+module _ {S A R : Type 0} (m : Meaning S A R) (digest : Key → ℕ) (layout : Layout) where
   -- a load of a word of the nodes, or of one of the slots, after which the pass has seen all of the history
-  pub may_sweep : (st : Step F) (id n : ℕ) (pool : Pool) (word i : ℕ) (me : Me F (CellView S A R)) → me.0.seats.lives ≡ true → me.0.seats.theirs ≡ [] → 1 ≤ length me.0.seats.readers → i ≡ pool_at layout pool + word →
+  pub may_sweep : (st : Step (Running S)) (id n : ℕ) (pool : Pool) (word i : ℕ) (me : Me (Running S) (CellView S A R)) → me.0.seats.lives ≡ true → me.0.seats.theirs ≡ [] → 1 ≤ length me.0.seats.readers → i ≡ pool_at layout pool + word →
       Allows (IsCells m digest layout) n id me i (λ k. k) (Sweeps m digest layout pool word st me)
   may_sweep st id n Nodes word i me lives settled place there s kept homes at bound =
       let w : CellView S A R = record me.0 { pools = sweeping (pool_words layout.nodes) word me.0.pools (slice_index s.words i) } in
@@ -56,7 +55,7 @@ module _ {S A R F : Type 0} (m : Meaning S A R) (digest : Key → ℕ) (layout :
         keeps,
         tt,
         pools_step m digest layout s i (slice_index s.words i) id me.1 me.0 w kept at refl refl (knows_same me.0.trie)
-            (stored_kept layout s.words s.words me.0.pools w.pools (kept.stored id me.0 at) refl (own_same layout me.0.pools w.pools refl refl) (λ pool place field own. refl)) refl refl (alone_still me.0 w (kept.alone id me.0 at) place refl (λ none. none))
+            (stored_kept layout s.words s.words me.0.pools w.pools (kept.stored id me.0 at) refl (own_same layout me.0.pools w.pools refl refl) (λ pool place field own. refl)) refl refl refl (alone_still me.0 w (kept.alone id me.0 at) place refl (λ none. none))
             (record { before = λ j h. ap (λ ws. slice_index ws j) words; behind = λ j h. ap (λ ws. slice_index ws j) words })
             (pools-same layout (taken pool_side kept.published (state_of m kept.log) s.views) (taken pool_side kept.published (state_of m kept.log) (set s.views id w)) s.words (set s.words i (slice_index s.words i)) kept.pools
             (length-set s.words i (slice_index s.words i)) (λ j h. ap (λ ws. slice_index ws j) words) (taken-set pool_side kept.published (state_of m kept.log) s.views id me.0 w at refl)),
@@ -68,7 +67,7 @@ module _ {S A R F : Type 0} (m : Meaning S A R) (digest : Key → ℕ) (layout :
         w,
         keeps,
         tt,
-        sight_step m digest layout s i (slice_index s.words i) id me.1 me.0 w kept at lives refl refl (knows_same me.0.trie) (seer_stored m digest layout s id me kept at lives place (slice_index s.words i)) refl refl
+        sight_step m digest layout s i (slice_index s.words i) id me.1 me.0 w kept at lives refl refl (knows_same me.0.trie) (seer_stored m digest layout s id me kept at lives place (slice_index s.words i)) refl refl refl
             (alone_still me.0 w (kept.alone id me.0 at) place refl (λ none. none))
             (record { before = λ j h. ap (λ ws. slice_index ws j) words; behind = λ j h. ap (λ ws. slice_index ws j) words })
             (pools-same layout (taken pool_side kept.published (state_of m kept.log) s.views) (taken pool_side kept.published (state_of m kept.log) (set s.views id w)) s.words (set s.words i (slice_index s.words i)) kept.pools
@@ -81,7 +80,7 @@ module _ {S A R F : Type 0} (m : Meaning S A R) (digest : Key → ℕ) (layout :
       )
 
   -- a node's bit changes, and with it who owns the node
-  module _ (s : State F (CellView S A R)) (id : ℕ) (me : Me F (CellView S A R)) (kept : IsCells m digest layout s) (at : get_elem? s.views id ≡ some me.0) (node : ℕ) (within : node < layout.nodes) where
+  module _ (s : State (Running S) (CellView S A R)) (id : ℕ) (me : Me (Running S) (CellView S A R)) (kept : IsCells m digest layout s) (at : get_elem? s.views id ≡ some me.0) (node : ℕ) (within : node < layout.nodes) where
     abbrev word : ℕ
     word = place_word layout Nodes node
 
@@ -105,14 +104,14 @@ module _ {S A R F : Type 0} (m : Meaning S A R) (digest : Key → ℕ) (layout :
         ((i : ℕ) → i < 64 → i ≢ node % 64 → bit_at n i ≡ bit_at found i) → ((p : ℕ) → p ≢ node → occurs p nodes ≡ occurs p me.0.pools.nodes) →
         IsCells m digest layout (stepped s word n id me.1 (with_nodes nodes stored) keeps)
     node_step n nodes stored fits place here bits others =
-        pools_step m digest layout s word n id me.1 me.0 (with_nodes nodes stored) kept at refl refl (knows_same me.0.trie) fits refl refl (alone_still me.0 (with_nodes nodes stored) (kept.alone id me.0 at) place refl (λ none. none)) (pool_step layout s.words Nodes node n within)
+        pools_step m digest layout s word n id me.1 me.0 (with_nodes nodes stored) kept at refl refl (knows_same me.0.trie) fits refl refl refl (alone_still me.0 (with_nodes nodes stored) (kept.alone id me.0 at) place refl (λ none. none)) (pool_step layout s.words Nodes node n within)
         (pools-set layout (taken pool_side kept.published k s.views) (taken pool_side kept.published k (set s.views id (with_nodes nodes stored))) s.words Nodes node n kept.pools within here bits rest)
       where
         rest : (other : Pool) (p : ℕ) → (other ≡ Nodes → p ≢ node) → taken pool_side kept.published k (set s.views id (with_nodes nodes stored)) other p ≡ taken pool_side kept.published k s.views other p
         rest Slots p two = refl
         rest Nodes p two = let sums = owners_after nodes stored p in let same = others p (two refl) in omega (arith, sums, same)
 
-  pub may_claim_node : (st : Step F) (id n node mask : ℕ) (me : Me F (CellView S A R)) → me.0.seats.lives ≡ true → 1 ≤ length me.0.seats.readers → node < layout.nodes → mask ≡ 1 * 2 ^ (node % 64) % 2 ^ 64 →
+  pub may_claim_node : (st : Step (Running S)) (id n node mask : ℕ) (me : Me (Running S) (CellView S A R)) → me.0.seats.lives ≡ true → 1 ≤ length me.0.seats.readers → node < layout.nodes → mask ≡ 1 * 2 ^ (node % 64) % 2 ^ 64 →
       Allows (IsCells m digest layout) n id me (place_word layout Nodes node) (λ k. bit_or k mask) (ClaimsNode m digest layout node st me)
   may_claim_node st id n node mask me lives place within is s kept homes at bound = rw is (
     record me.0 { pools = claiming_node node me.0.pools (found s id me kept at node within) },
@@ -157,7 +156,7 @@ module _ {S A R F : Type 0} (m : Meaning S A R) (digest : Key → ℕ) (layout :
               omega (arith, more, none)
           others false p ne = refl
 
-  pub may_return_node : (st : Step F) (id n node mask : ℕ) (me : Me F (CellView S A R)) → me.0.seats.lives ≡ true → 1 ≤ length me.0.seats.readers → node < layout.nodes → Contains me.0.pools.nodes node → mask ≡ bit_not w64 (1 * 2 ^ (node % 64) % 2 ^ 64) →
+  pub may_return_node : (st : Step (Running S)) (id n node mask : ℕ) (me : Me (Running S) (CellView S A R)) → me.0.seats.lives ≡ true → 1 ≤ length me.0.seats.readers → node < layout.nodes → Contains me.0.pools.nodes node → mask ≡ bit_not w64 (1 * 2 ^ (node % 64) % 2 ^ 64) →
       Allows (IsCells m digest layout) n id me (place_word layout Nodes node) (λ k. bit_and k mask) (GivesNodeBack m digest layout node st me)
   may_return_node st id n node mask me lives place within owns is s kept homes at bound = rw is (
     record me.0 { pools = giving_back node me.0.pools (found s id me kept at node within) },

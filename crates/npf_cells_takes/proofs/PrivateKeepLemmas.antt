@@ -1,64 +1,72 @@
 -- Kind 10, and the load of an incarnation, keep the rule.
 use Rattle.std.specs.List.{Contains}
-use Rattle.std.proofs.Common.{◌≤◌, ◌≡◌, ◌≢◌, ℕ, ◌+◌, ◌<◌, Bool, true, false, cond, eqb, Some, List, [], ◌∷◌, set, length, slice_index, refl, sym, ap, ◌∙◌, subst, ⊎_elim, arith, length-set}
+use Rattle.std.proofs.Common.{◌≤◌, ◌≡◌, ◌≢◌, ℕ, ◌+◌, ◌<◌, Bool, true, false, cond, eqb, eq-eqb, ne_eqb, Some, List, ◌∷◌, set, length, slice_index, refl, sym, ap, ◌∙◌, subst, ⊎_elim, inl, arith, length-set}
 use Rattle.std.proofs.lemmas.Bool.Decides.{Decides-eqb, not_from_Decides}
 use Rattle.std.proofs.lemmas.List.{get_or-set_same, get_or-set_other, set-get_or}
 use mathlib.Core.Option.{some}
 use lib.ListN.{get_elem?}
-use Rattle.atomic_table.specs.Table.{State, Me, Step, Allows, stepped, keeps}
+use Rattle.atomic_table.specs.Table.{State, Me, Step, Act, Allows, Valid, carried_after, stepped, keeps}
 use Rattle.npf_types.specs.declared.key.Key.{Key}
 use Rattle.npf_core.specs.declared.conn_id.ConnId.{ConnId}
+use Rattle.npf_core.specs.declared.slot.Slot.{Slot}
 use Rattle.npf_core.specs.History.{state_of}
 use Rattle.npf_core.specs.Meaning.{Meaning}
 use Rattle.npf_core.proofs.IdentityLemmas.{counts_incarnations}
 use Rattle.npf_cells_words.specs.declared.layout.Layout.{Layout}
 use Rattle.npf_cells_words.specs.declared.layout.Pool.{Pool}
 use Rattle.npf_cells_words.specs.declared.layout.Pool.TheVariants.{Slots, Nodes}
-use Rattle.npf_cells_words.specs.Layout.{inc_field, field_at, field_count, pool_places}
+use Rattle.npf_cells_words.specs.Layout.{inc_field, phase_field, field_at, field_count, pool_places}
 use Rattle.npf_cells_words.specs.Places.{lock_at}
 use Rattle.npf_cells_words.proofs.WordLemmas.{inc_apart, field_behind, field_reach, node_apart}
 use Rattle.npf_seats.specs.Sums.{others_than, occurs}
 use Rattle.npf_seats.proofs.ListLemmas.{occurs_or, stands_once}
 use Rattle.npf_seats.proofs.PrefixLemmas.{cons_cases}
+use Rattle.npf_seats.proofs.SumLemmas.{sum_alone}
 use Rattle.npf_cells_leaves.specs.Trie.{trie_words}
 use Rattle.npf_cells_leaves.proofs.TrieLemmas.{KeepsTrie, knows_same, trie_same}
 use Rattle.npf_cells_lives.specs.declared.pools.StoredWord.{StoredWord}
-use Rattle.npf_cells_lives.specs.Conns.{inc_word, Conns}
+use Rattle.npf_cells_lives.specs.Conns.{inc_word, unstored_by, Conns}
 use Rattle.npf_cells_lives.specs.Locks.{Locks}
 use Rattle.npf_cells_lives.specs.Stored.{stored_value, IsOwnField, FitsStored, StoredWords}
 use Rattle.npf_cells_lives.proofs.ConnLemmas.{building_at, builds-kept, unstored-set, conns-same, inc_shown, conns-stored}
 use Rattle.npf_cells_lives.proofs.LockLemmas.{locks-same, holders-set}
-use Rattle.npf_cells_lives.proofs.StoredLemmas.{own_same, stored_kept, stored-set, no_lock}
+use Rattle.npf_cells_lives.proofs.StoredLemmas.{own_same, stored_kept, stored-set, no_lock, no_turn}
 use Rattle.npf_cells_rule.specs.declared.view.CellView.{CellView}
 use Rattle.npf_cells_rule.specs.Cells.{IsCells}
-use Rattle.npf_cells_rule.specs.Views.{lock_side, pool_side, trie_side}
-use Rattle.npf_cells_rule.proofs.Frames.{alone_still, private_step, trie_apart, stored_apart, locks_apart}
+use Rattle.npf_cells_rule.specs.Views.{lock_side, pool_side, trie_side, turn_side, with_pools}
+use Rattle.npf_cells_rule.proofs.Frames.{alone_still, private_step, trie_apart, stored_apart, locks_apart, turns_apart, turns_behind}
 use Rattle.npf_cells_rule.proofs.LawLemmas.{builds_alone, owns_alone}
-use Rattle.npf_cells_rule.proofs.StoodLemmas.{unhomed}
-use Rattle.npf_cells_takes.specs.PrivateKinds.{ShowsInc, MayStore, MayStoreInSlot, storing, LoadsInc, StoresPrivate}
+use Rattle.npf_cells_takes.specs.PrivateKinds.{ShowsInc, ShowsTurnInc, MayStore, MayStoreInNode, MayStoreInSlot, MayStorePhase, storing, with_phase, LoadsInc, StoresPrivate}
+use Rattle.npf_cells_takes.proofs.PhaseKeepLemmas.{phase_stored}
 use Rattle.npf_cells_takes.proofs.PrivateTrieLemmas.{node_keeps, slot_keeps}
+use Rattle.npf_cells_lives.specs.Turns.{Running, phase_of, Turns}
 
-module _ {S A R F : Type 0} (m : Meaning S A R) (digest : Key → ℕ) (layout : Layout) where
+-- the pass may store in a word of its own that isn't a phase
+abbrev MayStoreOwn : {S A R : Type 0} → Meaning S A R → CellView S A R → Pool → ℕ → ℕ → ℕ → Type 0
+MayStoreOwn m v Slots slot field value = MayStoreInSlot m v slot field value
+MayStoreOwn m v Nodes node field value = MayStoreInNode v.pools node field
+
+module _ {S A R : Type 0} (m : Meaning S A R) (digest : Key → ℕ) (layout : Layout) where
   -- who owns one word is one seat
-  own_alone : (s : State F (CellView S A R)) (kept : IsCells m digest layout s) (i j : ℕ) (v w : CellView S A R) → get_elem? s.views i ≡ some v → get_elem? s.views j ≡ some w → (pool : Pool) (place field : ℕ) (other : Pool) (place' field' : ℕ) →
+  own_alone : (s : State (Running S) (CellView S A R)) (kept : IsCells m digest layout s) (i j : ℕ) (v w : CellView S A R) → get_elem? s.views i ≡ some v → get_elem? s.views j ≡ some w → (pool : Pool) (place field : ℕ) (other : Pool) (place' field' : ℕ) →
       IsOwnField layout v.pools pool place field → IsOwnField layout w.pools other place' field' → field_at layout pool place field ≡ field_at layout other place' field' → i ≡ j
   own_alone s kept i j v w at there Slots place field Slots place' field' own own' e =
       let same : place ≡ place' = (let a = own.3 in let b = own'.3 in omega (arith, a, b, e)) in
-      builds_alone m layout digest (record { words = s.words; homes = []; views = s.views }) i j v w own.0.id own'.0.id (unhomed m digest layout s kept) at there own.0.built own'.0.built (own.0.there ∙ (same ∙ sym own'.0.there))
+      builds_alone m layout digest s i j v w own.0.id own'.0.id kept at there own.0.built own'.0.built (own.0.there ∙ (same ∙ sym own'.0.there))
   own_alone s kept i j v w at there Slots place field Nodes place' field' own own' e = absurd (let a = own'.1 in let b = own'.2 in omega (arith, a, b, e))
   own_alone s kept i j v w at there Nodes place field Slots place' field' own own' e = absurd (let a = own.1 in let b = own.2 in omega (arith, a, b, e))
   own_alone s kept i j v w at there Nodes place field Nodes place' field' own own' e =
       let same : place ≡ place' = (let a = own.2 in let b = own'.2 in omega (arith, a, b, e)) in
-      owns_alone m layout digest (record { words = s.words; homes = []; views = s.views }) i j place v w (unhomed m digest layout s kept) at there own.0 (subst (Contains w.pools.nodes) (sym same) own'.0)
+      owns_alone m layout digest s i j place v w kept at there own.0 (subst (Contains w.pools.nodes) (sym same) own'.0)
 
   -- a step on another word than those of incarnations, which leaves the views
-  conns_else : (s : State F (CellView S A R)) (i n id : ℕ) (v : CellView S A R) (kept : IsCells m digest layout s) → get_elem? s.views id ≡ some v →
+  conns_else : (s : State (Running S) (CellView S A R)) (i n id : ℕ) (v : CellView S A R) (kept : IsCells m digest layout s) → get_elem? s.views id ≡ some v →
       ((slot : ℕ) → slot < layout.slots → slice_index (set s.words i n) (field_at layout Slots slot inc_field) ≡ slice_index s.words (field_at layout Slots slot inc_field)) →
       Conns pool_side m layout kept.log (set s.words i n) (set s.views id v)
   conns_else s i n id v kept at same = conns-same pool_side m layout kept.log s.words (set s.words i n) s.views (set s.views id v) kept.connections (length-set s.words i n) same
       (builds-kept pool_side (state_of m kept.log) s.views id v v at refl refl kept.connections.each) (unstored-set pool_side s.views id v v at refl)
 
-  shows_inc : (s : State F (CellView S A R)) (id slot : ℕ) (v : CellView S A R) → IsCells m digest layout s → get_elem? s.views id ≡ some v → slot < layout.slots →
+  shows_inc : (s : State (Running S) (CellView S A R)) (id slot : ℕ) (v : CellView S A R) → IsCells m digest layout s → get_elem? s.views id ≡ some v → slot < layout.slots →
       ShowsInc v.pools slot (inc_word layout s.words slot)
   shows_inc s id slot v kept at within = record {
     stored = λ i c e no. ⊎_elim
@@ -80,7 +88,31 @@ module _ {S A R F : Type 0} (m : Meaning S A R) (digest : Key → ℕ) (layout :
       shown i c e = subst (λ p. inc_word layout s.words p + occurs p v.pools.unstored ≡ i.inc) e
           (inc_shown pool_side m layout kept.log s.words s.views id v kept.connections at i c (subst (λ p. p < layout.slots) (sym e) within))
 
-  pub may_load_inc : (st : Step F) (id n slot : ℕ) (me : Me F (CellView S A R)) → slot < layout.slots →
+  -- nobody still has to store the incarnation of a connection that is Live or Dead
+  none_owes : (s : State (Running S) (CellView S A R)) (kept : IsCells m digest layout s) (id : ℕ) (v : CellView S A R) → get_elem? s.views id ≡ some v → (slot : ℕ) → phase_of ((state_of m kept.log).slot slot).stage ≢ 0 → unstored_by pool_side s.views slot ≡ 0
+  none_owes s kept id v at slot settled = sum_alone (λ (u : CellView S A R). occurs slot u.pools.unstored) s.views id v at (λ i u ne e. owes i u e) ∙ owes id v at
+    where
+      owes : (j : ℕ) (u : CellView S A R) → get_elem? s.views j ≡ some u → occurs slot u.pools.unstored ≡ 0
+      owes j u e = ⊎_elim
+          (λ none. none)
+          (λ c.
+          let fits = kept.connections.each j u e in
+          let owed = fits.owing slot c in
+          let stage = building_at ((state_of m kept.log).slot owed.id.slot) owed.id.inc j (fits.building owed.id owed.built) in
+          absurd (settled (subst (λ p. phase_of ((state_of m kept.log).slot p).stage ≡ 0) owed.there (ap phase_of stage.1))))
+          (occurs_or slot u.pools.unstored)
+
+  shows_turn_inc : (s : State (Running S) (CellView S A R)) (kept : IsCells m digest layout s) (id : ℕ) (v : CellView S A R) → get_elem? s.views id ≡ some v → (slot : ℕ) → ShowsTurnInc v.turn slot (inc_word layout s.words slot)
+  shows_turn_inc s kept id v at slot turn has there settled =
+      let fits = kept.turns.each id v turn at has in
+      let same : (state_of m kept.log).slot turn.slot ≡ turn.was = ⊎_elim (λ e. e) (λ idle. absurd (settled idle.0)) fits.stays in
+      let none = none_owes s kept id v at turn.slot (λ idle. settled (ap (λ (x : Slot S). phase_of x.stage) (sym same) ∙ idle)) in
+      let word = kept.connections.incs turn.slot fits.exists in
+      let last = ap (λ (x : Slot S). x.inc) same in
+      let here : inc_word layout s.words turn.slot ≡ turn.was.inc = omega (arith, word, none, last) in
+      ap (inc_word layout s.words) (sym there) ∙ here
+
+  pub may_load_inc : (st : Step (Running S)) (id n slot : ℕ) (me : Me (Running S) (CellView S A R)) → slot < layout.slots →
       Allows (IsCells m digest layout) n id me (field_at layout Slots slot inc_field) (λ k. k) (LoadsInc slot st me)
   may_load_inc st id n slot me within s kept homes at bound =
       let i = field_at layout Slots slot inc_field in (
@@ -91,11 +123,12 @@ module _ {S A R F : Type 0} (m : Meaning S A R) (digest : Key → ℕ) (layout :
             (trie_apart m digest layout s i (slice_index s.words i) id me.0 me.0 kept at (knows_same me.0.trie) (λ j h. ap (λ ws. slice_index ws j) (set-get_or s.words i 0)))
             (conns_else s i (slice_index s.words i) id me.0 kept at (λ p h. ap (λ ws. slice_index ws (field_at layout Slots p inc_field)) (set-get_or s.words i 0)))
             (stored_apart m digest layout s i (slice_index s.words i) id me.0 kept (kept.stored id me.0 at) (λ j h. ap (λ ws. slice_index ws j) (set-get_or s.words i 0)))
-            (locks_apart m digest layout s i (slice_index s.words i) id me.0 me.0 kept at refl (λ j h. ap (λ ws. slice_index ws j) (set-get_or s.words i 0))),
-        record { is = refl; shows = shows_inc s id slot me.0 kept at within; leaf = λ leaf e there. ap (λ p. inc_word layout s.words p) (sym there) ∙ ((kept.trie.each id me.0 at).leaf leaf e).inc },
+            (locks_apart m digest layout s i (slice_index s.words i) id me.0 me.0 kept at refl (λ j h. ap (λ ws. slice_index ws j) (set-get_or s.words i 0)))
+            (turns_behind m digest layout s i (slice_index s.words i) id me.0 me.0 kept at refl (λ j h. ap (λ ws. slice_index ws j) (set-get_or s.words i 0))),
+        record { is = refl; shows = shows_inc s id slot me.0 kept at within; leaf = λ leaf e there. ap (λ p. inc_word layout s.words p) (sym there) ∙ ((kept.trie.each id me.0 at).leaf leaf e).inc; turn = shows_turn_inc s kept id me.0 at slot },
       )
 
-  module _ (s : State F (CellView S A R)) (id : ℕ) (me : Me F (CellView S A R)) (kept : IsCells m digest layout s) (at : get_elem? s.views id ≡ some me.0) (place field value : ℕ) where
+  module _ (s : State (Running S) (CellView S A R)) (id : ℕ) (me : Me (Running S) (CellView S A R)) (kept : IsCells m digest layout s) (at : get_elem? s.views id ≡ some me.0) (place field value : ℕ) where
     abbrev storer : Pool → CellView S A R
     storer pool = record me.0 { pools = storing pool place field value me.0.pools }
 
@@ -111,12 +144,12 @@ module _ {S A R F : Type 0} (m : Meaning S A R) (digest : Key → ℕ) (layout :
     reaches : (pool : Pool) → place < pool_places layout pool → field < field_count pool → field_at layout pool place field < length s.words
     reaches pool within exists = let reach = field_reach layout pool place field within exists in let long = kept.connections.reach in omega (arith, reach, long)
 
-    owns : (pool : Pool) → place < pool_places layout pool → field < field_count pool → MayStore m me.0 pool place field value → IsOwnField layout me.0.pools pool place field
-    owns Slots within exists may = (record { id = may.id; built = may.built; there = may.there }, within, may.turnless, exists)
+    owns : (pool : Pool) → place < pool_places layout pool → field < field_count pool → MayStoreOwn m me.0 pool place field value → IsOwnField layout me.0.pools pool place field
+    owns Slots within exists may = (record { id = may.id; built = may.built; there = may.there }, within, may.turnless, exists, may.phaseless)
     owns Nodes within exists may = (may.owned, within, exists, may.stateless)
 
     -- the trie, what passes stored, and the locks
-    trie_stays : me.0.seats.lives ≡ true → (pool : Pool) → place < pool_places layout pool → field < field_count pool → MayStore m me.0 pool place field value →
+    trie_stays : me.0.seats.lives ≡ true → (pool : Pool) → place < pool_places layout pool → field < field_count pool → MayStoreOwn m me.0 pool place field value →
         KeepsTrie layout.slots (state_of m kept.log) (state_of m kept.log) (trie_words layout s.words) (trie_words layout (words' pool))
     trie_stays lives Slots within exists may = slot_keeps m digest layout s kept id me.0 place field value at lives within exists (reaches Slots within exists) may
     trie_stays lives Nodes within exists may = node_keeps m digest layout s kept id me.0 place field value at within exists may.owned
@@ -154,14 +187,18 @@ module _ {S A R F : Type 0} (m : Meaning S A R) (digest : Key → ℕ) (layout :
     locks_stay pool unstored own = locks-same lock_side layout s.words (words' pool) s.views (set s.views id (with_stored pool unstored)) kept.locks
         (λ lock h. get_or-set_other s.words (field_at layout pool place field) (lock_at layout lock) value 0 (no_lock layout me.0.pools pool place field lock own h)) (holders-set lock_side layout s.views id me.0 (with_stored pool unstored) at refl)
 
+    turns_stay : (pool : Pool) (unstored : List ℕ) → IsOwnField layout me.0.pools pool place field → Turns turn_side layout (state_of m kept.log) (words' pool) s.homes (set s.views id (with_stored pool unstored))
+    turns_stay pool unstored own = turns_apart m digest layout s (field_at layout pool place field) value id me.0 (with_stored pool unstored) (state_of m kept.log) kept at refl
+        (λ slot f h is. get_or-set_other s.words (field_at layout pool place field) (field_at layout Slots slot f) value 0 (no_turn layout me.0.pools pool place field slot f own h is)) (λ slot. inl refl)
+
     -- as long as the part on connections holds
-    stored_step : me.0.seats.lives ≡ true → 1 ≤ length me.0.seats.readers → (pool : Pool) (unstored : List ℕ) → place < pool_places layout pool → field < field_count pool → MayStore m me.0 pool place field value →
+    stored_step : me.0.seats.lives ≡ true → 1 ≤ length me.0.seats.readers → (pool : Pool) (unstored : List ℕ) → place < pool_places layout pool → field < field_count pool → MayStoreOwn m me.0 pool place field value →
         Conns pool_side m layout kept.log (words' pool) (set s.views id (with_stored pool unstored)) → Stored pool (with_stored pool unstored)
     stored_step lives seated pool unstored within exists may connections =
         let own = owns pool within exists may in
         private_step m digest layout s (field_at layout pool place field) value id me.1 me.0 (with_stored pool unstored) kept at (field_behind layout pool place field) refl refl refl refl (alone_still me.0 (with_stored pool unstored) (kept.alone id me.0 at) seated refl (λ none. none))
         (trie_same trie_side digest layout kept.published (state_of m kept.log) (state_of m kept.log) s.words (words' pool) s.views id me.0 (with_stored pool unstored) kept.trie at (knows_same me.0.trie) (trie_stays lives pool within exists may))
-        connections (stored_stay pool unstored own (reaches pool within exists)) (locks_stay pool unstored own)
+        connections (stored_stay pool unstored own (reaches pool within exists)) (locks_stay pool unstored own) (turns_stay pool unstored own)
 
     conns_stay : (pool : Pool) → ((slot : ℕ) → slot < layout.slots → field_at layout Slots slot inc_field ≢ field_at layout pool place field) → Conns pool_side m layout kept.log (words' pool) (set s.views id (with_stored pool me.0.pools.unstored))
     conns_stay pool apart = conns-same pool_side m layout kept.log s.words (words' pool) s.views (set s.views id (with_stored pool me.0.pools.unstored)) kept.connections (length-set s.words (field_at layout pool place field) value)
@@ -178,7 +215,7 @@ module _ {S A R F : Type 0} (m : Meaning S A R) (digest : Key → ℕ) (layout :
         (conns-stored pool_side m layout kept.log s.words s.views id me.0 kept.connections at may.id may.built below w refl (ap (λ p. others_than p me.0.pools.unstored) (sym may.there))
         (let reach = field_reach layout Slots may.id.slot inc_field below (omega arith) in omega (arith, reach, long)))
 
-    pub stores : me.0.seats.lives ≡ true → 1 ≤ length me.0.seats.readers → (pool : Pool) → place < pool_places layout pool → field < field_count pool → MayStore m me.0 pool place field value → Stored pool (storer pool)
+    pub stores : me.0.seats.lives ≡ true → 1 ≤ length me.0.seats.readers → (pool : Pool) → place < pool_places layout pool → field < field_count pool → MayStoreOwn m me.0 pool place field value → Stored pool (storer pool)
     stores lives seated Nodes within exists may = stored_step lives seated Nodes me.0.pools.unstored within exists may (conns_stay Nodes (λ slot h. node_apart layout place field slot within exists))
     stores lives seated Slots within exists may = by_field (eqb field inc_field) refl
       where
@@ -186,12 +223,39 @@ module _ {S A R F : Type 0} (m : Meaning S A R) (digest : Key → ℕ) (layout :
         by_field true e = stored_step lives seated Slots (others_than place me.0.pools.unstored) within exists may (incs_stay may within ((Decides-eqb field inc_field).0 e))
         by_field false e = stored_step lives seated Slots me.0.pools.unstored within exists may (conns_stay Slots (λ slot h same. inc_apart layout place field slot exists (λ _. not_from_Decides _ (Decides-eqb field inc_field) e) (sym same)))
 
-  pub may_store : (st : Step F) (id n : ℕ) (pool : Pool) (place field value : ℕ) (me : Me F (CellView S A R)) → me.0.seats.lives ≡ true → 1 ≤ length me.0.seats.readers → place < pool_places layout pool → field < field_count pool →
+  pub may_store : (st : Step (Running S)) (id n : ℕ) (pool : Pool) (place field value : ℕ) (me : Me (Running S) (CellView S A R)) → me.0.seats.lives ≡ true → 1 ≤ length me.0.seats.readers → place < pool_places layout pool → field < field_count pool →
       MayStore m me.0 pool place field value → Allows (IsCells m digest layout) n id me (field_at layout pool place field) (λ _. value) (λ _. StoresPrivate m digest layout pool place field st me value)
-  may_store st id n pool place field value me lives seated within exists may s kept homes at bound = (
-    storer s id me kept at place field value pool,
+  may_store st id n Nodes place field value me lives seated within exists may s kept homes at bound = (
+    storer s id me kept at place field value Nodes,
     keeps,
     tt,
-    stores s id me kept at place field value lives seated pool within exists may,
+    stores s id me kept at place field value lives seated Nodes within exists may,
     record { is = refl },
   )
+  may_store st id n Slots place field value me lives seated within exists may s kept homes at bound = ⊎_elim in_own in_phase may
+    where
+      Stores : Type 0
+      Stores = (w : CellView S A R) × (a : Act (Running S)) × Valid s.homes me.1 a × IsCells m digest layout (stepped s (field_at layout Slots place field) value id me.1 w a)
+          × StoresPrivate m digest layout Slots place field st me value (w, carried_after me.1 a)
+
+      after' : Bool → Me (Running S) (CellView S A R)
+      after' b = cond b (record me.0 { turn = with_phase value me.0.turn }, me.1) (with_pools me (storing Slots place field value me.0.pools))
+
+      in_own : MayStoreInSlot m me.0 place field value → Stores
+      in_own own = (
+        storer s id me kept at place field value Slots,
+        keeps,
+        tt,
+        stores s id me kept at place field value lives seated Slots within exists own,
+        record { is = sym (ap after' (ne_eqb field phase_field own.phaseless)) },
+      )
+
+      in_phase : MayStorePhase me.0 place field → Stores
+      in_phase under = (
+        record me.0 { turn = with_phase value me.0.turn },
+        keeps,
+        tt,
+        subst (λ (y : ℕ × ℕ). IsCells m digest layout (stepped s (field_at layout Slots y.0 y.1) value id me.1 (record me.0 { turn = with_phase value me.0.turn }) keeps)) (λ i. (under.there i, sym under.phase i))
+            (phase_stored m digest layout s kept id me.0 under.turn value at under.has seated),
+        record { is = sym (ap after' (eq-eqb field phase_field under.phase)) },
+      )

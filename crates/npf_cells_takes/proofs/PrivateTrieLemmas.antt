@@ -1,9 +1,8 @@
 -- Stores in the words of a pass's own places leave the trie as it is.
 use Rattle.std.specs.List.{Contains}
-use Rattle.std.proofs.Common.{◌≡◌, ◌≢◌, ◌⊎◌, ℕ, ◌+◌, ◌%◌, ◌<◌, true, Some, [], ◌∷◌, set, length, slice_index, refl, sym, ap, ◌∙◌, subst, ⊎_elim, inl, inr, arith}
+use Rattle.std.proofs.Common.{◌≡◌, ◌≢◌, ℕ, ◌+◌, ◌<◌, true, Some, [], ◌∷◌, set, length, slice_index, refl, sym, ap, ◌∙◌, subst, ⊎_elim, arith}
 use Rattle.std.proofs.lemmas.Bool.{cases_eq}
 use Rattle.std.proofs.lemmas.List.{get_or-set_same, get_or-set_other}
-use Rattle.std.proofs.lemmas.Nat.Bits.{bit_at-lt}
 use mathlib.Core.Option.{some}
 use lib.ListN.{get_elem?}
 use Rattle.atomic_table.specs.Table.{State}
@@ -17,18 +16,12 @@ use Rattle.npf_core.specs.Meaning.{Meaning}
 use Rattle.npf_core.proofs.EqualityLemmas.{same_conn_id}
 use Rattle.npf_core.proofs.HolderLemmas.{holders_claimed}
 use Rattle.npf_core.proofs.LifeLemmas.{IsClaimed-last}
-use Rattle.npf_paths.specs.declared.place.Place.{Place}
-use Rattle.npf_paths.specs.Paths.{AreDigits, IsOnPath}
-use Rattle.npf_paths.specs.Paths.IsOnPath.{at_root, further}
 use Rattle.npf_cells_words.specs.declared.layout.Layout.{Layout}
 use Rattle.npf_cells_words.specs.declared.layout.Pool.TheVariants.{Slots, Nodes}
-use Rattle.npf_cells_words.specs.Layout.{nodes_at, inc_field, key_field, field_at, place_word}
+use Rattle.npf_cells_words.specs.Layout.{inc_field, key_field, field_at}
 use Rattle.npf_cells_words.specs.Places.{place_at}
 use Rattle.npf_cells_words.proofs.WordLemmas.{key_short}
 use Rattle.npf_seats.specs.Seats.{IsNumbered}
-use Rattle.npf_seats.specs.Sums.{occurs}
-use Rattle.npf_seats.proofs.ListLemmas.{stands_once}
-use Rattle.npf_seats.proofs.SumLemmas.{one_of_sum}
 use Rattle.npf_cells_leaves.specs.Trie.{key_word, TrieWords, trie_words, leaf_found, IsRightLeaf}
 use Rattle.npf_cells_leaves.proofs.TrieLemmas.{KeepsTrie, cell_same}
 use Rattle.npf_cells_lives.specs.Conns.{entry_seat}
@@ -39,8 +32,9 @@ use Rattle.npf_cells_rule.specs.Cells.{IsCells}
 use Rattle.npf_cells_rule.specs.Views.{seat_side}
 use Rattle.npf_cells_rule.proofs.MetLemmas.{met_at, unowned}
 use Rattle.npf_cells_takes.specs.PrivateKinds.{MayStoreInSlot}
+use Rattle.npf_cells_lives.specs.Turns.{Running}
 
-module _ {S A R F : Type 0} (m : Meaning S A R) (digest : Key → ℕ) (layout : Layout) (s : State F (CellView S A R)) (kept : IsCells m digest layout s) where
+module _ {S A R : Type 0} (m : Meaning S A R) (digest : Key → ℕ) (layout : Layout) (s : State (Running S) (CellView S A R)) (kept : IsCells m digest layout s) where
   abbrev k : Machine S
   k = state_of m kept.log
 

@@ -26,8 +26,9 @@ use Rattle.npf_cells_rule.specs.Views.{seat_side, with_pools}
 use Rattle.npf_cells_rule.proofs.EntryLemmas.{sees_nothing, sole_seen}
 use Rattle.npf_cells_rule.proofs.PassLemmas.{pools_on}
 use Rattle.npf_cells_takes.specs.SlotKinds.{seeing_slots, HasSeenSlots}
+use Rattle.npf_cells_lives.specs.Turns.{Running}
 
-module _ {S A R F : Type 0} (m : Meaning S A R) (digest : Key → ℕ) (layout : Layout) (s : State F (CellView S A R)) (id : ℕ) (me : Me F (CellView S A R)) (kept : IsCells m digest layout s) (at : get_elem? s.views id ≡ some me.0)
+module _ {S A R : Type 0} (m : Meaning S A R) (digest : Key → ℕ) (layout : Layout) (s : State (Running S) (CellView S A R)) (id : ℕ) (me : Me (Running S) (CellView S A R)) (kept : IsCells m digest layout s) (at : get_elem? s.views id ≡ some me.0)
     (lives : me.0.seats.lives ≡ true) (place : 1 ≤ length me.0.seats.readers) (found : ℕ) where
   abbrev pub seer : CellView S A R
   seer = seeing_slots me.0 found kept.log
@@ -57,12 +58,12 @@ module _ {S A R F : Type 0} (m : Meaning S A R) (digest : Key → ℕ) (layout :
   }
 
 -- a pass of the table stays one through such a step
-pub sees_on : {S A R F : Type 0} (m : Meaning S A R) (layout : Layout) (table seat seat' : TableId) (readers : List ℕ) (word found : ℕ) (me next : Me F (CellView S A R)) →
+pub sees_on : {S A R : Type 0} (m : Meaning S A R) (layout : Layout) (table seat seat' : TableId) (readers : List ℕ) (word found : ℕ) (me next : Me (Running S) (CellView S A R)) →
     IsPassOf layout table seat readers me → seat' ≡ seat → HasSeenSlots m layout word found me next → IsPassOf layout table seat' readers next
 sees_on m layout table seat seat' readers word found me next own same seen = rw seen.is (record {
   same = same ∙ own.same;
   words = own.words;
-  free = own.free;
+  carries = own.carries;
   sized = own.sized;
   lives = own.lives;
   theirs = own.theirs;
@@ -76,7 +77,7 @@ sees_on m layout table seat seat' readers word found me next own same seen = rw 
 })
 
 -- so it does through a load of a word of either pool
-pub swept_on : {S A R F : Type 0} (m : Meaning S A R) (layout : Layout) (table seat seat' : TableId) (readers : List ℕ) (word found : ℕ) (me next : Me F (CellView S A R)) (side : PoolSide) (pool : Pool) →
+pub swept_on : {S A R : Type 0} (m : Meaning S A R) (layout : Layout) (table seat seat' : TableId) (readers : List ℕ) (word found : ℕ) (me next : Me (Running S) (CellView S A R)) (side : PoolSide) (pool : Pool) →
     IsPassOf layout table seat readers me → seat' ≡ seat → (pool ≡ Nodes → next ≡ with_pools me side) → (pool ≡ Slots → HasSeenSlots m layout word found me next) → IsPassOf layout table seat' readers next
 swept_on m layout table seat seat' readers word found me next side Nodes own same nodes slots = pools_on layout table seat seat' readers me next side own same (nodes refl)
 swept_on m layout table seat seat' readers word found me next side Slots own same nodes slots = sees_on m layout table seat seat' readers word found me next own same (slots refl)

@@ -1,7 +1,8 @@
 -- Kind 8 for slots keeps the rule, and makes the claim.
 use Rattle.std.specs.Int.{bit_at, w64}
 use Rattle.std.specs.List.{Contains}
-use Rattle.std.proofs.Common.{◌/◌, ◌≡◌, ◌≢◌, ℕ, ◌*◌, ◌%◌, ◌^◌, ◌<◌, ◌≤◌, Bool, true, false, true≢false, eqb, [], ◌∷◌, ◌++◌, map, set, length, slice_index, refl, sym, ap, ◌∙◌, subst, ⊎_elim, arith, bit_or}
+use Rattle.std.proofs.Common.{◌/◌, ◌≡◌, ◌≢◌, ℕ, ◌*◌, ◌%◌, ◌^◌, ◌<◌, ◌≤◌, Bool, true, false, true≢false, eqb, [], ◌∷◌, ◌++◌, map, set, length, slice_index, refl, sym, ap, ◌∙◌, subst, ⊎_elim, inl, inr, arith, bit_or}
+use Rattle.std.proofs.lemmas.Bool.{cases_eq}
 use Rattle.std.proofs.lemmas.Bool.Decides.{Decides-eqb, not_from_Decides}
 use Rattle.std.proofs.lemmas.List.Elements.{Contains-append_left, Contains-append_right, Contains-push}
 use Rattle.std.proofs.lemmas.Nat.Bits.{bit_at-lt, bit_at_set_same, bit_at_set_other}
@@ -37,8 +38,8 @@ use Rattle.npf_cells_lives.specs.Pools.{taken}
 use Rattle.npf_cells_lives.specs.Stored.{IsOwnField, FitsStored}
 use Rattle.npf_cells_lives.proofs.ConnLemmas.{BuildsIn}
 use Rattle.npf_cells_lives.proofs.PoolLemmas.{pools-set, taken-set}
-use Rattle.npf_cells_lives.proofs.SlotLemmas.{clear_vacant, claimed, now_taken, taken_else, builds_more, incs_more}
-use Rattle.npf_cells_lives.proofs.StoredLemmas.{own_same, stored_kept}
+use Rattle.npf_cells_lives.proofs.SlotLemmas.{clear_vacant, claimed, now_taken, now_building, slot_else, taken_else, builds_more, incs_more}
+use Rattle.npf_cells_lives.proofs.StoredLemmas.{stored_kept}
 use Rattle.npf_cells_rule.specs.declared.view.CellView.{CellView}
 use Rattle.npf_cells_rule.specs.Cells.{IsCells}
 use Rattle.npf_cells_rule.specs.Passes.{IsProtected, cell_pass}
@@ -50,9 +51,10 @@ use Rattle.npf_cells_rule.proofs.PassLemmas.{pinned_in}
 use Rattle.npf_cells_rule.proofs.StoodLemmas.{stood_so}
 use Rattle.npf_cells_takes.specs.SlotKinds.{claiming_slot, HasClaimed, ClaimsSlot}
 use Rattle.npf_cells_takes.proofs.PoolKeepLemmas.{pool_step}
+use Rattle.npf_cells_lives.specs.Turns.{Running, StaysAt, phase_of}
 
-module _ {S A R F : Type 0} (m : Meaning S A R) (digest : Key → ℕ) (layout : Layout) where
-  module _ (s : State F (CellView S A R)) (id : ℕ) (me : Me F (CellView S A R)) (kept : IsCells m digest layout s) (at : get_elem? s.views id ≡ some me.0)
+module _ {S A R : Type 0} (m : Meaning S A R) (digest : Key → ℕ) (layout : Layout) where
+  module _ (s : State (Running S) (CellView S A R)) (id : ℕ) (me : Me (Running S) (CellView S A R)) (kept : IsCells m digest layout s) (at : get_elem? s.views id ≡ some me.0)
       (lives : me.0.seats.lives ≡ true) (settled : me.0.seats.theirs ≡ []) (place : 1 ≤ length me.0.seats.readers) (stays : IsProtected me.0.epochs.pin) (packet slot : ℕ) (within : slot < layout.slots) where
     abbrev word : ℕ
     word = place_word layout Slots slot
@@ -90,8 +92,15 @@ module _ {S A R F : Type 0} (m : Meaning S A R) (digest : Key → ℕ) (layout :
     winner_stored clear = stored_kept layout s.words s.words me.0.pools winner.pools (kept.stored id me.0 at) refl builds_too (λ pool p field own. refl)
       where
         builds_too : (pool : Pool) (p field : ℕ) → IsOwnField layout me.0.pools pool p field → IsOwnField layout winner.pools pool p field
-        builds_too Slots p field own = let built = own.0 in (record { id = built.id; built = Contains-append_right (claimed_id k slot ∷ []) me.0.pools.builds built.id built.built; there = built.there }, own.1, own.2, own.3)
+        builds_too Slots p field own = let built = own.0 in (record { id = built.id; built = Contains-append_right (claimed_id k slot ∷ []) me.0.pools.builds built.id built.built; there = built.there }, own.1, own.2, own.3, own.4)
         builds_too Nodes p field own = own
+
+    -- a slot that is claimed was neither Live nor Dead, and isn't
+    slots_stay : MayFollow m layout.slots k entry → (p : ℕ) → StaysAt (k.slot p) ((claimed m k id packet slot).slot p)
+    slots_stay may p = ⊎_elim
+        (λ (e : p ≡ slot). subst (λ q. StaysAt (k.slot q) ((claimed m k id packet slot).slot q)) (sym e) (inr (ap phase_of may.allowed.unclaimed, now_building m k id packet slot)))
+        (λ ne. inl (slot_else m k id packet slot p ne))
+        (cases_eq p slot)
 
     -- the claim leaves the holders, and what was claimed
     keeps_claim : (n : ℕ) → bit_at found (slot % 64) ≡ 0 → KeepsTrie layout.slots k (claimed m k id packet slot) (trie_words layout s.words) (trie_words layout (set s.words word n))
@@ -117,7 +126,7 @@ module _ {S A R F : Type 0} (m : Meaning S A R) (digest : Key → ℕ) (layout :
         IsCells m digest layout (stepped s word n id me.1 winner keeps)
     wins n clear here bits =
         let may = follows clear in
-        entry_step m digest layout s word n id me.1 me.0 winner kept at lives place entry refl may refl refl (winner_stored clear) refl (alone_within winner place stays) (pool_step layout s.words Slots slot n within)
+        entry_step m digest layout s word n id me.1 me.0 winner kept at lives place entry refl may refl refl (winner_stored clear) refl refl (slots_stay may) (alone_within winner place stays) (pool_step layout s.words Slots slot n within)
         (pools-set layout (taken pool_side kept.published k s.views) (taken pool_side kept.published (claimed m k id packet slot) (set s.views id winner)) s.words Slots slot n kept.pools within (here ∙ sym (now_taken m k id packet slot)) bits
         (taken_else m k id packet slot pool_side s.views id me.0 winner at kept.published refl))
         (trie_kept trie_side digest layout kept.published k (claimed m k id packet slot) s.words (set s.words word n) s.views (set s.views id winner) kept.trie (keeps_claim n clear) (grown-set trie_side s.views id me.0 winner at refl)
@@ -156,10 +165,10 @@ module _ {S A R F : Type 0} (m : Meaning S A R) (digest : Key → ℕ) (layout :
         let bit = kept.pools.bits Slots slot within in
         let below = bit_at-lt found (slot % 64) in
         let one : bit_at found (slot % 64) ≡ 1 = omega (arith, some', below) in
-        sight_step m digest layout s word n id me.1 me.0 w kept at lives refl refl (knows_same me.0.trie) (seer_stored m digest layout s id me kept at lives place found) refl refl (alone_within w place stays) (pool_step layout s.words Slots slot n within)
+        sight_step m digest layout s word n id me.1 me.0 w kept at lives refl refl (knows_same me.0.trie) (seer_stored m digest layout s id me kept at lives place found) refl refl refl (alone_within w place stays) (pool_step layout s.words Slots slot n within)
         (pools-set layout (taken pool_side kept.published k s.views) (taken pool_side kept.published k (set s.views id w)) s.words Slots slot n kept.pools within (here ∙ (sym one ∙ (bit ∙ sym (taken' Slots slot)))) bits (λ other p two. taken' other p))
 
-  pub may_claim_slot : (st : Step F) (id n packet slot mask : ℕ) (me : Me F (CellView S A R)) → me.0.seats.lives ≡ true → me.0.seats.theirs ≡ [] → 1 ≤ length me.0.seats.readers → IsProtected me.0.epochs.pin → slot < layout.slots → mask ≡ 1 * 2 ^ (slot % 64) % 2 ^ 64 →
+  pub may_claim_slot : (st : Step (Running S)) (id n packet slot mask : ℕ) (me : Me (Running S) (CellView S A R)) → me.0.seats.lives ≡ true → me.0.seats.theirs ≡ [] → 1 ≤ length me.0.seats.readers → IsProtected me.0.epochs.pin → slot < layout.slots → mask ≡ 1 * 2 ^ (slot % 64) % 2 ^ 64 →
       Allows (IsCells m digest layout) n id me (place_word layout Slots slot) (λ k. bit_or k mask) (ClaimsSlot m digest layout packet slot st me)
   may_claim_slot st id n packet slot mask me lives settled place stays within is s kept homes at bound = rw is (by_bit (eqb bit 0) refl)
     where
@@ -179,7 +188,7 @@ module _ {S A R F : Type 0} (m : Meaning S A R) (digest : Key → ℕ) (layout :
       else' i h ne = bit_at_set_other w64 number (slot % 64) (omega arith) i ne
 
       by_bit : (b : Bool) → eqb bit 0 ≡ b →
-          (w : CellView S A R) × (a : Act F) × Valid s.homes me.1 a × IsCells m digest layout (stepped s (place_word layout Slots slot) after' id me.1 w a) × ClaimsSlot m digest layout packet slot st me number (w, carried_after me.1 a)
+          (w : CellView S A R) × (a : Act (Running S)) × Valid s.homes me.1 a × IsCells m digest layout (stepped s (place_word layout Slots slot) after' id me.1 w a) × ClaimsSlot m digest layout packet slot st me number (w, carried_after me.1 a)
       by_bit true e =
           let clear : bit ≡ 0 = (Decides-eqb bit 0).0 e in (
             winner s id me kept at lives settled place stays packet slot within,

@@ -1,5 +1,5 @@
 -- What loads and stores of a pass's own words change in its view, and what each tells.
-use Rattle.std.specs.Prelude.{◌≡◌, ◌≢◌, ℕ, ◌+◌, ◌-◌, ◌^◌, ◌≤◌, ◌<◌, ◌==◌, Some, List, ◌∷◌, Contains, if◌then◌else◌}
+use Rattle.std.specs.Prelude.{◌≡◌, ◌≢◌, ◌⊎◌, ℕ, ◌+◌, ◌-◌, ◌^◌, ◌≤◌, ◌<◌, ◌==◌, Option, Some, None, List, ◌∷◌, Contains, if◌then◌else◌}
 use Rattle.atomic_table.specs.Table.{Me, Step}
 use Rattle.npf_types.specs.declared.key.Key.{Key}
 use Rattle.npf_types.specs.declared.key.Way.{Way}
@@ -10,11 +10,13 @@ use Rattle.npf_core.specs.Meaning.{Meaning}
 use Rattle.npf_cells_words.specs.declared.layout.Layout.{Layout}
 use Rattle.npf_cells_words.specs.declared.layout.Pool.{Pool}
 use Rattle.npf_cells_words.specs.declared.layout.Pool.TheVariants.{Slots, Nodes}
-use Rattle.npf_cells_words.specs.Layout.{state_field, inc_field, key_field}
+use Rattle.npf_cells_words.specs.Layout.{state_field, inc_field, phase_field, key_field}
 use Rattle.npf_seats.specs.Sums.{others_than}
 use Rattle.npf_cells_leaves.specs.declared.trie.LoadedLeaf.{LoadedLeaf}
 use Rattle.npf_cells_leaves.specs.declared.trie.TrieSide.{TrieSide}
 use Rattle.npf_cells_lives.specs.declared.pools.PoolSide.{PoolSide}
+use Rattle.npf_cells_lives.specs.declared.turn.Turn.{Turn}
+use Rattle.npf_cells_lives.specs.Turns.{phase_of}
 use Rattle.npf_cells_rule.specs.declared.view.CellView.{CellView}
 use Rattle.npf_cells_rule.specs.Views.{with_pools}
 
@@ -29,6 +31,14 @@ pub record ShowsInc (side : PoolSide) (slot found : ℕ) : Type 0 where
 abbrev pub ShowsLeafInc : TrieSide → ℕ → ℕ → Type 0
 ShowsLeafInc side slot found = (leaf : LoadedLeaf) → side.leaf ≡ Some leaf → leaf.slot ≡ slot → found ≡ leaf.inc
 
+-- and who has the slot's turn: that of the connection that was Live or Dead there
+abbrev pub ShowsTurnInc : {S : Type 0} → Option (Turn S) → ℕ → ℕ → Type 0
+ShowsTurnInc turn slot found = (t : Turn _) → turn ≡ Some t → t.slot ≡ slot → phase_of t.was.stage ≢ 0 → found ≡ t.was.inc
+
+-- the pass has the turn of a slot whose connection was Live or Dead
+abbrev pub HasTurnIn : {S : Type 0} → Option (Turn S) → ℕ → Type 0
+HasTurnIn turn slot = (t : Turn _) × (turn ≡ Some t) × (t.slot ≡ slot) × (phase_of t.was.stage ≢ 0)
+
 -- the leaf that the pass loaded last is of the slot's connection
 abbrev pub HasLeafIn : TrieSide → ℕ → Type 0
 HasLeafIn side slot = (leaf : LoadedLeaf) × (side.leaf ≡ Some leaf) × (leaf.slot ≡ slot)
@@ -38,19 +48,27 @@ pub record MayStoreInNode (side : PoolSide) (node field : ℕ) : Type 0 where
   pub owned : Contains side.nodes node
   pub stateless : field ≢ state_field
 
--- in a connection that it is building a pass may store in each word but the turn: as incarnation the connection's, and a key word only
--- where the connection holds no key of that way
+-- in a connection that it is building a pass may store in each word but the turn and the phase: as incarnation the connection's, and a key
+-- word only where the connection holds no key of that way
 pub record MayStoreInSlot {S A R : Type 0} (m : Meaning S A R) (v : CellView S A R) (slot field value : ℕ) : Type 0 where
   pub id : ConnId
   pub built : Contains v.pools.builds id
   pub there : id.slot ≡ slot
   pub turnless : 1 ≤ field
+  pub phaseless : field ≢ phase_field
   pub inc : field ≡ inc_field → value ≡ id.inc
   pub keyless : (way : Way) → key_field way ≤ field → field < key_field way + 5 → HoldsNone (state_of m v.seats.history) id way
 
+-- a connection's phase may be stored under its slot's turn
+pub record MayStorePhase {S A R : Type 0} (v : CellView S A R) (slot field : ℕ) : Type 0 where
+  pub turn : Turn S
+  pub has : v.turn ≡ Some turn
+  pub there : turn.slot ≡ slot
+  pub phase : field ≡ phase_field
+
 -- in a place of either pool
 abbrev pub MayStore : {S A R : Type 0} → Meaning S A R → CellView S A R → Pool → ℕ → ℕ → ℕ → Type 0
-MayStore m v Slots slot field value = MayStoreInSlot m v slot field value
+MayStore m v Slots slot field value = MayStoreInSlot m v slot field value ⊎ MayStorePhase v slot field
 MayStore m v Nodes node field value = MayStoreInNode v.pools node field
 
 -- what the pass still has to store: an incarnation that it stores no longer
@@ -65,11 +83,23 @@ storing pool place field value side = record side {
   stored = (record { pool = pool; place = place; field = field; value = value }) ∷ side.stored;
 }
 
+-- a turn whose phase was stored
+abbrev pub with_phase : {S : Type 0} → ℕ → Option (Turn S) → Option (Turn S)
+with_phase value None = None
+with_phase value (Some turn) = Some (record turn { phase = value })
+
+-- the pass after a store in one of its words: it knows what it stored, and of a phase by its turn
+abbrev pub stored_in : {S A R F : Type 0} → Pool → ℕ → ℕ → ℕ → Me F (CellView S A R) → Me F (CellView S A R)
+stored_in Slots slot field value me =
+    if field == phase_field then (record me.0 { turn = with_phase value me.0.turn }, me.1) else with_pools me (storing Slots slot field value me.0.pools)
+stored_in Nodes node field value me = with_pools me (storing Nodes node field value me.0.pools)
+
 -- the kinds, as what they tell
 pub record LoadsInc {S A R F : Type 0} (slot : ℕ) (step : Step F) (me : Me F (CellView S A R)) (found : ℕ) (next : Me F (CellView S A R)) : Type 0 where
   pub is : next ≡ me
   pub shows : ShowsInc me.0.pools slot found
   pub leaf : ShowsLeafInc me.0.trie slot found
+  pub turn : ShowsTurnInc me.0.turn slot found
 
 pub record StoresPrivate {S A R F : Type 0} (m : Meaning S A R) (digest : Key → ℕ) (layout : Layout) (pool : Pool) (place field : ℕ) (step : Step F) (me : Me F (CellView S A R)) (value : ℕ) (next : Me F (CellView S A R)) : Type 0 where
-  pub is : next ≡ with_pools me (storing pool place field value me.0.pools)
+  pub is : next ≡ stored_in pool place field value me

@@ -15,12 +15,13 @@ use Rattle.npf_cells_rule.specs.Passes.{IsProtected}
 use Rattle.npf_cells_takes.specs.PoolKinds.{ClaimsNode, GivesNodeBack, Sweeps}
 use Rattle.npf_cells_takes.specs.PrivateKinds.{LoadsInc, MayStore, StoresPrivate}
 use Rattle.npf_cells_takes.specs.SlotKinds.{ClaimsSlot}
+use Rattle.npf_cells_lives.specs.Turns.{Running}
 
 -- the steps on the pools' words and on a pass's own words keep the rule, and tell what they say
-pub record KeepsTakes (F : Type 0) {S A R : Type 0} (m : Meaning S A R) (digest : Key → ℕ) (layout : Layout) : Type 0 where
-  pub sweeps : (st : Step F) (id n : ℕ) (pool : Pool) (word i : ℕ) (me : Me F (CellView S A R)) → me.0.seats.lives ≡ true → me.0.seats.theirs ≡ [] → 1 ≤ length me.0.seats.readers → i ≡ pool_at layout pool + word → Allows (IsCells m digest layout) n id me i (λ k. k) (Sweeps m digest layout pool word st me)
-  pub claims_node : (st : Step F) (id n node mask : ℕ) (me : Me F (CellView S A R)) → me.0.seats.lives ≡ true → 1 ≤ length me.0.seats.readers → node < layout.nodes → mask ≡ 1 * 2 ^ (node % 64) % 2 ^ 64 → Allows (IsCells m digest layout) n id me (place_word layout Nodes node) (λ k. bit_or k mask) (ClaimsNode m digest layout node st me)
-  pub returns_node : (st : Step F) (id n node mask : ℕ) (me : Me F (CellView S A R)) → me.0.seats.lives ≡ true → 1 ≤ length me.0.seats.readers → node < layout.nodes → Contains me.0.pools.nodes node → mask ≡ bit_not w64 (1 * 2 ^ (node % 64) % 2 ^ 64) → Allows (IsCells m digest layout) n id me (place_word layout Nodes node) (λ k. bit_and k mask) (GivesNodeBack m digest layout node st me)
-  pub claims_slot : (st : Step F) (id n packet slot mask : ℕ) (me : Me F (CellView S A R)) → me.0.seats.lives ≡ true → me.0.seats.theirs ≡ [] → 1 ≤ length me.0.seats.readers → IsProtected me.0.epochs.pin → slot < layout.slots → mask ≡ 1 * 2 ^ (slot % 64) % 2 ^ 64 → Allows (IsCells m digest layout) n id me (place_word layout Slots slot) (λ k. bit_or k mask) (ClaimsSlot m digest layout packet slot st me)
-  pub loads_inc : (st : Step F) (id n slot : ℕ) (me : Me F (CellView S A R)) → slot < layout.slots → Allows (IsCells m digest layout) n id me (field_at layout Slots slot inc_field) (λ k. k) (LoadsInc slot st me)
-  pub stores : (st : Step F) (id n : ℕ) (pool : Pool) (place field value : ℕ) (me : Me F (CellView S A R)) → me.0.seats.lives ≡ true → 1 ≤ length me.0.seats.readers → place < pool_places layout pool → field < field_count pool → MayStore m me.0 pool place field value → Allows (IsCells m digest layout) n id me (field_at layout pool place field) (λ _. value) (λ _. StoresPrivate m digest layout pool place field st me value)
+pub record KeepsTakes {S A R : Type 0} (m : Meaning S A R) (digest : Key → ℕ) (layout : Layout) : Type 0 where
+  pub sweeps : (st : Step (Running S)) (id n : ℕ) (pool : Pool) (word i : ℕ) (me : Me (Running S) (CellView S A R)) → me.0.seats.lives ≡ true → me.0.seats.theirs ≡ [] → 1 ≤ length me.0.seats.readers → i ≡ pool_at layout pool + word → Allows (IsCells m digest layout) n id me i (λ k. k) (Sweeps m digest layout pool word st me)
+  pub claims_node : (st : Step (Running S)) (id n node mask : ℕ) (me : Me (Running S) (CellView S A R)) → me.0.seats.lives ≡ true → 1 ≤ length me.0.seats.readers → node < layout.nodes → mask ≡ 1 * 2 ^ (node % 64) % 2 ^ 64 → Allows (IsCells m digest layout) n id me (place_word layout Nodes node) (λ k. bit_or k mask) (ClaimsNode m digest layout node st me)
+  pub returns_node : (st : Step (Running S)) (id n node mask : ℕ) (me : Me (Running S) (CellView S A R)) → me.0.seats.lives ≡ true → 1 ≤ length me.0.seats.readers → node < layout.nodes → Contains me.0.pools.nodes node → mask ≡ bit_not w64 (1 * 2 ^ (node % 64) % 2 ^ 64) → Allows (IsCells m digest layout) n id me (place_word layout Nodes node) (λ k. bit_and k mask) (GivesNodeBack m digest layout node st me)
+  pub claims_slot : (st : Step (Running S)) (id n packet slot mask : ℕ) (me : Me (Running S) (CellView S A R)) → me.0.seats.lives ≡ true → me.0.seats.theirs ≡ [] → 1 ≤ length me.0.seats.readers → IsProtected me.0.epochs.pin → slot < layout.slots → mask ≡ 1 * 2 ^ (slot % 64) % 2 ^ 64 → Allows (IsCells m digest layout) n id me (place_word layout Slots slot) (λ k. bit_or k mask) (ClaimsSlot m digest layout packet slot st me)
+  pub loads_inc : (st : Step (Running S)) (id n slot : ℕ) (me : Me (Running S) (CellView S A R)) → slot < layout.slots → Allows (IsCells m digest layout) n id me (field_at layout Slots slot inc_field) (λ k. k) (LoadsInc slot st me)
+  pub stores : (st : Step (Running S)) (id n : ℕ) (pool : Pool) (place field value : ℕ) (me : Me (Running S) (CellView S A R)) → me.0.seats.lives ≡ true → 1 ≤ length me.0.seats.readers → place < pool_places layout pool → field < field_count pool → MayStore m me.0 pool place field value → Allows (IsCells m digest layout) n id me (field_at layout pool place field) (λ _. value) (λ _. StoresPrivate m digest layout pool place field st me value)

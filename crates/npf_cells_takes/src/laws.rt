@@ -6,6 +6,6 @@ use npf_core::Law;
 use npf_paths::KeyHash;
 
 /// The steps on the pools' words and on a pass's own words keep the rule, and tell what they say.
-pub fn takes_law<L: Law, H: KeyHash, F>()
-    ensures keeps { (layout : Layout) → KeepsTakes F L.meaning H.digest layout }
+pub fn takes_law<L: Law, H: KeyHash>()
+    ensures keeps { (layout : Layout) → KeepsTakes L.meaning H.digest layout }
 {}

@@ -86,6 +86,17 @@ key_short Forward place h = omega (arith, h)
 key_short Backward place h = omega (arith, h)
 key_short Port place h = omega (arith, h)
 
+-- and behind its turn, its incarnation and its phase
+pub key_far : (way : Way) (place : ℕ) → 3 ≤ key_field way + place
+key_far Forward place = omega arith
+key_far Backward place = omega arith
+key_far Port place = omega arith
+
+-- no word of a slot is a lock
+pub not_slot : (layout : Layout) (slot field : ℕ) (lock : Lock) → IsLockOf layout lock → field_at layout Slots slot field ≢ lock_at layout lock
+not_slot layout slot field (Locking.Root digit) h e = absurd (omega (arith, h, e))
+not_slot layout slot field (Locking.Node node) h e = absurd (omega (arith, h, e))
+
 -- a place that the table has, by its test
 pub in_trie : (layout : Layout) (p : Place) → is_in_trie layout p ≡ true → IsInTrie layout p
 in_trie layout (Places.Root digit) e = (Decides-ltb digit 64).0 e

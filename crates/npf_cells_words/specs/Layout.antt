@@ -52,6 +52,17 @@ state_field = 16
 abbrev pub inc_field : ℕ
 inc_field = 1
 
+-- before it stands the turn, behind it the phase
+abbrev pub turn_field : ℕ
+turn_field = 0
+
+abbrev pub phase_field : ℕ
+phase_field = 2
+
+-- where the notes begin, one for each way
+abbrev pub notes_field : ℕ
+notes_field = 18
+
 -- where the five words of the key of a way begin
 abbrev pub key_field : Way → ℕ
 key_field Forward = 3

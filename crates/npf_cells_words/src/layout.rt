@@ -34,8 +34,14 @@ pub const IDLE: u64 = 0;
 /// The field of a node's state among its words.
 pub const STATE: u32 = 16;
 
+/// The field of a connection's turn among its words.
+pub const TURN: u32 = 0;
+
 /// The field of a connection's incarnation among its words.
 pub const INCARNATION: u32 = 1;
+
+/// The field of a connection's phase among its words.
+pub const PHASE: u32 = 2;
 
 /// How many reader places a table has.
 pub const READERS: u32 = 66;

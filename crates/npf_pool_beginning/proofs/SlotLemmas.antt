@@ -69,6 +69,7 @@ module _ {S A R F : Type 0} (m : Meaning S A R) (n slot before : ℕ) (old now :
     built = builds m n slot old now has;
     there = has.slot_is;
     turnless = omega arith;
+    phaseless = λ e. absurd (omega (arith, e));
     inc = λ _. next_inc;
     keyless = λ way _ _. bare m n slot old now has way;
   }

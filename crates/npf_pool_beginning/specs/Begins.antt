@@ -13,8 +13,9 @@ pub record HasBegun {S A R : Type 0} (m : Meaning S A R) (layout : Layout) (v : 
   pub may : (way : Way) → MayHoldSo m v id way
   pub stored : ¬ Contains v.pools.unstored id.slot
 
--- the pass is in its stay still, and has the nodes, the locks and the sight of the trie that it had; it may have been answered more
+-- the pass is in its stay still, and has the nodes, the locks, the turn and the sight of the trie that it had; it may have been answered more
 pub record KeepsStay {S A R : Type 0} (old now : CellView S A R) : Type 0 where
   pub epochs : now.epochs ≡ old.epochs
   pub nodes : now.pools.nodes ≡ old.pools.nodes
   pub trie : now.trie ≡ record old.trie { answered = now.trie.answered }
+  pub turn : now.turn ≡ old.turn

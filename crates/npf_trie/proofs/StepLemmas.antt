@@ -150,6 +150,7 @@ module _ {S A R F : Type 0} where
                 nodes = ap (λ (y : Me F (CellView S A R)). y.0.pools.nodes) has.is;
                 builds = ap (λ (y : Me F (CellView S A R)). y.0.pools.builds) has.is;
                 unstored = ap (λ (y : Me F (CellView S A R)). y.0.pools.unstored) has.is;
+                turn = ap (λ (y : Me F (CellView S A R)). y.0.turn) has.is;
                 rest = ap (λ (y : Me F (CellView S A R)). y.1) has.is;
                 sweeps = let e : b.0.pools.sweeps ≡ a.0.pools.sweeps = ap (λ (y : Me F (CellView S A R)). y.0.pools.sweeps) has.is in omega arith;
               };
@@ -211,6 +212,7 @@ module _ {S A R F : Type 0} where
           nodes = ap (λ (y : Me F (CellView S A R)). y.0.pools.nodes) held.is ∙ (ap (nodes_but held.nodes) none ∙ sym none);
           builds = ap (λ (y : Me F (CellView S A R)). y.0.pools.builds) held.is;
           unstored = ap (λ (y : Me F (CellView S A R)). y.0.pools.unstored) held.is;
+          turn = ap (λ (y : Me F (CellView S A R)). y.0.turn) held.is;
           rest = ap (λ (y : Me F (CellView S A R)). y.1) held.is;
           sweeps = let e : b.0.pools.sweeps ≡ a.0.pools.sweeps = ap (λ (y : Me F (CellView S A R)). y.0.pools.sweeps) held.is in omega arith;
         };

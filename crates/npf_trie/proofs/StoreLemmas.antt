@@ -20,7 +20,7 @@ use Rattle.npf_cells_lives.specs.declared.pools.StoredWord.{StoredWord}
 use Rattle.npf_cells_words.specs.Layout.{key_field, field_at}
 use Rattle.npf_cells_rule.specs.Views.{with_pools}
 use Rattle.npf_seats.specs.Sums.{others_than}
-use Rattle.npf_cells_takes.specs.PrivateKinds.{MayStoreInSlot, storing}
+use Rattle.npf_cells_takes.specs.PrivateKinds.{MayStoreInSlot, storing, stored_in, with_phase}
 use Rattle.npf_cells_holds.specs.PublishKinds.{cell_stored, stored_cell}
 use Rattle.npf_cells_lives.specs.Stored.{stored_value}
 use Rattle.npf_cells_words.specs.Places.{IsInTrie, place_at}
@@ -68,12 +68,13 @@ module _ {S A R F : Type 0} where
       on ∙ ap (λ t. with_stored old t) (sym (ap (λ (y : Me F (CellView S A R)). y.0.pools.stored) more))
 
   -- a store in a field of a key is such a store
-  pub key_word_stored : (me next : Me F (CellView S A R)) (slot field value : ℕ) (way : Way) (word : ℕ) → field ≡ key_field way + word → next ≡ with_pools me (storing Slots slot field value me.0.pools) →
+  pub key_word_stored : (me next : Me F (CellView S A R)) (slot field value : ℕ) (way : Way) (word : ℕ) → field ≡ key_field way + word → next ≡ stored_in Slots slot field value me →
       next ≡ with_stored me ((record { pool = Slots; place = slot; field = field; value = value }) ∷ me.0.pools.stored)
   key_word_stored me next slot field value way word at is =
       let s : StoredWord = record { pool = Slots; place = slot; field = field; value = value } in
       let behind = behind_inc way in
-      is ∙ ap (λ b. with_pools me (record me.0.pools { unstored = cond b (others_than slot me.0.pools.unstored) me.0.pools.unstored; stored = s ∷ me.0.pools.stored })) (ne_eqb field 1 (λ e. omega (arith, at, e)))
+      is ∙ (ap (λ b. cond b (record me.0 { turn = with_phase value me.0.turn }, me.1) (with_pools me (storing Slots slot field value me.0.pools))) (ne_eqb field 2 (λ e. omega (arith, at, e, behind)))
+      ∙ ap (λ b. with_pools me (record me.0.pools { unstored = cond b (others_than slot me.0.pools.unstored) me.0.pools.unstored; stored = s ∷ me.0.pools.stored })) (ne_eqb field 1 (λ e. omega (arith, at, e))))
 
 module _ {S A R : Type 0} (m : Meaning S A R) where
   -- where the pass may store the key it may store each of its words
@@ -85,6 +86,7 @@ module _ {S A R : Type 0} (m : Meaning S A R) where
         built = may.hold.built;
         there = may.there;
         turnless = omega arith;
+        phaseless = λ e. absurd (omega (arith, at, e, behind));
         inc = λ e. absurd (omega (arith, at, e));
         keyless = λ way' up down. subst (λ w. HoldsNone (state_of m v.seats.history) may.id w) (same_way way way' word low (omega arith) (omega arith)) may.hold.bare;
       }
@@ -123,7 +125,7 @@ module _ {S A R F : Type 0} (m : Meaning S A R) (layout : Layout) (slot : ℕ) (
 
   -- and then one more
   pub one_word_more : (old now next : Me F (CellView S A R)) (field word : ℕ) → field ≡ key_field way + word → KeyStoredBelow old word now →
-      next ≡ with_pools now (storing Slots slot field (value word) now.0.pools) → KeyStoredBelow old (word + 1) next
+      next ≡ stored_in Slots slot field (value word) now → KeyStoredBelow old (word + 1) next
   one_word_more old now next field word at so is =
       let on = key_word_stored now next slot field (value word) way word at is in
       let stored = ap (λ (y : Me F (CellView S A R)). y.0.pools.stored) on in

@@ -12,7 +12,7 @@ overflow_add-before g c =
 
 pub store_private-requires-clause-may : goal.store_private-requires-clause-may
 store_private-requires-clause-may g c =
-    rw c.load_inc-before.ensures.same (may_store _ _ c.in_ok-slot.slot c.load_inc-before.result _ _ (c.in_ok-slot.ensures.claims refl) c.load_inc-before.ensures.shows)
+    rw c.load_inc-before.ensures.same (inl (may_store _ _ c.in_ok-slot.slot c.load_inc-before.result _ _ (c.in_ok-slot.ensures.claims refl) c.load_inc-before.ensures.shows))
 
 pub load_inc-inc-requires-clause-fixed : goal.load_inc-inc-requires-clause-fixed
 load_inc-inc-requires-clause-fixed g c =

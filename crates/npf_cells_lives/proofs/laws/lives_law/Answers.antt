@@ -1,5 +1,6 @@
 use Rattle.npf_cells_lives.proofs.ConnLemmas.{builds_in_one_slot}
 use Rattle.npf_cells_lives.proofs.LockLemmas.{lock_alone}
+use Rattle.npf_cells_lives.proofs.TurnLemmas.{turn_alone}
 use Rattle.npf_cells_lives.proofs.laws.lives_law.Goals as goal
 
 pub returns-clause-builders : goal.returns-clause-builders
@@ -7,3 +8,6 @@ returns-clause-builders g c = builds_in_one_slot g.L.Law.meaning
 
 pub returns-clause-locks : goal.returns-clause-locks
 returns-clause-locks g c = lock_alone
+
+pub returns-clause-turns : goal.returns-clause-turns
+returns-clause-turns g c = λ layout. turn_alone layout

@@ -1,10 +1,10 @@
-use Rattle.std.proofs.Common.{slice_index, arith}
+use Rattle.std.proofs.Common.{slice_index, inl, arith}
 use Rattle.npf_trie.proofs.StoreLemmas.{may_store_word, one_word_more}
 use Rattle.npf_trie.proofs.keys.store_key.Goals as goal
 
 pub store_private-requires-clause-may : goal.store_private-requires-clause-may
 store_private-requires-clause-may g c =
-    may_store_word g.L.Law.meaning c.loop-word.pass.seat.me.0 c.args.slot _ _ c.args.way c.loop-word.word (omega arith) (omega arith) c.loop-word.invariant.below.may
+    inl (may_store_word g.L.Law.meaning c.loop-word.pass.seat.me.0 c.args.slot _ _ c.args.way c.loop-word.word (omega arith) (omega arith) c.loop-word.invariant.below.may)
 
 pub loop-word-preserved : goal.loop-word-preserved
 loop-word-preserved g c =

@@ -1,6 +1,7 @@
 use Rattle.std.proofs.Common.{◌++◌, ◌≤◌, ap, sym, ◌∙◌, length, length-append, arith}
 use Rattle.npf_connections.specs.Pass.{all_places}
 use Rattle.npf_cells_moves.proofs.MoveLemmas.{joins, reads, joined_so, joined_pass, joined_on}
+use Rattle.npf_cells_rule.proofs.PassLemmas.{turnless_free}
 use Rattle.npf_cells.proofs.cells.Cells.join.Goals as goal
 
 pub join_seat-requires : goal.join_seat-requires
@@ -9,9 +10,9 @@ join_seat-requires g c =
     let other = c.requires.other_own in (
       own.same,
       other.same,
-      other.free,
+      turnless_free c.requires.other_turn other.carries,
       omega (arith, own.words),
-      joins g.L.Law.meaning g.H.KeyHash.digest c.args.self.now.table.shared.key _ c.args.pass.now.seat.me.0 _ c.args.other.seat.me.0 own.lives own.theirs c.requires.out own.place other.lives other.theirs c.requires.other_out c.requires.other_nodes c.requires.other_done (other.unlocked c.requires.other_out),
+      joins g.L.Law.meaning g.H.KeyHash.digest c.args.self.now.table.shared.key _ c.args.pass.now.seat.me.0 _ c.args.other.seat.me.0 own.lives own.theirs c.requires.out own.place other.lives other.theirs c.requires.other_out c.requires.other_nodes c.requires.other_done (other.unlocked c.requires.other_out) c.requires.other_turn,
     )
 
 pub load-requires : goal.load-requires

@@ -1,0 +1,10 @@
+use npf_core::Slot;
+
+/// A slot's turn that a pass has. While it has it, no other pass steps, starts or kills a connection there.
+pub struct Turn<S> {
+    pub slot: u32,
+    /// What the slot was at when the pass got the turn.
+    pub was: Slot<S>,
+    /// What the phase's word says.
+    pub phase: u64,
+}

@@ -1,0 +1,150 @@
+-- What the acts at the end of a turn make of the machine.
+use Rattle.std.specs.List.{Contains}
+use Rattle.std.proofs.Common.{◌≡◌, ◌≢◌, ℕ, Bool, true, false, ◌==◌, not, cond, eq-eqb, ne_eqb, List, refl, sym, ap, ◌∙◌, subst, ⊎_elim, inl, inr}
+use Rattle.std.proofs.lemmas.Bool.{cases_eq}
+use Rattle.npf_types.specs.declared.key.Key.{Key}
+use Rattle.npf_types.specs.declared.key.Way.{Way}
+use Rattle.npf_core.specs.declared.act.Act.TheVariants as Acts
+use Rattle.npf_core.specs.declared.act.Why.{Why}
+use Rattle.npf_core.specs.declared.conn_id.ConnId.{ConnId}
+use Rattle.npf_core.specs.declared.slot.Slot.{Slot}
+use Rattle.npf_core.specs.declared.stage.Stage.{Stage}
+use Rattle.npf_core.specs.declared.stage.Stage.TheVariants.{Vacant, Building, Live, Dead}
+use Rattle.npf_core.specs.declared.stepped.Stepped.TheVariants.{NotLive}
+use Rattle.npf_core.specs.Allowed.{IsDue}
+use Rattle.npf_core.specs.Machine.{Machine, stage_at, stage_of}
+use Rattle.npf_core.specs.Meaning.{Meaning}
+use Rattle.npf_core.specs.NextState.{is_id, stepped, after_act}
+use Rattle.npf_core.specs.Replies.{step_answer}
+use Rattle.npf_core.proofs.EqualityLemmas.{is_id-Decides}
+use Rattle.npf_connections.specs.Answered.{without}
+use Rattle.npf_cells_lives.specs.Pools.{claim_bit}
+use Rattle.npf_cells_lives.specs.Turns.{running, phase_of, StaysAt}
+use Rattle.npf_cells_lives.proofs.ConnLemmas.{building_at}
+use Rattle.npf_cells_lives.proofs.StoredLemmas.{filter_has, has_filtered}
+use Rattle.npf_cells_lives.proofs.TurnLemmas.{phase_stays, running_stays}
+
+-- a step leaves what isn't Live, and the phase
+pub stepped_idle : {S A R : Type 0} (m : Meaning S A R) (way : Way) (arg : A) (stage : Stage S) → phase_of stage ≡ 0 → stepped m way arg stage ≡ stage
+stepped_idle m way arg Vacant e = refl
+stepped_idle m way arg (Building seat) e = refl
+stepped_idle m way arg (Live flow steps) e = absurd cc
+stepped_idle m way arg Dead e = refl
+
+pub stepped_phase : {S A R : Type 0} (m : Meaning S A R) (way : Way) (arg : A) (stage : Stage S) → phase_of (stepped m way arg stage) ≡ phase_of stage
+stepped_phase m way arg Vacant = refl
+stepped_phase m way arg (Building seat) = refl
+stepped_phase m way arg (Live flow steps) = refl
+stepped_phase m way arg Dead = refl
+
+pub stepped_bit : {S A R : Type 0} (m : Meaning S A R) (way : Way) (arg : A) (stage : Stage S) → claim_bit (stepped m way arg stage) ≡ claim_bit stage
+stepped_bit m way arg Vacant = refl
+stepped_bit m way arg (Building seat) = refl
+stepped_bit m way arg (Live flow steps) = refl
+stepped_bit m way arg Dead = refl
+
+-- what is neither Live nor Dead answers a step that it isn't Live
+idle_answer : {S A R : Type 0} (m : Meaning S A R) (way : Way) (arg : A) (stage : Stage S) → phase_of stage ≡ 0 → step_answer m way arg stage ≡ NotLive
+idle_answer m way arg Vacant e = refl
+idle_answer m way arg (Building seat) e = refl
+idle_answer m way arg (Live flow steps) e = absurd cc
+idle_answer m way arg Dead e = refl
+
+pub due_bit : {S A R : Type 0} (m : Meaning S A R) (now : ℕ) (stage : Stage S) → IsDue m now stage → claim_bit stage ≡ 1
+due_bit m now Vacant due = absurd due
+due_bit m now (Building seat) due = absurd due
+due_bit m now (Live flow steps) due = refl
+due_bit m now Dead due = absurd due
+
+pub due_settled : {S A R : Type 0} (m : Meaning S A R) (now : ℕ) (stage : Stage S) → IsDue m now stage → phase_of stage ≡ 1
+due_settled m now Vacant due = absurd due
+due_settled m now (Building seat) due = absurd due
+due_settled m now (Live flow steps) due = refl
+due_settled m now Dead due = absurd due
+
+module _ {S A R : Type 0} (m : Meaning S A R) (was now : Slot S) (stays : StaysAt was now) (way : Way) (arg : A) where
+  -- a slot that is still at what it was answers a step and goes on as it would have
+  pub answer_stays : step_answer m way arg now.stage ≡ step_answer m way arg was.stage
+  answer_stays = ⊎_elim
+      (λ (same : now ≡ was). ap (λ (x : Slot S). step_answer m way arg x.stage) same)
+      (λ (idle : (phase_of was.stage ≡ 0) × (phase_of now.stage ≡ 0)). idle_answer m way arg now.stage idle.1 ∙ sym (idle_answer m way arg was.stage idle.0))
+      stays
+
+  pub step_stays : StaysAt (record was { stage = stepped m way arg was.stage }) (record now { stage = stepped m way arg now.stage })
+  step_stays = ⊎_elim
+      (λ (same : now ≡ was). inl (ap (λ (x : Slot S). record x { stage = stepped m way arg x.stage }) same))
+      (λ (idle : (phase_of was.stage ≡ 0) × (phase_of now.stage ≡ 0)). inr (stepped_phase m way arg was.stage ∙ idle.0, stepped_phase m way arg now.stage ∙ idle.1))
+      stays
+
+  pub step_runs : running (stepped m way arg now.stage) ≡ running (stepped m way arg was.stage)
+  step_runs = running_stays (record was { stage = stepped m way arg was.stage }) (record now { stage = stepped m way arg now.stage }) step_stays
+
+  pub step_phase : phase_of (stepped m way arg now.stage) ≡ phase_of (stepped m way arg was.stage)
+  step_phase = phase_stays (record was { stage = stepped m way arg was.stage }) (record now { stage = stepped m way arg now.stage }) step_stays
+
+-- an act changes the stage of this slot alone, and no holder
+pub record ActsOn {S : Type 0} (k k' : Machine S) (slot : ℕ) (stage : Stage S) : Type 0 where
+  pub here : k'.slot slot ≡ record (k.slot slot) { stage = stage }
+  pub elsewhere : (p : ℕ) → p ≢ slot → k'.slot p ≡ k.slot p
+  pub holder : (key : Key) → k'.holder key ≡ k.holder key
+
+module _ {S A R : Type 0} (m : Meaning S A R) (k : Machine S) (seat : ℕ) (id : ConnId) (slot : ℕ) (at : id.slot ≡ slot) where
+  changed_here : (x : Slot S) → cond (id.slot == slot) x (k.slot slot) ≡ x
+  changed_here x = ap (λ b. cond b x (k.slot slot)) (eq-eqb id.slot slot at)
+
+  same_else : (x : Slot S) (p : ℕ) → p ≢ slot → cond (id.slot == p) x (k.slot p) ≡ k.slot p
+  same_else x p ne = ap (λ b. cond b x (k.slot p)) (ne_eqb id.slot p (λ e. ne (sym e ∙ at)))
+
+  pub starts_on : (n : ℕ) (init : S) → ActsOn k (after_act m k seat (Acts.Start id n init)) slot (Live init 1)
+  starts_on n init = record { here = changed_here _; elsewhere = λ p ne. same_else _ p ne; holder = λ key. refl }
+
+  pub steps_on : (n : ℕ) (way : Way) (arg : A) → ActsOn k (after_act m k seat (Acts.Step n id way arg)) slot (stepped m way arg (k.slot slot).stage)
+  steps_on n way arg = record { here = changed_here _; elsewhere = λ p ne. same_else _ p ne; holder = λ key. refl }
+
+  pub kills_on : (why : Why) → ActsOn k (after_act m k seat (Acts.Kill id why)) slot Dead
+  kills_on why = record { here = changed_here _; elsewhere = λ p ne. same_else _ p ne; holder = λ key. refl }
+
+module _ {S : Type 0} (k k' : Machine S) (slot : ℕ) (stage : Stage S) (acts : ActsOn k k' slot stage) where
+  -- the last incarnations stay
+  pub inc_stays : (p : ℕ) → (k'.slot p).inc ≡ (k.slot p).inc
+  inc_stays p = ⊎_elim
+      (λ (e : p ≡ slot). ap (λ q. (k'.slot q).inc) e ∙ (ap (λ (x : Slot S). x.inc) acts.here ∙ ap (λ q. (k.slot q).inc) (sym e)))
+      (λ (ne : p ≢ slot). ap (λ (x : Slot S). x.inc) (acts.elsewhere p ne))
+      (cases_eq p slot)
+
+  -- what else is claimed stays, where the slot's is
+  pub bit_stays : claim_bit stage ≡ claim_bit (k.slot slot).stage → (p : ℕ) → claim_bit (k'.slot p).stage ≡ claim_bit (k.slot p).stage
+  bit_stays same p = ⊎_elim
+      (λ (e : p ≡ slot). ap (λ q. claim_bit (k'.slot q).stage) e ∙ (ap (λ (x : Slot S). claim_bit x.stage) acts.here ∙ (same ∙ ap (λ q. claim_bit (k.slot q).stage) (sym e))))
+      (λ (ne : p ≢ slot). ap (λ (x : Slot S). claim_bit x.stage) (acts.elsewhere p ne))
+      (cases_eq p slot)
+
+  -- what is Building stays so, unless it is the slot's and changes
+  pub still_building : (i : ConnId) (j : ℕ) → stage_of k i ≡ Building j → (i.slot ≡ slot → stage ≡ (k.slot slot).stage) → stage_of k' i ≡ Building j
+  still_building i j built keeps = ⊎_elim
+      (λ (e : i.slot ≡ slot).
+      let x : k'.slot slot ≡ k.slot slot = acts.here ∙ ap (λ y. record (k.slot slot) { stage = y }) (keeps e) in
+      ap (λ (y : Slot S). stage_at y i.inc) (ap k'.slot e ∙ (x ∙ ap k.slot (sym e))) ∙ built)
+      (λ (ne : i.slot ≢ slot). ap (λ (y : Slot S). stage_at y i.inc) (acts.elsewhere i.slot ne) ∙ built)
+      (cases_eq i.slot slot)
+
+-- what is Building in a slot is at that
+pub building_in : {S : Type 0} (k : Machine S) (slot : ℕ) (i : ConnId) (j : ℕ) → stage_of k i ≡ Building j → i.slot ≡ slot → ((k.slot slot).inc ≡ i.inc) × ((k.slot slot).stage ≡ Building j)
+building_in k slot i j built e = subst (λ p. ((k.slot p).inc ≡ i.inc) × ((k.slot p).stage ≡ Building j)) e (building_at (k.slot i.slot) i.inc j built)
+
+not_false : (test : Bool) → not test ≡ true → test ≡ false
+not_false true e = sym e
+not_false false e = refl
+
+-- what is left of the connections that are built
+pub not_without : (id other : ConnId) (ids : List ConnId) → Contains (without other ids) id → Contains ids id × ¬ (id ≡ other)
+not_without id other ids c =
+    let kept = filter_has (λ (x : ConnId). not (is_id x other)) ids id c in
+    (kept.0, λ same. let is = (is_id-Decides id other).1 same in let isnt = not_false (is_id id other) kept.1 in absurd cc)
+
+pub in_without : (id other : ConnId) (ids : List ConnId) → Contains ids id → ¬ (id ≡ other) → Contains (without other ids) id
+in_without id other ids c ne = has_filtered (λ (x : ConnId). not (is_id x other)) ids id c (by_test (is_id id other) refl)
+  where
+    by_test : (b : Bool) → is_id id other ≡ b → not (is_id id other) ≡ true
+    by_test true e = absurd (ne ((is_id-Decides id other).0 e))
+    by_test false e = ap not e

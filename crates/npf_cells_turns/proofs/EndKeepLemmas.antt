@@ -1,0 +1,301 @@
+-- Each act at the end of a turn keeps the rule, and makes its entry.
+use Rattle.std.specs.List.{Contains}
+use Rattle.std.proofs.Common.{◌≡◌, ◌≢◌, ℕ, ◌≤◌, true, Some, None, List, [], ◌∷◌, ◌++◌, cond, eq-eqb, set, length, refl, sym, ap, ◌∙◌, subst, ⊎_elim}
+use mathlib.Core.Option.{some}
+use lib.ListN.{get_elem?}
+use denote.Bor.{Bor}
+use Rattle.atomic_table.specs.Table.{State, Me, Step, Allows, gives}
+use Rattle.npf_types.specs.declared.key.Key.{Key}
+use Rattle.npf_types.specs.declared.key.Way.{Way}
+use Rattle.npf_core.specs.declared.act.Act.TheVariants as Acts
+use Rattle.npf_core.specs.declared.act.Why.TheVariants as Reasons
+use Rattle.npf_core.specs.declared.conn_id.ConnId.{ConnId}
+use Rattle.npf_core.specs.declared.entry.Entry.{Entry}
+use Rattle.npf_core.specs.declared.reply.Reply.TheVariants as Replies
+use Rattle.npf_core.specs.declared.slot.Slot.{Slot}
+use Rattle.npf_core.specs.declared.stage.Stage.{Stage}
+use Rattle.npf_core.specs.declared.stage.Stage.TheVariants.{Vacant, Building, Live, Dead}
+use Rattle.npf_core.specs.Allowed.{IsDue}
+use Rattle.npf_core.specs.History.{MayFollow, after, state_of}
+use Rattle.npf_core.specs.Machine.{Machine, stage_at, stage_of, IsClaimed}
+use Rattle.npf_core.specs.Meaning.{Meaning}
+use Rattle.npf_core.specs.NextState.{stepped as step_of}
+use Rattle.npf_core.specs.Replies.{step_answer}
+use Rattle.npf_core.proofs.EqualityLemmas.{same_conn_id}
+use Rattle.npf_core.proofs.LifeLemmas.{IsClaimed-last}
+use Rattle.npf_connections.specs.Adding.{AddsOwn}
+use Rattle.npf_connections.specs.Answered.{without}
+use Rattle.npf_connections.specs.Pass.{IsPass}
+use Rattle.npf_cells_words.specs.declared.layout.Layout.{Layout}
+use Rattle.npf_cells_words.specs.declared.layout.Pool.TheVariants.{Slots}
+use Rattle.npf_cells_words.specs.Layout.{turn_field, field_at}
+use Rattle.npf_cells_lives.specs.declared.pools.PoolSide.{PoolSide}
+use Rattle.npf_cells_lives.specs.declared.turn.Turn.{Turn}
+use Rattle.npf_cells_lives.specs.Conns.{IsBuiltIn, FitsBuilds}
+use Rattle.npf_cells_lives.specs.Pools.{claim_bit}
+use Rattle.npf_cells_lives.specs.Stored.{FitsStored}
+use Rattle.npf_cells_lives.specs.Turns.{Running, running, phase_of, StaysAt}
+use Rattle.npf_cells_lives.proofs.ConnLemmas.{one_builder}
+use Rattle.npf_cells_lives.proofs.StoredLemmas.{fits_but}
+use Rattle.npf_cells_lives.proofs.TurnLemmas.{phase_stays, running_stays}
+use Rattle.npf_cells_rule.specs.declared.view.CellView.{CellView}
+use Rattle.npf_cells_rule.specs.Cells.{IsCells}
+use Rattle.npf_cells_rule.specs.Passes.{cell_pass}
+use Rattle.npf_cells_turns.specs.declared.act.TurnAct.{TurnAct}
+use Rattle.npf_cells_turns.specs.declared.act.TurnAct.TheVariants.{Nothing, Start, Step as Steps, Abandoned, Expired}
+use Rattle.npf_cells_turns.specs.EndKinds.{stage_by, BuildsThere, KnowsThere, IsDueThere, MayAct, MayEnd, act_entries, building_after, given_up, HasActed, TellsEnd, EndsTurn}
+use Rattle.npf_cells_turns.proofs.ActLemmas.{stepped_idle, stepped_bit, due_bit, due_settled, answer_stays, step_runs, step_phase, ActsOn, starts_on, steps_on, kills_on, still_building, building_in, not_without, in_without}
+use Rattle.npf_cells_turns.proofs.EndLemmas.{ends_alone, ends_with, adds_act, legal_after}
+
+-- where a Building slot is stepped it stays so
+stepped_building : {S A R : Type 0} (m : Meaning S A R) (way : Way) (arg : A) (stage : Stage S) (j : ℕ) → stage ≡ Building j → step_of m way arg stage ≡ stage
+stepped_building m way arg stage j e = stepped_idle m way arg stage (ap phase_of e)
+
+module _ {S A R : Type 0} (m : Meaning S A R) (digest : Key → ℕ) (layout : Layout) where
+  module _ (s : State (Running S) (CellView S A R)) (kept : IsCells m digest layout s) (id : ℕ) (v : CellView S A R) (turn : Turn S) (at : get_elem? s.views id ≡ some v) (has : v.turn ≡ Some turn)
+      (lives : v.seats.lives ≡ true) (settled : v.seats.theirs ≡ []) (seated : 1 ≤ length v.seats.readers) where
+    abbrev k : Machine S
+    k = state_of m kept.log
+
+    abbrev x : Slot S
+    x = k.slot turn.slot
+
+    stays : StaysAt turn.was x
+    stays = (kept.turns.each id v turn at has).stays
+
+    mine : FitsBuilds k id v.pools.builds v.pools.unstored
+    mine = kept.connections.each id v at
+
+    -- the table after the end of a turn, that leaves this value in the slot, this history, and this side of the pools
+    abbrev Ended : TurnAct S A → Type 0
+    Ended act = (w : CellView S A R) × IsCells m digest layout (record {
+      words = set s.words (field_at layout Slots turn.slot turn_field) 0;
+      homes = set s.homes turn.slot (some (running (stage_by m act turn.was.stage)));
+      views = set s.views id w;
+    }) × TellsEnd m act (v, (turn.slot, running (stage_by m act turn.was.stage)) ∷ []) (w, [])
+
+    -- a connection that the pass is building is started or killed
+    module _ (conn : ConnId) (there : BuildsThere v turn conn) (entry : Entry S A R) (mine' : entry.seat ≡ id) (stage : Stage S) (acts : ActsOn k (after m k entry) turn.slot stage) where
+      abbrev side : PoolSide
+      side = given_up conn v.pools
+
+      at_conn : (x.inc ≡ conn.inc) × (x.stage ≡ Building id)
+      at_conn = building_in k turn.slot conn id (mine.building conn there.built) there.there
+
+      pub built_there : stage_of k conn ≡ Building id
+      built_there = mine.building conn there.built
+
+      pub is_claimed : claim_bit x.stage ≡ 1
+      is_claimed = ap claim_bit at_conn.1
+
+      -- another that is built in the slot is another's
+      others_fit : (j : ℕ) (u : CellView S A R) → j ≢ id → get_elem? s.views j ≡ some u → FitsBuilds (after m k entry) j u.pools.builds u.pools.unstored
+      others_fit j u ne e =
+          let fits = kept.connections.each j u e in record {
+            building = λ i c. still_building k (after m k entry) turn.slot stage acts i j (fits.building i c)
+                (λ same. absurd (ne (one_builder x j id (building_in k turn.slot i j (fits.building i c) same).1 at_conn.1)));
+            owing = fits.owing;
+            once = fits.once;
+          }
+
+      still_built : (p : ℕ) → p ≢ conn.slot → IsBuiltIn v.pools.builds p → IsBuiltIn (without conn v.pools.builds) p
+      still_built p ne built = record { id = built.id; built = in_without built.id conn v.pools.builds built.built (λ e. ne (sym built.there ∙ ap (λ (i : ConnId). i.slot) e)); there = built.there }
+
+      builds_left : FitsBuilds (after m k entry) id side.builds side.unstored
+      builds_left = record {
+        building = λ i c.
+            let left = not_without i conn v.pools.builds c in
+            still_building k (after m k entry) turn.slot stage acts i id (mine.building i left.0)
+            (λ same. absurd (left.1 (same_conn_id i conn (same ∙ sym there.there, sym (building_in k turn.slot i id (mine.building i left.0) same).0 ∙ at_conn.0))));
+        owing = λ p c. still_built p (λ e. there.stored (subst (Contains v.pools.unstored) e c)) (mine.owing p c);
+        once = mine.once;
+      }
+
+      stored_left : FitsStored layout s.words side
+      stored_left = fits_but layout s.words v.pools conn.slot (kept.stored id v at) (without conn v.pools.builds) still_built
+
+      fewer : v.pools.builds ≡ [] → side.builds ≡ []
+      fewer none = ap (without conn) none
+
+      module _ (value : Running S) (follows : MayFollow m layout.slots k entry) (freeless : (i : ConnId) → ¬ (entry.act ≡ Acts.Free i)) (bit : claim_bit stage ≡ 1) (runs : value ≡ running stage) (phase : turn.phase ≡ phase_of stage) where
+        abbrev pub builder : CellView S A R
+        builder = record v { seats = record v.seats { history = kept.log ++ entry ∷ [] }; pools = side; turn = None }
+
+        pub built_ends : IsCells m digest layout (record { words = set s.words (field_at layout Slots turn.slot turn_field) 0; homes = set s.homes turn.slot (some value); views = set s.views id builder })
+        built_ends = ends_with m digest layout s kept id v turn at has value lives settled seated entry mine' follows freeless stage acts (bit ∙ sym is_claimed) runs phase side refl refl stored_left builds_left others_fit
+
+        pub built_acted : (act : TurnAct S A) → AddsOwn (cell_pass v) (kept.log ++ entry ∷ []) (act_entries m (cell_pass v) turn.was.stage act) → building_after act v.pools ≡ side → HasActed m act (v, (turn.slot, value) ∷ []) (builder, [])
+        built_acted act adds after' = record {
+          turn = turn;
+          has = has;
+          adds = adds;
+          legal = legal_after m digest layout s kept id v turn at has value lives settled seated entry mine' follows freeless stage acts (bit ∙ sym is_claimed) runs phase side refl refl stored_left builds_left others_fit fewer;
+          is = ap (λ pools. (record v { seats = record v.seats { history = kept.log ++ entry ∷ [] }; pools = pools; turn = None }, [])) (sym after');
+        }
+
+        pub built_adds : AddsOwn (cell_pass v) (kept.log ++ entry ∷ []) (record entry { seat = v.seats.number } ∷ [])
+        built_adds = adds_act m digest layout s kept id v turn at has value lives settled seated entry mine' follows freeless stage acts (bit ∙ sym is_claimed) runs phase side refl refl stored_left builds_left others_fit
+
+    starts : (conn : ConnId) (n : ℕ) (init : S) → BuildsThere v turn conn → turn.phase ≡ 1 → Ended (Start conn n init)
+    starts conn n init there phase =
+        let entry : Entry S A R = record { seat = id; act = Acts.Start conn n init; reply = Replies.Nothing } in
+        let acts = starts_on m k id conn turn.slot there.there n init in
+        let follows : MayFollow m layout.slots k entry = record { allowed = mine.building conn there.built; replied = refl } in
+        let value : Running S = running (Live init 1) in (
+          builder conn there entry refl (Live init 1) acts value follows (λ i e. absurd cc) refl refl phase,
+          built_ends conn there entry refl (Live init 1) acts value follows (λ i e. absurd cc) refl refl phase,
+          built_acted conn there entry refl (Live init 1) acts value follows (λ i e. absurd cc) refl refl phase (Start conn n init) (built_adds conn there entry refl (Live init 1) acts value follows (λ i e. absurd cc) refl refl phase) refl,
+        )
+
+    abandons : (conn : ConnId) → BuildsThere v turn conn → turn.phase ≡ 2 → Ended (Abandoned conn)
+    abandons conn there phase =
+        let entry : Entry S A R = record { seat = id; act = Acts.Kill conn Reasons.Abandoned; reply = Replies.Nothing } in
+        let acts = kills_on m k id conn turn.slot there.there Reasons.Abandoned in
+        let follows : MayFollow m layout.slots k entry = record { allowed = mine.building conn there.built; replied = refl } in
+        let value : Running S = None in (
+          builder conn there entry refl Dead acts value follows (λ i e. absurd cc) refl refl phase,
+          built_ends conn there entry refl Dead acts value follows (λ i e. absurd cc) refl refl phase,
+          built_acted conn there entry refl Dead acts value follows (λ i e. absurd cc) refl refl phase (Abandoned conn) (built_adds conn there entry refl Dead acts value follows (λ i e. absurd cc) refl refl phase) refl,
+        )
+
+    -- a connection that isn't Building is stepped or killed
+    module _ (entry : Entry S A R) (mine' : entry.seat ≡ id) (stage : Stage S) (acts : ActsOn k (after m k entry) turn.slot stage)
+        (leaves : (i : ConnId) (j : ℕ) → stage_of k i ≡ Building j → i.slot ≡ turn.slot → stage ≡ x.stage)
+        (value : Running S) (follows : MayFollow m layout.slots k entry) (freeless : (i : ConnId) → ¬ (entry.act ≡ Acts.Free i)) (bit : claim_bit stage ≡ claim_bit x.stage) (runs : value ≡ running stage) (phase : turn.phase ≡ phase_of stage) where
+      fits_on : (j : ℕ) (builds : List ConnId) (unstored : List ℕ) → FitsBuilds k j builds unstored → FitsBuilds (after m k entry) j builds unstored
+      fits_on j builds unstored fits = record {
+        building = λ i c. still_building k (after m k entry) turn.slot stage acts i j (fits.building i c) (leaves i j (fits.building i c));
+        owing = fits.owing;
+        once = fits.once;
+      }
+
+      all_on : (j : ℕ) (u : CellView S A R) → j ≢ id → get_elem? s.views j ≡ some u → FitsBuilds (after m k entry) j u.pools.builds u.pools.unstored
+      all_on j u ne e = fits_on j u.pools.builds u.pools.unstored (kept.connections.each j u e)
+
+      abbrev pub stepper : CellView S A R
+      stepper = record v { seats = record v.seats { history = kept.log ++ entry ∷ [] }; turn = None }
+
+      pub plain_ends : IsCells m digest layout (record { words = set s.words (field_at layout Slots turn.slot turn_field) 0; homes = set s.homes turn.slot (some value); views = set s.views id stepper })
+      plain_ends = ends_with m digest layout s kept id v turn at has value lives settled seated entry mine' follows freeless stage acts bit runs phase v.pools refl refl (kept.stored id v at) (fits_on id v.pools.builds v.pools.unstored mine) all_on
+
+      pub plain_adds : AddsOwn (cell_pass v) (kept.log ++ entry ∷ []) (record entry { seat = v.seats.number } ∷ [])
+      plain_adds = adds_act m digest layout s kept id v turn at has value lives settled seated entry mine' follows freeless stage acts bit runs phase v.pools refl refl (kept.stored id v at) (fits_on id v.pools.builds v.pools.unstored mine) all_on
+
+      pub plain_legal : IsPass m (cell_pass v) → IsPass m (cell_pass stepper)
+      plain_legal = legal_after m digest layout s kept id v turn at has value lives settled seated entry mine' follows freeless stage acts bit runs phase v.pools refl refl (kept.stored id v at) (fits_on id v.pools.builds v.pools.unstored mine) all_on (λ none. none)
+
+    -- the stage of a claimed identity is its slot's
+    stage_there : (conn : ConnId) → conn.slot ≡ turn.slot → x.inc ≡ conn.inc → stage_of k conn ≡ x.stage
+    stage_there conn there last =
+        ap (λ p. stage_at (k.slot p) conn.inc) there ∙ ap (λ b. cond b x.stage Vacant) (eq-eqb x.inc conn.inc last)
+
+    steps : (conn : ConnId) (n : ℕ) (way : Way) (lent : Bor A) → KnowsThere v turn conn → turn.phase ≡ phase_of (step_of m way lent.now turn.was.stage) → Ended (Steps conn n way lent)
+    steps conn n way lent there phase =
+        let legal = plain_legal entry refl stage acts leaves value follows (λ i e. absurd cc) (stepped_bit m way arg x.stage) runs phased in (
+          stepper entry refl stage acts leaves value follows (λ i e. absurd cc) (stepped_bit m way arg x.stage) runs phased,
+          plain_ends entry refl stage acts leaves value follows (λ i e. absurd cc) (stepped_bit m way arg x.stage) runs phased,
+          record {
+            turn = turn;
+            has = has;
+            adds = plain_adds entry refl stage acts leaves value follows (λ i e. absurd cc) (stepped_bit m way arg x.stage) runs phased;
+            legal = legal;
+            is = refl;
+          },
+        )
+      where
+        arg : A
+        arg = lent.now
+
+        entry : Entry S A R
+        entry = record { seat = id; act = Acts.Step n conn way arg; reply = Replies.ToStep (step_answer m way arg turn.was.stage) }
+
+        stage : Stage S
+        stage = step_of m way arg x.stage
+
+        value : Running S
+        value = running (step_of m way arg turn.was.stage)
+
+        acts : ActsOn k (after m k entry) turn.slot stage
+        acts = steps_on m k id conn turn.slot there.there n way arg
+
+        claimed : IsClaimed (stage_of k conn)
+        claimed = ⊎_elim
+            (λ (c : Contains v.trie.answered conn). (kept.trie.each id v at).claimed conn c)
+            (λ (c : Contains v.pools.builds conn). subst IsClaimed (sym (mine.building conn c)) tt)
+            there.known
+
+        last : x.inc ≡ conn.inc
+        last = subst (λ p. (k.slot p).inc ≡ conn.inc) there.there (IsClaimed-last (k.slot conn.slot) conn.inc claimed)
+
+        follows : MayFollow m layout.slots k entry
+        follows = record {
+          allowed = claimed;
+          replied = ap (λ r. Replies.ToStep r) (sym (answer_stays m turn.was x stays way arg) ∙ ap (step_answer m way arg) (sym (stage_there conn there.there last)));
+        }
+
+        leaves : (i : ConnId) (j : ℕ) → stage_of k i ≡ Building j → i.slot ≡ turn.slot → stage ≡ x.stage
+        leaves i j built same = stepped_building m way arg x.stage j (building_in k turn.slot i j built same).1
+
+        runs : value ≡ running stage
+        runs = sym (step_runs m turn.was x stays way arg)
+
+        phased : turn.phase ≡ phase_of stage
+        phased = phase ∙ sym (step_phase m turn.was x stays way arg)
+
+    expires : (conn : ConnId) (now : ℕ) → IsDueThere m turn conn now → turn.phase ≡ 2 → Ended (Expired conn now)
+    expires conn now there phase =
+        let legal = plain_legal entry refl Dead acts leaves None follows (λ i e. absurd cc) bit refl phase in (
+          stepper entry refl Dead acts leaves None follows (λ i e. absurd cc) bit refl phase,
+          plain_ends entry refl Dead acts leaves None follows (λ i e. absurd cc) bit refl phase,
+          record {
+            turn = turn;
+            has = has;
+            adds = plain_adds entry refl Dead acts leaves None follows (λ i e. absurd cc) bit refl phase;
+            legal = legal;
+            is = refl;
+          },
+        )
+      where
+        entry : Entry S A R
+        entry = record { seat = id; act = Acts.Kill conn (Reasons.Expired now); reply = Replies.Nothing }
+
+        acts : ActsOn k (after m k entry) turn.slot Dead
+        acts = kills_on m k id conn turn.slot there.there (Reasons.Expired now)
+
+        -- it is still as it was
+        same : x ≡ turn.was
+        same = ⊎_elim (λ e. e) (λ (idle : (phase_of turn.was.stage ≡ 0) × (phase_of x.stage ≡ 0)). absurd (let no : 1 ≡ 0 = sym (due_settled m now turn.was.stage there.due) ∙ idle.0 in cc)) stays
+
+        due : IsDue m now x.stage
+        due = subst (λ (y : Slot S). IsDue m now y.stage) (sym same) there.due
+
+        follows : MayFollow m layout.slots k entry
+        follows = record { allowed = subst (IsDue m now) (sym (stage_there conn there.there (ap (λ (y : Slot S). y.inc) same ∙ there.inc))) due; replied = refl }
+
+        bit : claim_bit {S = S} Dead ≡ claim_bit x.stage
+        bit = sym (due_bit m now x.stage due)
+
+        leaves : (i : ConnId) (j : ℕ) → stage_of k i ≡ Building j → i.slot ≡ turn.slot → Dead ≡ x.stage
+        leaves i j built here = absurd (let no : 1 ≡ 0 = sym (due_settled m now x.stage due) ∙ ap phase_of (building_in k turn.slot i j built here).1 in cc)
+
+    nothing : turn.phase ≡ phase_of turn.was.stage → Ended Nothing
+    nothing phase = (
+      record v { turn = None },
+      ends_alone m digest layout s kept id v turn at has (running turn.was.stage) seated (sym (running_stays turn.was x stays)) (phase ∙ sym (phase_stays turn.was x stays)),
+      refl,
+    )
+
+    pub ends : (act : TurnAct S A) → MayAct m v turn act → turn.phase ≡ phase_of (stage_by m act turn.was.stage) → Ended act
+    ends Nothing may phase = nothing phase
+    ends (Start conn n init) may phase = starts conn n init may phase
+    ends (Steps conn n way arg) may phase = steps conn n way arg may phase
+    ends (Abandoned conn) may phase = abandons conn may phase
+    ends (Expired conn now) may phase = expires conn now may phase
+
+  pub may_end : (st : Step (Running S)) (id n slot : ℕ) (act : TurnAct S A) (me : Me (Running S) (CellView S A R)) → me.0.seats.lives ≡ true → me.0.seats.theirs ≡ [] → 1 ≤ length me.0.seats.readers → MayEnd m act slot me →
+      Allows (IsCells m digest layout) n id me (field_at layout Slots slot turn_field) (λ _. 0) (λ _. EndsTurn m act st me 0)
+  may_end st id n slot act me lives settled seated may =
+      subst (λ (y : ℕ × List (ℕ × Running S)). Allows (IsCells m digest layout) n id (me.0, y.1) (field_at layout Slots y.0 turn_field) (λ _. 0) (λ _. EndsTurn m act st (me.0, y.1) 0)) (λ i. (may.there i, sym may.carries i))
+      (λ s kept homes at bound.
+      let e = ends s kept id me.0 may.turn at may.has lives settled seated act may.may may.phase in
+      (e.0, gives, tt, e.1, record { tells = e.2 }))

@@ -1,0 +1,7 @@
+pub mod ActLemmas
+pub mod EndKeepLemmas
+pub mod EndLemmas
+pub mod PassOnLemmas
+pub mod SightKeepLemmas
+pub mod TurnKeepLemmas
+pub mod WordKeepLemmas

@@ -1,0 +1,5 @@
+pub mod EndKinds
+pub mod SightKinds
+pub mod TurnKinds
+pub mod TurnsLaw
+pub mod WordKinds
