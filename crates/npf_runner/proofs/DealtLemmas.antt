@@ -1,5 +1,5 @@
 -- Packets that are dealt to workers, with their numbers.
-use Rattle.std.proofs.Common.{◌≡◌, ℕ, ◌==◌, ◌≤◌, ◌<◌, ◌+◌, Bool, true, false, List, [], ◌∷◌, All, cond, map, get_or, length, refl, sym, ap, subst, ◌∙◌, arith, suc, zero}
+use Rattle.std.proofs.Common.{◌≡◌, ℕ, ◌==◌, ◌≤◌, ◌<◌, ◌+◌, ◌^◌, Bool, true, false, List, [], ◌∷◌, All, cond, map, get_or, length, refl, sym, ap, subst, ◌∙◌, arith, suc, zero}
 use Rattle.std.specs.List.{range_with_len}
 use Rattle.std.proofs.lemmas.List.{length-map}
 use Rattle.npf_runner_dealing.specs.Lanes.{of_lane, IsDealt}
@@ -56,14 +56,14 @@ module _ (order : List ℕ) (first : ℕ) (packets : List Packet) (numbers : Lis
           ∙ (ap (λ ns. with_numbers ns (get_or (map packets_of_worker crew) w [])) (numbers_at w low)
           ∙ (ap (λ ps. with_numbers (of_lane w order (range_with_len first (length packets))) ps) (packets_at w low) ∙ (lane_numbered w order first packets).0))
 
-  have_jobs : 1 ≤ first → All IsShortPacket packets → All HasJobs crew
-  have_jobs some short w d low = record {
+  have_jobs : 1 ≤ first → first + length packets < 2 ^ 64 → All IsShortPacket packets → All HasJobs crew
+  have_jobs some few short w d low = record {
     same_length =
         ap length (sym (get_or-map numbers_of_worker crew w d [] low) ∙ numbers_at w low)
         ∙ ((lane_numbered w order first packets).1 ∙ ap length (sym (packets_at w low) ∙ get_or-map packets_of_worker crew w d [] low));
     each = All-unmap (λ lane. All IsJob lane) jobs_of crew
-        (All-dealt IsJob order (numbered_from first packets) (map jobs_of crew) dealt_jobs (jobs_numbered first packets some short)) w d low;
+        (All-dealt IsJob order (numbered_from first packets) (map jobs_of crew) dealt_jobs (jobs_numbered first packets some few short)) w d low;
   }
 
-  pub jobs_dealt : 1 ≤ first → All IsShortPacket packets → IsDealt order (numbered_from first packets) (map jobs_of crew) × All HasJobs crew
-  jobs_dealt some short = (dealt_jobs, have_jobs some short)
+  pub jobs_dealt : 1 ≤ first → first + length packets < 2 ^ 64 → All IsShortPacket packets → IsDealt order (numbered_from first packets) (map jobs_of crew) × All HasJobs crew
+  jobs_dealt some few short = (dealt_jobs, have_jobs some few short)

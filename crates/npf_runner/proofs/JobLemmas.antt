@@ -1,5 +1,5 @@
 -- The steps of the loops over packets, commands and workers.
-use Rattle.std.proofs.Common.{◌≡◌, ℕ, ◌+◌, ◌≤◌, ◌<◌, List, [], ◌∷◌, ◌++◌, All, map, length, take, drop, get_or, refl, ap, sym, subst, ◌∙◌, arith, suc}
+use Rattle.std.proofs.Common.{◌≡◌, ℕ, ◌+◌, ◌≤◌, ◌<◌, ◌^◌, List, [], ◌∷◌, ◌++◌, All, map, length, take, drop, get_or, refl, ap, sym, subst, ◌∙◌, arith, suc}
 use Rattle.std.specs.List.{AllZip}
 use Rattle.std.proofs.lemmas.List.{append_assoc, drop_more, length-take-le, map-append, take_more}
 use Rattle.std.proofs.lemmas.List.Sums.{sum_by-cons}
@@ -46,12 +46,12 @@ asks_range old new (Some number) a = a.range
 pub packets_first : (phase : Phase) (phases : List Phase) → packets_in (phase ∷ phases) ≡ phase.packets + packets_in phases
 packets_first phase phases = sum_by-cons (λ n. n) phase.packets (map (λ (p : Phase). p.packets) phases)
 
-pub jobs_numbered : (first : ℕ) (packets : List Packet) → 1 ≤ first → All IsShortPacket packets → All IsJob (numbered_from first packets)
-jobs_numbered first [] some short = All-nil IsJob
-jobs_numbered first (packet ∷ packets) some short =
+pub jobs_numbered : (first : ℕ) (packets : List Packet) → 1 ≤ first → first + length packets < 2 ^ 64 → All IsShortPacket packets → All IsJob (numbered_from first packets)
+jobs_numbered first [] some few short = All-nil IsJob
+jobs_numbered first (packet ∷ packets) some few short =
     All-cons IsJob (record { number = first; packet = packet }) (numbered_from (first + 1) packets)
-    (record { counts = some; short = All-head IsShortPacket packet packets short })
-    (jobs_numbered (first + 1) packets (omega (arith, some)) (All-tail IsShortPacket packet packets short))
+    (record { counts = some; fits = omega (arith, few); short = All-head IsShortPacket packet packets short })
+    (jobs_numbered (first + 1) packets (omega (arith, some)) (omega (arith, few)) (All-tail IsShortPacket packet packets short))
 
 pub numbered_length : (first : ℕ) (packets : List Packet) → length (numbered_from first packets) ≡ length packets
 numbered_length first [] = refl

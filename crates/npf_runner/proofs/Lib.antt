@@ -7,6 +7,8 @@ pub mod ExpiryLemmas
 pub mod JobLemmas
 pub mod LaneLemmas
 pub mod NumberingLemmas
+pub mod NumbersLemmas
+pub mod OrderLemmas
 pub mod PairLemmas
 pub mod PhaseLemmas
 pub mod PlayedLemmas

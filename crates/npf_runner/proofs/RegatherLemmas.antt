@@ -12,15 +12,18 @@ use Rattle.npf_runner_dealing.specs.Lanes.{of_lane, queue_items, IsDealt}
 use Rattle.npf_runner_dealing.proofs.LaneLemmas.{of_lane-no, get_or-map}
 use Rattle.npf_engine.specs.Histories.{FlowEntry}
 use Rattle.npf_runner.specs.declared.crew.Queues.{Queues}
+use Rattle.npf_runner.specs.declared.order.Order.{Order}
 use Rattle.npf_runner.specs.declared.phase.Command.{Command}
 use Rattle.npf_runner.specs.declared.worker.Worker.{Worker}
 use Rattle.npf_runner.specs.Crew.{AreQueuesOf, jobs_of, worker_of_lane, jobs_of_lane, done_of_lane}
 use Rattle.npf_runner.specs.Job.{Handled, Job}
 use Rattle.npf_runner.specs.Lanes.{HasWorked}
+use Rattle.npf_runner.specs.Order.{IsDealtBy, IsOrder, workers_by}
 use Rattle.npf_runner.specs.Played.{outcomes_of, outputs_of}
 use Rattle.npf_runner.specs.Task.{RunsCrew}
 use Rattle.npf_runner.specs.Works.{WorksThrough}
 use Rattle.npf_runner.proofs.LaneLemmas.{Zips, merges}
+use Rattle.npf_runner.proofs.OrderLemmas.{dealt_by}
 use Rattle.npf_runner.proofs.PairLemmas.{At, at_zip, at_left, at_right}
 
 -- what holds of all holds of those of a lane
@@ -110,12 +113,13 @@ zips_length R (x ∷ xs) [] [] z = absurd z
 zips_length R (x ∷ xs) [] (u ∷ zs) z = absurd z
 zips_length R (x ∷ xs) (y ∷ ys) [] z = absurd z
 
--- what was done was dealt to these lanes, and in this order, which is the same, its outcomes and its packets to these queues
-pub record Regathers (order same : List ℕ) (lanes : List (List Handled)) (queues : Queues) : Type 0 where
+-- what was done was dealt to these lanes, and so were its outcomes and its packets to these queues
+pub record Regathers (order : Order) (packets : ℕ) (lanes : List (List Handled)) (queues : Queues) : Type 0 where
   pub dones : List Handled
-  pub dealt : IsDealt order dones lanes
-  pub outcomes : IsDealt same (outcomes_of dones) (map queue_items queues.outcomes.items)
-  pub packets : IsDealt same (outputs_of dones) (map queue_items queues.packets.items)
+  pub dealt : IsDealt (workers_by order packets) dones lanes
+  pub outcomes : IsDealtBy order (outcomes_of dones) (map queue_items queues.outcomes.items)
+  pub outputs : IsDealtBy order (outputs_of dones) (map queue_items queues.packets.items)
+  pub count : length dones ≡ packets
 
 module _ {P : Type 0} (view : P → Pass FlowEntry) (configs : List Configuration) (old new : Pass FlowEntry) (commands : List Command) (order : List ℕ) (jobs : List Job) (crew : List Worker)
     (lanes : List (List Handled)) (dealt : IsDealt order jobs (map jobs_of crew)) (r : RunsCrew view configs old new commands crew lanes) where
@@ -160,14 +164,21 @@ module _ {P : Type 0} (view : P → Pass FlowEntry) (configs : List Configuratio
         },
       )
 
-  pub regathers : (queues : Queues) (same : List ℕ) → AreQueuesOf lanes queues → same ≡ order → Regathers order same lanes queues
-  regathers queues same are is =
+  queues_of_crew : {X : Type 0} (part : List Handled → List X) (queues : List (List X)) → queues ≡ map part lanes → length queues ≡ length crew
+  queues_of_crew part queues are = ap length are ∙ (length-map lanes part ∙ (same_size ∙ length-map crew jobs_of))
+
+  pub regathers : (queues : Queues) (by : Order) (packets : ℕ) → AreQueuesOf lanes queues → order ≡ workers_by by packets → IsOrder by packets (length crew) → length jobs ≡ packets →
+      Regathers by packets lanes queues
+  regathers queues by packets are is fits count =
       let again = regathers_lanes in
+      let outcomes_dealt = dealt-map (λ (done : Handled). done.outcome) order again.0 lanes again.1 in
+      let packets_dealt = dealt-map (λ (done : Handled). done.packet) order again.0 lanes again.1 in
       record {
         dones = again.0;
-        dealt = again.1;
-        outcomes = subst (λ o. IsDealt o (outcomes_of again.0) (map queue_items queues.outcomes.items)) (sym is)
-            (subst (λ ls. IsDealt order (outcomes_of again.0) ls) (sym are.outcomes) (dealt-map (λ (done : Handled). done.outcome) order again.0 lanes again.1));
-        packets = subst (λ o. IsDealt o (outputs_of again.0) (map queue_items queues.packets.items)) (sym is)
-            (subst (λ ls. IsDealt order (outputs_of again.0) ls) (sym are.packets) (dealt-map (λ (done : Handled). done.packet) order again.0 lanes again.1));
+        dealt = subst (λ o. IsDealt o again.0 lanes) is again.1;
+        outcomes = dealt_by by packets (length crew) (outcomes_of again.0) (map queue_items queues.outcomes.items) fits (queues_of_crew outcomes_of (map queue_items queues.outcomes.items) are.outcomes)
+            (subst (λ o. IsDealt o (outcomes_of again.0) (map queue_items queues.outcomes.items)) is (subst (λ ls. IsDealt order (outcomes_of again.0) ls) (sym are.outcomes) outcomes_dealt));
+        outputs = dealt_by by packets (length crew) (outputs_of again.0) (map queue_items queues.packets.items) fits (queues_of_crew outputs_of (map queue_items queues.packets.items) are.packets)
+            (subst (λ o. IsDealt o (outputs_of again.0) (map queue_items queues.packets.items)) is (subst (λ ls. IsDealt order (outputs_of again.0) ls) (sym are.packets) packets_dealt));
+        count = again.1.count ∙ (sym dealt.count ∙ count);
       }

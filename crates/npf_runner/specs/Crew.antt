@@ -8,20 +8,21 @@ use Rattle.npf_traffic.specs.declared.packet.Packet.{Packet}
 use Rattle.npf_runner.specs.declared.worker.Lane.{Lane}
 use Rattle.npf_runner.specs.declared.worker.Worker.{Worker}
 use Rattle.npf_runner.specs.Job.{Handled, Job, IsJob, with_numbers}
+use Rattle.npf_runner.specs.Numbers.{packet_numbers}
 use Rattle.npf_runner.specs.Played.{handled, outcomes_of, outputs_of}
 
 abbrev pub numbers_of_worker : Worker → List ℕ
-numbers_of_worker worker = worker.numbers.items
+numbers_of_worker worker = packet_numbers worker.numbers (length worker.packets.items)
 
 abbrev pub packets_of_worker : Worker → List Packet
 packets_of_worker worker = worker.packets.items
 
 abbrev pub jobs_of : Worker → List Job
-jobs_of worker = with_numbers worker.numbers.items worker.packets.items
+jobs_of worker = with_numbers (numbers_of_worker worker) worker.packets.items
 
 -- each of the worker's packets has a number
 pub record HasJobs (worker : Worker) : Type 0 where
-  pub same_length : length worker.numbers.items ≡ length worker.packets.items
+  pub same_length : length (numbers_of_worker worker) ≡ length worker.packets.items
   pub each : All IsJob (jobs_of worker)
 
 -- the worker has room for the outcomes of its packets

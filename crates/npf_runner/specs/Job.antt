@@ -1,5 +1,5 @@
 -- The packets of a phase with their numbers, and what became of them.
-use Rattle.std.specs.Prelude.{ℕ, ◌≤◌, ◌+◌, List, [], ◌∷◌}
+use Rattle.std.specs.Prelude.{ℕ, ◌≤◌, ◌<◌, ◌+◌, ◌^◌, List, [], ◌∷◌}
 use Rattle.npf_engine.specs.declared.outcome.Outcome.{Outcome}
 use Rattle.npf_engine.specs.Arrival.{Arrival}
 use Rattle.npf_traffic.specs.declared.packet.Packet.{Packet}
@@ -30,7 +30,8 @@ numbered_from n (packet ∷ packets) = record { number = n; packet = packet } �
 abbrev pub job_arrival : Job → Arrival
 job_arrival job = arriving job.number job.packet
 
--- numbers begin at 1, and packets aren't too long
+-- numbers begin at 1 and are below 2^64, and packets aren't too long
 pub record IsJob (job : Job) : Type 0 where
   pub counts : 1 ≤ job.number
+  pub fits : job.number < 2 ^ 64
   pub short : IsShortPacket job.packet

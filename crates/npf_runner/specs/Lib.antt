@@ -2,6 +2,8 @@ pub mod Commands
 pub mod Crew
 pub mod Job
 pub mod Lanes
+pub mod Numbers
+pub mod Order
 pub mod Played
 pub mod Plays
 pub mod Spread

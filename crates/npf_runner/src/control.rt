@@ -22,11 +22,13 @@ pub fn control<R: Wait, C: Connections<FlowLaw>>(
     publisher: &mut Publisher,
 ) -> (C::Pass, Result<(), NoMemory>)
     requires out { IsOut flow_law (C.fits conns.now) C.view pass }
-    requires numbers { published_number publisher.old + published_by commands.now ≤ (publisher_range publisher.old).last }
+    requires numbers { published_number publisher.old + published_by commands.now ≤
+        (publisher_range publisher.old).last }
     ensures out { IsOut flow_law (C.fits conns.now) C.view result.0 }
     ensures rested { IsRested (C.view pass) (C.view result.0) }
     ensures runs { OnOk result.1 (Runs commands.now (C.view pass) (C.view result.0)) }
-    ensures published { OnOk result.1 (published_number publisher.new ≡ published_number publisher.old + published_by commands.now) }
+    ensures published { OnOk result.1 (published_number publisher.new ≡ published_number
+        publisher.old + published_by commands.now) }
 {
     for command in commands {
         if obey(rt, conns, &mut pass, *command, publisher).is_err() {
@@ -44,12 +46,14 @@ fn obey<R: Wait, C: Connections<FlowLaw>>(
     publisher: &mut Publisher,
 ) -> Result<(), NoMemory>
     requires out { IsOut flow_law (C.fits conns.now) C.view pass.old }
-    requires numbers { published_number publisher.old + published_by (command ∷ []) ≤ (publisher_range publisher.old).last }
+    requires numbers { published_number publisher.old + published_by (command ∷ []) ≤
+        (publisher_range publisher.old).last }
     ensures out { IsOut flow_law (C.fits conns.now) C.view pass.new }
     ensures rested { IsRested (C.view pass.old) (C.view pass.new) }
     ensures runs { OnOk result (Runs (command ∷ []) (C.view pass.old) (C.view pass.new)) }
     ensures range { publisher_range publisher.new ≡ publisher_range publisher.old }
-    ensures number { OnOk result (published_number publisher.new ≡ published_number publisher.old + published_by (command ∷ [])) }
+    ensures number { OnOk result (published_number publisher.new ≡ published_number publisher.old +
+        published_by (command ∷ [])) }
 {
     match command {
         Command::Publish(_) => {

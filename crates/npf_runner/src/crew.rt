@@ -1,11 +1,16 @@
 // What a phase needs, made before it begins.
-ghost use Rattle.std.specs.Prelude.{◌≡◌, ◌≤◌, ◌+◌, ◌++◌, [], All, IfOk, map, vec_len, vec_capacity, Contains};
-ghost use Rattle.npf_runner_dealing.specs.Lanes.{vec_items, queue_items};
+ghost use Rattle.std.specs.Prelude.{◌≡◌, ◌≤◌, ◌<◌, ◌+◌, ◌^◌, ◌++◌, [], ◌∷◌, All, IfOk, map, vec_len, vec_capacity, Contains};
+ghost use Rattle.std.specs.List.{range_with_len};
+ghost use Rattle.npf_runner_dealing.specs.Lanes.{IsDealt, vec_items, queue_items};
 ghost use Rattle.npf_runner.specs.Crew.{HasRoomFor, IsEquipped, numbers_of_worker, packets_of_worker, worker_of_lane, pass_of_lane, outcomes_of_lane, packets_of_lane};
+ghost use Rattle.npf_runner.specs.Order.{IsOrder, workers_by};
 
+use crate::numbers::{Numbers, numbers_from};
+use crate::order::Order;
 use crate::worker::{Lane, Worker};
 use npf_engine::Outcome;
 use npf_publish::ConfReader;
+use npf_runner_dealing::deal;
 use npf_traffic::Packet;
 use npf_types::NoMemory;
 use std::alloc::Global;
@@ -48,8 +53,64 @@ impl<'a, P: Drop> Room<'a, P> {
     }
 }
 
-/// A worker for each list of packets and of their numbers, with one of the readers, and with room for the packets' outcomes.
-pub fn workers_with<'a>(
+/// The workers of packets that are numbered from `first` on, one for each of the readers, as the order has it.
+pub fn crew_of<'a>(
+    alloc: Global,
+    order: &Order,
+    first: u64,
+    packets: Vec<Packet<'a>>,
+    readers: Vec<ConfReader>,
+) -> Result<Vec<Worker<'a>>, NoMemory>
+    requires readers { vec_len readers ≤ 64 }
+    requires order { IsOrder order.now (vec_len packets) (vec_len readers) }
+    requires first { first + vec_len packets < 2 ^ 64 }
+    ensures count { IfOk result (λ crew. vec_len crew ≡ vec_len readers) }
+    ensures numbers { IfOk result (λ crew. IsDealt (workers_by order.now (vec_len packets.entry))
+        (range_with_len first (vec_len packets.entry)) (map numbers_of_worker crew.items)) }
+    ensures packets { IfOk result (λ crew. IsDealt (workers_by order.now (vec_len packets.entry))
+        packets.entry.items (map packets_of_worker crew.items)) }
+    ensures ready { IfOk result (λ crew. All IsEquipped crew.items) }
+    ensures from { IfOk result (λ crew.
+        All (λ worker. Contains readers.items worker.reader) crew.items) }
+{
+    match order {
+        Order::Only => only_worker(alloc, first, packets, readers),
+        Order::Each(order) => {
+            let order = order.as_slice();
+            let workers = readers.len() as u32;
+            let numbers = numbers_from(alloc, first, packets.len())?;
+            let numbers = deal(alloc, numbers, order, workers)?;
+            let packets = deal(alloc, packets, order, workers)?;
+            workers_with(alloc, numbers, packets, readers)
+        }
+    }
+}
+
+fn only_worker<'a>(
+    alloc: Global,
+    first: u64,
+    packets: Vec<Packet<'a>>,
+    mut readers: Vec<ConfReader>,
+) -> Result<Vec<Worker<'a>>, NoMemory>
+    requires { 1 ≤ vec_len readers }
+    ensures count { IfOk result (λ crew. vec_len crew ≡ 1) }
+    ensures numbers { IfOk result (λ crew.
+        map numbers_of_worker crew.items ≡ range_with_len first (vec_len packets.entry) ∷ []) }
+    ensures packets { IfOk result (λ crew. map packets_of_worker crew.items ≡ packets.entry.items ∷
+        []) }
+    ensures ready { IfOk result (λ crew. All IsEquipped crew.items) }
+    ensures from { IfOk result (λ crew.
+        All (λ worker. Contains readers.items worker.reader) crew.items) }
+{
+    let mut crew = Vec::with_capacity(alloc, 1)?;
+    let reader = readers.pop().unwrap();
+    let numbers = Numbers::From(first);
+    crew.push_reserved(Worker::new(alloc, 0, reader, numbers, packets)?);
+    Ok(crew)
+}
+
+/// A worker for each list of packets and of their numbers, with one of the readers.
+fn workers_with<'a>(
     alloc: Global,
     numbers: Vec<Vec<u64>>,
     packets: Vec<Vec<Packet<'a>>>,
@@ -59,25 +120,22 @@ pub fn workers_with<'a>(
     requires enough { vec_len packets ≤ vec_len readers }
     requires few { vec_len packets ≤ 64 }
     ensures count { IfOk result (λ workers. vec_len workers ≡ vec_len packets.entry) }
-    ensures numbers { IfOk result (λ workers. map numbers_of_worker workers.items ≡ map vec_items numbers.items) }
-    ensures packets { IfOk result (λ workers. map packets_of_worker workers.items ≡ map vec_items packets.entry.items) }
+    ensures numbers { IfOk result (λ workers. map numbers_of_worker workers.items ≡ map vec_items
+        numbers.items) }
+    ensures packets { IfOk result (λ workers. map packets_of_worker workers.items ≡ map vec_items
+        packets.entry.items) }
     ensures ready { IfOk result (λ workers. All IsEquipped workers.items) }
-    ensures readers { IfOk result (λ workers. All (λ worker. Contains readers.items worker.reader) workers.items) }
+    ensures readers { IfOk result (λ workers. All (λ worker. Contains readers.items worker.reader)
+        workers.items) }
 {
     let mut workers = Vec::with_capacity(alloc, packets.len())?;
     let mut left = VecDeque::from(numbers);
     for packets in packets {
         let number = workers.len() as u32;
         let reader = readers.pop().unwrap();
-        let numbers = left.pop_front().unwrap();
-        let outcomes = Vec::with_capacity(alloc, packets.len())?;
-        workers.push_reserved(Worker {
-            number,
-            reader,
-            numbers,
-            packets,
-            outcomes,
-        });
+        let numbers = Numbers::Listed(left.pop_front().unwrap());
+        let worker = Worker::new(alloc, number, reader, numbers, packets)?;
+        workers.push_reserved(worker);
     }
     Ok(workers)
 }
@@ -115,7 +173,8 @@ pub fn apart<'a, P: Drop>(
     requires places { vec_len passes.old + vec_len lanes ≤ vec_capacity passes.old }
     ensures passes { passes.new.items ≡ passes.old.items ++ map pass_of_lane lanes.entry.items }
     ensures capacity { vec_capacity passes.new ≡ vec_capacity passes.old }
-    ensures outcomes { map queue_items result.outcomes.items ≡ map outcomes_of_lane lanes.entry.items }
+    ensures outcomes { map queue_items result.outcomes.items ≡ map outcomes_of_lane
+        lanes.entry.items }
     ensures packets { map queue_items result.packets.items ≡ map packets_of_lane lanes.entry.items }
 {
     for lane in lanes {

@@ -14,6 +14,7 @@ mod control;
 mod crew;
 mod gate;
 mod numbers;
+mod order;
 mod phase;
 mod played;
 mod run;

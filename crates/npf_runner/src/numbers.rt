@@ -1,8 +1,32 @@
+// The numbers of packets in the run.
 ghost use Rattle.std.specs.Prelude.{◌≡◌, ◌<◌, ◌+◌, ◌^◌, IfOk, vec_len};
 ghost use Rattle.std.specs.List.{range_with_len};
+ghost use Rattle.npf_runner.specs.Numbers.{IsNumberedAt, packet_number};
 
 use npf_types::NoMemory;
 use std::alloc::Global;
+
+/// The numbers of a worker's packets.
+#[derive(Drop)]
+pub enum Numbers {
+    /// One after the other, from this one on.
+    From(u64),
+    /// These.
+    Listed(Vec<u64>),
+}
+
+impl Numbers {
+    /// The number of the packet at a place, counted from 0.
+    pub fn at(&self, place: usize) -> u64
+        requires { IsNumberedAt self.now place }
+        ensures { result ≡ packet_number self.now place }
+    {
+        match self {
+            Numbers::From(first) => *first + place as u64,
+            Numbers::Listed(numbers) => numbers[place],
+        }
+    }
+}
 
 /// So many numbers, from `first` on.
 pub fn numbers_from(alloc: Global, first: u64, count: usize) -> Result<Vec<u64>, NoMemory>

@@ -54,7 +54,9 @@ pub fn play<'a, R: Threads + Wait + Sync, C: Connections<FlowLaw>, G: Gate>(
     ensures out { IsOut flow_law (C.fits conns.now) C.view pass.new }
     ensures later { IsLater (C.view pass.old) (C.view pass.new) }
     ensures clean { LeavesNoDead (C.view pass.old) (C.view pass.new) }
-    ensures plays { IfOk result (λ played. PlaysPhases (configurations configs.now) workers spread (C.view pass.old) (C.view pass.new) phases.now packets.entry.items played.packets played.outcomes) }
+    ensures plays { IfOk result (λ played. PlaysPhases (configurations configs.now) workers spread
+        (C.view pass.old) (C.view pass.new) phases.now packets.entry.items played.packets
+        played.outcomes) }
 {
     let mut all = Answers {
         outcomes: Vec::with_capacity(alloc, packets.len())?,

@@ -27,7 +27,9 @@ pub fn workers_of(
     requires short { All IsShortPacket packets.now }
     ensures count { IfOk result (λ order. vec_len order ≡ length packets.now) }
     ensures fits { IfOk result (λ order. All (λ worker. worker < workers) order.items) }
-    ensures each { IfOk result (λ order. AllZip (λ job worker. IsWorkerOf spread workers (job_arrival job) worker) (numbered_from first packets.now) order.items) }
+    ensures each { IfOk result (λ order. AllZip
+        (λ job worker. IsWorkerOf spread workers (job_arrival job) worker)
+        (numbered_from first packets.now) order.items) }
 {
     let mut order = Vec::with_capacity(alloc, packets.len())?;
     let mut number = first;
@@ -56,7 +58,8 @@ fn worker_by_flow(packet: &Packet<'_>, workers: u32) -> u32
     requires workers { 1 ≤ workers }
     requires short { IsShortPacket packet.now }
     ensures fits { result < workers }
-    ensures is { (decoded : _) → Decodes packet.now.link packet.now.bytes decoded → result ≡ worker_by_flow workers decoded }
+    ensures is { (decoded : _) → Decodes packet.now.link packet.now.bytes decoded → result ≡
+        worker_by_flow workers decoded }
 {
     one_decoding();
     match decode(packet.link, packet.bytes.as_slice()) {

@@ -11,24 +11,23 @@ ghost use Rattle.npf_engine.specs.Handles.{configurations};
 ghost use Rattle.npf_runner.specs.Crew.{AreQueuesOf, HasJobs, HasRoomFor, IsEquipped, jobs_of};
 ghost use Rattle.npf_runner.specs.Spread.{IsWorkerOf};
 ghost use Rattle.npf_runner.specs.Job.{job_arrival, numbered_from};
+ghost use Rattle.npf_runner.specs.Order.{IsOrder, workers_by};
 ghost use Rattle.npf_runner.specs.Played.{outcomes_of, outputs_of};
 ghost use Rattle.npf_runner.specs.Plays.{published_by};
 ghost use Rattle.npf_traffic.specs.Packet.{IsShortPacket};
 ghost use Rattle.npf_runner.specs.Task.{LeavesNoDead, RunsCrew, RunsPhase};
 
-use crate::crew::{Queues, Room, apart, lanes_with, workers_with};
+use crate::crew::{Queues, Room, apart, crew_of, lanes_with};
 use crate::gate::Gate;
+use crate::order::Order;
 use crate::phase::{Command, Spread};
-use crate::numbers::numbers_from;
 use crate::played::Answers;
 use crate::shared::Shared;
-use crate::spread::workers_of;
 use crate::threads::side_by_side;
 use crate::worker::Worker;
 use npf_connections::Connections;
 use npf_flow::FlowLaw;
 use npf_publish::Publisher;
-use npf_runner_dealing::{deal, gather};
 use npf_runner_passes::{split_off, take_in};
 use npf_traffic::Packet;
 use npf_types::NoMemory;
@@ -48,7 +47,7 @@ pub struct Task<'a> {
 
 /// Which worker each packet goes to, the workers, and the publisher that they read from.
 struct Prepared<'a> {
-    order: Vec<u32>,
+    order: Order,
     crew: Vec<Worker<'a>>,
     publisher: Publisher,
 }
@@ -67,14 +66,22 @@ pub fn run_phase<'a, R: Threads + Wait + Sync, C: Connections<FlowLaw>, G: Gate>
     requires first { (1 ≤ task.first) × (task.first + vec_len task.packets < 2 ^ 64) }
     requires short { All IsShortPacket task.packets.items }
     requires numbers { task.last + published_by commands.now < length shared.now.configs.now }
-    requires for_outcomes { vec_len all.outcomes + vec_len task.packets ≤ vec_capacity all.outcomes }
+    requires for_outcomes { vec_len all.outcomes + vec_len task.packets ≤
+        vec_capacity all.outcomes }
     requires for_packets { vec_len all.packets + vec_len task.packets ≤ vec_capacity all.packets }
     ensures out { IsOut flow_law (C.fits shared.now.conns.now) C.view pass.new }
     ensures later { IsLater (C.view pass.old) (C.view pass.new) }
     ensures clean { LeavesNoDead (C.view pass.old) (C.view pass.new) }
-    ensures runs { IfOk result (λ done. (dones : List _) × (done.outcomes.items ≡ all.entry.outcomes.items ++ outcomes_of dones) × (done.packets.items ≡ all.entry.packets.items ++ outputs_of dones) × RunsPhase C.view (configurations shared.now.configs.now) task.entry.workers task.entry.spread (C.view pass.old) (C.view pass.new) task.entry.last commands.now (numbered_from task.entry.first task.entry.packets.items) dones) }
-    ensures outcomes_capacity { IfOk result (λ done. vec_capacity all.entry.outcomes ≤ vec_capacity done.outcomes) }
-    ensures packets_capacity { IfOk result (λ done. vec_capacity all.entry.packets ≤ vec_capacity done.packets) }
+    ensures runs { IfOk result (λ done. (dones : List _) ×
+        (done.outcomes.items ≡ all.entry.outcomes.items ++ outcomes_of dones) ×
+        (done.packets.items ≡ all.entry.packets.items ++ outputs_of dones) ×
+        RunsPhase C.view (configurations shared.now.configs.now)
+        task.entry.workers task.entry.spread (C.view pass.old) (C.view pass.new) task.entry.last commands.now
+        (numbered_from task.entry.first task.entry.packets.items) dones) }
+    ensures outcomes_capacity { IfOk result
+        (λ done. vec_capacity all.entry.outcomes ≤ vec_capacity done.outcomes) }
+    ensures packets_capacity { IfOk result
+        (λ done. vec_capacity all.entry.packets ≤ vec_capacity done.packets) }
 {
     let room = Room::for_workers(shared.alloc, task.workers, &task.packets)?;
     let Prepared {
@@ -85,10 +92,9 @@ pub fn run_phase<'a, R: Threads + Wait + Sync, C: Connections<FlowLaw>, G: Gate>
     let ran = run_crew(shared, pass, crew, room, commands, &mut publisher);
     publisher.close(shared.rt);
     let queues = ran?;
-    let order = order.as_slice();
     Ok(Answers {
-        outcomes: gather(order, queues.outcomes, all.outcomes),
-        packets: gather(order, queues.packets, all.packets),
+        outcomes: order.gather(queues.outcomes, all.outcomes),
+        packets: order.gather(queues.packets, all.packets),
     })
 }
 
@@ -103,15 +109,27 @@ fn prepare<'a, R: Wait>(
     requires first { (1 ≤ task.first) × (task.first + vec_len task.packets < 2 ^ 64) }
     requires short { All IsShortPacket task.packets.items }
     requires numbers { task.last + published < 2 ^ 64 }
-    ensures places { IfOk result (λ made. vec_len made.order ≡ vec_len task.entry.packets) }
-    ensures spreads { IfOk result (λ made. AllZip (λ job worker. IsWorkerOf task.entry.spread task.entry.workers (job_arrival job) worker) (numbered_from task.entry.first task.entry.packets.items) made.order.items) }
-    ensures dealt { IfOk result (λ made. IsDealt made.order.items (numbered_from task.entry.first task.entry.packets.items) (map jobs_of made.crew.items)) }
+    ensures order { IfOk result (λ made.
+        IsOrder made.order (vec_len task.entry.packets) task.entry.workers) }
+    ensures spreads { IfOk result (λ made. AllZip
+        (λ job worker. IsWorkerOf task.entry.spread task.entry.workers (job_arrival job) worker)
+        (numbered_from task.entry.first task.entry.packets.items)
+        (workers_by made.order (vec_len task.entry.packets))) }
+    ensures dealt { IfOk result (λ made. IsDealt
+        (workers_by made.order (vec_len task.entry.packets))
+        (numbered_from task.entry.first task.entry.packets.items) (map jobs_of made.crew.items)) }
     ensures count { IfOk result (λ made. vec_len made.crew ≡ task.entry.workers) }
     ensures jobs { IfOk result (λ made. All HasJobs made.crew.items) }
     ensures ready { IfOk result (λ made. All IsEquipped made.crew.items) }
-    ensures readers { IfOk result (λ made. All (λ worker. IsNewReader (record { first = task.entry.last; last = task.entry.last + published }) worker.reader) made.crew.items) }
+    ensures readers { IfOk result (λ made. All
+        (λ worker. IsNewReader (record {
+          first = task.entry.last;
+          last = task.entry.last +
+              published;
+        }) worker.reader) made.crew.items) }
     ensures number { IfOk result (λ made. published_number made.publisher ≡ task.entry.last) }
-    ensures range { IfOk result (λ made. publisher_range made.publisher ≡ record { first = task.entry.last; last = task.entry.last + published }) }
+    ensures range { IfOk result (λ made. publisher_range made.publisher ≡ record
+        { first = task.entry.last; last = task.entry.last + published }) }
 {
     let Task {
         packets,
@@ -120,12 +138,9 @@ fn prepare<'a, R: Wait>(
         spread,
         last,
     } = task;
-    let order = workers_of(alloc, packets.as_slice(), first, spread, workers)?;
-    let numbers = numbers_from(alloc, first, packets.len())?;
-    let numbers = deal(alloc, numbers, order.as_slice(), workers)?;
-    let packets = deal(alloc, packets, order.as_slice(), workers)?;
+    let order = Order::of(alloc, packets.as_slice(), first, spread, workers)?;
     let (publisher, readers) = Publisher::new(rt, alloc, workers, last, last + published)?;
-    match workers_with(alloc, numbers, packets, readers) {
+    match crew_of(alloc, &order, first, packets, readers) {
         Ok(crew) => Ok(Prepared {
             order,
             crew,
@@ -153,13 +168,17 @@ fn run_crew<'a, R: Threads + Wait + Sync, C: Connections<FlowLaw>, G: Gate>(
     requires crew { (1 ≤ vec_len crew) × (vec_len crew ≤ 64) }
     requires ready { All IsEquipped crew.items }
     requires jobs { All HasJobs crew.items }
-    requires readers { All (λ worker. (reader_range worker.reader).last < length shared.now.configs.now) crew.items }
-    requires numbers { published_number publisher.old + published_by commands.now ≤ (publisher_range publisher.old).last }
+    requires readers { All (λ worker. (reader_range worker.reader).last < length
+        shared.now.configs.now) crew.items }
+    requires numbers { published_number publisher.old + published_by commands.now ≤
+        (publisher_range publisher.old).last }
     requires room { HasRoomFor (vec_len crew) room }
     ensures out { IsOut flow_law (C.fits shared.now.conns.now) C.view pass.new }
     ensures later { IsLater (C.view pass.old) (C.view pass.new) }
     ensures clean { LeavesNoDead (C.view pass.old) (C.view pass.new) }
-    ensures runs { IfOk result (λ queues. (dones : List (List _)) × AreQueuesOf dones queues × RunsCrew C.view (configurations shared.now.configs.now) (C.view pass.old) (C.view pass.new) commands.now crew.entry.items dones) }
+    ensures runs { IfOk result (λ queues. (dones : List (List _)) × AreQueuesOf dones queues ×
+        RunsCrew C.view (configurations shared.now.configs.now) (C.view pass.old) (C.view pass.new)
+        commands.now crew.entry.items dones) }
 {
     let count = crew.len() as u32 + 1;
     let mut passes = split_off(shared.rt, shared.alloc, shared.conns, pass, count)?;

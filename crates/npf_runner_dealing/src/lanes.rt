@@ -1,5 +1,4 @@
-ghost use Rattle.std.specs.Prelude.{◌≡◌, ◌≤◌, ◌<◌, ◌+◌, ◌++◌, List, [], ◌∷◌, All, IfOk, length, map, slice_index_or, vec_len, vec_capacity};
-ghost use Rattle.std.specs.VecDeque.{deque_capacity};
+ghost use Rattle.std.specs.Prelude.{◌≡◌, ◌≤◌, ◌<◌, ◌+◌, ◌++◌, List, [], All, IfOk, length, map, vec_len, vec_capacity};
 ghost use Rattle.npf_runner_dealing.specs.Lanes.{IsDealt, queue_items, vec_items};
 
 use npf_types::NoMemory;
@@ -16,29 +15,15 @@ pub fn deal<T: Drop>(
     requires count { vec_len items ≡ length order.now }
     requires lanes { All (λ lane. lane < lanes) order.now }
     ensures count { IfOk result (λ dealt. vec_len dealt ≡ lanes) }
-    ensures dealt { IfOk result (λ dealt. IsDealt order.now items.items (map vec_items dealt.items)) }
+    ensures dealt { IfOk result (λ dealt.
+        IsDealt order.now items.items (map vec_items dealt.items)) }
 {
-    if lanes == 1 {
-        return one_lane(alloc, items, order);
-    }
     let mut dealt = empty_lanes(alloc, lanes)?;
     let mut place = 0;
     for item in items {
         dealt[order[place] as usize].push(item)?;
         place += 1;
     }
-    Ok(dealt)
-}
-
-// All items in one lane, as they stand.
-fn one_lane<T: Drop>(alloc: Global, items: Vec<T>, order: &[u32]) -> Result<Vec<Vec<T>>, NoMemory>
-    requires count { vec_len items ≡ length order.now }
-    requires lanes { All (λ lane. lane < 1) order.now }
-    ensures count { IfOk result (λ dealt. vec_len dealt ≡ 1) }
-    ensures dealt { IfOk result (λ dealt. IsDealt order.now items.items (map vec_items dealt.items)) }
-{
-    let mut dealt = Vec::with_capacity(alloc, 1)?;
-    dealt.push_reserved(items);
     Ok(dealt)
 }
 
@@ -54,37 +39,31 @@ fn empty_lanes<T: Drop>(alloc: Global, lanes: u32) -> Result<Vec<Vec<T>>, NoMemo
 }
 
 /// All that was there, and then the lanes' items in the order of the whole. It takes no memory.
-pub fn gather<T: Drop>(order: &[u32], lanes: Vec<VecDeque<T>>, all: Vec<T>) -> Vec<T>
+pub fn gather<T: Drop>(order: &[u32], mut lanes: Vec<VecDeque<T>>, mut all: Vec<T>) -> Vec<T>
     requires dealt { (xs : List T) × IsDealt order.now xs (map queue_items lanes.items) }
     requires room { vec_len all + length order.now ≤ vec_capacity all }
-    ensures gathered { (xs : List T) → IsDealt order.now xs (map queue_items lanes.items) → result.items ≡ all.items ++ xs }
-    ensures capacity { vec_capacity all ≤ vec_capacity result }
-{
-    if all.is_empty() && lanes.len() == 1 && all.capacity() <= lanes[0].capacity() {
-        return only_lane(lanes);
-    }
-    in_order(order, lanes, all)
-}
-
-// The one lane, as it stands.
-fn only_lane<T: Drop>(mut lanes: Vec<VecDeque<T>>) -> Vec<T>
-    requires { vec_len lanes ≡ 1 }
-    ensures items { map queue_items lanes.items ≡ result.items ∷ [] }
-    ensures capacity { (d : _) → vec_capacity result ≡ deque_capacity (slice_index_or lanes.items 0 d) }
-{
-    lanes.pop().unwrap().into_vec()
-}
-
-// Each item moved from the front of its lane.
-fn in_order<T: Drop>(order: &[u32], mut lanes: Vec<VecDeque<T>>, mut all: Vec<T>) -> Vec<T>
-    requires dealt { (xs : List T) × IsDealt order.now xs (map queue_items lanes.items) }
-    requires room { vec_len all + length order.now ≤ vec_capacity all }
-    ensures gathered { (xs : List T) → IsDealt order.now xs (map queue_items lanes.items) → result.items ≡ all.items ++ xs }
+    ensures gathered { (xs : List T) → IsDealt order.now xs (map queue_items lanes.items) →
+        result.items ≡ all.items ++ xs }
     ensures capacity { vec_capacity result ≡ vec_capacity all }
 {
     for lane in order {
         let item = lanes[*lane as usize].pop_front().unwrap();
         all.push_reserved(item);
+    }
+    all
+}
+
+/// All that was there, and then the lane's items. It takes no memory.
+pub fn append<T: Drop>(mut lane: VecDeque<T>, mut all: Vec<T>) -> Vec<T>
+    requires room { vec_len all + length lane.items ≤ vec_capacity all }
+    ensures items { result.items ≡ all.items ++ lane.items }
+    ensures capacity { vec_capacity all ≤ vec_capacity result }
+{
+    if all.is_empty() && all.capacity() <= lane.capacity() {
+        return lane.into_vec();
+    }
+    for _ in 0..lane.len() {
+        all.push_reserved(lane.pop_front().unwrap());
     }
     all
 }

@@ -3,12 +3,12 @@
 // Which lane an item goes to is the caller's: a list of lanes, one for each item. A lane has its items in the order of the whole.
 //
 // The contract: `deal` gives each lane the items whose place in that list names it, and `gather` gives back the one list of which
-// the lanes have these items, whatever became of them in between (specs/Lanes).
+// the lanes have these items, whatever became of them in between (specs/Lanes). Where there is one lane, `append` needs no such list.
 //
-// `gather` takes no memory. With one lane `deal` moves no item, nor does `gather` where nothing was there before and the lane has as
-// much room. No clause says so.
+// `gather` and `append` take no memory. Where nothing was there before and the lane has as much room, `append` moves no item. No clause
+// says so.
 #![tactic(auto)]
 
 mod lanes;
 
-pub use lanes::{deal, gather};
+pub use lanes::{append, deal, gather};

@@ -21,8 +21,10 @@ pub fn split_off<R: Wait, L: Law, C: Connections<L>>(
     requires places { count < (C.view pass.old).places }
     ensures out { IsOut L.meaning (C.fits conns.now) C.view pass.new }
     ensures count { IfOk result (λ given. vec_len given ≡ count) }
-    ensures given { IfOk result (λ given. All (IsOut L.meaning (C.fits conns.now) C.view) given.items) }
-    ensures spreads { IfOk result (λ given. Spreads (C.view pass.old) (C.view pass.new) (map C.view given.items)) }
+    ensures given { IfOk result (λ given. All (IsOut L.meaning (C.fits conns.now) C.view)
+        given.items) }
+    ensures spreads { IfOk result (λ given. Spreads (C.view pass.old) (C.view pass.new)
+        (map C.view given.items)) }
     ensures same { OnErr result (C.view pass.new ≡ C.view pass.old) }
 {
     let mut given = Vec::with_capacity(alloc, count as usize)?;

@@ -7,6 +7,8 @@
 #[cfg(test)]
 mod answers;
 #[cfg(test)]
+mod expiry;
+#[cfg(test)]
 mod gates;
 #[cfg(test)]
 mod meeting;
@@ -18,3 +20,5 @@ mod packets;
 mod run;
 #[cfg(test)]
 mod threads;
+#[cfg(test)]
+mod watched;

@@ -31,6 +31,13 @@ pub fn datagrams<'a>(alloc: Global) -> Result<Vec<Packet<'a>>, AllocError> {
     both(alloc, &DATAGRAM, &OTHER_DATAGRAM)
 }
 
+/// The first of these datagrams.
+pub fn one_datagram<'a>(alloc: Global) -> Result<Vec<Packet<'a>>, AllocError> {
+    let mut packets = Vec::new(alloc);
+    packets.push(incoming(1, DATAGRAM.to_vec(alloc)?))?;
+    Ok(packets)
+}
+
 fn both<'a>(alloc: Global, first: &[u8], second: &[u8]) -> Result<Vec<Packet<'a>>, AllocError> {
     let mut packets = Vec::new(alloc);
     packets.push(incoming(1, first.to_vec(alloc)?))?;

@@ -1,9 +1,11 @@
 // Workers are on threads of their own, and meet in one table.
 use crate::answers::{put, same};
+use crate::expiry::Expiry;
 use crate::gates::{HoldUntil, Notes};
 use crate::meeting::Meeting;
 use crate::packets::{datagrams, syns};
-use crate::run::{SLOTS, run};
+use crate::run::{Published, SLOTS, publishing, run, under};
+use crate::watched::Watched;
 use npf_engine::Outcome;
 use npf_flow::FlowLaw;
 use npf_oneturn::OneTurn;
@@ -22,7 +24,8 @@ fn run_held<R: Threads + Wait + Sync>(
     gate: &HoldUntil,
 ) -> Result<Vec<Outcome>, Fail> {
     let (conns, mut pass) = OneTurn::<FlowLaw>::new(alloc, SLOTS)?;
-    run(rt, alloc, text, packets, &conns, &mut pass, gate)
+    let case = under(alloc, text, packets)?;
+    run(rt, alloc, case, &conns, &mut pass, gate)
 }
 
 // The outcomes of two packets whose first looks wait for each other's. Tells whether they met.
@@ -33,17 +36,10 @@ fn run_meeting<R: Threads + Wait + Sync>(
     told: &mut String,
 ) -> Result<Vec<Outcome>, Fail> {
     let (table, mut pass) = OneTurn::<FlowLaw>::new(alloc, SLOTS)?;
-    let conns = Meeting::new(table);
-    let outcomes = run(
-        rt,
-        alloc,
-        text,
-        datagrams(alloc)?,
-        &conns,
-        &mut pass,
-        &NoGate,
-    )?;
-    put(told, &conns.met())?;
+    let conns = Watched::new(table, Meeting::new());
+    let case = under(alloc, text, datagrams(alloc)?)?;
+    let outcomes = run(rt, alloc, case, &conns, &mut pass, &NoGate)?;
+    put(told, &conns.watch.met())?;
     Ok(outcomes)
 }
 
@@ -97,18 +93,44 @@ fn gate_is_told_of_each_packet_by_its_worker(rt: HostRuntime) -> Result<(), Fail
     let alloc = rt.alloc();
     let gate = Notes::new();
     let (conns, mut pass) = OneTurn::<FlowLaw>::new(alloc, SLOTS)?;
-    let text = "group default { pass all }\n";
-    run(
-        &rt,
-        alloc,
-        text,
-        datagrams(alloc)?,
-        &conns,
-        &mut pass,
-        &gate,
-    )?;
+    let case = under(alloc, "group default { pass all }\n", datagrams(alloc)?)?;
+    run(&rt, alloc, case, &conns, &mut pass, &gate)?;
     let mut told = String::new(alloc);
     put(&mut told, &gate.noted())?;
     same(&rt, told.as_str(), "(12, 34)\n");
+    Ok(())
+}
+
+// Tells what becomes of a packet that is handled when the expiry of its phase is about to begin.
+fn tell_published<R: Threads + Wait + Sync>(
+    rt: &R,
+    alloc: Global,
+    published: Published,
+    told: &mut String,
+) -> Result<(), Fail> {
+    let (table, mut pass) = OneTurn::<FlowLaw>::new(alloc, SLOTS)?;
+    let conns = Watched::new(table, Expiry::new());
+    let case = publishing(alloc, published)?;
+    let outcomes = run(rt, alloc, case, &conns, &mut pass, &conns.watch)?;
+    put(told, &conns.watch.gave_up())?;
+    put(told, &outcomes.as_slice())
+}
+
+// What is published in front of the expiry decides the packet, and what is published behind it doesn't.
+#[test]
+fn commands_are_done_in_order(rt: HostRuntime) -> Result<(), Fail> {
+    let alloc = rt.alloc();
+    let mut told = String::new(alloc);
+    tell_published(&rt, alloc, Published::BeforeExpiry, &mut told)?;
+    tell_published(&rt, alloc, Published::BehindExpiry, &mut told)?;
+    same(
+        &rt,
+        told.as_str(),
+        "false
+[ByRule { decision: Pass, log: None, rule: Some(0), config: 1, opened: None }]
+false
+[ByRule { decision: Block(Nothing), log: None, rule: Some(0), config: 0, opened: None }]
+",
+    );
     Ok(())
 }

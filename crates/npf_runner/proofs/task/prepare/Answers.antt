@@ -1,10 +1,11 @@
-use Rattle.std.proofs.Common.{rules, ◌≡◌, ◌+◌, All, length, map, subst}
+use Rattle.std.proofs.Common.{rules, ◌≡◌, ◌+◌, All, length, map, vec_len, ap, subst}
 use Rattle.std.specs.List.{AllZip, Contains, range_with_len}
 use Rattle.std.proofs.lemmas.List.Elements.{All-weaker, All-contains}
 use Rattle.npf_runner_dealing.specs.Lanes.{IsDealt}
 use Rattle.npf_publish.specs.ConfReader.{IsNewReader}
 use Rattle.npf_runner.specs.declared.worker.Worker.{Worker}
-use Rattle.npf_runner.specs.Crew.{HasJobs, numbers_of_worker, packets_of_worker, jobs_of}
+use Rattle.npf_runner.specs.Crew.{HasJobs, jobs_of}
+use Rattle.npf_runner.specs.Order.{workers_by}
 use Rattle.npf_runner.specs.Spread.{IsWorkerOf}
 use Rattle.npf_runner.specs.Job.{Job, job_arrival, numbered_from}
 use Rattle.npf_runner.proofs.DealtLemmas.{jobs_dealt}
@@ -14,20 +15,20 @@ use Rattle.npf_runner.proofs.task.prepare.Goals.{In-Ok}
 
 pub returns-in-Ok-clause-spreads : goal.returns-in-Ok-clause-spreads
 returns-in-Ok-clause-spreads g c =
-    subst (λ ps. AllZip (λ (job : Job) worker. IsWorkerOf c.args.task.spread c.args.task.workers (job_arrival job) worker) (numbered_from c.args.task.first ps) c.in_ok-order.order.items)
-    c.as_slice.ensures.value c.in_ok-order.ensures.each
+    let task = c.args.task in
+    let size : length task.packets.items ≡ vec_len task.packets = search rules in
+    subst (λ n. AllZip (λ (job : Job) worker. IsWorkerOf task.spread task.workers (job_arrival job) worker) (numbered_from task.first task.packets.items) (workers_by c.in_ok-order.order n)) size
+    (subst (λ ps. AllZip (λ (job : Job) worker. IsWorkerOf task.spread task.workers (job_arrival job) worker) (numbered_from task.first ps) (workers_by c.in_ok-order.order (length ps)))
+    c.as_slice.ensures.value c.in_ok-order.ensures.each)
 
-made : (g : Over) (c : In-Ok g) → IsDealt c.in_ok-order.order.items (numbered_from c.args.task.first c.args.task.packets.items) (map jobs_of c.in-Ok.crew.items) × All HasJobs c.in-Ok.crew.items
+made : (g : Over) (c : In-Ok g) → IsDealt (workers_by c.in_ok-order.order (vec_len c.args.task.packets)) (numbered_from c.args.task.first c.args.task.packets.items) (map jobs_of c.in-Ok.crew.items) × All HasJobs c.in-Ok.crew.items
 made g c =
-    let order = c.in_ok-order.order.items in
-    let packets = c.args.task.packets.items in
-    let first = c.args.task.first in
-    let crew = c.in-Ok.crew.items in
-    let numbers = c.in_ok-numbers.numbers.items in
-    let are : numbers ≡ range_with_len first (length packets) = search rules in
-    let numbers_dealt : IsDealt order numbers (map numbers_of_worker crew) = search rules in
-    let dealt : IsDealt order packets (map packets_of_worker crew) = search rules in
-    jobs_dealt order first packets numbers are crew numbers_dealt dealt c.requires.first.0 c.requires.short
+    let task = c.args.task in
+    let packets = task.packets.items in
+    let count : vec_len task.packets ≡ length packets = search rules in
+    let dealt = c.in-Ok.ensures in
+    jobs_dealt (workers_by c.in_ok-order.order (vec_len task.packets)) task.first packets (range_with_len task.first (vec_len task.packets)) (ap (range_with_len task.first) count)
+    c.in-Ok.crew.items dealt.numbers dealt.packets c.requires.first.0 (search rules) c.requires.short
 
 pub returns-in-Ok-clause-dealt : goal.returns-in-Ok-clause-dealt
 returns-in-Ok-clause-dealt g c = (made g c).0
@@ -42,4 +43,4 @@ returns-in-Ok-clause-readers g c =
     let published = c.args.published in
     All-weaker (λ (worker : Worker). Contains readers worker.reader) (λ (worker : Worker). IsNewReader (record { first = last; last = last + published }) worker.reader)
     (λ worker has. All-contains (IsNewReader (record { first = last; last = last + published })) readers worker.reader c.in_ok-publisher.ensures.readers has)
-    c.in-Ok.crew.items c.in-Ok.ensures.readers
+    c.in-Ok.crew.items c.in-Ok.ensures.from

@@ -1,6 +1,6 @@
 use Rattle.std.proofs.Common.{◌≡◌, ◌≤◌, ◌+◌, ◌++◌, List, map, length, drop, vec_len, vec_capacity}
 use Rattle.npf_runner_dealing.specs.Lanes.{IsDealt, queue_items}
-use Rattle.npf_runner_dealing.proofs.lanes.in_order.Given as goal
+use Rattle.npf_runner_dealing.proofs.lanes.gather.Given as goal
 
 abbrev pub invariant-loop-lane : goal.invariant-loop-lane
 invariant-loop-lane g l =
