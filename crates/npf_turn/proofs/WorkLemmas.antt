@@ -1,0 +1,115 @@
+-- What a pass has while it works under a turn, and what is left when it has ended it.
+use Rattle.std.proofs.Common.{◌≡◌, ℕ, ◌+◌, ◌-◌, ◌^◌, min, Some, None, List, [], ◌∷◌, refl, sym, ap, ◌∙◌, subst, inr, IsTrue}
+use denote.Bor.{Bor}
+use Rattle.atomic_table.specs.Table.{Me}
+use Rattle.npf_types.specs.declared.key.Way.{Way}
+use Rattle.npf_core.specs.declared.conn_id.ConnId.{ConnId}
+use Rattle.npf_core.specs.declared.slot.Slot.{Slot}
+use Rattle.npf_core.specs.declared.stage.Stage.{Stage}
+use Rattle.npf_core.specs.declared.stage.Stage.TheVariants.{Vacant, Building, Live, Dead}
+use Rattle.npf_core.specs.declared.stepped.Stepped.TheVariants as Steppeds
+use Rattle.npf_core.specs.Allowed.{IsDue}
+use Rattle.npf_core.specs.Meaning.{Meaning}
+use Rattle.npf_core.specs.NextState.{stepped}
+use Rattle.npf_core.specs.Replies.{step_answer}
+use Rattle.npf_connections.specs.Pass.{Knows}
+use Rattle.npf_cells_words.specs.declared.layout.Pool.TheVariants.{Slots}
+use Rattle.npf_cells_words.specs.Layout.{phase_field}
+use Rattle.npf_cells_lives.specs.declared.turn.Turn.{Turn}
+use Rattle.npf_cells_lives.specs.Turns.{Running, running, phase_of}
+use Rattle.npf_cells_rule.specs.declared.view.CellView.{CellView}
+use Rattle.npf_cells_rule.specs.Passes.{cell_pass}
+use Rattle.npf_cells_takes.specs.PrivateKinds.{ShowsTurnInc, MayStore, stored_in}
+use Rattle.npf_cells_turns.specs.declared.act.TurnAct.{TurnAct}
+use Rattle.npf_cells_turns.specs.declared.act.TurnAct.TheVariants.{Step as Steps, Expired}
+use Rattle.npf_cells_turns.specs.EndKinds.{stage_by, MayAct, MayEnd}
+use Rattle.npf_cells_turns.specs.TurnKinds.{HasTaken, HasTurn}
+use Rattle.npf_cells_turns.proofs.ActLemmas.{stepped_phase}
+
+-- what holds something is Live
+pub is_live : {S : Type 0} (stage : Stage S) (flow : S) (steps : ℕ) → running stage ≡ Some (flow, steps) → stage ≡ Live flow steps
+is_live {S} Vacant flow steps e = absurd cc
+is_live {S} (Building seat) flow steps e = absurd cc
+is_live {S} (Live f n) flow steps e = ap alive e
+  where
+    alive : Running S → Stage S
+    alive None = Live f n
+    alive (Some x) = Live x.0 x.1
+is_live {S} Dead flow steps e = absurd cc
+
+-- and what holds nothing takes no step
+pub stays_idle : {S A R : Type 0} (m : Meaning S A R) (way : Way) (arg : A) (stage : Stage S) → running stage ≡ None → (running (stepped m way arg stage) ≡ None) × (step_answer m way arg stage ≡ Steppeds.NotLive)
+stays_idle m way arg Vacant e = (refl, refl)
+stays_idle m way arg (Building seat) e = (refl, refl)
+stays_idle m way arg (Live flow steps) e = absurd cc
+stays_idle m way arg Dead e = (refl, refl)
+
+-- a turn of a slot that was at this, with this phase
+abbrev pub turn_of : {S : Type 0} → ℕ → Slot S → ℕ → Turn S
+turn_of slot was phase = record { slot = slot; was = was; phase = phase }
+
+module _ {S A R : Type 0} where
+  -- the pass has the turn of a slot that was at this when it got it, with this phase, and carries this value
+  pub record Works (old : Me (Running S) (CellView S A R)) (slot : ℕ) (was : Slot S) (phase : ℕ) (value : Running S) (now : Me (Running S) (CellView S A R)) : Type 0 where
+    pub is : now ≡ (record old.0 { turn = Some (turn_of slot was phase) }, (slot, value) ∷ [])
+
+  pub works : (old now : Me (Running S) (CellView S A R)) (slot : ℕ) (taken : HasTaken slot old now) → Works old slot taken.was (phase_of taken.was.stage) (running taken.was.stage) now
+  works old now slot taken = record { is = taken.is }
+
+  module _ (old now : Me (Running S) (CellView S A R)) (slot : ℕ) (was : Slot S) (phase : ℕ) (value : Running S) (so : Works old slot was phase value now) where
+    turn_is : now.0.turn ≡ Some (turn_of slot was phase)
+    turn_is = ap (λ (y : Me (Running S) (CellView S A R)). y.0.turn) so.is
+
+    pub has_turn : HasTurn now.0 slot
+    has_turn = record { turn = turn_of slot was phase; has = turn_is; there = refl }
+
+    -- what the exchange gave is what it carried
+    pub gave : (result : Running S) → now.1 ≡ (slot, result) ∷ [] → value ≡ result
+    gave result is =
+        let both : (slot, value) ∷ [] ≡ (slot, result) ∷ [] = sym (ap (λ (y : Me (Running S) (CellView S A R)). y.1) so.is) ∙ is in
+        ap (λ (xs : List (ℕ × Running S)). first_of xs) both
+      where
+        first_of : List (ℕ × Running S) → Running S
+        first_of [] = None
+        first_of (x ∷ xs) = x.1
+
+    pub exchanged : (next : Me (Running S) (CellView S A R)) (flow : Running S) → next ≡ (now.0, (slot, flow) ∷ []) → Works old slot was phase flow next
+    exchanged next flow is = record { is = is ∙ ap (λ (y : Me (Running S) (CellView S A R)). (y.0, (slot, flow) ∷ [])) so.is }
+
+    pub may_store : (m : Meaning S A R) (number : ℕ) → MayStore m now.0 Slots slot phase_field number
+    may_store m number = inr (record { turn = turn_of slot was phase; has = turn_is; there = refl; phase = refl })
+
+    pub phased : (next : Me (Running S) (CellView S A R)) (number : ℕ) → next ≡ stored_in Slots slot phase_field number now → Works old slot was number value next
+    phased next number is = record { is = is ∙ ap (stored_in Slots slot phase_field number) so.is }
+
+    pub may_end : (m : Meaning S A R) (act : TurnAct S A) → MayAct m now.0 (turn_of slot was phase) act → value ≡ running (stage_by m act was.stage) → phase ≡ phase_of (stage_by m act was.stage) → MayEnd m act slot now
+    may_end m act may runs phase_is = record {
+      turn = turn_of slot was phase;
+      has = turn_is;
+      there = refl;
+      may = may;
+      carries = ap (λ (y : Me (Running S) (CellView S A R)). y.1) so.is ∙ ap (λ v. (slot, v) ∷ []) runs;
+      phase = phase_is;
+    }
+
+    -- it may end the turn with a step, where it carries the flow and the count that the step leaves
+    pub may_step : (m : Meaning S A R) (id : ConnId) (n : ℕ) (way : Way) (arg : Bor A) (flow : S) (steps : ℕ) → id.slot ≡ slot → old.0.turn ≡ None → Knows (cell_pass old.0) id → running was.stage ≡ Some (flow, steps) → phase ≡ phase_of was.stage →
+        value ≡ Some (m.next flow way arg.now, min (steps + 1) (2 ^ 64 - 1)) → MayEnd m (Steps id n way arg) slot now
+    may_step m id n way arg flow steps there turnless known held phase_is value_is =
+        let live = is_live was.stage flow steps held in
+        may_end m (Steps id n way arg)
+        (record { known = subst (λ (y : Me (Running S) (CellView S A R)). Knows (cell_pass y.0) id) (sym so.is) known; there = there })
+        (value_is ∙ ap (λ x. running (stepped m way arg.now x)) (sym live)) (phase_is ∙ sym (stepped_phase m way arg.now was.stage))
+
+    -- or by killing what was Live and due
+    pub may_expire : (m : Meaning S A R) (id : ConnId) (time : ℕ) (flow : S) (steps : ℕ) → id.slot ≡ slot → was.inc ≡ id.inc → running was.stage ≡ Some (flow, steps) → IsTrue (m.is_due flow time) → phase ≡ 2 → value ≡ None → MayEnd m (Expired id time) slot now
+    may_expire m id time flow steps there inc held due phase_is value_is =
+        may_end m (Expired id time)
+        (record { there = there; inc = inc; due = subst (IsDue m time) (sym (is_live was.stage flow steps held)) due })
+        value_is phase_is
+
+    -- the incarnation that the pass loads is that of a connection that was Live
+    pub inc_shown : (found : ℕ) (flow : S) (steps : ℕ) → running was.stage ≡ Some (flow, steps) → ShowsTurnInc now.0.turn slot found → found ≡ was.inc
+    inc_shown found flow steps held shows =
+        let live = is_live was.stage flow steps held in
+        shows (turn_of slot was phase) turn_is refl (λ none. absurd (let no : 1 ≡ 0 = sym (ap phase_of live) ∙ none in cc))

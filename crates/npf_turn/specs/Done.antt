@@ -1,0 +1,57 @@
+-- What a call that works under a turn leaves: it has no turn before and after it.
+use Rattle.std.specs.Prelude.{◌≡◌, ℕ, Option, Some, None, List, [], ◌∷◌}
+use Rattle.atomic_table.specs.Table.{Me}
+use Rattle.npf_types.specs.declared.key.Way.{Way}
+use Rattle.npf_core.specs.declared.act.Act.{Act}
+use Rattle.npf_core.specs.declared.act.Act.TheVariants.{Start, Step, Kill}
+use Rattle.npf_core.specs.declared.act.Why.TheVariants as Reasons
+use Rattle.npf_core.specs.declared.conn_id.ConnId.{ConnId}
+use Rattle.npf_core.specs.declared.entry.Entry.{Entry}
+use Rattle.npf_core.specs.declared.reply.Reply.{Reply}
+use Rattle.npf_core.specs.declared.reply.Reply.TheVariants.{Nothing, ToStep}
+use Rattle.npf_core.specs.declared.stepped.Stepped.{Stepped}
+use Rattle.npf_core.specs.Allowed.{IsDue}
+use Rattle.npf_core.specs.History.{state_of}
+use Rattle.npf_core.specs.Machine.{stage_of}
+use Rattle.npf_core.specs.Meaning.{Meaning}
+use Rattle.npf_connections.specs.Adding.{Adds, AddsOwn}
+use Rattle.npf_connections.specs.Entries.{entry_of}
+use Rattle.npf_connections.specs.Pass.{IsPass}
+use Rattle.npf_cells_lives.specs.declared.pools.PoolSide.{PoolSide}
+use Rattle.npf_cells_lives.specs.Turns.{Running}
+use Rattle.npf_cells_rule.specs.declared.view.CellView.{CellView}
+use Rattle.npf_cells_rule.specs.Passes.{cell_pass}
+use Rattle.npf_cells_turns.specs.EndKinds.{given_up}
+
+-- the pass has seen this history, and this is its side of the pools
+abbrev pub seen_with : {S A R : Type 0} → CellView S A R → List (Entry S A R) → PoolSide → CellView S A R
+seen_with v history side = record v { seats = record v.seats { history = history }; pools = side }
+
+-- the act was done: its entry ends the pass's history, and this is its side of the pools
+pub record HasDone {S A R : Type 0} (m : Meaning S A R) (act : Act S A) (reply : Reply R) (side : PoolSide) (old now : Me (Running S) (CellView S A R)) : Type 0 where
+  pub adds : AddsOwn (cell_pass old.0) now.0.seats.history (entry_of (cell_pass old.0) act reply ∷ [])
+  pub legal : IsPass m (cell_pass old.0) → IsPass m (cell_pass now.0)
+  pub is : now ≡ (seen_with old.0 now.0.seats.history side, [])
+
+-- the connection took a step, or wasn't Live
+abbrev pub HasStepped : {S A R : Type 0} → Meaning S A R → ConnId → ℕ → Way → A → Stepped R → Me (Running S) (CellView S A R) → Me (Running S) (CellView S A R) → Type 0
+HasStepped m id n way arg reply old now = HasDone m (Step n id way arg) (ToStep reply) old.0.pools old now
+
+-- a connection that the pass was building is Live
+abbrev pub HasStarted : {S A R : Type 0} → Meaning S A R → ConnId → ℕ → S → Me (Running S) (CellView S A R) → Me (Running S) (CellView S A R) → Type 0
+HasStarted m id n init old now = HasDone m (Start id n init) Nothing (given_up id old.0.pools) old now
+
+-- a connection that the pass was building is given up
+abbrev pub HasKilled : {S A R : Type 0} → Meaning S A R → ConnId → Me (Running S) (CellView S A R) → Me (Running S) (CellView S A R) → Type 0
+HasKilled m id old now = HasDone m (Kill id Reasons.Abandoned) Nothing (given_up id old.0.pools) old now
+
+-- the slot's connection was due and is killed; or what the pass has seen has none there that is due
+pub record LeavesIdle {S A R : Type 0} (m : Meaning S A R) (slot now : ℕ) (old next : Me (Running S) (CellView S A R)) : Type 0 where
+  pub adds : Adds (cell_pass old.0) next.0.seats.history []
+  pub legal : IsPass m (cell_pass old.0) → IsPass m (cell_pass next.0)
+  pub is : next ≡ (seen_with old.0 next.0.seats.history old.0.pools, [])
+  pub idle : (id : ConnId) → id.slot ≡ slot → ¬ IsDue m now (stage_of (state_of m next.0.seats.history) id)
+
+abbrev pub HasExpired : {S A R : Type 0} → Meaning S A R → ℕ → ℕ → Option ConnId → Me (Running S) (CellView S A R) → Me (Running S) (CellView S A R) → Type 0
+HasExpired m slot now None old next = LeavesIdle m slot now old next
+HasExpired m slot now (Some id) old next = (id.slot ≡ slot) × HasDone m (Kill id (Reasons.Expired now)) Nothing old.0.pools old next

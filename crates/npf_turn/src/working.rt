@@ -1,0 +1,145 @@
+ghost use Rattle.std.specs.Prelude.{◌≡◌, ◌<◌, ◌+◌, ◌-◌, ◌^◌, min, None, Contains};
+ghost use Rattle.npf_connections.specs.Pass.{Knows};
+ghost use Rattle.npf_cells.specs.Cells.{IsPassIn};
+ghost use Rattle.npf_cells_rule.specs.Passes.{cell_pass};
+ghost use Rattle.npf_turn.specs.Done.{HasStepped, HasStarted, HasKilled, HasExpired};
+
+use crate::turn::wait_turn;
+use npf_cells::{CellPass, Cells, PHASE, Pool, TurnAct};
+use npf_core::{ConnId, Law, Stepped};
+use npf_paths::KeyHash;
+use npf_types::Way;
+use std::sync::Wait;
+
+/// The phases of a connection that is Live, and of one that is Dead.
+const LIVE: u64 = 1;
+
+const DEAD: u64 = 2;
+
+/// A connection that the pass is building is Live from now on, with this flow, for the packet `n`.
+pub fn start<L: Law, H: KeyHash>(
+    rt: &impl Wait,
+    cells: &Cells<L, H>,
+    pass: &mut CellPass<L>,
+    id: ConnId,
+    n: u64,
+    init: L::State,
+)
+    requires own { IsPassIn cells.now pass.old }
+    requires exists { id.slot < cells.now.table.shared.key.slots }
+    requires turnless { pass.old.seat.me.0.turn ≡ None }
+    requires builds { Contains pass.old.seat.me.0.pools.builds id }
+    requires stored { ¬ Contains pass.old.seat.me.0.pools.unstored id.slot }
+    ensures own { IsPassIn cells.now pass.new }
+    ensures starts { HasStarted L.meaning id n init pass.old.seat.me pass.new.seat.me }
+{
+    wait_turn(rt, cells, pass, id.slot);
+    cells.exchange(pass, id.slot, Some((init, 1)));
+    cells.store_private(pass, Pool::Slots, id.slot, PHASE, LIVE);
+    cells.end_turn(pass, id.slot, &TurnAct::Start { id, n, init });
+}
+
+/// The next step of a connection's flow, by the packet `n`, which is of that way. `NotLive` exactly where that incarnation isn't Live at
+/// the entry.
+pub fn step<L: Law, H: KeyHash>(
+    rt: &impl Wait,
+    cells: &Cells<L, H>,
+    pass: &mut CellPass<L>,
+    id: ConnId,
+    n: u64,
+    way: Way,
+    arg: &L::Arg,
+) -> Stepped<L::Reply>
+    requires own { IsPassIn cells.now pass.old }
+    requires exists { id.slot < cells.now.table.shared.key.slots }
+    requires turnless { pass.old.seat.me.0.turn ≡ None }
+    requires known { Knows (cell_pass pass.old.seat.me.0) id }
+    ensures own { IsPassIn cells.now pass.new }
+    ensures steps { HasStepped L.meaning id n way arg.now result pass.old.seat.me pass.new.seat.me }
+{
+    wait_turn(rt, cells, pass, id.slot);
+    let act = TurnAct::Step { id, n, way, arg };
+    match cells.exchange(pass, id.slot, None) {
+        Some(running) => {
+            let (next, reply) = step_flow::<L>(running, way, arg);
+            cells.exchange(pass, id.slot, Some(next));
+            cells.end_turn(pass, id.slot, &act);
+            Stepped::Done {
+                reply,
+                place: running.1,
+            }
+        }
+        None => {
+            cells.end_turn(pass, id.slot, &act);
+            Stepped::NotLive
+        }
+    }
+}
+
+// The flow and the count of steps after a packet, and the answer.
+fn step_flow<L: Law>(
+    running: (L::State, u64),
+    way: Way,
+    arg: &L::Arg,
+) -> ((L::State, u64), L::Reply)
+    ensures next { result.0 ≡ (L.meaning.next running.0 way arg.now, min (running.1 + 1) (2 ^ 64 - 1)) }
+    ensures answer { result.1 ≡ L.meaning.answer running.0 way arg.now }
+{
+    let (flow, steps) = running;
+    let (next, reply) = L::step(&flow, way, arg);
+    ((next, steps.saturating_add(1)), reply)
+}
+
+/// Kills a connection that the pass is building. It keeps its keys.
+pub fn kill<L: Law, H: KeyHash>(
+    rt: &impl Wait,
+    cells: &Cells<L, H>,
+    pass: &mut CellPass<L>,
+    id: ConnId,
+)
+    requires own { IsPassIn cells.now pass.old }
+    requires exists { id.slot < cells.now.table.shared.key.slots }
+    requires turnless { pass.old.seat.me.0.turn ≡ None }
+    requires builds { Contains pass.old.seat.me.0.pools.builds id }
+    requires stored { ¬ Contains pass.old.seat.me.0.pools.unstored id.slot }
+    ensures own { IsPassIn cells.now pass.new }
+    ensures kills { HasKilled L.meaning id pass.old.seat.me pass.new.seat.me }
+{
+    wait_turn(rt, cells, pass, id.slot);
+    cells.exchange(pass, id.slot, None);
+    cells.store_private(pass, Pool::Slots, id.slot, PHASE, DEAD);
+    cells.end_turn(pass, id.slot, &TurnAct::Abandoned { id });
+}
+
+/// Kills the slot's connection where it is Live and due at that time, and answers it. It keeps its keys. Otherwise the pass has seen of the
+/// slot that none is due there.
+pub fn expire<L: Law, H: KeyHash>(
+    rt: &impl Wait,
+    cells: &Cells<L, H>,
+    pass: &mut CellPass<L>,
+    slot: u32,
+    now: u64,
+) -> Option<ConnId>
+    requires own { IsPassIn cells.now pass.old }
+    requires exists { slot < cells.now.table.shared.key.slots }
+    requires turnless { pass.old.seat.me.0.turn ≡ None }
+    ensures own { IsPassIn cells.now pass.new }
+    ensures expires { HasExpired L.meaning slot now result pass.old.seat.me pass.new.seat.me }
+{
+    wait_turn(rt, cells, pass, slot);
+    match cells.exchange(pass, slot, None) {
+        Some((flow, _)) if L::due(&flow, now) => {
+            let inc = cells.load_inc(pass, slot);
+            let id = ConnId { slot, inc };
+            cells.store_private(pass, Pool::Slots, slot, PHASE, DEAD);
+            cells.end_turn(pass, slot, &TurnAct::Expired { id, now });
+            Some(id)
+        }
+        running => {
+            cells.exchange(pass, slot, running);
+            cells.see(pass);
+            cells.end_turn(pass, slot, &TurnAct::Nothing);
+            None
+        }
+    }
+}
