@@ -29,7 +29,8 @@ passes_ip (Explains.fragment held) goes_on = absurd (false≢true goes_on)
 passes_ip (Explains.skip free decodes) goes_on = absurd (false≢true goes_on)
 passes_ip (Explains.malformed free decodes) goes_on = absurd (false≢true goes_on)
 passes_ip (Explains.to_conn {facts = facts} free decodes looks by) goes_on = (facts, decodes)
-passes_ip (Explains.to_rules {facts = facts} free decodes looks there ruled) goes_on = (facts, decodes)
+passes_ip (Explains.to_quoted {facts = facts} free decodes looks there quotes by) goes_on = (facts, decodes)
+passes_ip (Explains.to_rules {facts = facts} free decodes looks there quotes ruled) goes_on = (facts, decodes)
 
 module _ (configs : List Configuration) (workers : ℕ) (spread : Spread) (slots : ℕ) (history end : History) where
   answered_outputs : (n : ℕ) (packets : List Packet) (dealt : List ℕ) (asked : List (Option ℕ)) (outcomes : List Outcome) (outputs : List Packet) →

@@ -1,7 +1,10 @@
 -- What an answer says of the packet.
-use Rattle.std.proofs.Common.{◌≡◌, ◌≢◌, ℕ, [], Some, None, subst}
+use Rattle.std.proofs.Common.{◌≡◌, ◌≢◌, ℕ, Bool, true, false, List, [], Option, Some, None, refl, subst}
+use Rattle.std.specs.Prelude.{if◌then◌else◌}
+use Rattle.npf_types.specs.declared.action.Action.{Action}
 use Rattle.npf_types.specs.declared.change.Change.{Change}
 use Rattle.npf_types.specs.declared.decision.Decision.TheVariants.{Pass}
+use Rattle.npf_types.specs.declared.facts.Facts.{Facts}
 use Rattle.npf_core.specs.declared.conn_id.ConnId.{ConnId}
 use Rattle.npf_core.specs.declared.found.Found.{Found}
 use Rattle.npf_core.specs.declared.stepped.Stepped.TheVariants as Steps
@@ -11,6 +14,11 @@ use Rattle.npf_connections.specs.Said.{Did, Does}
 use Rattle.npf_connections.proofs.SaidLemmas.{did_nothing}
 use Rattle.npf_flow.specs.declared.step.FlowReply.{FlowReply}
 use Rattle.npf_flow.specs.Flows.{flow_law}
+use Rattle.npf_icmpalg.specs.declared.error.Inner.{Inner}
+use Rattle.npf_icmpalg.specs.Error.{error_in, is_error, quoted_packet}
+use Rattle.npf_icmpalg.specs.ErrorTranslated.{ErrorSent, ErrorTranslated}
+use Rattle.npf_rewrite.specs.Normalised.{Normalised}
+use Rattle.npf_rewrite.specs.Translated.{Translated}
 use Rattle.npf_engine_opening.specs.declared.attempt.Attempt.{Attempt}
 use Rattle.npf_engine_opening.specs.declared.attempt.Opened.{Opened}
 use Rattle.npf_engine_opening.specs.declared.attempt.Refusal.{Refusal}
@@ -18,21 +26,67 @@ use Rattle.npf_engine_opening.specs.declared.attempt.Refusal.TheVariants.{Full}
 use Rattle.npf_engine_opening.specs.Opening.{OpensConnection}
 use Rattle.npf_engine_opening.proofs.RoomLemmas.{full_says_nothing}
 use Rattle.npf_engine.specs.declared.answer.Answer.{Answer}
+use Rattle.npf_engine.specs.declared.answer.Translation.{Translation}
+use Rattle.npf_engine.specs.declared.answer.Translation.TheVariants.{OfPacket, OfError}
+use Rattle.npf_engine.specs.declared.connection.Met.{Met}
 use Rattle.npf_engine.specs.declared.crossing.Crossing.{Crossing}
 use Rattle.npf_engine.specs.declared.outcome.Outcome.TheVariants.{Dropped}
 use Rattle.npf_engine.specs.declared.rules.Mapping.TheVariants.{Unmapped}
 use Rattle.npf_engine.specs.declared.open.Passed.{Passed}
-use Rattle.npf_engine.specs.Answer.{AnswersByConn, AnswersRuled, AnswersTried, arrival_of}
-use Rattle.npf_engine.specs.Explains.{IsDecided, LacksConnection, IsTried, Sight, WasFull, by_ruling, unkept}
+use Rattle.npf_engine.specs.Answer.{AnswersByConn, AnswersByQuoted, AnswersRuled, AnswersTried, IsRewrittenBy, IsSentSo, arrival_of, own_rewriting, quoted_by, taken_rewriting}
+use Rattle.npf_engine.specs.Explains.{IsDecided, IsSentIf, LacksConnection, IsTried, Sight, WasFull, by_conn, by_ruling, unkept}
 use Rattle.npf_engine.specs.Connection.{met}
 use Rattle.npf_engine.specs.Histories.{FlowEntry}
 use Rattle.npf_engine.specs.Rules.{OpensOne, attempt_of, static_change, unchanged}
 use Rattle.npf_engine.proofs.SightLemmas.{was_full}
 
+-- what is sent of a packet that a connection took
+module _ (bytes : List ℕ) (facts : Facts) (action : Action) (change : Change) (sent : Option (List ℕ)) where
+  sent_if : (translation : Translation) (pass : Bool) →
+      IsSentSo bytes facts (if pass then Some (record { action = action; change = change; translation = translation }) else None) sent →
+      IsSentIf pass (IsRewrittenBy bytes facts translation action change) sent
+  sent_if translation true so = so
+  sent_if translation false so = so
+
+  -- an error is sent as one
+  sent_as_error : is_error bytes facts ≡ true → (pass : Bool) → IsSentIf pass (IsRewrittenBy bytes facts OfError action change) sent →
+      IsSentIf pass (ErrorSent bytes facts action change) sent
+  sent_as_error error true so = record { output = so.output; are = so.are; rewritten = so.rewritten error }
+  sent_as_error error false so = so
+
+-- what is made of a packet, by what is translated together with it
+module _ (bytes : List ℕ) (facts : Facts) (action : Action) (change : Change) (normalised output : List ℕ) (first : Normalised bytes facts action normalised) where
+  pub rewritten_alone : (translation : Translation) → quoted_by bytes facts translation ≡ None → Translated normalised facts change output →
+      IsRewrittenBy bytes facts translation action change output
+  rewritten_alone OfPacket none second = record { normalised = normalised; first = first; second = second }
+  rewritten_alone OfError none second = λ error. let some : quoted_packet bytes facts ≡ Some (error_in bytes facts) = rw error refl in absurd cc
+
+  pub rewritten_with : (translation : Translation) (inner : Inner) → quoted_by bytes facts translation ≡ Some inner →
+      ErrorTranslated normalised facts inner change output → IsRewrittenBy bytes facts translation action change output
+  rewritten_with OfPacket inner some second = absurd cc
+  rewritten_with OfError inner some second = λ error.
+      let whole : quoted_packet bytes facts ≡ Some (error_in bytes facts) = rw error refl in
+      let is : inner ≡ error_in bytes facts = cc in
+      record { normalised = normalised; first = first; second = subst (λ i. ErrorTranslated normalised facts i change output) is second }
+
+module _ (taken : Met) (answer : Answer) (is : answer.outcome ≡ by_conn taken) where
+  pub answers_by_conn : answer.rewriting ≡ taken_rewriting taken.reply OfPacket → AnswersByConn taken answer
+  answers_by_conn rewriting bytes facts sent so = record {
+    is = is;
+    sends = sent_if bytes facts taken.reply.action taken.reply.change sent OfPacket taken.reply.pass (rw rewriting at so);
+  }
+
+  pub answers_by_quoted : answer.rewriting ≡ taken_rewriting taken.reply OfError → AnswersByQuoted taken answer
+  answers_by_quoted rewriting bytes facts sent error so = record {
+    is = is;
+    sends = sent_as_error bytes facts taken.reply.action taken.reply.change sent error taken.reply.pass
+        (sent_if bytes facts taken.reply.action taken.reply.change sent OfError taken.reply.pass (rw rewriting at so));
+  }
+
 module _ (passed : Passed) (answer : Answer) where
   pub tried_open : (opened : Opened) (id : ConnId) (there : Change) → opened ≡ Opened.Open id there →
       answer.outcome ≡ by_ruling passed.config passed.ruling (Some id) →
-      answer.rewriting ≡ Some (record { action = passed.ruling.action; change = there }) →
+      answer.rewriting ≡ Some (own_rewriting passed.ruling.action there) →
       (sight : Sight) → AnswersTried passed opened answer sight
   tried_open opened id there is outcome rewriting sight bytes facts sent so = rw (is, outcome) (IsTried.opened (rw rewriting at so))
 
@@ -42,7 +96,7 @@ module _ (passed : Passed) (answer : Answer) where
 
   module _ (why : Refusal) (sight : Sight) (opened : Opened) (refused : LacksConnection sight opened why) where
     pub tried_unkept : passed.mapping ≡ Unmapped → answer.outcome ≡ unkept passed.config passed.ruling why →
-        answer.rewriting ≡ Some (record { action = passed.ruling.action; change = unchanged }) → AnswersTried passed opened answer sight
+        answer.rewriting ≡ Some (own_rewriting passed.ruling.action unchanged) → AnswersTried passed opened answer sight
     tried_unkept mapped outcome rewriting bytes facts sent so = rw outcome (IsTried.alone mapped refused (rw rewriting at so))
 
     pub tried_dropped : passed.mapping ≢ Unmapped → answer.outcome ≡ Dropped passed.ruling.place passed.config why →
@@ -54,7 +108,7 @@ module _ (passed : Passed) (answer : Answer) where
 module _ (crossing : Crossing) (passed : Passed) (answer : Answer) (decided : passed.ruling.decision ≡ Pass) where
   pub ruled_passed : (old : PassView FlowEntry) → ¬ OpensOne passed.ruling passed.mapping →
       answer.outcome ≡ by_ruling passed.config passed.ruling None →
-      answer.rewriting ≡ Some (record { action = passed.ruling.action; change = static_change passed.mapping }) →
+      answer.rewriting ≡ Some (own_rewriting passed.ruling.action (static_change passed.mapping)) →
       Does old old (AnswersRuled crossing passed.config passed.mapping (Some passed.ruling) answer old old)
   ruled_passed old none outcome rewriting = record {
     said = [];

@@ -27,13 +27,15 @@ use Rattle.npf_engine.specs.declared.connection.Met.{Met}
 use Rattle.npf_engine.specs.declared.outcome.Outcome.TheVariants.{ByRule}
 use Rattle.npf_engine.specs.declared.rules.Mapping.{Mapping}
 use Rattle.npf_engine.specs.declared.rules.Ruling.{Ruling}
-use Rattle.npf_engine.specs.Answer.{Answers, AnswersUnder, AnswersByConn, AnswersRuled, IsSentSo, arrival_of}
+use Rattle.npf_engine.specs.Answer.{Answers, AnswersUnder, AnswersByConn, AnswersByQuoted, AnswersRuled, IsSentSo, arrival_of}
 use Rattle.npf_engine.specs.Arrival.{any_interface, arg_of}
 use Rattle.npf_engine.specs.Explains.{AsksConnections, Explains, IsDecided, by_ruling}
 use Rattle.npf_engine.specs.Connection.{FindsEither}
+use Rattle.npf_engine.specs.Gateway.{AsksQuoted}
 use Rattle.npf_engine.specs.Handles.{Handles, configurations, sight_of}
 use Rattle.npf_engine.specs.Histories.{FlowEntry}
 use Rattle.npf_engine.specs.Outcome.{passes, sent_of}
+use Rattle.npf_engine.proofs.GatewayLemmas.{takes_error}
 use Rattle.npf_engine.proofs.SightLemmas.{Turns, later_part, whole_did, whole_sight}
 
 module _ (crossing : Crossing) (config : ℕ) (mapped : Mapping) (ruled : Option Ruling) (answer : Answer) (old : Pass FlowEntry) (unsent : answer.rewriting ≡ None) where
@@ -77,18 +79,35 @@ module _ (crossing : Crossing) (arg : FlowArg) (own every : Key) (arg_is : arg �
       explains = λ sight sent spans so. Explains.to_conn refl decodes (asks finds.said (Some taken) finds.described) (by crossing.bytes.now crossing.facts.now sent so);
     }
 
-    pub answers_by_rules : (mid new : Pass FlowEntry) (next : ConfReader) (number : ℕ) (config : Config) → slice_get (configurations configs) number ≡ Some (configuration config) →
-        Does old mid (λ said. FindsEither crossing.number arg own every said None) → Reads reader next number →
-        Does mid new (AnswersUnder crossing number (configuration config) answer mid new) →
-        Answers (configurations configs) old new reader next crossing answer
-    answers_by_rules mid new next number config there finds reads ruled = record {
-      asked = Some number;
-      said = finds.said ++ ruled.said;
-      asks = reads;
-      did = did_more old mid new finds.said ruled.said finds.did ruled.did;
-      explains = λ sight sent spans so.
-          Explains.to_rules refl decodes (asks finds.said None finds.described) there (ruled.described sight sent (later_part sight old mid new finds.said finds.did spans) so);
-    }
+    module _ (mid : Pass FlowEntry) (next : ConfReader) (number : ℕ) (config : Config) (there : slice_get (configurations configs) number ≡ Some (configuration config))
+        (finds : Does old mid (λ said. FindsEither crossing.number arg own every said None)) (reads : Reads reader next number) where
+      -- what the packet asked for what it quotes
+      abbrev Quotes : Option Met → Pass FlowEntry → Type 0
+      Quotes result last = Does mid last (λ said. AsksQuoted (configuration config).model.alg_icmp (arrival_of crossing) crossing.facts.now said result)
+
+      pub answers_by_quoted : (new : Pass FlowEntry) (taken : Met) → Quotes (Some taken) new → AnswersByQuoted taken answer →
+          Answers (configurations configs) old new reader next crossing answer
+      answers_by_quoted new taken quotes by = record {
+        asked = Some number;
+        said = finds.said ++ quotes.said;
+        asks = reads;
+        did = did_more old mid new finds.said quotes.said finds.did quotes.did;
+        explains = λ sight sent spans so.
+            Explains.to_quoted refl decodes (asks finds.said None finds.described) there quotes.described
+            (by crossing.bytes.now crossing.facts.now sent (takes_error quotes.described) so);
+      }
+
+      pub answers_by_rules : (last new : Pass FlowEntry) → Quotes None last → Does last new (AnswersUnder crossing number (configuration config) answer last new) →
+          Answers (configurations configs) old new reader next crossing answer
+      answers_by_rules last new quotes ruled = record {
+        asked = Some number;
+        said = finds.said ++ (quotes.said ++ ruled.said);
+        asks = reads;
+        did = did_more old mid new finds.said (quotes.said ++ ruled.said) finds.did (did_more mid last new quotes.said ruled.said quotes.did ruled.did);
+        explains = λ sight sent spans so.
+            Explains.to_rules refl decodes (asks finds.said None finds.described) there quotes.described
+            (ruled.described sight sent (later_part sight mid last new quotes.said quotes.did (later_part sight old mid new finds.said finds.did spans)) so);
+      }
 
 -- what is sent is there exactly where the packet passes
 sent_where : (rewriting : Option Rewriting) (bytes : List ℕ) (passed : Bool) → passed ≡ is_some rewriting →

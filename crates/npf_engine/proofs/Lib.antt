@@ -1,5 +1,6 @@
 pub mod AnswerLemmas
 pub mod ConnectionLemmas
+pub mod GatewayLemmas
 pub mod HandlerLemmas
 pub mod LongerLemmas
 pub mod OwnLemmas

@@ -23,7 +23,7 @@ use Rattle.npf_engine.specs.Explains.{Explains, IsDecided, Sight}
 use Rattle.npf_engine.specs.Handles.{CarryHereAlone, ExplainsInLonger, Handles, carried}
 use Rattle.npf_engine.specs.Histories.{FlowAct, FlowEntry, History, builds, carries, entries_after, entries_of, is_one_of_ids, told, with_claimed}
 use Rattle.npf_engine.proofs.OwnLemmas.{CarryNone, IsPast, given_up_is_past, past_builds_none, same_by_own, started_is_past, stays_past}
-use Rattle.npf_engine.proofs.TellingLemmas.{HasEnd, IsTold, TellsOpening, claimed_after, claimed_told, either_told, ends_behind, entries_told, nothing, opens_told, told_more}
+use Rattle.npf_engine.proofs.TellingLemmas.{HasEnd, IsTold, TellsOpening, claimed_after, claimed_told, either_told, ends_behind, entries_told, nothing, opens_told, quoted_told, told_more}
 
 none_claimed : {n : ℕ} {said : List FlowSaid} → IsTold n [] said [] → TellsOpening n said
 none_claimed is = record { last = []; is_told = is; ended = λ id none. absurd cc }
@@ -42,12 +42,14 @@ explained_told (Explains.fragment held) = none_claimed nothing
 explained_told (Explains.skip free decodes) = none_claimed nothing
 explained_told (Explains.malformed free decodes) = none_claimed nothing
 explained_told {arrival = arrival} (Explains.to_conn free decodes looks by) = none_claimed (either_told arrival.number [] looks)
-explained_told {arrival = arrival} (Explains.to_rules {looked = looked} free decodes looks there ruled) =
+explained_told {arrival = arrival} (Explains.to_quoted free decodes looks there asked by) =
+    none_claimed (told_more (either_told arrival.number [] looks) (quoted_told [] asked))
+explained_told {arrival = arrival} (Explains.to_rules {looked = looked} {quoted = quoted} free decodes looks there asked ruled) =
     let opening = ruled_told ruled in
     record {
       last = opening.last;
-      is_told = told_more (either_told arrival.number [] looks) opening.is_told;
-      ended = λ id is. ends_behind looked (opening.ended id is);
+      is_told = told_more (either_told arrival.number [] looks) (told_more (quoted_told [] asked) opening.is_told);
+      ended = λ id is. ends_behind looked (ends_behind quoted (opening.ended id is));
     }
 
 -- an entry starts the connection or gives it up

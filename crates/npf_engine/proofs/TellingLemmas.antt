@@ -4,6 +4,7 @@ use Rattle.std.specs.Prelude.{if◌then◌else◌}
 use Rattle.std.specs.List.{filter}
 use Rattle.std.proofs.lemmas.Bool.Decides.{Decides-eqb}
 use Rattle.npf_types.specs.declared.address.Addr.{Addr}
+use Rattle.npf_types.specs.declared.facts.Facts.{Facts}
 use Rattle.npf_types.specs.declared.key.Key.{Key}
 use Rattle.npf_types.specs.declared.key.Way.{Way}
 use Rattle.npf_types.specs.declared.key.Way.TheVariants.{Forward}
@@ -25,7 +26,9 @@ use Rattle.npf_engine_opening.specs.Opening.{Builds, OpensConnection, Translates
 use Rattle.npf_engine_opening.specs.Saying.{FlowSaid, abandon_said, hold_said, said_by_hold}
 use Rattle.npf_engine_opening.specs.Starting.{HoldsBackward, StartsConnection}
 use Rattle.npf_engine_opening.specs.Ways.{is_one_of, ways_before}
+use Rattle.npf_engine.specs.Arrival.{Arrival}
 use Rattle.npf_engine.specs.Connection.{FindsByKey, FindsEither}
+use Rattle.npf_engine.specs.Gateway.{AsksQuoted}
 use Rattle.npf_engine.specs.Histories.{FlowAct, History, builds, carries, entries_after, is_one_of_ids, is_unhold, told, with_claimed}
 
 -- what is said from a place on, at which the packet has claimed the one identities, and behind which it has claimed the others
@@ -109,6 +112,12 @@ module _ (n : ℕ) (ids : List ConnId) where
   pub either_told : {arg : FlowArg} {own every : Key} {said : List FlowSaid} {result : _} → FindsEither n arg own every said result → IsTold n ids said ids
   either_told (FindsEither.by_own finds) = finds_told finds
   either_told (FindsEither.by_every missed finds) = told_more (finds_told missed) (finds_told finds)
+
+pub quoted_told : {gateway : Bool} {arrival : Arrival} {facts : Facts} {said : List FlowSaid} {result : _} (ids : List ConnId) →
+    AsksQuoted gateway arrival facts said result → IsTold arrival.number ids said ids
+quoted_told ids (AsksQuoted.off off) = nothing
+quoted_told ids (AsksQuoted.no_error none) = nothing
+quoted_told {arrival = arrival} ids (AsksQuoted.quotes on error finds) = either_told arrival.number ids finds
 
 -- a connection is started or killed
 pub data HasEnd (id : ConnId) : List FlowSaid → Type 0 where

@@ -24,6 +24,7 @@ use Rattle.npf_engine_opening.specs.Opening.{OpensConnection}
 use Rattle.npf_packet.specs.declared.decoded.BadPacket.{BadPacket}
 use Rattle.npf_packet.specs.declared.decoded.Decoded.TheVariants as Says
 use Rattle.npf_packet.specs.Decoding.{Decodes}
+use Rattle.npf_icmpalg.specs.ErrorTranslated.{ErrorSent}
 use Rattle.npf_rewrite.specs.Sent.{Sent}
 use Rattle.npf_traffic.specs.declared.packet.FragWhy.{FragWhy}
 use Rattle.npf_engine.specs.declared.connection.Met.{Met}
@@ -35,6 +36,7 @@ use Rattle.npf_engine.specs.declared.rules.Ruling.{Ruling}
 use Rattle.npf_engine.specs.Arrival.{Arrival, any_interface, arg_of}
 use Rattle.npf_engine.specs.Connection.{FindsEither, met}
 use Rattle.npf_engine_opening.specs.Saying.{FlowSaid}
+use Rattle.npf_engine.specs.Gateway.{AsksQuoted}
 use Rattle.npf_engine.specs.Histories.{History}
 use Rattle.npf_engine.specs.Rules.{ruling_of, mapping_of, unchanged, static_change, OpensOne, attempt_of}
 
@@ -76,22 +78,34 @@ by_ruling config ruled opened = ByRule ruled.decision ruled.action.log (Some rul
 abbrev pub unkept : ℕ → Ruling → Refusal → Outcome
 unkept config ruled why = Unkept ruled.action.log ruled.place config why
 
+-- it is sent as bytes of which this holds
+pub record IsSentAs (Rewritten : List ℕ → Type 0) (sent : Option (List ℕ)) : Type 0 where
+  pub output : List ℕ
+  pub are : sent ≡ Some output
+  pub rewritten : Rewritten output
+
+-- it is sent exactly where it passes
+abbrev pub IsSentIf : Bool → (List ℕ → Type 0) → Option (List ℕ) → Type 0
+IsSentIf true Rewritten sent = IsSentAs Rewritten sent
+IsSentIf false Rewritten sent = sent ≡ None
+
+-- a connection took it: its law's answer tells the rest, and by which action and change it is rewritten
+pub record IsByReply (Rewritten : Action → Change → List ℕ → Type 0) (taken : Met) (outcome : Outcome) (sent : Option (List ℕ)) : Type 0 where
+  pub is : outcome ≡ by_conn taken
+  pub sends : IsSentIf taken.reply.pass (Rewritten taken.reply.action taken.reply.change) sent
+
 module _ (bytes : List ℕ) (facts : Facts) where
   -- it is sent: normalised by the action and then translated by the change
-  pub record IsSent (action : Action) (change : Change) (sent : Option (List ℕ)) : Type 0 where
-    pub output : List ℕ
-    pub are : sent ≡ Some output
-    pub rewritten : Sent bytes facts action change output
+  abbrev pub IsSent : Action → Change → Option (List ℕ) → Type 0
+  IsSent action change = IsSentAs (Sent bytes facts action change)
 
-  -- it is sent exactly where it passes
-  abbrev pub IsSentIf : Bool → Action → Change → Option (List ℕ) → Type 0
-  IsSentIf true action change sent = IsSent action change sent
-  IsSentIf false action change sent = sent ≡ None
+  -- the connection that holds its key took it
+  abbrev pub IsByConn : Met → Outcome → Option (List ℕ) → Type 0
+  IsByConn = IsByReply (Sent bytes facts)
 
-  -- a connection took it: its law's answer tells the rest
-  pub record IsByConn (taken : Met) (outcome : Outcome) (sent : Option (List ℕ)) : Type 0 where
-    pub is : outcome ≡ by_conn taken
-    pub sends : IsSentIf taken.reply.pass taken.reply.action taken.reply.change sent
+  -- the connection whose packet it quotes took it: it is normalised, and then translated with what it quotes
+  abbrev pub IsByQuoted : Met → Outcome → Option (List ℕ) → Type 0
+  IsByQuoted = IsByReply (ErrorSent bytes facts)
 
   -- What became of a packet that was to open a connection, under the configuration of this number. It opened one; its forward key was
   -- another's by then, which took it; or it has none, and is sent without translation where no map applies, and is dropped where one does.
@@ -133,9 +147,13 @@ pub data Explains (configs : List Configuration) (sight : Sight) (arrival : Arri
   to_conn : {facts : Facts} {said : List FlowSaid} {taken : Met} {outcome : Outcome} {sent : Option (List ℕ)} →
       arrival.held ≡ None → Decodes arrival.link arrival.bytes (Says.Ip facts) → AsksConnections arrival facts said (Some taken) →
       IsByConn arrival.bytes facts taken outcome sent → Explains configs sight arrival None said outcome sent
-  to_rules : {facts : Facts} {number : ℕ} {config : Configuration} {looked said : List FlowSaid} {outcome : Outcome} {sent : Option (List ℕ)} →
+  to_quoted : {facts : Facts} {number : ℕ} {config : Configuration} {looked said : List FlowSaid} {taken : Met} {outcome : Outcome} {sent : Option (List ℕ)} →
       arrival.held ≡ None → Decodes arrival.link arrival.bytes (Says.Ip facts) → AsksConnections arrival facts looked None →
-      slice_get configs number ≡ Some config →
+      slice_get configs number ≡ Some config → AsksQuoted config.model.alg_icmp arrival facts said (Some taken) →
+      IsByQuoted arrival.bytes facts taken outcome sent → Explains configs sight arrival (Some number) (looked ++ said) outcome sent
+  to_rules : {facts : Facts} {number : ℕ} {config : Configuration} {looked quoted said : List FlowSaid} {outcome : Outcome} {sent : Option (List ℕ)} →
+      arrival.held ≡ None → Decodes arrival.link arrival.bytes (Says.Ip facts) → AsksConnections arrival facts looked None →
+      slice_get configs number ≡ Some config → AsksQuoted config.model.alg_icmp arrival facts quoted None →
       IsDecided arrival.bytes facts sight arrival number (mapping_of config facts arrival.ifid arrival.dir)
       (ruling_of config facts arrival.ifid arrival.dir) said outcome sent →
-      Explains configs sight arrival (Some number) (looked ++ said) outcome sent
+      Explains configs sight arrival (Some number) (looked ++ (quoted ++ said)) outcome sent

@@ -2,6 +2,7 @@ pub mod Answer
 pub mod Arrival
 pub mod Connection
 pub mod Explains
+pub mod Gateway
 pub mod Handles
 pub mod Histories
 pub mod Outcome

@@ -2,8 +2,8 @@
 ghost use Rattle.std.specs.Prelude.{◌≡◌, None, Some, false, is_some};
 ghost use Rattle.npf_types.specs.declared.decision.Decision.TheVariants.{Block};
 ghost use Rattle.npf_types.specs.declared.decision.Return.TheVariants.{Nothing};
-ghost use Rattle.npf_engine.specs.Answer.{AnswersByConn};
-ghost use Rattle.npf_engine.specs.Explains.{by_ruling, unkept};
+ghost use Rattle.npf_engine.specs.Answer.{AnswersByConn, AnswersByQuoted, own_rewriting, taken_rewriting};
+ghost use Rattle.npf_engine.specs.Explains.{by_conn, by_ruling, unkept};
 ghost use Rattle.npf_engine.specs.Outcome.{passes, lacks_node};
 ghost use Rattle.npf_engine.specs.Rules.{unchanged};
 
@@ -15,11 +15,19 @@ use npf_engine_opening::Refusal;
 use npf_flow::FlowReply;
 use npf_types::{Action, Change, Decision, Return};
 
+/// Whose headers a change translates: those of the packet alone, or those of an error of ICMP and of the packet that it quotes.
+#[derive(Clone, Copy, Debug, PartialEq, Eq)]
+pub(crate) enum Translation {
+    OfPacket,
+    OfError,
+}
+
 /// What is done to a packet that is sent: it is normalised by the action and then translated by the change.
 #[derive(Clone, Copy, Debug, PartialEq, Eq)]
 pub(crate) struct Rewriting {
     pub(crate) action: Action,
     pub(crate) change: Change,
+    pub(crate) translation: Translation,
 }
 
 /// A packet's outcome, and how it is rewritten where it passes.
@@ -30,31 +38,22 @@ pub(crate) struct Answer {
 }
 
 impl Answer {
-    /// A connection took the packet.
+    /// The connection that holds the packet's key took it.
     pub(crate) fn by_conn(met: &Met) -> Answer
         ensures explains { AnswersByConn met.now result }
         ensures passes { passes result.outcome ≡ is_some result.rewriting }
         ensures lacks { lacks_node result.outcome ≡ false }
     {
-        let FlowReply {
-            pass,
-            opener,
-            change,
-            action,
-        } = met.reply;
-        let outcome = Outcome::ByConn {
-            id: met.id,
-            opener,
-            place: met.place,
-            pass,
-            log: action.log,
-        };
-        let rewriting = if pass {
-            Some(Rewriting { action, change })
-        } else {
-            None
-        };
-        Answer { outcome, rewriting }
+        taken(met, Translation::OfPacket)
+    }
+
+    /// The connection whose packet this error quotes took it.
+    pub(crate) fn by_quoted(met: &Met) -> Answer
+        ensures explains { AnswersByQuoted met.now result }
+        ensures passes { passes result.outcome ≡ is_some result.rewriting }
+        ensures lacks { lacks_node result.outcome ≡ false }
+    {
+        taken(met, Translation::OfError)
     }
 
     /// No rule decides, and the packet is blocked.
@@ -93,21 +92,18 @@ impl Answer {
         change: Change,
     ) -> Answer
         ensures outcome { result.outcome ≡ by_ruling config ruling.now opened }
-        ensures rewriting { result.rewriting ≡ Some (record { action = ruling.now.action; change = change }) }
+        ensures rewriting { result.rewriting ≡ Some (own_rewriting ruling.now.action change) }
     {
         Answer {
             outcome: by_ruling(config, ruling, opened),
-            rewriting: Some(Rewriting {
-                action: ruling.action,
-                change,
-            }),
+            rewriting: Some(own_rewriting(ruling, change)),
         }
     }
 
     /// A rule passes the packet, which goes on without the connection that it was to open.
     pub(crate) fn unkept(config: u64, ruling: &Ruling, why: Refusal) -> Answer
         ensures outcome { result.outcome ≡ unkept config ruling.now why }
-        ensures rewriting { result.rewriting ≡ Some (record { action = ruling.now.action; change = unchanged }) }
+        ensures rewriting { result.rewriting ≡ Some (own_rewriting ruling.now.action unchanged) }
     {
         Answer {
             outcome: Outcome::Unkept {
@@ -116,10 +112,7 @@ impl Answer {
                 config,
                 why,
             },
-            rewriting: Some(Rewriting {
-                action: ruling.action,
-                change: UNCHANGED,
-            }),
+            rewriting: Some(own_rewriting(ruling, UNCHANGED)),
         }
     }
 
@@ -132,6 +125,47 @@ impl Answer {
             outcome: Outcome::Dropped { rule, config, why },
             rewriting: None,
         }
+    }
+}
+
+/// A connection took the packet, which is translated so where it passes.
+fn taken(met: &Met, translation: Translation) -> Answer
+    ensures outcome { result.outcome ≡ by_conn met.now }
+    ensures rewriting { result.rewriting ≡ taken_rewriting met.now.reply translation }
+{
+    let FlowReply {
+        pass,
+        opener,
+        change,
+        action,
+    } = met.reply;
+    let outcome = Outcome::ByConn {
+        id: met.id,
+        opener,
+        place: met.place,
+        pass,
+        log: action.log,
+    };
+    let rewriting = if pass {
+        Some(Rewriting {
+            action,
+            change,
+            translation,
+        })
+    } else {
+        None
+    };
+    Answer { outcome, rewriting }
+}
+
+/// A packet is rewritten by its rule's action and this change.
+fn own_rewriting(ruling: &Ruling, change: Change) -> Rewriting
+    ensures { result ≡ own_rewriting ruling.now.action change }
+{
+    Rewriting {
+        action: ruling.action,
+        change,
+        translation: Translation::OfPacket,
     }
 }
 

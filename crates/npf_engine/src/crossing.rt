@@ -4,6 +4,7 @@ ghost use Rattle.npf_packet.specs.declared.decoded.Decoded.TheVariants.{Ip};
 ghost use Rattle.npf_packet.specs.Decoding.{Decodes};
 ghost use Rattle.npf_packet.specs.PacketField.{packet_bytes};
 ghost use Rattle.npf_engine.specs.Arrival.{arg_of, tcp_segment};
+ghost use Rattle.npf_engine.specs.Gateway.{peek_of};
 
 use npf_flow::FlowArg;
 use npf_packet::decoded_has_places;
@@ -41,6 +42,16 @@ pub(crate) fn arg_of(time: u64, facts: &Facts) -> FlowArg
         now: time,
         seg: tcp_segment(&facts.l4),
         peek: false,
+    }
+}
+
+/// What an error brings to a step of the connection whose packet it quotes: it only peeks.
+pub(crate) fn peek_of(time: u64, facts: &Facts) -> FlowArg
+    ensures { result ≡ peek_of time facts.now }
+{
+    FlowArg {
+        peek: true,
+        ..arg_of(time, facts)
     }
 }
 

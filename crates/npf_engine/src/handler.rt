@@ -15,6 +15,7 @@ ghost use Rattle.npf_engine.specs.Outcome.{lacks_node, passes, sent_of};
 use crate::answer::Answer;
 use crate::connection::{Keys, find_either};
 use crate::crossing::{Crossing, arg_of};
+use crate::gateway::find_quoted;
 use crate::open::{Passed, answer_passed};
 use crate::outcome::Outcome;
 use crate::rules::{mapping_of, ruling_of};
@@ -86,7 +87,8 @@ pub fn packet<R: Wait, C: Connections<FlowLaw>>(
     answer.outcome
 }
 
-/// What becomes of a packet of IP: the live connection that it belongs to takes it, or the configuration that is read decides.
+/// What becomes of a packet of IP: the live connection that it belongs to takes it, or, by the configuration that is read, that of what
+/// it quotes, or the configuration decides.
 pub(crate) fn answer<R: Wait, C: Connections<FlowLaw>>(
     rt: &R,
     conns: &C,
@@ -118,6 +120,9 @@ pub(crate) fn answer<R: Wait, C: Connections<FlowLaw>>(
         number,
         config: &configs[number as usize],
     };
+    if let Some(met) = find_quoted(rt, conns, pass, crossing, asked.config.model()) {
+        return Answer::by_quoted(&met);
+    }
     answer_by_rules(rt, conns, pass, crossing, &arg, asked)
 }
 

@@ -1,26 +1,21 @@
--- The words of an address, two by two, and where they lie.
-use Rattle.std.proofs.Common.{◌≡◌, ℕ, ◌+◌, ◌≤◌, Bool, true, false, Option, None, ◌++◌, arith}
+-- Where the words of addresses and ports lie.
+use Rattle.std.proofs.Common.{◌≡◌, ℕ, ◌+◌, ◌≤◌, Bool, true, false, Option, Some, None, arith}
 use Rattle.std.specs.Prelude.{if◌then◌else◌}
 use Rattle.npf_types.specs.declared.address.Addr.{Addr}
 use Rattle.npf_types.specs.declared.address.Addr.TheVariants.{V4, V6}
 use Rattle.npf_types.specs.declared.change.End.{End}
 use Rattle.npf_key.specs.Translated.{fitting, shares_family}
+use Rattle.npf_packet.specs.Field.{icmp_identifier, l4_destination_port, l4_source_port}
 use Rattle.npf_packet.specs.Place.{least_ip_header}
-use Rattle.npf_rewrite.specs.Address.{address_words, end_words, words_v6}
+use Rattle.npf_rewrite.specs.Address.{address_words, end_words}
 use Rattle.npf_rewrite.specs.Translated.{destination_at, source_at}
-use Rattle.npf_rewrite.specs.Word.{AllWithin}
+use Rattle.npf_rewrite.specs.Word.{AllWithin, named_word, word_list}
 use Rattle.npf_rewrite.proofs.EndLemmas.{address_size, fitted}
+use Rattle.npf_icmpalg.specs.declared.error.Inner.{Inner}
+use Rattle.npf_icmpalg.specs.declared.header.HeaderEnds.{HeaderEnds}
+use Rattle.npf_icmpalg.specs.ErrorTranslated.{quoted_destination_write, quoted_source_write}
 use Rattle.npf_icmpalg.specs.Header.{HeaderWithin}
-use Rattle.npf_icmpalg.specs.Word.{word_pair}
-
-pub pairs_v6 : (at a : ℕ)
-    → (word_pair at a 96 ++ word_pair (at + 4) a 64) ++ (word_pair (at + 8) a 32 ++ word_pair (at + 12) a 0)
-    ≡ words_v6 at a
-pairs_v6 at a =
-    let six : at + 4 + 2 ≡ at + 6 = omega arith in
-    let ten : at + 8 + 2 ≡ at + 10 = omega arith in
-    let fourteen : at + 12 + 2 ≡ at + 14 = omega arith in
-    cc
+use Rattle.npf_icmpalg.specs.Quoted.{is_tcp_or_udp}
 
 -- the words of an address of this family
 address_within : (family x : Addr) (size at : ℕ) → at + address_size family ≤ size
@@ -68,3 +63,26 @@ header_within b family size ip_at src dst room = record {
   src = chosen_within b family size (source_at ip_at family) src (source_room family size ip_at room);
   dst = end_within family size (destination_at ip_at family) dst (destination_room family size ip_at room);
 }
+
+-- a word that is named lies where it does
+named_within : (size at : ℕ) (value : Option ℕ) → at + 2 ≤ size → AllWithin size (word_list (named_word at value))
+named_within size at (Some value) room = (room, tt)
+named_within size at None room = tt
+
+source_by : (b : Bool) (size at : ℕ) (port identifier : Option ℕ) → at + 8 ≤ size
+    → AllWithin size (word_list (if b then named_word (at + l4_source_port) port else named_word (at + icmp_identifier) identifier))
+source_by true size at port identifier room = named_within size (at + l4_source_port) port (omega arith)
+source_by false size at port identifier room = named_within size (at + icmp_identifier) identifier (omega arith)
+
+destination_by : (b : Bool) (size at : ℕ) (port : Option ℕ) → at + 8 ≤ size
+    → AllWithin size (word_list (if b then named_word (at + l4_destination_port) port else None))
+destination_by true size at port room = named_within size (at + l4_destination_port) port (omega arith)
+destination_by false size at port room = tt
+
+-- ports and identifier lie in the first eight bytes of what is carried
+module _ (inner : Inner) (header : HeaderEnds) (size : ℕ) (room : inner.l4_at + 8 ≤ size) where
+  pub source_within : AllWithin size (word_list (quoted_source_write inner header))
+  source_within = source_by (is_tcp_or_udp inner.proto) size inner.l4_at _ _ room
+
+  pub destination_within : AllWithin size (word_list (quoted_destination_write inner header))
+  destination_within = destination_by (is_tcp_or_udp inner.proto) size inner.l4_at _ room

@@ -1,11 +1,11 @@
 -- The total of words of which some are written, in any order, where none overlaps another.
-use Rattle.std.proofs.Common.{◌≡◌, ℕ, ◌+◌, ◌*◌, ◌<◌, ◌≤◌, ◌⊎◌, [], ◌∷◌, ◌++◌, List, refl, inl, inr, arith}
+use Rattle.std.proofs.Common.{◌≡◌, ℕ, ◌+◌, ◌*◌, ◌<◌, ◌≤◌, ◌⊎◌, [], ◌∷◌, ◌++◌, List, refl, ap, inl, inr, arith}
 use Rattle.std.specs.Prelude.{⊤}
+use Rattle.npf_rewrite.specs.declared.word.WordAt.{WordAt}
 use Rattle.npf_rewrite.specs.Verified.{words_total}
 use Rattle.npf_rewrite.proofs.TotalLemmas.{Between, Inside, after, after-elsewhere, byte_after-elsewhere, news, olds, words_total-after}
 use Rattle.npf_rewrite.specs.Word.{byte_there}
 use Rattle.npf_rewrite.proofs.WordLemmas.{byte_there-append}
-use Rattle.npf_icmpalg.specs.Word.{WordAt}
 
 -- a word overlaps none of these
 abbrev pub Apart : WordAt → List WordAt → Type 0
@@ -131,4 +131,41 @@ module _ (o q p h s u e : List WordAt) (lo at k x : ℕ) (behind : at ≤ k) (fr
       let ten = byte_there-append (q ++ p ++ h) s k x in
       let eleven = byte_there-append (q ++ p) h k x in
       let twelve = byte_there-append q p k x in
+      cc
+
+pub wider : (lo hi lo' hi' : ℕ) (ws : List WordAt) → lo' ≤ lo → hi ≤ hi' → Between lo hi ws → Between lo' hi' ws
+wider lo hi lo' hi' [] p q b = tt
+wider lo hi lo' hi' (w ∷ ws) p q b =
+    (omega (arith, p, b.0), (omega (arith, q, b.1.0), wider lo hi lo' hi' ws p q b.1.1))
+
+-- words in rising order lie between the first place and the last
+pub inside-between : (at n lo : ℕ) (ws : List WordAt) → Inside at n lo ws → Between lo (at + 2 * n) ws
+inside-between at n lo [] i = tt
+inside-between at n lo (w ∷ ws) i = (
+  i.0,
+  (
+    omega (arith, i.1.0.1.0, i.1.0.1.1),
+    wider (w.at + 2) (at + 2 * n) lo (at + 2 * n) ws (omega (arith, i.0)) (omega arith) (inside-between at n (w.at + 2) ws i.1.1),
+  ),
+)
+
+-- the bytes in front of a place, where the other words are written behind it, and none in a place for `u`
+module _ (o q p h s u e : List WordAt) (at hi k x : ℕ) (front : k < at) (all : Between at hi (q ++ p ++ h ++ s ++ e))
+    (none : u ≡ []) where
+  pub front-there : byte_there (o ++ q ++ p ++ (h ++ s ++ u ++ e)) k x ≡ byte_there o k x
+  front-there =
+      let z = byte_there o k x in
+      let y = byte_there p k (byte_there q k z) in
+      let one = byte_there-append (o ++ q ++ p) (h ++ s ++ u ++ e) k x in
+      let two = byte_there-append (o ++ q) p k x in
+      let three = byte_there-append o q k x in
+      let five = byte_there-append (h ++ s ++ u) e k y in
+      let six = byte_there-append (h ++ s) u k y in
+      let seven = ap (λ ws. byte_there ws k (byte_there (h ++ s) k y)) none in
+      let eight = byte_there-append h s k y in
+      let nine = byte_there-append (q ++ p ++ h ++ s) e k z in
+      let ten = byte_there-append (q ++ p ++ h) s k z in
+      let eleven = byte_there-append (q ++ p) h k z in
+      let twelve = byte_there-append q p k z in
+      let last = after-elsewhere at hi (q ++ p ++ h ++ s ++ e) (λ _. z) k all (inl front) in
       cc

@@ -12,6 +12,7 @@ use Rattle.npf_types.specs.declared.facts.Facts.{Facts}
 use Rattle.npf_fields.specs.Field.{number16}
 use Rattle.npf_key.specs.Translated.{fitting, named_port}
 use Rattle.npf_packet.specs.Field.{l4_source_port, l4_destination_port, icmp_checksum, icmp_identifier}
+use Rattle.npf_rewrite.specs.declared.word.WordAt.{WordAt}
 use Rattle.npf_rewrite.specs.Normalised.{Normalised}
 use Rattle.npf_rewrite.specs.Sum.{sum_after}
 use Rattle.npf_rewrite.specs.Translated.{header_sum}
@@ -21,7 +22,6 @@ use Rattle.npf_icmpalg.specs.declared.header.HeaderEnds.{HeaderEnds}
 use Rattle.npf_icmpalg.specs.Error.{error_in}
 use Rattle.npf_icmpalg.specs.Header.{header_addresses}
 use Rattle.npf_icmpalg.specs.Quoted.{is_tcp_or_udp, is_same_address}
-use Rattle.npf_icmpalg.specs.Word.{WordAt}
 
 module _ (facts : Facts) (inner : Inner) (change : Change) where
   -- The change's source is the outer one too where the error comes from the host to which the

@@ -1,11 +1,11 @@
 -- The addresses that are written in an IP header.
 use Rattle.std.specs.Prelude.{ℕ, ◌+◌, ◌≤◌, List, ◌++◌}
 use Rattle.npf_packet.specs.Place.{least_ip_header}
+use Rattle.npf_rewrite.specs.declared.word.WordAt.{WordAt}
 use Rattle.npf_rewrite.specs.Address.{end_words}
 use Rattle.npf_rewrite.specs.Translated.{destination_at, source_at}
 use Rattle.npf_rewrite.specs.Word.{AllWithin}
 use Rattle.npf_icmpalg.specs.declared.header.HeaderEnds.{HeaderEnds}
-use Rattle.npf_icmpalg.specs.Word.{WordAt}
 
 -- the words of the addresses that are named
 abbrev pub header_addresses : HeaderEnds → List WordAt

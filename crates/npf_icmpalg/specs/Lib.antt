@@ -4,4 +4,3 @@ pub mod ErrorVerified
 pub mod Header
 pub mod Quoted
 pub mod Within
-pub mod Word

@@ -1,11 +1,10 @@
 // Translation of an error and of what it quotes (RFC 5508 section 4, RFC 3022 section 4.3);
 // specs/ErrorTranslated.antt says which words it writes.
-ghost use Rattle.std.specs.Prelude.{◌≡◌, ℕ, ◌+◌, ◌<◌, ◌≤◌, ◌^◌, ◌∷◌, [], ◌++◌, length, IfSome};
+ghost use Rattle.std.specs.Prelude.{◌≡◌, ℕ, ◌+◌, ◌<◌, ◌≤◌, ◌^◌, ◌++◌, length, IfSome};
 ghost use Rattle.npf_icmpalg.specs.Error.{HasQuotedRoom};
 ghost use Rattle.npf_icmpalg.specs.ErrorTranslated.{ErrorTranslated, counted_outer, error_sums, error_writes, outer_ends, outer_source, quoted_destination_write, quoted_ends, quoted_ports, quoted_source_write, quoted_sum, quoted_sum_after};
 ghost use Rattle.npf_icmpalg.specs.Header.{HeaderWithin, header_addresses};
 ghost use Rattle.npf_icmpalg.specs.Within.{AreQuotedSums, ErrorWithin, QuotedWithin, SumsWithin, port_words, told_error_sum};
-ghost use Rattle.npf_icmpalg.specs.Word.{new_words};
 ghost use Rattle.npf_packet.specs.Place.{least_ip_header};
 ghost use Rattle.npf_rewrite.specs.Room.{HasRoom};
 ghost use Rattle.npf_rewrite.specs.Sum.{sum_after};
@@ -14,9 +13,9 @@ ghost use Rattle.npf_rewrite.specs.Word.{AllWithin, Rewrites, word_list};
 use crate::error::Inner;
 use crate::header::{HeaderEnds, header_sum, sum_after_addresses, write_addresses};
 use crate::quoted::{is_same_address, is_tcp_or_udp};
-use crate::word::{NewWord, UDP_ZERO, ZERO, named, sum_after_named, write_named};
 use npf_fields::get16;
 use npf_key::{fitting, named_port};
+use npf_rewrite::{UDP_ZERO, WordAt, ZERO, named_word, sum_after_named, write_named, write_word};
 use npf_types::{Addr, Change, End, Facts};
 
 /// The offsets of the headers' fields, in bytes.
@@ -39,8 +38,8 @@ mod protocol {
 #[derive(Clone, Copy)]
 pub(crate) struct QuotedEnds {
     pub(crate) header: HeaderEnds,
-    pub(crate) source: Option<NewWord>,
-    pub(crate) destination: Option<NewWord>,
+    pub(crate) source: Option<WordAt>,
+    pub(crate) destination: Option<WordAt>,
 }
 
 /// Writes what the change names in the error with these facts, which quotes `inner`: the outer
@@ -89,8 +88,8 @@ fn outer_source(facts: &Facts, inner: &Inner, change: &Change) -> Option<End>
 /// What is written in the quoted packet.
 fn quoted_writes(facts: &Facts, inner: &Inner, change: &Change) -> QuotedEnds
     ensures header { result.header ≡ quoted_ends facts.now inner.now change.now }
-    ensures source { new_words result.source ≡ word_list (quoted_source_write inner.now (quoted_ends facts.now inner.now change.now)) }
-    ensures destination { new_words result.destination ≡ word_list (quoted_destination_write inner.now (quoted_ends facts.now inner.now change.now)) }
+    ensures source { result.source ≡ quoted_source_write inner.now (quoted_ends facts.now inner.now change.now) }
+    ensures destination { result.destination ≡ quoted_destination_write inner.now (quoted_ends facts.now inner.now change.now) }
     ensures ports { port_words result ≡ quoted_ports inner.now (quoted_ends facts.now inner.now change.now) }
     ensures within { (size : ℕ) → HasQuotedRoom facts.now inner.now → facts.now.end ≤ size → QuotedWithin size result }
 {
@@ -116,16 +115,15 @@ fn quoted_ends(facts: &Facts, inner: &Inner, change: &Change) -> HeaderEnds
 }
 
 /// The quoted source port that is named, or the identifier that stands for both ports.
-fn source_write(inner: &Inner, header: &HeaderEnds) -> Option<NewWord>
-    ensures value { new_words result ≡ word_list (quoted_source_write inner.now header.now) }
-    ensures within { (size : ℕ) → inner.now.l4_at + 8 ≤ size → AllWithin size (new_words result) }
+fn source_write(inner: &Inner, header: &HeaderEnds) -> Option<WordAt>
+    ensures { result ≡ quoted_source_write inner.now header.now }
 {
     let at = inner.l4_at as usize;
     let source = named_port(&header.src);
     if is_tcp_or_udp(inner.proto) {
-        named(at, source)
+        named_word(at, source)
     } else {
-        named(
+        named_word(
             at + field::ICMP_IDENTIFIER,
             named_port(&header.dst).or(source),
         )
@@ -133,13 +131,12 @@ fn source_write(inner: &Inner, header: &HeaderEnds) -> Option<NewWord>
 }
 
 /// The quoted destination port that is named.
-fn destination_write(inner: &Inner, header: &HeaderEnds) -> Option<NewWord>
-    ensures value { new_words result ≡ word_list (quoted_destination_write inner.now header.now) }
-    ensures within { (size : ℕ) → inner.now.l4_at + 8 ≤ size → AllWithin size (new_words result) }
+fn destination_write(inner: &Inner, header: &HeaderEnds) -> Option<WordAt>
+    ensures { result ≡ quoted_destination_write inner.now header.now }
 {
     if is_tcp_or_udp(inner.proto) {
         let at = inner.l4_at as usize + field::DESTINATION_PORT;
-        named(at, named_port(&header.dst))
+        named_word(at, named_port(&header.dst))
     } else {
         None
     }
@@ -164,7 +161,7 @@ fn write_ends_and_sums(
     write_named(bytes, sums.header);
     write_named(bytes, sums.upper);
     write_named(bytes, outer_header);
-    write_named(bytes, error);
+    write_word(bytes, error);
 }
 
 fn write_ends(bytes: &mut [u8], outer: &HeaderEnds, quoted: &QuotedEnds)
@@ -181,8 +178,8 @@ fn write_ends(bytes: &mut [u8], outer: &HeaderEnds, quoted: &QuotedEnds)
 /// The sums of what is quoted: that of its header, and that of what it carries.
 #[derive(Clone, Copy)]
 pub(crate) struct QuotedSums {
-    pub(crate) header: Option<NewWord>,
-    pub(crate) upper: Option<NewWord>,
+    pub(crate) header: Option<WordAt>,
+    pub(crate) upper: Option<WordAt>,
 }
 
 fn quoted_sums(bytes: &[u8], inner: &Inner, quoted: &QuotedEnds) -> QuotedSums
@@ -197,17 +194,17 @@ fn quoted_sums(bytes: &[u8], inner: &Inner, quoted: &QuotedEnds) -> QuotedSums
 }
 
 /// The quoted sum of what is carried, where it is quoted whole.
-fn quoted_sum(bytes: &[u8], inner: &Inner, quoted: &QuotedEnds) -> Option<NewWord>
+fn quoted_sum(bytes: &[u8], inner: &Inner, quoted: &QuotedEnds) -> Option<WordAt>
     requires within { QuotedWithin (length bytes.now) quoted.now }
     requires sum { IfSome inner.now.sum_at (λ at. at + 2 ≤ length bytes.now) }
-    ensures value { new_words result ≡ word_list (quoted_sum bytes.now quoted.now.header (port_words quoted.now) inner.now.proto inner.now.sum_at) }
-    ensures within { AllWithin (length bytes.now) (new_words result) }
+    ensures value { result ≡ quoted_sum bytes.now quoted.now.header (port_words quoted.now) inner.now.proto inner.now.sum_at }
+    ensures within { AllWithin (length bytes.now) (word_list result) }
 {
     match inner.sum_at {
         Some(at) => {
             let at = at as usize;
             let value = quoted_sum_after(bytes, inner.proto, quoted, get16(bytes, at));
-            Some(NewWord { at, value })
+            Some(WordAt { at, value })
         }
         None => None,
     }
@@ -252,21 +249,21 @@ fn error_sum(
     outer: &HeaderEnds,
     quoted: &QuotedEnds,
     sums: &QuotedSums,
-) -> Option<NewWord>
+) -> WordAt
     requires outer { HeaderWithin (length bytes.now) outer.now }
     requires quoted { QuotedWithin (length bytes.now) quoted.now }
     requires sums { SumsWithin (length bytes.now) sums.now }
     requires header { l4_at + 8 ≤ length bytes.now }
     requires place { l4_at < 2 ^ 32 }
-    ensures value { new_words result ≡ told_error_sum bytes.now l4_at outer.now quoted.now sums.now ∷ [] }
-    ensures within { AllWithin (length bytes.now) (new_words result) }
+    ensures value { result ≡ told_error_sum bytes.now l4_at outer.now quoted.now sums.now }
+    ensures within { result.at + 2 ≤ length bytes.now }
 {
     let at = l4_at + field::ICMP_CHECKSUM;
     let sum = sum_after_outer(bytes, outer, get16(bytes, at));
     let sum = sum_after_quoted(ZERO, bytes, quoted, sum);
     let sum = sum_after_named(ZERO, bytes, sums.header, sum);
     let value = sum_after_named(ZERO, bytes, sums.upper, sum);
-    Some(NewWord { at, value })
+    WordAt { at, value }
 }
 
 /// The error's sum once the outer addresses are written.

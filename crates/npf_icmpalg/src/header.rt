@@ -1,13 +1,12 @@
 // The addresses that are written in an IP header, and the sums that follow them.
 ghost use Rattle.std.specs.Prelude.{◌≡◌, ◌<◌, ◌^◌, length};
 ghost use Rattle.npf_icmpalg.specs.Header.{HeaderWithin, header_addresses};
-ghost use Rattle.npf_icmpalg.specs.Word.{new_words};
 ghost use Rattle.npf_rewrite.specs.Sum.{sum_after};
 ghost use Rattle.npf_rewrite.specs.Translated.{destination_at, header_sum, source_at};
 ghost use Rattle.npf_rewrite.specs.Word.{AllWithin, Rewrites, word_list};
 
-use crate::word::{NewWord, ZERO, sum_after_end, write_end};
 use npf_fields::get16;
+use npf_rewrite::{WordAt, ZERO, sum_after_end, write_end};
 use npf_types::{Addr, End};
 
 /// The offsets of the headers' fields, in bytes.
@@ -52,16 +51,16 @@ pub(crate) fn sum_after_addresses(zero: u16, bytes: &[u8], header: &HeaderEnds, 
 }
 
 /// The sum of a header of IPv4 once the addresses are written.
-pub(crate) fn header_sum(bytes: &[u8], header: &HeaderEnds) -> Option<NewWord>
+pub(crate) fn header_sum(bytes: &[u8], header: &HeaderEnds) -> Option<WordAt>
     requires { HeaderWithin (length bytes.now) header.now }
-    ensures value { new_words result ≡ word_list (header_sum bytes.now header.now.ip_at header.now.family (header_addresses header.now)) }
-    ensures within { AllWithin (length bytes.now) (new_words result) }
+    ensures value { result ≡ header_sum bytes.now header.now.ip_at header.now.family (header_addresses header.now) }
+    ensures within { AllWithin (length bytes.now) (word_list result) }
 {
     match header.family {
         Addr::V4(_) => {
             let at = header.ip_at as usize + field::IPV4_CHECKSUM;
             let value = sum_after_addresses(ZERO, bytes, header, get16(bytes, at));
-            Some(NewWord { at, value })
+            Some(WordAt { at, value })
         }
         Addr::V6(_) => None,
     }
@@ -70,7 +69,7 @@ pub(crate) fn header_sum(bytes: &[u8], header: &HeaderEnds) -> Option<NewWord>
 /// Where the source's address stands.
 fn source_at(header: &HeaderEnds) -> usize
     ensures value { result ≡ source_at header.now.ip_at header.now.family }
-    ensures place { result < 2 ^ 34 }
+    ensures place { result < 2 ^ 33 }
 {
     match header.family {
         Addr::V4(_) => header.ip_at as usize + field::IPV4_SOURCE,
@@ -81,7 +80,7 @@ fn source_at(header: &HeaderEnds) -> usize
 /// Where the destination's address stands.
 fn destination_at(header: &HeaderEnds) -> usize
     ensures value { result ≡ destination_at header.now.ip_at header.now.family }
-    ensures place { result < 2 ^ 34 }
+    ensures place { result < 2 ^ 33 }
 {
     match header.family {
         Addr::V4(_) => header.ip_at as usize + field::IPV4_DESTINATION,

@@ -10,8 +10,8 @@
 // `translate_error` writes the words and the sums that `ErrorTranslated` names, with the values
 // that it names, and changes no other byte. None takes memory or can be refused.
 //
-// A law says that the sum of an error over IPv4 which verified still verifies, where the change
-// isn't neutral.
+// Laws say that the sum of an error of ICMP, or of ICMPv6 with its pseudo-header, which verified
+// still verifies, where the change isn't neutral.
 #![tactic(auto)]
 
 mod error;
@@ -19,8 +19,7 @@ mod error_translated;
 mod header;
 mod laws;
 mod quoted;
-mod word;
 
 pub use error::{Inner, inner_key, inner_of};
 pub use error_translated::translate_error;
-pub use laws::error_sum_follows;
+pub use laws::{error_sum_follows, icmpv6_error_sum_follows};

@@ -9,7 +9,7 @@ use crate::word::{WordAt, write_words};
 use npf_types::{Addr, End};
 
 /// Writes the address of an end, where there is one.
-pub(crate) fn write_end(bytes: &mut [u8], at: usize, end: &Option<End>)
+pub fn write_end(bytes: &mut [u8], at: usize, end: &Option<End>)
     requires room { AllWithin (length bytes.old) (end_words at end.now) }
     requires place { at < 2 ^ 33 }
     ensures { Rewrites bytes.old (end_words at end.now) bytes.new }
@@ -23,7 +23,7 @@ pub(crate) fn write_end(bytes: &mut [u8], at: usize, end: &Option<End>)
 }
 
 /// The sum once the address of an end is written.
-pub(crate) fn sum_after_end(zero: u16, bytes: &[u8], at: usize, end: &Option<End>, sum: u16) -> u16
+pub fn sum_after_end(zero: u16, bytes: &[u8], at: usize, end: &Option<End>, sum: u16) -> u16
     requires room { AllWithin (length bytes.now) (end_words at end.now) }
     requires place { at < 2 ^ 33 }
     ensures { result ≡ sum_after zero bytes.now (end_words at end.now) sum }

@@ -11,7 +11,8 @@
 // asks that the packet's parts lie within its bytes, which those of a decoded packet do. Laws say
 // of what is sent that a sum that verified still verifies, also after a neutral change that writes
 // no port and keeps the sum of the addresses, that its lengths are the packet's, and that it decodes
-// to the facts of the change.
+// to the facts of the change. What npf_icmpalg writes in a packet it writes by `WordAt` and the
+// calls beside it.
 #![tactic(auto)]
 
 mod address;
@@ -21,10 +22,13 @@ mod sum;
 mod translated;
 mod word;
 
+pub use address::{sum_after_end, write_end};
 pub use laws::{
     absent_sum_stays, decoded_has_room, header_sum_follows, neutral_sums_follow,
     normalised_decodes, normalised_has_fields, normalised_sums_follow, sent_is_packet,
     sent_keeps_lengths, translated_decodes, upper_sum_follows,
 };
 pub use normalised::normalize;
+pub use sum::{UDP_ZERO, ZERO, sum_after_named};
 pub use translated::translate;
+pub use word::{WordAt, named_word, write_named, write_word};

@@ -7,10 +7,10 @@ use crate::word::WordAt;
 use npf_fields::{get16, sum_adjust};
 
 /// A sum of which 0 is a value as any other.
-pub(crate) const ZERO: u16 = 0;
+pub const ZERO: u16 = 0;
 
 /// What stands for a sum of 0 in UDP, where 0 says that there is none (RFC 768).
-pub(crate) const UDP_ZERO: u16 = 0xffff;
+pub const UDP_ZERO: u16 = 0xffff;
 
 /// The sum once these words are written, where a sum that comes to 0 is written as `zero`.
 pub(crate) fn sum_after(zero: u16, bytes: &[u8], words: &[WordAt], sum: u16) -> u16
@@ -25,7 +25,7 @@ pub(crate) fn sum_after(zero: u16, bytes: &[u8], words: &[WordAt], sum: u16) -> 
 }
 
 /// The sum once this word is written, where there is one.
-pub(crate) fn sum_after_named(zero: u16, bytes: &[u8], word: Option<WordAt>, sum: u16) -> u16
+pub fn sum_after_named(zero: u16, bytes: &[u8], word: Option<WordAt>, sum: u16) -> u16
     requires { AllWithin (length bytes.now) (word_list word) }
     ensures { result ≡ sum_after zero bytes.now (word_list word) sum }
 {

@@ -6,13 +6,13 @@ use npf_fields::put16;
 
 /// A word and its place, in bytes from the record's first.
 #[derive(Clone, Copy)]
-pub(crate) struct WordAt {
-    pub(crate) at: usize,
-    pub(crate) value: u16,
+pub struct WordAt {
+    pub at: usize,
+    pub value: u16,
 }
 
 /// The word at this place, where there is one.
-pub(crate) fn named_word(at: usize, value: Option<u16>) -> Option<WordAt>
+pub fn named_word(at: usize, value: Option<u16>) -> Option<WordAt>
     ensures { result ≡ named_word at value }
 {
     match value {
@@ -31,7 +31,8 @@ pub(crate) fn write_words(bytes: &mut [u8], words: &[WordAt])
     }
 }
 
-pub(crate) fn write_word(bytes: &mut [u8], word: WordAt)
+/// Writes the word, its upper half first.
+pub fn write_word(bytes: &mut [u8], word: WordAt)
     requires { word.at + 2 ≤ length bytes.old }
     ensures { Rewrites bytes.old (word ∷ []) bytes.new }
 {
@@ -39,7 +40,7 @@ pub(crate) fn write_word(bytes: &mut [u8], word: WordAt)
 }
 
 /// Writes the word, where there is one.
-pub(crate) fn write_named(bytes: &mut [u8], word: Option<WordAt>)
+pub fn write_named(bytes: &mut [u8], word: Option<WordAt>)
     requires { AllWithin (length bytes.old) (word_list word) }
     ensures { Rewrites bytes.old (word_list word) bytes.new }
 {

@@ -1,11 +1,10 @@
-use Rattle.std.proofs.Common.{◌+◌, [], ◌∷◌, ◌++◌, ap, ◌∙◌}
+use Rattle.std.proofs.Common.{◌+◌, ◌++◌, ap, ◌∙◌}
 use Rattle.npf_packet.specs.Field.{icmp_checksum}
 use Rattle.npf_rewrite.specs.Sum.{sum_after}
-use Rattle.npf_rewrite.specs.Word.{word}
+use Rattle.npf_rewrite.specs.Word.{word, word_list}
 use Rattle.npf_icmpalg.specs.ErrorTranslated.{counted_outer}
 use Rattle.npf_icmpalg.specs.Header.{header_addresses}
 use Rattle.npf_icmpalg.specs.Within.{port_words}
-use Rattle.npf_icmpalg.specs.Word.{new_words}
 use Rattle.npf_icmpalg.proofs.SumLemmas.{sum_after_both}
 use Rattle.npf_icmpalg.proofs.error_translated.error_sum.Goals as goal
 
@@ -14,8 +13,8 @@ returns-clause-value c =
     let bytes = c.args.bytes.now in
     let outer = counted_outer c.args.outer.now.family c.args.outer.now in
     let named = header_addresses c.args.quoted.now.header ++ port_words c.args.quoted.now in
-    let header = new_words c.args.sums.now.header in
-    let upper = new_words c.args.sums.now.upper in
+    let header = word_list c.args.sums.now.header in
+    let upper = word_list c.args.sums.now.upper in
     let first = c.sum_after_outer-sum.result in
     let second = c.sum_after_quoted-sum.result in
     let third = c.sum_after_named-sum.result in
@@ -26,5 +25,5 @@ returns-clause-value c =
     c.sum_after_named-value.ensures in
     let whole = sum_after_both 0 bytes outer (named ++ header ++ upper) c.get16.result first last
     c.sum_after_outer-sum.ensures quoted in
-    ap (λ v. word (c.args.l4_at + icmp_checksum) v ∷ [])
+    ap (word (c.args.l4_at + icmp_checksum))
     (whole ∙ ap (sum_after 0 bytes (outer ++ (named ++ header ++ upper))) c.get16.ensures)

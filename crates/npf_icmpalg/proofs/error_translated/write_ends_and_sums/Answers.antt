@@ -1,13 +1,13 @@
-use Rattle.std.proofs.Common.{◌+◌, List, [], ◌∷◌, ◌++◌, ap, ◌∙◌}
+use Rattle.std.proofs.Common.{◌+◌, Option, [], ◌∷◌, ◌++◌, ap, ◌∙◌}
 use Rattle.npf_fields.specs.Field.{number16}
 use Rattle.npf_packet.specs.Field.{icmp_checksum}
+use Rattle.npf_rewrite.specs.declared.word.WordAt.{WordAt}
 use Rattle.npf_rewrite.specs.Sum.{sum_after}
-use Rattle.npf_rewrite.specs.Word.{word}
+use Rattle.npf_rewrite.specs.Word.{word, word_list}
 use Rattle.npf_rewrite.proofs.WordLemmas.{rewrites_as, rewrites_both}
 use Rattle.npf_icmpalg.specs.ErrorTranslated.{counted_outer}
 use Rattle.npf_icmpalg.specs.Header.{header_addresses}
 use Rattle.npf_icmpalg.specs.Within.{port_words}
-use Rattle.npf_icmpalg.specs.Word.{WordAt, new_words}
 use Rattle.npf_icmpalg.proofs.error_translated.write_ends_and_sums.Goals as goal
 
 pub returns : goal.returns
@@ -17,15 +17,15 @@ returns c =
     let quoted = c.args.quoted.now in
     let sums = c.quoted_sums-sums in
     let at = c.args.l4_at + icmp_checksum in
-    let told = λ (header upper : List WordAt).
+    let told = λ (header upper : Option WordAt).
     word at (sum_after 0 bytes (counted_outer outer.family outer
-    ++ (header_addresses quoted.header ++ port_words quoted ++ header ++ upper)) (number16 bytes at)) ∷ [] in
+    ++ (header_addresses quoted.header ++ port_words quoted ++ word_list header ++ word_list upper)) (number16 bytes at)) in
     let error_is = c.error_sum-error.ensures.value
-    ∙ ap (λ header. told header (new_words sums.result.upper)) sums.ensures.header
+    ∙ ap (λ header. told header sums.result.upper) sums.ensures.header
     ∙ ap (told _) sums.ensures.upper in
-    let header = rewrites_as _ _ _ _ sums.ensures.header c.write_named.ensures in
-    let upper = rewrites_as _ _ _ _ sums.ensures.upper c.write_named-2.ensures in
-    let outer_header = rewrites_as _ _ _ _ c.header_sum-outer_header.ensures.value c.write_named-3.ensures in
-    let error = rewrites_as _ _ _ _ error_is c.write_named-4.ensures in
+    let header = rewrites_as _ _ _ _ (ap word_list sums.ensures.header) c.write_named.ensures in
+    let upper = rewrites_as _ _ _ _ (ap word_list sums.ensures.upper) c.write_named-2.ensures in
+    let outer_header = rewrites_as _ _ _ _ (ap word_list c.header_sum-outer_header.ensures.value) c.write_named-3.ensures in
+    let error = rewrites_as _ _ _ _ (ap (λ w. w ∷ []) error_is) c.write_word.ensures in
     rewrites_both _ _ _ _ _ c.write_ends.ensures
     (rewrites_both _ _ _ _ _ (rewrites_both _ _ _ _ _ (rewrites_both _ _ _ _ _ header upper) outer_header) error)
