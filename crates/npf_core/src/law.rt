@@ -21,6 +21,16 @@ pub trait Law {
         ensures next { result.0 ≡ meaning.next state.now way arg.now }
         ensures answer { result.1 ≡ meaning.answer state.now way arg.now };
 
+    /// The same step in place: the flow goes on by a packet of that way, and the answer.
+    fn advance(state: &mut Self::State, way: Way, arg: &Self::Arg) -> Self::Reply
+        ensures next { state.new ≡ meaning.next state.old way arg.now }
+        ensures answer { result ≡ meaning.answer state.old way arg.now }
+    {
+        let (next, reply) = Self::step(state, way, arg);
+        *state = next;
+        reply
+    }
+
     /// Whether the flow has run out at that time.
     fn due(state: &Self::State, now: u64) -> bool
         ensures { result ≡ meaning.is_due state.now now };

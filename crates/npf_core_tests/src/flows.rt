@@ -129,12 +129,17 @@ fn step_by<L: Law>(state: &L::State, way: Way, arg: &L::Arg) -> (L::State, L::Re
     L::step(state, way, arg)
 }
 
+// The same in place.
+fn advance_by<L: Law>(state: &mut L::State, way: Way, arg: &L::Arg) -> L::Reply {
+    L::advance(state, way, arg)
+}
+
 fn due_by<L: Law>(state: &L::State, now: u64) -> bool {
     L::due(state, now)
 }
 
 /// What a packet makes of the flow, whether it is accepted, which way it is changed, and the flow's last time in nanoseconds. All
-/// else must stay as the flow's opening made it, and at a packet that only peeks the whole flow.
+/// else must stay as the flow's opening made it, and at a packet that only peeks the whole flow. A step in place must come to the same.
 fn step_text(alloc: Global, flow: &mut Flow, way: Way, arg: &FlowArg) -> Result<String> {
     let (next, reply) = step_by::<FlowLaw>(flow, way, arg);
     let rest = Flow {
@@ -142,7 +147,10 @@ fn step_text(alloc: Global, flow: &mut Flow, way: Way, arg: &FlowArg) -> Result<
         last: next.last,
         ..*flow
     };
+    let mut moved = *flow;
+    let told = advance_by::<FlowLaw>(&mut moved, way, arg);
     let accepted = match (arg.peek, reply.pass, next == rest, next == *flow) {
+        _ if moved != next || told != reply => "other in place",
         (true, true, _, true) => "peeked",
         (false, true, true, _) => "accepted",
         (false, false, _, true) => "refused",

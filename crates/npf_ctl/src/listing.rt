@@ -1,12 +1,11 @@
 // What is said of a configuration's rules: how many there are, and the program of each.
 ghost use Rattle.std.specs.Prelude.{◌≡◌, ◌++◌, IfOk, OnOk};
-ghost use Rattle.std.specs.Fmt.{decimal};
 ghost use Rattle.npf_ruleset.specs.Configuration.{programs};
 ghost use Rattle.npf_ctl.specs.Texts.{insn_text, program_text, programs_text, valid_text};
 
-use itoa::Buffer;
 use npf_bpf::{Insn, Program};
 use npf_ruleset::Config;
+use npf_text::{write_counted, write_number, write_text};
 use npf_types::NoMemory;
 use std::alloc::Global;
 
@@ -55,27 +54,4 @@ fn write_insn(into: &mut Vec<u8>, insn: &Insn) -> Result<(), NoMemory>
     write_counted(into, " ", u64::from(insn.jf))?;
     write_counted(into, " ", u64::from(insn.k))?;
     write_text(into, "\n")
-}
-
-// Appends a text and then a number.
-fn write_counted(into: &mut Vec<u8>, text: &str, number: u64) -> Result<(), NoMemory>
-    ensures { OnOk result (into.new.items ≡ into.old.items ++ (text.now ++ decimal number)) }
-{
-    write_text(into, text)?;
-    write_number(into, number)
-}
-
-fn write_text(into: &mut Vec<u8>, text: &str) -> Result<(), NoMemory>
-    ensures { OnOk result (into.new.items ≡ into.old.items ++ text.now) }
-{
-    into.extend_from_slice(text.as_bytes())?;
-    Ok(())
-}
-
-fn write_number(into: &mut Vec<u8>, number: u64) -> Result<(), NoMemory>
-    ensures { OnOk result (into.new.items ≡ into.old.items ++ decimal number) }
-{
-    let mut digits = Buffer::new();
-    into.extend_from_slice(digits.format(number).as_bytes())?;
-    Ok(())
 }

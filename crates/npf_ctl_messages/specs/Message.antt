@@ -6,11 +6,11 @@ use Rattle.npf_faults.specs.declared.fault.Excess.{Excess}
 use Rattle.npf_faults.specs.declared.fault.Excess.TheVariants.{Rules, Tables, Maps, Procedures, Elements, Entries, Weight, Instructions}
 use Rattle.npf_faults.specs.declared.fault.Fault.{Fault}
 use Rattle.npf_faults.specs.declared.fault.Fault.TheVariants.{BadTableFile, TooMany}
+use Rattle.npf_faults.specs.declared.fault.Fault.TheVariants as Faults
 use Rattle.npf_faults.specs.Fault.{fault_number, fault_name, excess_name}
 use Rattle.npf_pcap.specs.declared.fault.CaptureFault.{CaptureFault}
 use Rattle.npf_pcap.specs.Fault.{number_of, name_of, record_of}
-use Rattle.npf_table.specs.declared.fault.TableFault.{TableFault}
-use Rattle.npf_table.specs.declared.fault.TableFault.TheVariants.{Present, Absent, ReadOnly, WrongKind, BadLine as BadTableLine, NoMemory as NoTableMemory}
+use Rattle.npf_table.specs.Fault.{table_fault_number, table_fault_name}
 use Rattle.npf_ctl_messages.specs.declared.fault.CommandFault.{CommandFault}
 use Rattle.npf_ctl_messages.specs.declared.fault.CommandFault.TheVariants.{Usage, Configuration, Unread, Long, Capture, Line, Many, Unwritten, OutputUnwritten, NoMemory}
 use Rattle.npf_ctl_messages.specs.declared.fault.LineFault.{LineFault}
@@ -75,22 +75,30 @@ detail_text _ = []
 abbrev pub conf_fault_text : Fault → List ℕ
 conf_fault_text fault = numbered_text (fault_number fault) (fault_name fault) ++ detail_text fault
 
--- want of memory and a file's line are no faults of a change, and have no number of their own
-abbrev pub table_fault_text : TableFault → List ℕ
-table_fault_text Present = codes "50 Present"
-table_fault_text Absent = codes "51 Absent"
-table_fault_text ReadOnly = codes "52 ReadOnly"
-table_fault_text WrongKind = codes "53 WrongKind"
-table_fault_text (BadTableLine _) = codes "0 BadLine"
-table_fault_text NoTableMemory = codes "0 NoMemory"
+-- a line's fault has the number and the name of its cause; those that only a script can have are its own
+abbrev pub line_fault_number : LineFault → ℕ
+line_fault_number BadLine = 70
+line_fault_number (Conf fault) = fault_number fault.fault
+line_fault_number UnknownTable = fault_number Faults.UnknownTable
+line_fault_number (Table fault) = table_fault_number fault
+line_fault_number UnknownRuleset = 60
+line_fault_number UnknownRule = 61
+
+abbrev pub line_fault_name : LineFault → List ℕ
+line_fault_name BadLine = codes "BadLine"
+line_fault_name (Conf fault) = fault_name fault.fault
+line_fault_name UnknownTable = fault_name Faults.UnknownTable
+line_fault_name (Table fault) = table_fault_name fault
+line_fault_name UnknownRuleset = codes "UnknownRuleset"
+line_fault_name UnknownRule = codes "UnknownRule"
+
+-- what is said of it behind its name
+abbrev pub line_detail_text : LineFault → List ℕ
+line_detail_text (Conf fault) = detail_text fault.fault
+line_detail_text _ = []
 
 abbrev pub line_fault_text : LineFault → List ℕ
-line_fault_text BadLine = codes "70 BadLine"
-line_fault_text (Conf fault) = conf_fault_text fault.fault
-line_fault_text UnknownTable = codes "42 UnknownTable"
-line_fault_text (Table fault) = table_fault_text fault
-line_fault_text UnknownRuleset = codes "60 UnknownRuleset"
-line_fault_text UnknownRule = codes "61 UnknownRule"
+line_fault_text fault = numbered_text (line_fault_number fault) (line_fault_name fault) ++ line_detail_text fault
 
 abbrev pub record_of_text : Option ℕ → List ℕ
 record_of_text None = []

@@ -1,7 +1,7 @@
 ghost use Rattle.std.specs.Prelude.{◌≡◌};
-ghost use Rattle.npf_ctl_messages.specs.Message.{status_of_fault};
+ghost use Rattle.npf_ctl_messages.specs.Message.{line_fault_name, line_fault_number, status_of_fault};
 
-use npf_faults::ConfFault;
+use npf_faults::{ConfFault, Fault};
 use npf_pcap::CaptureFault;
 use npf_table::TableFault;
 use npf_types::{NoMemory, Text};
@@ -68,6 +68,36 @@ pub enum LineFault {
     UnknownRuleset,
     /// No rule of the ruleset has the number.
     UnknownRule,
+}
+
+impl LineFault {
+    /// The number that is printed for the fault.
+    pub fn number(&self) -> u8
+        ensures { result ≡ line_fault_number self.now }
+    {
+        match *self {
+            LineFault::BadLine => 70,
+            LineFault::Conf(fault) => fault.fault.number(),
+            LineFault::UnknownTable => Fault::UnknownTable.number(),
+            LineFault::Table(fault) => fault.number(),
+            LineFault::UnknownRuleset => 60,
+            LineFault::UnknownRule => 61,
+        }
+    }
+
+    /// The name that is printed for the fault.
+    pub fn name(&self) -> &'static str
+        ensures { result.now ≡ line_fault_name self.now }
+    {
+        match *self {
+            LineFault::BadLine => "BadLine",
+            LineFault::Conf(fault) => fault.fault.name(),
+            LineFault::UnknownTable => Fault::UnknownTable.name(),
+            LineFault::Table(fault) => fault.name(),
+            LineFault::UnknownRuleset => "UnknownRuleset",
+            LineFault::UnknownRule => "UnknownRule",
+        }
+    }
 }
 
 /// What a run may have only so many of.

@@ -1,12 +1,12 @@
 ghost use Rattle.std.specs.Prelude.{◌≡◌, ◌++◌, IfOk, OnOk, codes};
-ghost use Rattle.npf_ctl_messages.specs.Message.{message_line, said_of, conf_fault_text, detail_text, table_fault_text, line_fault_text, capture_fault_text};
+ghost use Rattle.npf_ctl_messages.specs.Message.{message_line, said_of, conf_fault_text, detail_text, line_fault_text, capture_fault_text};
 
 use crate::fault::{CommandFault, LineFault};
 use crate::limit::{most_excess, most_of, quantity_name};
-use crate::writing::{write_bytes, write_counted, write_numbered, write_over, write_text};
+use crate::writing::{write_numbered, write_over};
 use npf_faults::{ConfFault, Fault};
 use npf_pcap::CaptureFault;
-use npf_table::TableFault;
+use npf_text::{write_bytes, write_counted, write_text};
 use npf_types::NoMemory;
 use std::alloc::Global;
 
@@ -114,25 +114,9 @@ fn write_line_fault(into: &mut Vec<u8>, fault: &LineFault) -> Result<(), NoMemor
     ensures { OnOk result (into.new.items ≡ into.old.items ++ (codes ": " ++ line_fault_text fault.now)) }
 {
     write_text(into, ": ")?;
+    write_numbered(into, fault.number(), fault.name())?;
     match fault {
-        LineFault::BadLine => write_text(into, "70 BadLine"),
-        LineFault::Conf(fault) => write_conf_fault(into, &fault.fault),
-        LineFault::UnknownTable => write_text(into, "42 UnknownTable"),
-        LineFault::Table(fault) => write_text(into, table_fault_text(fault)),
-        LineFault::UnknownRuleset => write_text(into, "60 UnknownRuleset"),
-        LineFault::UnknownRule => write_text(into, "61 UnknownRule"),
-    }
-}
-
-fn table_fault_text(fault: &TableFault) -> &'static str
-    ensures { result.now ≡ table_fault_text fault.now }
-{
-    match fault {
-        TableFault::Present => "50 Present",
-        TableFault::Absent => "51 Absent",
-        TableFault::ReadOnly => "52 ReadOnly",
-        TableFault::WrongKind => "53 WrongKind",
-        TableFault::BadLine(_) => "0 BadLine",
-        TableFault::NoMemory => "0 NoMemory",
+        LineFault::Conf(fault) => write_detail(into, &fault.fault),
+        _ => Ok(()),
     }
 }

@@ -1,40 +1,9 @@
-// Texts, numbers, and a number with a name or a limit, written behind what a buffer has.
+// A number with a name, and a quantity with its limit, written behind what a buffer has.
 ghost use Rattle.std.specs.Prelude.{◌≡◌, ◌++◌, OnOk};
-ghost use Rattle.std.specs.Fmt.{decimal};
 ghost use Rattle.npf_ctl_messages.specs.Message.{numbered_text, over_text};
 
-use itoa::Buffer;
+use npf_text::{write_counted, write_number, write_text};
 use npf_types::NoMemory;
-
-pub(crate) fn write_bytes(into: &mut Vec<u8>, bytes: &[u8]) -> Result<(), NoMemory>
-    ensures { OnOk result (into.new.items ≡ into.old.items ++ bytes.now) }
-{
-    into.extend_from_slice(bytes)?;
-    Ok(())
-}
-
-pub(crate) fn write_text(into: &mut Vec<u8>, text: &str) -> Result<(), NoMemory>
-    ensures { OnOk result (into.new.items ≡ into.old.items ++ text.now) }
-{
-    into.extend_from_slice(text.as_bytes())?;
-    Ok(())
-}
-
-pub(crate) fn write_number(into: &mut Vec<u8>, number: u64) -> Result<(), NoMemory>
-    ensures { OnOk result (into.new.items ≡ into.old.items ++ decimal number) }
-{
-    let mut digits = Buffer::new();
-    into.extend_from_slice(digits.format(number).as_bytes())?;
-    Ok(())
-}
-
-// Appends a text and then a number.
-pub(crate) fn write_counted(into: &mut Vec<u8>, text: &str, number: u64) -> Result<(), NoMemory>
-    ensures { OnOk result (into.new.items ≡ into.old.items ++ (text.now ++ decimal number)) }
-{
-    write_text(into, text)?;
-    write_number(into, number)
-}
 
 // Appends a fault's number and its name.
 pub(crate) fn write_numbered(into: &mut Vec<u8>, number: u8, name: &str) -> Result<(), NoMemory>

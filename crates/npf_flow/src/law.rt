@@ -1,7 +1,7 @@
 ghost use Rattle.npf_flow.specs.Flows.{flow_law};
 
 use crate::flow::Flow;
-use crate::step::{FlowArg, FlowReply, step_flow};
+use crate::step::{FlowArg, FlowReply, advance_flow, step_flow};
 use crate::timeout;
 use npf_core::Law;
 use npf_types::Way;
@@ -20,6 +20,10 @@ impl Law for FlowLaw {
 
     fn step(state: &Flow, way: Way, arg: &FlowArg) -> (Flow, FlowReply) {
         step_flow(state, way, *arg)
+    }
+
+    fn advance(state: &mut Flow, way: Way, arg: &FlowArg) -> FlowReply {
+        advance_flow(state, way, *arg)
     }
 
     fn due(state: &Flow, now: u64) -> bool {

@@ -30,6 +30,16 @@ pub fn step_flow(flow: &Flow, way: Way, arg: FlowArg) -> (Flow, FlowReply)
     ensures next { result.0 ≡ next_flow flow.now way arg }
     ensures answer { result.1 ≡ flow_reply flow.now way arg }
 {
+    let mut next = *flow;
+    let reply = advance_flow(&mut next, way, arg);
+    (next, reply)
+}
+
+/// The same in place.
+pub fn advance_flow(flow: &mut Flow, way: Way, arg: FlowArg) -> FlowReply
+    ensures next { flow.new ≡ next_flow flow.old way arg }
+    ensures answer { result ≡ flow_reply flow.old way arg }
+{
     let (kind, accepted) = step_kind(flow.kind, way, arg.seg);
     let reply = FlowReply {
         pass: arg.peek || accepted,
@@ -37,19 +47,11 @@ pub fn step_flow(flow: &Flow, way: Way, arg: FlowArg) -> (Flow, FlowReply)
         change: change_of(flow, way),
         action: flow.action,
     };
-    let (kind, last) = if !arg.peek && accepted {
-        (kind, flow.last.max(arg.now))
-    } else {
-        (flow.kind, flow.last)
-    };
-    (
-        Flow {
-            kind,
-            last,
-            ..*flow
-        },
-        reply,
-    )
+    if !arg.peek && accepted {
+        flow.kind = kind;
+        flow.last = flow.last.max(arg.now);
+    }
+    reply
 }
 
 /// The kind after a packet, and whether the packet is accepted.

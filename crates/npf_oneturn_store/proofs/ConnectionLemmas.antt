@@ -1,5 +1,5 @@
 -- Connections by the numbers of their slots, as one of them changes.
-use Rattle.std.proofs.Common.{◌≡◌, ◌≢◌, ℕ, zero, suc, [], ◌∷◌, ◌++◌, get_or, ◌+◌, ◌-◌, ◌^◌, ◌<◌, ◌≤◌, ◌==◌, Bool, true, false, cond, List, length, set, arith, refl, sym, ap, ◌∙◌, ⊎_elim}
+use Rattle.std.proofs.Common.{◌≡◌, ◌≢◌, ℕ, zero, suc, [], ◌∷◌, ◌++◌, get_or, ◌+◌, ◌-◌, ◌^◌, ◌<◌, ◌≤◌, ◌==◌, Bool, true, false, cond, List, length, set, arith, refl, sym, ap, subst, ◌∙◌, ⊎_elim}
 use Rattle.std.proofs.lemmas.Bool.{cases_eq, cases_lt}
 use Rattle.std.proofs.lemmas.Bool.Decides.{Decides-eqb}
 use Rattle.std.proofs.lemmas.List.{get_or-set_same, get_or-set_other}
@@ -7,8 +7,9 @@ use Rattle.std.proofs.lemmas.Option.{slice_get_past, slice_get_read, unwrap_or-s
 use Rattle.npf_core.specs.declared.conn_id.ConnId.{ConnId}
 use Rattle.npf_oneturn_store.specs.declared.connection.Connection.{Connection}
 use Rattle.npf_oneturn_store.specs.declared.phase.Phase.{Phase}
-use Rattle.npf_oneturn_store.specs.declared.phase.Phase.TheVariants.{Vacant, Dead}
+use Rattle.npf_oneturn_store.specs.declared.phase.Phase.TheVariants.{Vacant, Live, Dead}
 use Rattle.npf_oneturn_store.specs.Connection.{connection_in, phase_at, phase_among, AreFit}
+use Rattle.npf_oneturn_store.specs.Store.{IsLivePhase}
 
 abbrev never : {S : Type 0} → Connection S
 never = record { inc = 0; phase = Vacant }
@@ -66,6 +67,24 @@ module _ {S : Type 0} (xs : List (Connection S)) where
   -- a Dead one is claimed
   pub dead_claimed : (id : ConnId) → phase_among xs id ≡ Dead → phase_among xs id ≢ Vacant
   dead_claimed id dead vacant = let e : ◌≡◌ {A = Phase S} Dead Vacant = sym dead ∙ vacant in absurd cc
+
+  -- a Live one is claimed, and its phase is its slot's
+  pub live_claimed : (id : ConnId) → IsLivePhase (phase_among xs id) → phase_among xs id ≢ Vacant
+  live_claimed id live vacant = subst IsLivePhase vacant live
+
+  pub live_phase : (id : ConnId) → IsLivePhase (phase_among xs id) → phase_among xs id ≡ (connection_in xs id.slot).phase
+  live_phase id live = by_inc ((connection_in xs id.slot).inc == id.inc) live
+    where
+      by_inc : (same : Bool) → IsLivePhase (cond same (connection_in xs id.slot).phase Vacant) → cond same (connection_in xs id.slot).phase Vacant ≡ (connection_in xs id.slot).phase
+      by_inc true here = refl
+      by_inc false here = absurd here
+
+  -- what is Live is claimed
+  pub live_stays : (x : Connection S) (flow : S) (steps : ℕ) → x.phase ≡ Live flow steps → x.phase ≢ Vacant
+  live_stays x flow steps is vacant = let e : ◌≡◌ {A = Phase S} (Live flow steps) Vacant = sym is ∙ vacant in absurd cc
+
+  pub given_inc : (x : Connection S) (phase : Phase S) (inc other : ℕ) → x ≡ record { inc = inc; phase = phase } → inc ≡ other → x ≡ record { inc = other; phase = phase }
+  given_inc x phase inc other is same = is ∙ λ i. record { inc = same i; phase = phase }
 
   -- two claimed identities of one slot are one
   pub one_claimed : (id other : ConnId) → phase_among xs id ≢ Vacant → phase_among xs other ≢ Vacant → other.slot ≡ id.slot → other ≡ id

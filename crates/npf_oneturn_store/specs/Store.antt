@@ -172,6 +172,13 @@ pub record Steps {S A R : Type 0} (m : Meaning S A R) (old new : Store S) (id : 
   pub answer : reply ≡ m.answer flow way arg
   pub stepped : Puts old new id (Live (m.next flow way arg) (min (place + 1) (2 ^ 64 - 1)))
 
+-- the same step of what stands in a slot
+pub record AdvancesFlow {S A R : Type 0} (m : Meaning S A R) (old new : Connection S) (way : Way) (arg : A) (reply : R) (place : ℕ) : Type 0 where
+  pub flow : S
+  pub live : old.phase ≡ Live flow place
+  pub answer : reply ≡ m.answer flow way arg
+  pub stepped : new ≡ record { inc = old.inc; phase = Live (m.next flow way arg) (min (place + 1) (2 ^ 64 - 1)) }
+
 -- the connection isn't Live, and all is as it was
 pub record IsNotLive {S : Type 0} (old new : Store S) (id : ConnId) : Type 0 where
   pub refused : ¬ IsLivePhase (phase_of old id)

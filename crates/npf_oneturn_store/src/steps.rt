@@ -1,4 +1,4 @@
-ghost use Rattle.npf_oneturn_store.specs.Store.{AnswersStep, TellsDue};
+ghost use Rattle.npf_oneturn_store.specs.Store.{AdvancesFlow, AnswersStep, IsLivePhase, TellsDue};
 
 use crate::connection::Connection;
 use crate::phase::Phase;
@@ -16,18 +16,26 @@ pub fn step<L: Law>(
 ) -> Stepped<L::Reply>
     ensures { AnswersStep L.meaning store.old store.new id way arg.now result }
 {
-    let Some((flow, steps)) = store.live(id) else {
+    if !store.is_live(id) {
         return Stepped::NotLive;
-    };
-    let (flow, reply) = L::step(flow, way, arg);
-    let next = Phase::Live {
-        flow,
-        steps: steps.saturating_add(1),
-    };
-    store.put(id, next);
-    Stepped::Done {
-        reply,
-        place: steps,
+    }
+    let (reply, place) = advance::<L>(&mut store.connections[id.slot as usize], way, arg);
+    Stepped::Done { reply, place }
+}
+
+// The next step of a Live connection, in place: the law's answer, and the number of the steps before this one.
+fn advance<L: Law>(connection: &mut Connection<L::State>, way: Way, arg: &L::Arg) -> (L::Reply, u64)
+    requires { IsLivePhase connection.old.phase }
+    ensures { AdvancesFlow L.meaning connection.old connection.new way arg.now result.0 result.1 }
+{
+    match &mut connection.phase {
+        Phase::Live { flow, steps } => {
+            let place = *steps;
+            let reply = L::advance(flow, way, arg);
+            *steps = place.saturating_add(1);
+            (reply, place)
+        }
+        Phase::Vacant | Phase::Building | Phase::Dead => unreachable!(),
     }
 }
 

@@ -14,7 +14,7 @@ use std::alloc::Global;
 pub struct Store<S> {
     slots: u32,
     // The last connection of each slot. Those past the last slot that was ever claimed aren't written yet, but have their room.
-    connections: Vec<Connection<S>>,
+    pub(crate) connections: Vec<Connection<S>>,
     // Each slot below this one is claimed.
     first: u32,
     keys: Keys,
@@ -67,19 +67,14 @@ impl<S: Copy> Store<S> {
         }
     }
 
-    // A Live connection's flow, and the number of its steps.
-    pub(crate) fn live(&self, id: ConnId) -> Option<(&S, u64)>
-        ensures some { IfSome result (λ live. phase_of self.now id ≡ Phase.Live live.0.now live.1) }
-        ensures none { IfNone result (¬ IsLivePhase (phase_of self.now id)) }
+    pub(crate) fn is_live(&self, id: ConnId) -> bool
+        ensures { IsTrue result ↔ IsLivePhase (phase_of self.now id) }
     {
         match self.connections.get(id.slot as usize) {
-            Some(
-                Connection {
-                    inc,
-                    phase: Phase::Live { flow, steps },
-                },
-            ) if *inc == id.inc => Some((flow, *steps)),
-            _ => None,
+            Some(connection) => {
+                connection.inc == id.inc && matches!(connection.phase, Phase::Live { .. })
+            }
+            None => false,
         }
     }
 

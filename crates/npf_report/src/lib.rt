@@ -1,7 +1,6 @@
 // The report of a run: a line for each packet, and the total line (docs/npfctl.8, "The report").
 //
-// `lines` writes the line of a packet, `outcomes` what it says of the packet's outcome, `totals` the last line, and `writing`
-// texts and numbers.
+// `lines` writes the line of a packet, `outcomes` what it says of the packet's outcome, and `totals` the last line.
 //
 // The contract: the bytes of a line are those that the table of the report gives for the packet's number, its interface, its
 // direction and its outcome (specs/LineText, specs/OutcomeText), and those of the total line the counts of each kind of outcome
@@ -12,7 +11,6 @@
 mod lines;
 mod outcomes;
 mod totals;
-mod writing;
 
 pub use lines::{line, write_line};
 pub use totals::{total, write_total};

@@ -4,8 +4,8 @@ ghost use Rattle.npf_types.specs.Name.{name_bytes};
 ghost use Rattle.npf_report.specs.LineText.{line_text, dir_text};
 
 use crate::outcomes::write_outcome;
-use crate::writing::{write_number, write_text};
 use npf_engine::Outcome;
+use npf_text::{write_number, write_text};
 use npf_types::{Dir, Name, NoMemory};
 use std::alloc::Global;
 

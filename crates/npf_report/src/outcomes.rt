@@ -1,11 +1,11 @@
 // What a line says of a packet's outcome, by the rows of the table.
 ghost use Rattle.std.specs.Prelude.{◌≡◌, ◌+◌, ◌++◌, OnOk};
-ghost use Rattle.npf_report.specs.OutcomeText.{outcome_text, fragment_text, malformed_text, conn_text, verdict_text, unkept_text, dropped_text, refusal_text, opened_text, return_text, log_text};
+ghost use Rattle.npf_report.specs.OutcomeText.{outcome_text, two_numbers, fragment_text, malformed_text, conn_text, verdict_text, unkept_text, dropped_text, refusal_text, opened_text, return_text, log_text};
 
-use crate::writing::{write_counted, write_text, write_two};
 use npf_core::ConnId;
 use npf_engine::{Outcome, Refusal};
 use npf_packet::BadPacket;
+use npf_text::{write_counted, write_text};
 use npf_traffic::FragWhy;
 use npf_types::{Decision, Name, NoMemory, Return};
 
@@ -178,4 +178,19 @@ fn write_log(into: &mut Vec<u8>, log: Option<Name>) -> Result<(), NoMemory>
     write_text(into, " log ")?;
     into.extend_from_slice(name.as_bytes())?;
     Ok(())
+}
+
+// Appends two numbers, each behind its text.
+#[inline(always)]
+fn write_two(
+    into: &mut Vec<u8>,
+    first: &str,
+    one: u64,
+    second: &str,
+    other: u64,
+) -> Result<(), NoMemory>
+    ensures { OnOk result (into.new.items ≡ into.old.items ++ two_numbers first.now one second.now other) }
+{
+    write_counted(into, first, one)?;
+    write_counted(into, second, other)
 }

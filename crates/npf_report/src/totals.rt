@@ -2,8 +2,8 @@
 ghost use Rattle.std.specs.Prelude.{◌≡◌, ◌++◌, [], OnOk, IfOk};
 ghost use Rattle.npf_report.specs.TotalText.{total_text, CountsOutcomes, AddsOutcome, MayCount, is_blocked, is_dropped, is_skipped, is_malformed};
 
-use crate::writing::write_counted;
 use npf_engine::Outcome;
+use npf_text::write_counted;
 use npf_types::{Decision, NoMemory};
 use std::alloc::Global;
 
