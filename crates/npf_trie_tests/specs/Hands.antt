@@ -1,5 +1,5 @@
 -- Passes before a call that holds a key.
-use Rattle.std.specs.Prelude.{◌≡◌, []}
+use Rattle.std.specs.Prelude.{◌≡◌, None, []}
 use Rattle.npf_cells_rule.specs.declared.view.CellView.{CellView}
 use Rattle.npf_cells_pins.specs.declared.pin.Pin.TheVariants.{Idle}
 use Rattle.npf_cells_rule.specs.Passes.{IsProtected}
@@ -15,3 +15,10 @@ pub record IsEmptyHanded {S A R : Type 0} (v : CellView S A R) : Type 0 where
   pub protected : IsProtected v.epochs.pin
   pub nodes : v.pools.nodes ≡ []
   pub locks : v.trie.locks ≡ []
+
+-- a pass in a stay that has neither a node, a lock nor a turn
+pub record HasFreeHands {S A R : Type 0} (v : CellView S A R) : Type 0 where
+  pub protected : IsProtected v.epochs.pin
+  pub nodes : v.pools.nodes ≡ []
+  pub locks : v.trie.locks ≡ []
+  pub turn : v.turn ≡ None

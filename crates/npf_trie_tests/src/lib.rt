@@ -1,5 +1,5 @@
-// The tests of the table without locks and of keys in its trie, through the public calls of npf_paths, npf_cells, npf_epoch, npf_pool and
-// npf_trie. Expected values are counted by hand: by the digits of npf_paths two keys of one hash part at the first half-byte in which they
+// The tests of the table without locks and of keys in its trie, through the public calls of npf_paths, npf_cells, npf_epoch, npf_pool,
+// npf_turn and npf_trie. Expected values are counted by hand: by the digits of npf_paths two keys of one hash part at the first half-byte in which they
 // differ, the highest of a key's being of level 15. What is answered is put into lines of text, which are compared.
 #![tactic(auto)]
 
@@ -21,5 +21,7 @@ mod paths;
 mod slots;
 #[cfg(test)]
 mod stays;
+#[cfg(test)]
+mod turning;
 #[cfg(test)]
 mod works;
