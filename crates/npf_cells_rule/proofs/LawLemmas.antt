@@ -1,6 +1,6 @@
 -- What the rule says of who owns a node and who builds in a slot.
 use Rattle.atomic_table.proofs.Lists.{at_map}
-use Rattle.std.proofs.Common.{map, ◌≡◌, subst, ◌≢◌, ℕ, ◌%◌, ◌<◌, ◌≤◌, slice_index, ⊎_elim, arith}
+use Rattle.std.proofs.Common.{map, ◌≢◌, ℕ, ◌%◌, ◌<◌, ◌≤◌, slice_index, ⊎_elim, arith}
 use Rattle.std.proofs.lemmas.Bool.{cases_eq}
 use Rattle.std.proofs.lemmas.Nat.Bits.{bit_at-lt}
 use Rattle.atomic_table.specs.Table.{State}

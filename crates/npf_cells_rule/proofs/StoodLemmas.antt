@@ -1,5 +1,5 @@
 -- What a step finds, in the state that it meets.
-use Rattle.std.proofs.Common.{◌≡◌, ℕ, true, List, [], slice_index, sym, ap, subst}
+use Rattle.std.proofs.Common.{◌≡◌, ℕ, true, [], slice_index, sym, ap, subst}
 use mathlib.Core.Option.{some}
 use lib.ListN.{get_elem?}
 use Rattle.atomic_table.specs.Table.{State}

@@ -1,19 +1,12 @@
 -- What the part on the trie says of what passes loaded.
-use Rattle.std.proofs.Common.{◌≡◌, ℕ, ap, ◌∙◌, subst}
+use Rattle.std.proofs.Common.{ℕ, subst}
 use Rattle.npf_core.specs.History.{state_of}
 use Rattle.npf_core.specs.Machine.{stage_of, IsClaimed}
 use Rattle.npf_core.specs.Meaning.{Meaning}
 use Rattle.npf_core.proofs.HolderLemmas.{holders_claimed}
-use Rattle.npf_paths.specs.declared.cell.Cell.{Cell}
-use Rattle.npf_paths.specs.declared.cell.Cell.TheVariants as Cells
-use Rattle.npf_paths.specs.declared.place.Place.{Place}
-use Rattle.npf_paths.specs.declared.place.Place.TheVariants as Places
-use Rattle.npf_paths.specs.Paths.{IsOnPath}
-use Rattle.npf_paths.specs.Paths.IsOnPath.{at_root, further}
 use Rattle.npf_cells_words.specs.declared.layout.Layout.{Layout}
-use Rattle.npf_cells_leaves.specs.Trie.{digits_of, trie_words, leaf_found}
+use Rattle.npf_cells_leaves.specs.Trie.{trie_words, leaf_found}
 use Rattle.npf_cells_leaves.proofs.StandLemmas.{stands_published}
-use Rattle.npf_cells_leaves.proofs.TrieLemmas.{are_digits}
 use Rattle.npf_cells_rule.specs.TrieLaw.{EndsNameHolders, LeavesAreKept, NodesAreKept}
 use Rattle.npf_cells_rule.specs.Views.{trie_side}
 use Rattle.npf_cells_rule.proofs.MetLemmas.{unowned}
