@@ -2,8 +2,9 @@ ghost use Rattle.std.specs.Prelude.{◌≡◌, ◌≤◌, ◌<◌, ◌^◌, ◌+
 ghost use Rattle.npf_connections.specs.Pass.{all_places};
 ghost use Rattle.npf_cells_words.specs.Layout.{pool_words, word_count};
 ghost use Rattle.npf_cells_words.specs.Opening.{opening_words, with_past};
-ghost use Rattle.npf_seats.specs.Sums.{numbers_below};
+ghost use Rattle.npf_cells_rule.specs.Readers.{reader_in_turn, readers_in_turn};
 
+use crate::hints::Hints;
 use crate::kinds::{
     AdvancesEpoch, LoadsEpoch, PinsReader, ProtectsReader, ScansReader, UnpinsReader,
 };
@@ -41,6 +42,28 @@ pub struct CellPass<L: Law> {
     pub(crate) seat: Seat<Option<(L::State, u64)>, CellView<L::State, L::Arg, L::Reply>>,
     /// Its reader places: the first is the one that it pins by.
     readers: ArrayVec<u32, 66>,
+    hints: Hints,
+}
+
+impl<L: Law> CellPass<L> {
+    /// In which word of the pool to begin a search for a free place. Any number is a hint.
+    pub fn hint(&self, pool: Pool) -> u32 {
+        match pool {
+            Pool::Slots => self.hints.slots,
+            Pool::Nodes => self.hints.nodes,
+        }
+    }
+
+    /// Begins the next search in that pool in this word.
+    pub fn set_hint(&mut self, pool: Pool, word: u32)
+        ensures seat { self.new.seat ≡ self.old.seat }
+        ensures readers { self.new.readers ≡ self.old.readers }
+    {
+        match pool {
+            Pool::Slots => self.hints.slots = word,
+            Pool::Nodes => self.hints.nodes = word,
+        }
+    }
 }
 
 impl<L: Law, H: KeyHash> Cells<L, H> {
@@ -85,7 +108,15 @@ impl<L: Law, H: KeyHash> Cells<L, H> {
             Ok((table, seat)) => {
                 let cells = Cells { table, layout };
                 let readers = all_readers();
-                Ok((cells, CellPass { seat, readers }))
+                let hints = Hints::of_reader(layout, 0);
+                Ok((
+                    cells,
+                    CellPass {
+                        seat,
+                        readers,
+                        hints,
+                    },
+                ))
             }
             Err(Refused { .. }) => Err(NoMemory),
         }
@@ -121,7 +152,12 @@ impl<L: Law, H: KeyHash> Cells<L, H> {
         let readers = give_last(&mut pass.readers);
         let mut seat = self.table.shared.split_seat::<Gives>(&mut pass.seat);
         self.table.shared.load::<GetsBorn<L>>(&mut seat, EPOCH);
-        CellPass { seat, readers }
+        let hints = Hints::of_reader(self.layout, readers[0]);
+        CellPass {
+            seat,
+            readers,
+            hints,
+        }
     }
 
     /// A pass takes another in, with its reader places, and sees what either has seen. Its counts become the sums of both.
@@ -143,7 +179,7 @@ impl<L: Law, H: KeyHash> Cells<L, H> {
         ensures joins { IsJoined (cell_pass pass.old.seat.me.0) (cell_pass other.seat.me.0) (cell_pass pass.new.seat.me.0) }
         ensures legal { IsPass L.meaning (cell_pass pass.new.seat.me.0) }
     {
-        let CellPass { seat, readers } = other;
+        let CellPass { seat, readers, .. } = other;
         self.table.shared.join_seat::<TakesIn>(&mut pass.seat, seat);
         self.table.shared.load::<Reads<L>>(&mut pass.seat, EPOCH);
         add_all(&mut pass.readers, &readers);
@@ -277,16 +313,23 @@ fn vacant_homes<S: Copy>(alloc: Global, slots: u32) -> Result<Vec<Option<(S, u64
     Ok(vec![in alloc; None; slots as usize]?)
 }
 
-// Each reader place, in order.
-#[tactic(auto, using(npf_seats::proofs::SumLemmas::below_next))]
+// Each reader place, in the order in which the first pass has them.
 fn all_readers() -> ArrayVec<u32, 66>
-    ensures { result.items ≡ numbers_below all_places }
+    ensures { result.items ≡ readers_in_turn }
 {
     let mut readers = ArrayVec::new();
-    for reader in 0..READERS {
-        readers.push(reader);
+    for position in 0..READERS {
+        readers.push(reader_in_turn(position));
     }
     readers
+}
+
+// The reader place at a position: six rows of eleven, column after column, so that neighbours lie in different cache lines.
+fn reader_in_turn(position: u32) -> u32
+    requires { position < all_places }
+    ensures { result ≡ reader_in_turn position }
+{
+    (5 - position % 6) * 11 + (position / 6 + 10) % 11
 }
 
 // The last of the reader places is given up.

@@ -13,6 +13,7 @@
 #![tactic(auto)]
 
 mod cells;
+mod hints;
 mod hold;
 mod kinds;
 mod locks;
@@ -33,7 +34,7 @@ pub use npf_cells_holds::Aim;
 pub use npf_cells_leaves::{LoadedLeaf, Meeting, PathPlace, SeenCell, TrieSide};
 pub use npf_cells_lives::{PoolSide, StoredWord, Turn};
 pub use npf_cells_pins::{EpochSide, Pin};
-pub use npf_cells_rule::{CellView, claim_law, count_law, protection_law, trie_law};
+pub use npf_cells_rule::{CellView, claim_law, count_law, protection_law, reader_law, trie_law};
 pub use npf_cells_turns::TurnAct;
 pub use npf_cells_words::{LAST_EPOCH, Layout, PHASE, Pool, READERS};
 pub use npf_seats::SeatSide;

@@ -4,6 +4,7 @@ pub mod LawLemmas
 pub mod MetLemmas
 pub mod OpenLemmas
 pub mod PassLemmas
+pub mod ReaderLemmas
 pub mod SoleLemmas
 pub mod StoodLemmas
 pub mod TrieLawLemmas

@@ -1,6 +1,6 @@
 -- A new table keeps the rule.
 use Rattle.std.specs.List.{Contains}
-use Rattle.std.proofs.Common.{◌≡◌, ℕ, zero, suc, ◌+◌, ◌<◌, ◌≤◌, Bool, true, false, true≢false, cond, Some, None, List, [], ◌∷◌, map, length, slice_index, replicate, sum_by, refl, sym, ap, ◌∙◌, subst, ⊎_elim, inl, arith}
+use Rattle.std.proofs.Common.{◌≡◌, ℕ, zero, suc, ◌+◌, ◌<◌, ◌≤◌, Bool, true, false, cond, Some, None, List, [], ◌∷◌, map, slice_index, replicate, refl, sym, ap, ◌∙◌, subst, ⊎_elim, arith}
 use Rattle.std.proofs.lemmas.List.{get_or-set_same, length-map, length-replicate}
 use Rattle.std.proofs.lemmas.List.Sums.{sum_by-cons}
 use mathlib.Core.Option.{some, some-injective, some-ne-none}
@@ -8,7 +8,6 @@ use lib.ListN.{get_elem?}
 use Rattle.atomic_table.specs.Table.{opening as table_opening}
 use Rattle.atomic_table.proofs.Lists.{at_map}
 use Rattle.npf_types.specs.declared.key.Key.{Key}
-use Rattle.npf_core.specs.declared.entry.Entry.{Entry}
 use Rattle.npf_core.specs.Machine.{opening}
 use Rattle.npf_core.specs.Meaning.{Meaning}
 use Rattle.npf_connections.specs.Pass.{all_places}
@@ -25,12 +24,9 @@ use Rattle.npf_cells_words.specs.Opening.{opening_words}
 use Rattle.npf_cells_words.specs.Places.{lock_at, is_in_trie, place_at}
 use Rattle.npf_cells_words.proofs.WordLemmas.{lock_behind, place_behind}
 use Rattle.npf_cells_words.proofs.OpeningLemmas.{start_zero, count, before, behind, clear, past}
-use Rattle.npf_seats.specs.declared.side.SeatSide.{SeatSide}
-use Rattle.npf_seats.specs.Seats.{FitsSeats, Seats}
-use Rattle.npf_seats.specs.Sums.{occurs, numbers_below}
-use Rattle.npf_seats.proofs.PrefixLemmas.{none_listed, prefix_of_none}
-use Rattle.npf_seats.proofs.SeatLemmas.{cases_lt}
-use Rattle.npf_seats.proofs.SumLemmas.{occurs_below, occurs_beyond, length-numbers_below}
+use Rattle.npf_seats.specs.Sums.{occurs}
+use Rattle.npf_seats.proofs.PrefixLemmas.{none_listed}
+use Rattle.npf_seats.proofs.SeatLemmas.{cases_lt, seats-first}
 use Rattle.npf_cells_pins.specs.Epochs.{ReaderView, pin_place, FitsEpochs, all_raises}
 use Rattle.npf_cells_pins.proofs.EpochLemmas.{idle_holds}
 use Rattle.npf_cells_leaves.specs.Trie.{trie_words, holder_at, FitsTrie}
@@ -46,6 +42,8 @@ use Rattle.npf_cells_rule.specs.declared.view.CellView.{CellView}
 use Rattle.npf_cells_rule.specs.Cells.{FitsAlone, IsCells, first_cell_view}
 use Rattle.npf_cells_rule.specs.Views.{reader_view, lock_side, pool_side, turn_side}
 use Rattle.npf_cells_lives.specs.Turns.{Running, has_turn, turn_holders, FitsTurn, Turns}
+use Rattle.npf_cells_rule.specs.Readers.{readers_in_turn}
+use Rattle.npf_cells_rule.proofs.ReaderLemmas.{in_turn_once, in_turn_never, length-in_turn}
 
 -- no cell is said by 0
 nothing_in : (b : Bool) (word : ℕ) → word ≡ 0 → cond b (cell_of word) Empty ≡ Empty
@@ -62,34 +60,6 @@ module _ {S A R : Type 0} (layout : Layout) where
   abbrev view : CellView S A R
   view = first_cell_view layout
 
-  first_fits : FitsSeats entry_seat layout.slots (view.seats ∷ []) [] 0 view.seats
-  first_fits = record {
-    sized = λ _. refl;
-    others = λ n c. absurd (none_listed n c);
-    seen = prefix_of_none [];
-    told = prefix_of_none [];
-    unborn = λ e. absurd (true≢false e);
-    lives = λ _. record { number = refl; own = refl };
-    joined = λ n c. absurd (none_listed n c);
-    theirs = λ n c. absurd (none_listed n c);
-  }
-
-  first_seats : Seats entry_seat layout.slots all_places [] (view.seats ∷ [])
-  first_seats = record {
-    each = each;
-    owned = λ reader h. let a = alone (λ (u : SeatSide ℕ (Entry S A R)). occurs reader u.readers) in let b = occurs_below all_places reader h in omega (arith, a, b);
-    beyond = λ reader h. let a = alone (λ (u : SeatSide ℕ (Entry S A R)). occurs reader u.readers) in let b = occurs_beyond all_places reader h in omega (arith, a, b);
-    total = let a = alone (λ (u : SeatSide ℕ (Entry S A R)). length u.readers) in let b = length-numbers_below all_places in omega (arith, a, b);
-    known = λ n. inl refl;
-  }
-    where
-      alone : (f : SeatSide ℕ (Entry S A R) → ℕ) → sum_by f (view.seats ∷ []) ≡ f view.seats
-      alone f = let a = sum_by-cons f view.seats [] in omega (arith, a)
-
-      each : (j : ℕ) (v : SeatSide ℕ (Entry S A R)) → get_elem? (view.seats ∷ []) j ≡ some v → FitsSeats entry_seat layout.slots (view.seats ∷ []) [] j v
-      each zero v e = subst (λ (u : SeatSide ℕ (Entry S A R)). FitsSeats entry_seat layout.slots (view.seats ∷ []) [] 0 u) (some-injective _ _ e) first_fits
-      each (suc j) v e = absurd (some-ne-none v (sym e))
-
   -- no place is taken
   untaken : (v : CellView S A R) → v.pools.nodes ≡ [] → (pool : Pool) (p : ℕ) → taken {S = S} pool_side [] opening (v ∷ []) pool p ≡ 0
   untaken v none Slots p = refl
@@ -100,7 +70,7 @@ module _ {S A R : Type 0} (layout : Layout) where
   opens m digest words homes is vacant = rw (is, vacant) (record {
     log = [];
     published = [];
-    seats = first_seats;
+    seats = seats-first entry_seat layout.slots all_places readers_in_turn in_turn_once in_turn_never length-in_turn;
     epochs = record {
       from = omega (arith, epoch);
       most = omega (arith, epoch);
@@ -144,8 +114,8 @@ module _ {S A R : Type 0} (layout : Layout) where
         pinned = λ _. refl;
       }
         where
-          within : (place : ℕ) → 1 ≤ occurs place (numbers_below all_places) → place < all_places
-          within place owns = ⊎_elim (λ h. h) (λ (h : all_places ≤ place). let none = occurs_beyond all_places place h in absurd (omega (arith, none, owns))) (cases_lt place all_places)
+          within : (place : ℕ) → 1 ≤ occurs place readers_in_turn → place < all_places
+          within place owns = ⊎_elim (λ h. h) (λ (h : all_places ≤ place). let none = in_turn_never place h in absurd (omega (arith, none, owns))) (cases_lt place all_places)
 
       each : (j : ℕ) (r : ReaderView) → get_elem? (reader_view view ∷ []) j ≡ some r → FitsEpochs (epoch_word (opening_words layout)) (reader_word (opening_words layout)) r
       each zero r e = subst (λ (u : ReaderView). FitsEpochs (epoch_word (opening_words layout)) (reader_word (opening_words layout)) u) (some-injective _ _ e) first_reads
@@ -192,7 +162,7 @@ module _ {S A R : Type 0} (layout : Layout) where
 
       alone : (j : ℕ) (v : CellView S A R) → get_elem? (view ∷ []) j ≡ some v → FitsAlone v
       alone zero v e = subst (λ (u : CellView S A R). FitsAlone u) (some-injective _ _ e)
-          (record { out = λ _. record { stands = refl; leaf = refl; seen = refl; meets = refl; answered = refl; locks = refl }; spent = λ none. absurd (let long = length-numbers_below all_places in omega (arith, none, long)) })
+          (record { out = λ _. record { stands = refl; leaf = refl; seen = refl; meets = refl; answered = refl; locks = refl }; spent = λ none. absurd (let long = length-in_turn in omega (arith, none, long)) })
       alone (suc j) v e = absurd (some-ne-none v (sym e))
 
       builds_none : (j : ℕ) (v : CellView S A R) → get_elem? (view ∷ []) j ≡ some v → FitsBuilds {S = S} opening j v.pools.builds v.pools.unstored

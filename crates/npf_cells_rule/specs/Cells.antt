@@ -1,5 +1,5 @@
 -- The rule of the table without locks: seven parts, over its words and the sides of the views, and what it says of each pass by itself.
-use Rattle.std.specs.Prelude.{◌≡◌, ℕ, true, None, List, [], map, length}
+use Rattle.std.specs.Prelude.{◌≡◌, ℕ, None, List, map, length}
 use mathlib.Core.Option.{some}
 use lib.ListN.{get_elem?}
 use Rattle.atomic_table.specs.Table.{State}
@@ -10,8 +10,8 @@ use Rattle.npf_core.specs.Meaning.{Meaning}
 use Rattle.npf_connections.specs.Pass.{all_places}
 use Rattle.npf_cells_words.specs.declared.layout.Layout.{Layout}
 use Rattle.npf_cells_words.specs.Layout.{epoch_word, reader_word}
+use Rattle.npf_seats.specs.Moves.{first_seat}
 use Rattle.npf_seats.specs.Seats.{Seats}
-use Rattle.npf_seats.specs.Sums.{numbers_below}
 use Rattle.npf_cells_pins.specs.Epochs.{Epochs, idle_side}
 use Rattle.npf_cells_leaves.specs.Trie.{HasNoWalk, Trie, unread_side}
 use Rattle.npf_cells_lives.specs.Conns.{Conns, entry_seat}
@@ -22,6 +22,7 @@ use Rattle.npf_cells_rule.specs.declared.view.CellView.{CellView}
 use Rattle.npf_cells_rule.specs.Passes.{IsProtected}
 use Rattle.npf_cells_rule.specs.Views.{seat_side, reader_view, lock_side, pool_side, trie_side, turn_side, nothing_left}
 use Rattle.npf_cells_lives.specs.Turns.{Running, Turns}
+use Rattle.npf_cells_rule.specs.Readers.{readers_in_turn}
 
 -- what the rule says of one pass by itself: one that isn't protected walked nowhere and has no lock, and one that owns no reader place,
 -- whose seat is spent, is nothing at all
@@ -49,17 +50,7 @@ pub record IsCells {S A R : Type 0} (m : Meaning S A R) (digest : Key → ℕ) (
 -- the first pass, which owns all reader places
 abbrev pub first_cell_view : {S A R : Type 0} → Layout → CellView S A R
 first_cell_view layout = record {
-  seats = record {
-    about = layout.slots;
-    number = 0;
-    lives = true;
-    history = [];
-    readers = numbers_below all_places;
-    joined = [];
-    told = [];
-    theirs = [];
-    others = [];
-  };
+  seats = first_seat layout.slots readers_in_turn;
   epochs = idle_side;
   pools = empty_handed;
   trie = unread_side;

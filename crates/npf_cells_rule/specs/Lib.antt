@@ -1,5 +1,6 @@
 pub mod Cells
 pub mod Passes
+pub mod Readers
 pub mod Stood
 pub mod TableLaw
 pub mod TrieLaw

@@ -1,6 +1,7 @@
 // What holds of every table between any two steps. The functions do nothing: each is a theorem.
 ghost use Rattle.npf_cells_words.specs.declared.layout.Layout.{Layout};
 ghost use Rattle.npf_cells_rule.specs.TableLaw.{OwnsAlone, BuildsAlone, HoldsBack, CountsRaises, SoleRaises};
+ghost use Rattle.npf_cells_rule.specs.Readers.{ReadersStandApart};
 ghost use Rattle.npf_cells_rule.specs.TrieLaw.{EndsNameHolders, LeavesAreKept, NodesAreKept};
 
 use npf_core::Law;
@@ -28,4 +29,9 @@ pub fn trie_law<L: Law>()
     ensures ends { (layout : Layout) → EndsNameHolders L.meaning layout }
     ensures leaves { (layout : Layout) → LeavesAreKept L.meaning layout }
     ensures nodes { (layout : Layout) → NodesAreKept L.meaning layout }
+{}
+
+/// The reader law: reader places that are given one after the other lie in different cache lines.
+pub fn reader_law()
+    ensures { ReadersStandApart }
 {}

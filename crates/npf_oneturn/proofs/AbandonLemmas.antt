@@ -1,5 +1,5 @@
 -- How a connection is abandoned in a turn.
-use Rattle.std.proofs.Common.{◌≡◌, ◌≢◌, ◌⊎◌, ◌==◌, ◌≤◌, ℕ, true, false, true≢false, Bool, List, [], ◌∷◌, ◌++◌, map, Option, Some, refl, sym, ap, ◌∙◌, subst, ⊎_elim, inl, inr, arith}
+use Rattle.std.proofs.Common.{◌≡◌, ◌≢◌, ◌⊎◌, ◌==◌, ◌≤◌, ℕ, true, false, true≢false, Bool, List, [], ◌∷◌, ◌++◌, map, Option, Some, refl, sym, ap, ◌∙◌, subst, ⊎_elim, inl, inr, arith, length}
 use Rattle.std.specs.List.{Contains, filter}
 use Rattle.std.proofs.lemmas.Bool.Decides.{Decides-eqb, not_from_Decides}
 use Rattle.atomic_table.specs.Table.{Me, rest}
@@ -35,9 +35,10 @@ use Rattle.npf_oneturn.specs.declared.view.View.{View}
 use Rattle.npf_oneturn.specs.Endings.{entries_from, end_acts, Plan, planned_entries, AbandonsBy, MayEndTurn, HasEnded}
 use Rattle.npf_oneturn.specs.Rule.{DeadHoldNone}
 use Rattle.npf_oneturn.specs.Taking.{Taken}
-use Rattle.npf_oneturn.specs.Views.{show}
+use Rattle.npf_oneturn.specs.Views.{entry_seat, show}
 use Rattle.npf_oneturn.specs.Working.{worked, EndsConnection}
-use Rattle.npf_oneturn.proofs.CallLemmas.{k, taker, may_end, finished, rest_none}
+use Rattle.npf_seats.proofs.PrefixLemmas.{rest_none}
+use Rattle.npf_oneturn.proofs.CallLemmas.{k, taker, may_end, finished}
 use Rattle.npf_oneturn.proofs.StayLemmas.{not_without}
 use Rattle.npf_oneturn.proofs.WorkLemmas.{AllEnd, all_end, none_on, claimed_on, built_on, dead_back, frees_none}
 
@@ -82,39 +83,39 @@ module _ {S A R : Type 0} (m : Meaning S A R) (slots : ℕ) (seat : ℕ) (id : C
 
 module _ {S A R : Type 0} (m : Meaning S A R) (v : View S A R) (me : Me (Contents S) (View S A R)) (t : Taken m v me) (id : ConnId) (builds : Contains v.builds id) (entered : v.entered ≡ true) where
   -- the turn may end by it
-  pub may_abandon : (contents : Contents S) → contents.entered ≡ t.contents.entered → (ends : EndsConnection m v.slots (k m v me t) v.number id Abandoned contents.store) →
-      ((way : Way) → HoldsNone (worked m (k m v me t) v.number (end_acts id Abandoned ends.held)) id way) → MayEndTurn m (ending.Abandons id) (me.0, (0, contents) ∷ rest me.1)
+  pub may_abandon : (contents : Contents S) → contents.entered ≡ t.contents.entered → (ends : EndsConnection m v.seats.about (k m v me t) v.seats.number id Abandoned contents.store) →
+      ((way : Way) → HoldsNone (worked m (k m v me t) v.seats.number (end_acts id Abandoned ends.held)) id way) → MayEndTurn m (ending.Abandons id) (me.0, (0, contents) ∷ rest me.1)
   may_abandon contents same ends none =
       let k0 = k m v me t in
       let acts : List (Act S A) = end_acts id Abandoned ends.held in
       let all = all_end S A id Abandoned ends.held in
       let legal = ends.works.legal in
-      let on : state_of m (t.log ++ entries_from m k0 v.number acts) ≡ worked m k0 v.number acts = state_from-append m opening t.log (entries_from m k0 v.number acts) in
+      let on : state_of m (t.log ++ entries_from m k0 v.seats.number acts) ≡ worked m k0 v.seats.number acts = state_from-append m opening t.log (entries_from m k0 v.seats.number acts) in
       may_end m v me t (ending.Abandons id) (record { acts = acts; entered = v.entered; answered = v.answered; builds = without id v.builds }) contents
       (record { held = ends.held; holds = ends.holds; is = refl }) (record {
         legal = legal;
         represents = rw on ends.works.represents;
-        bare = rw on (bare_worked m v.slots k0 v.number id acts ends.held Abandoned refl legal t.bare none);
+        bare = rw on (bare_worked m v.seats.about k0 v.seats.number id acts ends.held Abandoned refl legal t.bare none);
         counted = omega (arith, same, t.counted);
         tidy = record { unanswered = λ out. absurd (true≢false (sym entered ∙ out)); idle = λ out. absurd (true≢false (sym entered ∙ out)); place = t.tidy.place };
         stays = record {
-          claimed = λ i c. rw on (claimed_on m v.slots v.number id i acts all k0 legal (t.stays.claimed i c));
-          built = λ i c. let left = not_without i id v.builds c in rw on (built_on m v.slots v.number id i left.1 acts all k0 legal (t.stays.built i left.0));
+          claimed = λ i c. rw on (claimed_on m v.seats.about v.seats.number id i acts all k0 legal (t.stays.claimed i c));
+          built = λ i c. let left = not_without i id v.builds c in rw on (built_on m v.seats.about v.seats.number id i left.1 acts all k0 legal (t.stays.built i left.0));
         };
-        frees = inl (λ i. frees_none m v.number id i acts all k0);
+        frees = inl (λ i. frees_none m v.seats.number id i acts all k0);
       })
 
   -- what it held at its turn it held before
-  pub held_then : IsPass m (show v) → (held : Way → Bool) → HoldsThese (k m v me t) id held → HoldsThese (state_of m v.history) id held
+  pub held_then : IsPass m (show v) → (held : Way → Bool) → HoldsThese (k m v me t) id held → HoldsThese (state_of m v.seats.history) id held
   held_then pass held holds way =
-      let k1 = state_of m v.history in
-      let legal = LegalFrom-rest m v.slots opening v.history t.goes_on.rest (rw t.goes_on.goes_on at t.legal) in
-      let others = rest_none m v me t (record { acts = []; entered = false; answered = []; builds = [] }) v.number t.own in
+      let k1 = state_of m v.seats.history in
+      let legal = LegalFrom-rest m v.seats.about opening v.seats.history t.goes_on.rest (rw t.goes_on.goes_on at t.legal) in
+      let others = rest_none entry_seat v.seats.number v.seats.history t.log t.goes_on t.own in
       let built = pass.building id builds in
-      let now : stage_of (state_from m k1 t.goes_on.rest) id ≡ Building v.number = builds_after m v.slots k1 t.goes_on.rest v.number id legal others built in
-      let on : k m v me t ≡ state_from m k1 t.goes_on.rest = ap (state_of m) t.goes_on.goes_on ∙ state_from-append m opening v.history t.goes_on.rest in (
-        λ h. (holds way).0 (h.0, rw on (stays_holder m v.slots k1 t.goes_on.rest h.0 (record { id = id; way = way }) legal h.1 (rw built tt) (rw now tt))),
-        λ e. let h = (holds way).1 e in (h.0, held_before m v.slots v.number id way h.0 k1 t.goes_on.rest legal others built (rw on at h.1)),
+      let now : stage_of (state_from m k1 t.goes_on.rest) id ≡ Building v.seats.number = builds_after m v.seats.about k1 t.goes_on.rest v.seats.number id legal others built in
+      let on : k m v me t ≡ state_from m k1 t.goes_on.rest = ap (state_of m) t.goes_on.goes_on ∙ state_from-append m opening v.seats.history t.goes_on.rest in (
+        λ h. (holds way).0 (h.0, rw on (stays_holder m v.seats.about k1 t.goes_on.rest h.0 (record { id = id; way = way }) legal h.1 (rw built tt) (rw now tt))),
+        λ e. let h = (holds way).1 e in (h.0, held_before m v.seats.about v.seats.number id way h.0 k1 t.goes_on.rest legal others built (rw on at h.1)),
       )
 
 -- entries of acts that end a connection
@@ -129,9 +130,9 @@ pub ending_entries : {S A R : Type 0} (m : Meaning S A R) (pass : Pass (Entry S 
 ending_entries {S} {A} {R} m pass id why held k1 =
     ap (λ (es : List (Entry S A R)). entry_of pass (Kill id why) Nothing ∷ es) (unhold_entries m pass id (filter held all_ways) (after_act m k1 pass.number (Kill id why)))
 
-pub abandoned : {S A R : Type 0} (m : Meaning S A R) (v : View S A R) (me : Me (Contents S) (View S A R)) (t : Taken m v me) (lives : v.lives ≡ true) (theirs : v.theirs ≡ []) (place : 1 ≤ v.places)
+pub abandoned : {S A R : Type 0} (m : Meaning S A R) (v : View S A R) (me : Me (Contents S) (View S A R)) (t : Taken m v me) (lives : v.seats.lives ≡ true) (theirs : v.seats.theirs ≡ []) (place : 1 ≤ length v.seats.readers)
     (pass : IsPass m (show v)) (id : ConnId) (builds : Contains v.builds id) (entered : v.entered ≡ true) (contents : Contents S) (next : Me (Contents S) (View S A R))
-    (h : HasEnded m (ending.Abandons id) (me.0, (0, contents) ∷ rest me.1) next) → Abandons m (show v) next.0.history id × IsPass m (show next.0)
+    (h : HasEnded m (ending.Abandons id) (me.0, (0, contents) ∷ rest me.1) next) → Abandons m (show v) next.0.seats.history id × IsPass m (show next.0)
 abandoned {S} {A} {R} m v me t lives theirs place pass id builds entered contents next h =
     let f = finished m v me t lives theirs place (ending.Abandons id) contents next h in
     let u = taker m v me t in
@@ -140,7 +141,7 @@ abandoned {S} {A} {R} m v me t lives theirs place pass id builds entered content
       record {
         held = b.held;
         holds = held_then m v me t id builds entered pass b.held b.holds;
-        adds = subst (λ (es : List (Entry S A R)). AddsOwn (show v) next.0.history es)
+        adds = subst (λ (es : List (Entry S A R)). AddsOwn (show v) next.0.seats.history es)
             (ap (λ (p : Plan S A). planned_entries m p u) b.is ∙ ending_entries m (show v) id Abandoned b.held (k m v me t)) f.adds;
       },
       f.legal,

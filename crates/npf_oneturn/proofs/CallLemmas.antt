@@ -1,9 +1,7 @@
 -- How the calls of a pass end, and what they leave it.
-use Rattle.std.proofs.Common.{◌≡◌, ◌≢◌, ℕ, ◌+◌, ◌≤◌, Bool, true, false, true≢false, ◌==◌, List, [], ◌∷◌, ◌++◌, cond, Option, Some, None, refl, sym, ap, ◌∙◌, subst, ⊎_elim, inl, inr, arith, append_assoc, append-nil}
+use Rattle.std.proofs.Common.{◌≡◌, ◌≢◌, ℕ, ◌+◌, ◌≤◌, Bool, true, false, true≢false, List, [], ◌∷◌, ◌++◌, length, Option, Some, None, refl, sym, ap, ◌∙◌, subst, ⊎_elim, inl, inr, arith, append_assoc, append-nil}
 use Rattle.std.specs.List.{Contains}
 use Rattle.std.proofs.lemmas.Bool.{cases_eq}
-use Rattle.std.proofs.lemmas.Bool.Decides.{Decides-eqb}
-use Rattle.std.proofs.lemmas.List.{append_cancel_left}
 use Rattle.atomic_table.specs.Table.{Me, rest}
 use Rattle.npf_core.specs.declared.act.Act.{Act}
 use Rattle.npf_core.specs.declared.act.Act.TheVariants.{Hold, Kill, Free}
@@ -30,6 +28,7 @@ use Rattle.npf_connections.specs.Entries.{entry_of, hold_entries}
 use Rattle.npf_connections.specs.Pass.{Pass, IsPass, IsOwn, Knows, all_places}
 use Rattle.npf_connections.specs.StayLaw.{Holding}
 use Rattle.npf_connections.proofs.AddLemmas.{adds_alone}
+use Rattle.npf_seats.proofs.PrefixLemmas.{seen_entry, rest_none}
 use Rattle.npf_oneturn_store.specs.Represents.{Represents}
 use Rattle.npf_oneturn.specs.declared.contents.Contents.{Contents}
 use Rattle.npf_oneturn.specs.declared.rule.Ending.{Ending}
@@ -37,24 +36,9 @@ use Rattle.npf_oneturn.specs.declared.rule.Ending.TheVariants.{Asks, Nothing}
 use Rattle.npf_oneturn.specs.declared.view.View.{View}
 use Rattle.npf_oneturn.specs.Endings.{entries_from, Plan, planned_entries, ended, EndsBy, act_plan, MayEnd, MayEndTurn, HasEnded}
 use Rattle.npf_oneturn.specs.Taking.{IsResting, Taken}
-use Rattle.npf_oneturn.specs.Views.{one_if, Stays, show}
+use Rattle.npf_oneturn.specs.Views.{entry_seat, one_if, Stays, show}
 use Rattle.npf_oneturn.proofs.EndLemmas.{own_entries, no_entries, is_false}
-use Rattle.npf_oneturn.proofs.StayLemmas.{nothing_in, cons_cases, bare_next, answered_next, builds_next}
-
-no_more : {X : Type 0} (xs ys : List X) → xs ++ ys ≡ xs → ys ≡ []
-no_more xs ys e = append_cancel_left xs ys [] (e ∙ sym (append-nil xs))
-
--- where a number has no entry, no entry has the number
-pub seen_by : {S A R : Type 0} (xs : List (Entry S A R)) (e : Entry S A R) → by e.seat xs ≡ [] → Contains xs e → ⊥
-seen_by [] e none c = nothing_in e c
-seen_by {S} {A} {R} (x ∷ xs) e none c = by_test (λ n d. seen_by xs e n d) (x.seat == e.seat) refl none
-  where
-    by_test : (by e.seat xs ≡ [] → Contains xs e → ⊥) → (test : Bool) → (x.seat == e.seat) ≡ test → cond test (x ∷ by e.seat xs) (by e.seat xs) ≡ [] → ⊥
-    by_test rest true is none = cc
-    by_test rest false is none = ⊎_elim
-        (λ (same : x ≡ e). let one : (x.seat == e.seat) ≡ true = (Decides-eqb x.seat e.seat).1 (ap (λ (y : Entry S A R). y.seat) same) in cc)
-        (λ (d : Contains xs e). rest none d)
-        (cons_cases x e xs c)
+use Rattle.npf_oneturn.proofs.StayLemmas.{bare_next, answered_next, builds_next}
 
 abbrev value_in : {X : Type 0} → X → List (ℕ × X) → X
 value_in d [] = d
@@ -62,7 +46,7 @@ value_in d (x ∷ xs) = x.1
 
 module _ {S A R : Type 0} (m : Meaning S A R) (v : View S A R) (me : Me (Contents S) (View S A R)) (t : Taken m v me) where
   abbrev pub taker : View S A R
-  taker = record v { turn = true; history = t.log; crowd = t.crowd }
+  taker = record v { seats = record v.seats { history = t.log }; turn = true; crowd = t.crowd }
 
   abbrev pub k : Machine S
   k = state_of m t.log
@@ -75,8 +59,8 @@ module _ {S A R : Type 0} (m : Meaning S A R) (v : View S A R) (me : Me (Content
   value_is contents e = ap (value_in t.contents) (ap (λ (y : Me (Contents S) (View S A R)). y.1) (sym t.is) ∙ e)
 
   -- the value that it has represents the state
-  pub represents_here : (contents : Contents S) → me.1 ≡ (0, contents) ∷ rest me.1 → Represents v.slots contents.store k
-  represents_here contents e = subst (λ (x : Contents S). Represents v.slots x.store k) (value_is contents e) t.represents
+  pub represents_here : (contents : Contents S) → me.1 ≡ (0, contents) ∷ rest me.1 → Represents v.seats.about contents.store k
+  represents_here contents e = subst (λ (x : Contents S). Represents v.seats.about x.store k) (value_is contents e) t.represents
 
   pub entered_here : (contents : Contents S) → me.1 ≡ (0, contents) ∷ rest me.1 → contents.entered ≡ t.contents.entered
   entered_here contents e = ap (λ (x : Contents S). x.entered) (sym (value_is contents e))
@@ -92,36 +76,33 @@ module _ {S A R : Type 0} (m : Meaning S A R) (v : View S A R) (me : Me (Content
     abbrev mine : List (Entry S A R)
     mine = planned_entries m p taker
 
-    others_none : (n : ℕ) → n ≢ v.number → by n mine ≡ []
-    others_none n ne = no_entries m v.number n ne k p.acts
-
-    pub rest_none : (n : ℕ) → by n t.log ≡ by n v.history → by n t.goes_on.rest ≡ []
-    rest_none n same = no_more (by n v.history) (by n t.goes_on.rest) (sym (by-append n v.history t.goes_on.rest) ∙ (ap (by n) (sym t.goes_on.goes_on) ∙ same))
+    others_none : (n : ℕ) → n ≢ v.seats.number → by n mine ≡ []
+    others_none n ne = no_entries m v.seats.number n ne k p.acts
 
     adds_mine : AddsOwn (show v) (t.log ++ mine) mine
     adds_mine = record {
       adds = record {
         rest = t.goes_on.rest ++ mine;
-        goes_on = ap (λ h. h ++ mine) t.goes_on.goes_on ∙ append_assoc v.history t.goes_on.rest mine;
-        own = by-append v.number t.goes_on.rest mine ∙ (ap (λ h. h ++ by v.number mine) (rest_none v.number t.own) ∙ own_entries m v.number k p.acts);
-        listed = λ n c. by-append n t.goes_on.rest mine ∙ (ap (λ h. h ++ by n mine) (rest_none n (t.listed n c)) ∙ others_none n (t.apart n c));
+        goes_on = ap (λ h. h ++ mine) t.goes_on.goes_on ∙ append_assoc v.seats.history t.goes_on.rest mine;
+        own = by-append v.seats.number t.goes_on.rest mine ∙ (ap (λ h. h ++ by v.seats.number mine) (rest_none entry_seat v.seats.number v.seats.history t.log t.goes_on t.own) ∙ own_entries m v.seats.number k p.acts);
+        listed = λ n c. by-append n t.goes_on.rest mine ∙ (ap (λ h. h ++ by n mine) (rest_none entry_seat n v.seats.history t.log t.goes_on (t.listed n c)) ∙ others_none n (t.apart n c));
       };
       ends = λ init last e. (t.log ++ init, ap (λ h. t.log ++ h) e ∙ sym (append_assoc t.log init (last ∷ [])));
     }
 
     module _ (contents : Contents S) (may : MayEnd m p taker contents) where
-      alone : v.places ≡ all_places → (e : Entry S A R) → Contains (t.log ++ mine) e → IsOwn (show v) e.seat
+      alone : length v.seats.readers ≡ all_places → (e : Entry S A R) → Contains (t.log ++ mine) e → IsOwn (show v) e.seat
       alone all e c = ⊎_elim
-          (λ (same : e.seat ≡ v.number). inl same)
-          (λ (ne : e.seat ≢ v.number). ⊎_elim
-          (λ (none : by e.seat t.log ≡ []). absurd (seen_by (t.log ++ mine) e (by-append e.seat t.log mine ∙ (ap (λ h. h ++ by e.seat mine) none ∙ others_none e.seat ne)) c))
+          (λ (same : e.seat ≡ v.seats.number). inl same)
+          (λ (ne : e.seat ≢ v.seats.number). ⊎_elim
+          (λ (none : by e.seat t.log ≡ []). absurd (seen_entry entry_seat (t.log ++ mine) e (by-append e.seat t.log mine ∙ (ap (λ h. h ++ by e.seat mine) none ∙ others_none e.seat ne)) c))
           (λ (own : IsOwn (show v) e.seat). own)
           (t.sole all e.seat))
-          (cases_eq e.seat v.number)
+          (cases_eq e.seat v.seats.number)
 
       shows_pass : IsPass m (show (ended m p taker))
       shows_pass = record {
-        legal = LegalFrom-append m v.slots opening t.log mine t.legal may.legal;
+        legal = LegalFrom-append m v.seats.about opening t.log mine t.legal may.legal;
         stays = may.stays.claimed;
         building = may.stays.built;
         unanswered = may.tidy.unanswered;
@@ -134,10 +115,10 @@ module _ {S A R : Type 0} (m : Meaning S A R) (v : View S A R) (me : Me (Content
 pub record Finished {S A R : Type 0} (m : Meaning S A R) (v : View S A R) (me : Me (Contents S) (View S A R)) (t : Taken m v me) (p : Plan S A) (next : Me (Contents S) (View S A R)) : Type 0 where
   pub rests : IsResting next
   pub legal : IsPass m (show next.0)
-  pub adds : AddsOwn (show v) next.0.history (planned_entries m p (taker m v me t))
+  pub adds : AddsOwn (show v) next.0.seats.history (planned_entries m p (taker m v me t))
   pub view : next.0 ≡ ended m p (taker m v me t)
 
-pub finished : {S A R : Type 0} (m : Meaning S A R) (v : View S A R) (me : Me (Contents S) (View S A R)) (t : Taken m v me) (lives : v.lives ≡ true) (theirs : v.theirs ≡ []) (place : 1 ≤ v.places)
+pub finished : {S A R : Type 0} (m : Meaning S A R) (v : View S A R) (me : Me (Contents S) (View S A R)) (t : Taken m v me) (lives : v.seats.lives ≡ true) (theirs : v.seats.theirs ≡ []) (place : 1 ≤ length v.seats.readers)
     (ending : Ending S A) (contents : Contents S) (next : Me (Contents S) (View S A R)) (h : HasEnded m ending (me.0, (0, contents) ∷ rest me.1) next) → Finished m v me t h.plan next
 finished {S} {A} {R} m v me t lives theirs place ending contents next h =
     let u = taker m v me t in
@@ -149,8 +130,8 @@ finished {S} {A} {R} m v me t lives theirs place ending contents next h =
       rests = record {
         free = ap (λ (y : Me (Contents S) (View S A R)). y.1) h.is ∙ none;
         turn = ap (λ (w : View S A R). w.turn) view;
-        lives = ap (λ (w : View S A R). w.lives) view ∙ lives;
-        theirs = ap (λ (w : View S A R). w.theirs) view ∙ theirs;
+        lives = ap (λ (w : View S A R). w.seats.lives) view ∙ lives;
+        theirs = ap (λ (w : View S A R). w.seats.theirs) view ∙ theirs;
         place = rw view place;
         most = rw view t.most;
       };
@@ -168,23 +149,23 @@ module _ {S A R : Type 0} (m : Meaning S A R) (v : View S A R) (me : Me (Content
       freed (Free other) id e = ap (λ i. Free i) ((is_id-Decides other id).0 e)
       freed act id e = absurd cc
 
-  pub may_ask : (act : Act S A) (contents : Contents S) → Allows m v.slots (k m v me t) v.number act → ((id : ConnId) → ¬ (act ≡ Free id)) → ((id : ConnId) (why : _) → ¬ (act ≡ Kill id why)) →
-      contents.entered ≡ t.contents.entered → Represents v.slots contents.store (after_act m (k m v me t) v.number act) → MayEndTurn m (Asks act) (me.0, (0, contents) ∷ rest me.1)
+  pub may_ask : (act : Act S A) (contents : Contents S) → Allows m v.seats.about (k m v me t) v.seats.number act → ((id : ConnId) → ¬ (act ≡ Free id)) → ((id : ConnId) (why : _) → ¬ (act ≡ Kill id why)) →
+      contents.entered ≡ t.contents.entered → Represents v.seats.about contents.store (after_act m (k m v me t) v.seats.number act) → MayEndTurn m (Asks act) (me.0, (0, contents) ∷ rest me.1)
   may_ask act contents allowed free kill same represents =
       let k0 = k m v me t in
       let u = taker m v me t in
-      let entry : Entry S A R = record { seat = v.number; act = act; reply = reply_of m k0 act } in
-      let on : state_of m (t.log ++ entry ∷ []) ≡ after_act m k0 v.number act = state_of-append m t.log entry in
-      let claimed = holders_claimed m v.slots t.log t.legal in
+      let entry : Entry S A R = record { seat = v.seats.number; act = act; reply = reply_of m k0 act } in
+      let on : state_of m (t.log ++ entry ∷ []) ≡ after_act m k0 v.seats.number act = state_of-append m t.log entry in
+      let claimed = holders_claimed m v.seats.about t.log t.legal in
       may_end m v me t (Asks act) (act_plan m act u) contents refl (record {
         legal = (record { allowed = allowed; replied = refl }, tt);
         represents = rw on represents;
-        bare = rw on (bare_next m v.slots k0 v.number act allowed kill t.bare);
+        bare = rw on (bare_next m v.seats.about k0 v.seats.number act allowed kill t.bare);
         counted = omega (arith, same, t.counted);
         tidy = record { unanswered = λ out. absurd (true≢false (sym entered ∙ out)); idle = λ out. absurd (true≢false (sym entered ∙ out)); place = t.tidy.place };
         stays = record {
-          claimed = λ id c. rw on (answered_next m v.slots k0 v.number claimed v.answered act allowed free t.stays.claimed id c);
-          built = λ id c. rw on (builds_next m v.slots k0 v.number v.builds act allowed t.stays.built id c);
+          claimed = λ id c. rw on (answered_next m v.seats.about k0 v.seats.number claimed v.answered act allowed free t.stays.claimed id c);
+          built = λ id c. rw on (builds_next m v.seats.about k0 v.seats.number v.builds act allowed t.stays.built id c);
         };
         frees = inl (λ id. let none = not_free act free id in rw none refl);
       })
@@ -193,10 +174,10 @@ module _ {S A R : Type 0} (m : Meaning S A R) (v : View S A R) (me : Me (Content
 module _ {S A R : Type 0} (m : Meaning S A R) (v : View S A R) (me : Me (Contents S) (View S A R)) (t : Taken m v me) where
   pub may_rest : (ending : Ending S A) (entered : Bool) (answered builds : List ConnId) (contents : Contents S) →
       EndsBy m ending (taker m v me t) (record { acts = []; entered = entered; answered = answered; builds = builds }) →
-      Represents v.slots contents.store (k m v me t) → contents.entered + one_if v.entered ≡ t.contents.entered + one_if entered →
-      (entered ≡ false → answered ≡ []) → (entered ≡ false → builds ≡ []) → 1 ≤ v.places →
+      Represents v.seats.about contents.store (k m v me t) → contents.entered + one_if v.entered ≡ t.contents.entered + one_if entered →
+      (entered ≡ false → answered ≡ []) → (entered ≡ false → builds ≡ []) → 1 ≤ length v.seats.readers →
       ((id : ConnId) → Contains answered id → IsClaimed (stage_of (k m v me t) id)) →
-      ((id : ConnId) → Contains builds id → stage_of (k m v me t) id ≡ Building v.number) → MayEndTurn m ending (me.0, (0, contents) ∷ rest me.1)
+      ((id : ConnId) → Contains builds id → stage_of (k m v me t) id ≡ Building v.seats.number) → MayEndTurn m ending (me.0, (0, contents) ∷ rest me.1)
   may_rest ending entered answered builds contents by_plan represents counted unanswered idle place claimed built =
       may_end m v me t ending (record { acts = []; entered = entered; answered = answered; builds = builds }) contents by_plan (record {
         legal = tt;
@@ -209,21 +190,21 @@ module _ {S A R : Type 0} (m : Meaning S A R) (v : View S A R) (me : Me (Content
       })
 
 -- what the end of a call without an act leaves
-pub rested : {S A R : Type 0} (m : Meaning S A R) (v : View S A R) (me : Me (Contents S) (View S A R)) (t : Taken m v me) (lives : v.lives ≡ true) (theirs : v.theirs ≡ []) (place : 1 ≤ v.places)
+pub rested : {S A R : Type 0} (m : Meaning S A R) (v : View S A R) (me : Me (Contents S) (View S A R)) (t : Taken m v me) (lives : v.seats.lives ≡ true) (theirs : v.seats.theirs ≡ []) (place : 1 ≤ length v.seats.readers)
     (ending : Ending S A) (contents : Contents S) (next : Me (Contents S) (View S A R)) (h : HasEnded m ending (me.0, (0, contents) ∷ rest me.1) next) → h.plan.acts ≡ [] →
-    AddsOwn (show v) next.0.history [] × IsPass m (show next.0)
+    AddsOwn (show v) next.0.seats.history [] × IsPass m (show next.0)
 rested m v me t lives theirs place ending contents next h none =
     let f = finished m v me t lives theirs place ending contents next h in
     let u = taker m v me t in
-    (subst (λ (acts : List (Act _ _)). AddsOwn (show v) next.0.history (entries_from m (k m v me t) v.number acts)) none f.adds, f.legal)
+    (subst (λ (acts : List (Act _ _)). AddsOwn (show v) next.0.seats.history (entries_from m (k m v me t) v.seats.number acts)) none f.adds, f.legal)
 
 -- what a call that asks for nothing leaves to a pass that owns all reader places: it is as it was, and had seen all
 pub record IsLeft {S A R : Type 0} (m : Meaning S A R) (v : View S A R) (me : Me (Contents S) (View S A R)) (t : Taken m v me) (next : Me (Contents S) (View S A R)) : Type 0 where
   pub legal : IsPass m (show next.0)
   pub same : show next.0 ≡ show v
-  pub newest : t.log ≡ v.history
+  pub newest : t.log ≡ v.seats.history
 
-pub left : {S A R : Type 0} (m : Meaning S A R) (v : View S A R) (me : Me (Contents S) (View S A R)) (t : Taken m v me) (lives : v.lives ≡ true) (theirs : v.theirs ≡ []) (place : 1 ≤ v.places) (all : v.places ≡ all_places)
+pub left : {S A R : Type 0} (m : Meaning S A R) (v : View S A R) (me : Me (Contents S) (View S A R)) (t : Taken m v me) (lives : v.seats.lives ≡ true) (theirs : v.seats.theirs ≡ []) (place : 1 ≤ length v.seats.readers) (all : length v.seats.readers ≡ all_places)
     (contents : Contents S) (next : Me (Contents S) (View S A R)) (h : HasEnded m Nothing (me.0, (0, contents) ∷ rest me.1) next) → IsLeft m v me t next
 left {S} {A} {R} m v me t lives theirs place all contents next h =
     let r = rested m v me t lives theirs place Nothing contents next h (ap (λ (p : Plan S A). p.acts) h.by_plan) in
@@ -232,10 +213,10 @@ left {S} {A} {R} m v me t lives theirs place all contents next h =
     let plan : h.plan ≡ record { acts = []; entered = v.entered; answered = v.answered; builds = v.builds } =
     h.by_plan ∙ ap (λ (y : Me (Contents S) (View S A R)). record { acts = []; entered = y.0.entered; answered = y.0.answered; builds = y.0.builds }) t.is in
     let shown : show next.0 ≡ record (show v) { history = t.log ++ [] } = ap (λ (w : View S A R). show w) (f.view ∙ ap (λ (p : Plan S A). ended m p u) plan) in
-    let places : next.0.places ≡ all_places = ap (λ (p : Pass (Entry S A R)). p.places) shown ∙ all in
-    let mine : next.0.history ≡ v.history ++ [] =
+    let places : length next.0.seats.readers ≡ all_places = ap (λ (p : Pass (Entry S A R)). p.places) shown ∙ all in
+    let mine : next.0.seats.history ≡ v.seats.history ++ [] =
     adds_alone m (show v) (show next.0) [] r.1 places (ap (λ (p : Pass (Entry S A R)). p.number) shown) (ap (λ (p : Pass (Entry S A R)). p.joined) shown) r.0.adds in
-    let newest : t.log ++ [] ≡ v.history = sym (ap (λ (p : Pass (Entry S A R)). p.history) shown) ∙ (mine ∙ append-nil v.history) in
+    let newest : t.log ++ [] ≡ v.seats.history = sym (ap (λ (p : Pass (Entry S A R)). p.history) shown) ∙ (mine ∙ append-nil v.seats.history) in
     record {
       legal = r.1;
       same = shown ∙ ap (λ (history : List (Entry S A R)). record (show v) { history = history }) newest;
@@ -249,11 +230,11 @@ known_claimed k0 v id stays (inr c) = rw (stays.built id c) tt
 
 module _ {S A R : Type 0} (m : Meaning S A R) (v : View S A R) (me : Me (Contents S) (View S A R)) (t : Taken m v me) (pass : IsPass m (show v)) where
   -- what a connection that the pass builds lacks it lacks still
-  pub still_none : (id : ConnId) (way : Way) → Contains v.builds id → HoldsNone (state_of m v.history) id way → HoldsNone (k m v me t) id way
+  pub still_none : (id : ConnId) (way : Way) → Contains v.builds id → HoldsNone (state_of m v.seats.history) id way → HoldsNone (k m v me t) id way
   still_none id way builds none =
-      let legal = LegalFrom-rest m v.slots opening v.history t.goes_on.rest (rw t.goes_on.goes_on at t.legal) in
-      rw (t.goes_on.goes_on, state_from-append m opening v.history t.goes_on.rest)
-      (holds_none_after m v.slots (state_of m v.history) t.goes_on.rest v.number id way legal (rest_none m v me t (record { acts = []; entered = false; answered = []; builds = [] }) v.number t.own) (pass.building id builds) none)
+      let legal = LegalFrom-rest m v.seats.about opening v.seats.history t.goes_on.rest (rw t.goes_on.goes_on at t.legal) in
+      rw (t.goes_on.goes_on, state_from-append m opening v.seats.history t.goes_on.rest)
+      (holds_none_after m v.seats.about (state_of m v.seats.history) t.goes_on.rest v.seats.number id way legal (rest_none entry_seat v.seats.number v.seats.history t.log t.goes_on t.own) (pass.building id builds) none)
 
 hold_entry : {S A R : Type 0} (pass : Pass (Entry S A R)) (id : ConnId) (key : Key) (way : Way) (x : Option Found) →
     entry_of pass (Hold id key way) (ToHold (held_by x)) ∷ [] ≡ hold_entries pass id key way (held_by x)
@@ -264,10 +245,10 @@ hold_entry pass id key way (Some found) = refl
 pub record Asked {S A R : Type 0} (m : Meaning S A R) (v : View S A R) (me : Me (Contents S) (View S A R)) (t : Taken m v me) (act : Act S A) (next : Me (Contents S) (View S A R)) : Type 0 where
   pub rests : IsResting next
   pub legal : IsPass m (show next.0)
-  pub adds : AddsOwn (show v) next.0.history (entry_of (show v) act (reply_of m (k m v me t) act) ∷ [])
+  pub adds : AddsOwn (show v) next.0.seats.history (entry_of (show v) act (reply_of m (k m v me t) act) ∷ [])
   pub view : next.0 ≡ ended m (act_plan m act (taker m v me t)) (taker m v me t)
 
-pub asked : {S A R : Type 0} (m : Meaning S A R) (v : View S A R) (me : Me (Contents S) (View S A R)) (t : Taken m v me) (lives : v.lives ≡ true) (theirs : v.theirs ≡ []) (place : 1 ≤ v.places)
+pub asked : {S A R : Type 0} (m : Meaning S A R) (v : View S A R) (me : Me (Contents S) (View S A R)) (t : Taken m v me) (lives : v.seats.lives ≡ true) (theirs : v.seats.theirs ≡ []) (place : 1 ≤ length v.seats.readers)
     (act : Act S A) (contents : Contents S) (next : Me (Contents S) (View S A R)) (h : HasEnded m (Asks act) (me.0, (0, contents) ∷ rest me.1) next) → Asked m v me t act next
 asked m v me t lives theirs place act contents next h =
     let f = finished m v me t lives theirs place (Asks act) contents next h in
@@ -276,13 +257,13 @@ asked m v me t lives theirs place act contents next h =
     record {
       rests = f.rests;
       legal = f.legal;
-      adds = subst (λ (p : Plan _ _). AddsOwn (show v) next.0.history (planned_entries m p u)) plan f.adds;
+      adds = subst (λ (p : Plan _ _). AddsOwn (show v) next.0.seats.history (planned_entries m p u)) plan f.adds;
       view = f.view ∙ ap (λ (p : Plan _ _). ended m p u) plan;
     }
 
 -- what a hold leaves
-pub held_so : {S A R : Type 0} (m : Meaning S A R) (v : View S A R) (me : Me (Contents S) (View S A R)) (t : Taken m v me) (lives : v.lives ≡ true) (theirs : v.theirs ≡ []) (place : 1 ≤ v.places)
-    (pass : IsPass m (show v)) (id : ConnId) (key : Key) (way : Way) (result : Held) (builds : Contains v.builds id) (none : HoldsNone (state_of m v.history) id way)
+pub held_so : {S A R : Type 0} (m : Meaning S A R) (v : View S A R) (me : Me (Contents S) (View S A R)) (t : Taken m v me) (lives : v.seats.lives ≡ true) (theirs : v.seats.theirs ≡ []) (place : 1 ≤ length v.seats.readers)
+    (pass : IsPass m (show v)) (id : ConnId) (key : Key) (way : Way) (result : Held) (builds : Contains v.builds id) (none : HoldsNone (state_of m v.seats.history) id way)
     (contents : Contents S) (next : Me (Contents S) (View S A R)) (h : HasEnded m (Asks (Hold id key way)) (me.0, (0, contents) ∷ rest me.1) next) →
     result ≡ held_by ((k m v me t).holder key) → Holding m (show v) (show next.0) id key way result
 held_so m v me t lives theirs place pass id key way result builds none contents next h replied =
@@ -292,6 +273,6 @@ held_so m v me t lives theirs place pass id key way result builds none contents 
       after = a.legal;
       builds = builds;
       none = none;
-      slots = ap (λ (w : View _ _ _). w.slots) a.view;
+      slots = ap (λ (w : View _ _ _). w.seats.about) a.view;
       adds = rw (replied, ← hold_entry (show v) id key way ((k m v me t).holder key)) a.adds;
     }

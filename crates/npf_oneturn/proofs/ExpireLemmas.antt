@@ -1,5 +1,5 @@
 -- How a turn ends in which connections were killed as due.
-use Rattle.std.proofs.Common.{◌≡◌, ◌⊎◌, ℕ, ◌<◌, ◌≤◌, Bool, true, false, List, [], ◌∷◌, ◌++◌, IsTrue, refl, sym, ap, ◌∙◌, subst, ⊎_elim, inl, inr, arith}
+use Rattle.std.proofs.Common.{◌≡◌, ◌⊎◌, ℕ, ◌<◌, ◌≤◌, Bool, true, false, List, [], ◌∷◌, ◌++◌, IsTrue, refl, sym, ap, ◌∙◌, subst, ⊎_elim, inl, inr, arith, length}
 use Rattle.atomic_table.specs.Table.{Me, rest}
 use Rattle.npf_core.specs.declared.act.Act.{Act}
 use Rattle.npf_core.specs.declared.act.Why.TheVariants.{Expired}
@@ -31,7 +31,7 @@ use Rattle.npf_oneturn.specs.Views.{show}
 use Rattle.npf_oneturn.specs.Working.{worked, ExpiresBelow}
 use Rattle.npf_oneturn.proofs.AbandonLemmas.{ending_entries}
 use Rattle.npf_oneturn.proofs.CallLemmas.{k, taker, may_end, finished}
-use Rattle.npf_oneturn.proofs.StayLemmas.{nothing_in}
+use Rattle.npf_seats.proofs.PrefixLemmas.{none_listed}
 use Rattle.npf_oneturn.proofs.WorkLemmas.{entries-append}
 
 -- what is due is in a slot
@@ -48,22 +48,22 @@ due_within {S} m slots store k0 r id now due =
     not_vacant phase.Dead e h = h
 
 module _ {S A R : Type 0} (m : Meaning S A R) (v : View S A R) (me : Me (Contents S) (View S A R)) (t : Taken m v me) (out : v.entered ≡ false) where
-  pub may_expire : (now count : ℕ) (old new : Contents S) → Represents v.slots old.store (k m v me t) → new.entered ≡ t.contents.entered →
-      ExpiresBelow m v.slots (k m v me t) v.number now v.slots count new.store → MayEndTurn m (ending.Expires now count) (me.0, (0, new) ∷ rest me.1)
+  pub may_expire : (now count : ℕ) (old new : Contents S) → Represents v.seats.about old.store (k m v me t) → new.entered ≡ t.contents.entered →
+      ExpiresBelow m v.seats.about (k m v me t) v.seats.number now v.seats.about count new.store → MayEndTurn m (ending.Expires now count) (me.0, (0, new) ∷ rest me.1)
   may_expire now count old new r same e =
       let k0 = k m v me t in
       let acts : List (Act S A) = expiry_acts now e.killed in
-      let on : state_of m (t.log ++ entries_from m k0 v.number acts) ≡ worked m k0 v.number acts = state_from-append m opening t.log (entries_from m k0 v.number acts) in
+      let on : state_of m (t.log ++ entries_from m k0 v.seats.number acts) ≡ worked m k0 v.seats.number acts = state_from-append m opening t.log (entries_from m k0 v.seats.number acts) in
       may_end m v me t (ending.Expires now count) (record { acts = acts; entered = v.entered; answered = v.answered; builds = v.builds }) new
-      (record { killed = e.killed; is = refl; counted = e.counted; gave_up = e.gave_up; due = λ id due. e.due id (due_within m v.slots old.store k0 r id now due) due }) (record {
+      (record { killed = e.killed; is = refl; counted = e.counted; gave_up = e.gave_up; due = λ id due. e.due id (due_within m v.seats.about old.store k0 r id now due) due }) (record {
         legal = e.works.legal;
         represents = rw on e.works.represents;
         bare = rw on (e.bare t.bare);
         counted = omega (arith, same, t.counted);
         tidy = record { unanswered = t.tidy.unanswered; idle = t.tidy.idle; place = t.tidy.place };
         stays = record {
-          claimed = λ id c. absurd (nothing_in id (rw (t.tidy.unanswered out) at c));
-          built = λ id c. absurd (nothing_in id (rw (t.tidy.idle out) at c));
+          claimed = λ id c. absurd (none_listed id (rw (t.tidy.unanswered out) at c));
+          built = λ id c. absurd (none_listed id (rw (t.tidy.idle out) at c));
         };
         frees = inl e.unfreed;
       })
@@ -87,20 +87,20 @@ is_due_or m now (Live flow n) = by_test (m.is_due flow now) refl
     by_test false e = inr (λ h. cc)
 is_due_or m now Dead = inr (λ h. h)
 
-pub expired : {S A R : Type 0} (m : Meaning S A R) (v : View S A R) (me : Me (Contents S) (View S A R)) (t : Taken m v me) (lives : v.lives ≡ true) (theirs : v.theirs ≡ []) (place : 1 ≤ v.places)
+pub expired : {S A R : Type 0} (m : Meaning S A R) (v : View S A R) (me : Me (Contents S) (View S A R)) (t : Taken m v me) (lives : v.seats.lives ≡ true) (theirs : v.seats.theirs ≡ []) (place : 1 ≤ length v.seats.readers)
     (now count : ℕ) (contents : Contents S) (next : Me (Contents S) (View S A R)) (h : HasEnded m (ending.Expires now count) (me.0, (0, contents) ∷ rest me.1) next) →
-    Expires m (show v) next.0.history now count × IsPass m (show next.0)
+    Expires m (show v) next.0.seats.history now count × IsPass m (show next.0)
 expired {S} {A} {R} m v me t lives theirs place now count contents next h =
     let f = finished m v me t lives theirs place (ending.Expires now count) contents next h in
     let u = taker m v me t in
     let k0 = k m v me t in
     let seat : me.0 ≡ u = ap (λ (y : Me (Contents S) (View S A R)). y.0) t.is in
     let b : ExpiresBy m now count u h.plan = subst (λ (w : View S A R). ExpiresBy m now count w h.plan) seat h.by_plan in
-    let history : next.0.history ≡ t.log ++ planned_entries m h.plan u = ap (λ (w : View S A R). w.history) f.view in
-    let state : state_of m next.0.history ≡ state_from m k0 (planned_entries m h.plan u) = ap (state_of m) history ∙ state_from-append m opening t.log (planned_entries m h.plan u) in (
+    let history : next.0.seats.history ≡ t.log ++ planned_entries m h.plan u = ap (λ (w : View S A R). w.seats.history) f.view in
+    let state : state_of m next.0.seats.history ≡ state_from m k0 (planned_entries m h.plan u) = ap (state_of m) history ∙ state_from-append m opening t.log (planned_entries m h.plan u) in (
       record {
         killed = b.killed;
-        adds = subst (λ (es : List (Entry S A R)). Adds (show v) next.0.history es) (ap (λ (p : Plan S A). planned_entries m p u) b.is ∙ expiry_entries_are m (show v) now b.killed k0) f.adds.adds;
+        adds = subst (λ (es : List (Entry S A R)). Adds (show v) next.0.seats.history es) (ap (λ (p : Plan S A). planned_entries m p u) b.is ∙ expiry_entries_are m (show v) now b.killed k0) f.adds.adds;
         counted = b.counted;
         gave_up = λ id way c. subst (λ l. HoldsNone l id way) (sym state) (b.gave_up id way c);
         left = λ id live. ⊎_elim

@@ -30,7 +30,7 @@ use Rattle.npf_oneturn.specs.Rule.{DeadHoldNone}
 use Rattle.npf_oneturn.specs.Working.{worked, Works, EndsConnection, ExpiresAt, ExpiresBelow}
 use Rattle.npf_oneturn.proofs.AbandonLemmas.{bare_worked}
 use Rattle.npf_oneturn.proofs.EndLemmas.{is_false}
-use Rattle.npf_oneturn.proofs.StayLemmas.{nothing_in, cons_cases}
+use Rattle.npf_seats.proofs.PrefixLemmas.{none_listed, cons_cases}
 use Rattle.npf_oneturn.proofs.WorkLemmas.{AllEnd, IsEndAct, kills, unholds, all_end, none_on, frees_none, works_none, works_more, worked-append, entries-append}
 
 due_claimed : {S A R : Type 0} (m : Meaning S A R) (now : ℕ) (stage : Stage S) → IsDue m now stage → IsClaimed stage
@@ -84,7 +84,7 @@ module _ {S A R : Type 0} (m : Meaning S A R) (slots : ℕ) (k : Machine S) (sea
         unfreed = λ other. subst (λ (xs : List (Act S A)). frees other (entries_from m k seat xs) ≡ []) same (frees_none m seat id other acts all k);
         gave_up = λ other way c. ⊎_elim
             (λ (is : id ≡ other). subst (λ i. HoldsNone (worked m k seat (acts ++ [])) i way) is (subst (λ (xs : List (Act S A)). HoldsNone (worked m k seat xs) id way) same (none way)))
-            (λ (n : Contains [] other). absurd (nothing_in other n))
+            (λ (n : Contains [] other). absurd (none_listed other n))
             (cons_cases id other [] c);
         gives_none = λ other way h. subst (λ (xs : List (Act S A)). HoldsNone (worked m k seat xs) other way) same (none_on m slots seat id other acts all k e.works.legal way h);
         others = λ other ne. subst (λ (xs : List (Act S A)). stage_of (worked m k seat xs) other ≡ stage_of k other) same
@@ -102,7 +102,7 @@ module _ {S A R : Type 0} (m : Meaning S A R) (slots : ℕ) (k : Machine S) (sea
     counted = refl;
     bare = λ bare. bare;
     unfreed = λ id. refl;
-    gave_up = λ id way c. absurd (nothing_in id c);
+    gave_up = λ id way c. absurd (none_listed id c);
     gives_none = λ id way h. h;
     others = λ id ne. refl;
     due = λ id there h. absurd (idle id there h);
@@ -124,7 +124,7 @@ module _ {S A R : Type 0} (m : Meaning S A R) (slots : ℕ) (k : Machine S) (sea
     counted = refl;
     bare = λ bare. bare;
     unfreed = λ id. refl;
-    gave_up = λ id way c. absurd (nothing_in id c);
+    gave_up = λ id way c. absurd (none_listed id c);
     others = λ id h. refl;
     due = λ id below. absurd (omega (arith, below));
   }

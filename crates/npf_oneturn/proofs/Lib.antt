@@ -10,4 +10,5 @@ mod JoinLemmas
 mod SplitLemmas
 mod StayLemmas
 mod TakeLemmas
+mod ViewLemmas
 mod WorkLemmas

@@ -1,8 +1,8 @@
 -- What a pass was answered and builds, as it asks for an act of its own.
-use Rattle.std.proofs.Common.{◌≡◌, ◌⊎◌, ℕ, Bool, true, false, List, [], ◌∷◌, Option, Some, None, cond, refl, ap, sym, subst, ◌∙◌, inl, inr, ⊎_elim, arith}
+use Rattle.std.proofs.Common.{◌≡◌, ℕ, Bool, true, false, List, [], ◌∷◌, Option, Some, None, cond, refl, ap, sym, subst, ◌∙◌, ⊎_elim}
 use Rattle.std.specs.List.{Contains, filter}
 use Rattle.std.specs.Prelude.{not}
-use Rattle.std.proofs.lemmas.List.Elements.{Contains-append_cases, Contains-append_left, Contains-append_right, Contains-push, Contains-push_cases}
+use Rattle.std.proofs.lemmas.List.Elements.{Contains-append_cases, Contains-append_left, Contains-append_right, Contains-push}
 use Rattle.npf_types.specs.declared.key.Key.{Key}
 use Rattle.npf_types.specs.declared.key.Way.{Way}
 use Rattle.npf_core.specs.declared.act.Act.{Act}
@@ -22,11 +22,9 @@ use Rattle.npf_core.proofs.EqualityLemmas.{is_id-Decides}
 use Rattle.npf_core.proofs.HolderLemmas.{Passes, rests, gives, loses, passes, may_hold, claimed_by}
 use Rattle.npf_core.proofs.LifeLemmas.{Life, stage_in, stage_of-is, Moves, keeps, claims, starts, steps, abandons, expires, frees, moves}
 use Rattle.npf_connections.specs.Answered.{without, found_ids, taken_ids}
+use Rattle.npf_seats.proofs.PrefixLemmas.{none_listed, cons_cases}
 use Rattle.npf_oneturn.specs.Endings.{answered_after, builds_after}
 use Rattle.npf_oneturn.specs.Rule.{DeadHoldNone}
-
-pub nothing_in : {X : Type 0} (x : X) → Contains [] x → ⊥
-nothing_in x c = let below = c.1 in omega (arith, below)
 
 module _ {S A R : Type 0} (m : Meaning S A R) (slots : ℕ) (k : Machine S) (seat : ℕ) (act : Act S A) (allowed : Allows m slots k seat act) where
   abbrev next : Machine S
@@ -87,14 +85,8 @@ module _ {S A R : Type 0} (m : Meaning S A R) (slots : ℕ) (k : Machine S) (sea
       (bare id was way)
 
 -- what a filter keeps stood there and passes
-pub cons_cases : {X : Type 0} (x y : X) (xs : List X) → Contains (x ∷ xs) y → (x ≡ y) ⊎ Contains xs y
-cons_cases x y xs c = ⊎_elim
-    (λ (d : Contains (x ∷ []) y). ⊎_elim (λ (n : Contains [] y). absurd (nothing_in y n)) (λ (e : x ≡ y). inl e) (Contains-push_cases [] x y d))
-    (λ (d : Contains xs y). inr d)
-    (Contains-append_cases (x ∷ []) xs y c)
-
 pub filter_has : {X : Type 0} (p : X → Bool) (xs : List X) (x : X) → Contains (filter p xs) x → Contains xs x × (p x ≡ true)
-filter_has p [] x c = absurd (nothing_in x c)
+filter_has p [] x c = absurd (none_listed x c)
 filter_has {X} p (y ∷ ys) x c = by_test (λ d. filter_has p ys x d) (p y) refl c
   where
     by_test : (Contains (filter p ys) x → Contains ys x × (p x ≡ true)) → (test : Bool) → p y ≡ test →
@@ -120,14 +112,14 @@ module _ {S A R : Type 0} (m : Meaning S A R) (slots : ℕ) (k : Machine S) (sea
   Answered act = (id : ConnId) → Contains (answered_after act (reply_of m k act) ids) id → IsClaimed (stage_of (after_act m k seat act) id)
 
   found_claimed : (key : Key) (x : Option Found) → k.holder key ≡ x → (id : ConnId) → Contains (found_ids x) id → IsClaimed (stage_of k id)
-  found_claimed key None e id c = absurd (nothing_in id c)
+  found_claimed key None e id c = absurd (none_listed id c)
   found_claimed key (Some found) e id c = ⊎_elim
       (λ (same : found.id ≡ id). subst (λ (i : ConnId). IsClaimed (stage_of k i)) same (claimed key found e))
-      (λ (n : Contains [] id). absurd (nothing_in id n))
+      (λ (n : Contains [] id). absurd (none_listed id n))
       (cons_cases found.id id [] c)
 
   taken_claimed : (key : Key) (x : Option Found) → k.holder key ≡ x → (id : ConnId) → Contains (taken_ids (held_by x)) id → IsClaimed (stage_of k id)
-  taken_claimed key None e id c = absurd (nothing_in id c)
+  taken_claimed key None e id c = absurd (none_listed id c)
   taken_claimed key (Some found) e id c = found_claimed key (Some found) e id c
 
   -- what a pass is answered by an act is claimed, and what it was answered stays so

@@ -52,14 +52,14 @@ pub record Plan (S A : Type 0) : Type 0 where
 
 -- the entries of a plan
 abbrev pub planned_entries : {S A R : Type 0} → Meaning S A R → Plan S A → View S A R → List (Entry S A R)
-planned_entries m p v = entries_from m (state_of m v.history) v.number p.acts
+planned_entries m p v = entries_from m (state_of m v.seats.history) v.seats.number p.acts
 
 -- the pass after it
 abbrev pub ended : {S A R : Type 0} → Meaning S A R → Plan S A → View S A R → View S A R
 ended m p v = record v {
+  seats = record v.seats { history = v.seats.history ++ planned_entries m p v };
   turn = false;
   crowd = 0;
-  history = v.history ++ planned_entries m p v;
   entered = p.entered;
   answered = p.answered;
   builds = p.builds;
@@ -100,14 +100,14 @@ abbrev pub act_plan : {S A R : Type 0} → Meaning S A R → Act S A → View S 
 act_plan m act v = record {
   acts = act ∷ [];
   entered = v.entered;
-  answered = answered_after act (reply_of m (state_of m v.history) act) v.answered;
-  builds = builds_after act (reply_of m (state_of m v.history) act) v.builds;
+  answered = answered_after act (reply_of m (state_of m v.seats.history) act) v.answered;
+  builds = builds_after act (reply_of m (state_of m v.seats.history) act) v.builds;
 }
 
 -- a connection is abandoned with the keys that it holds
 pub record AbandonsBy {S A R : Type 0} (m : Meaning S A R) (id : ConnId) (v : View S A R) (p : Plan S A) : Type 0 where
   pub held : Way → Bool
-  pub holds : HoldsThese (state_of m v.history) id held
+  pub holds : HoldsThese (state_of m v.seats.history) id held
   pub is : p ≡ record { acts = end_acts id Abandoned held; entered = v.entered; answered = v.answered; builds = without id v.builds }
 
 -- so many connections are killed, with all their keys, and each that was due is one of them
@@ -115,14 +115,14 @@ pub record ExpiresBy {S A R : Type 0} (m : Meaning S A R) (now count : ℕ) (v :
   pub killed : List Killed
   pub is : p ≡ record { acts = expiry_acts now killed; entered = v.entered; answered = v.answered; builds = v.builds }
   pub counted : count ≡ length killed
-  pub gave_up : (id : ConnId) (way : Way) → IsOneOf killed id → HoldsNone (state_from m (state_of m v.history) (planned_entries m p v)) id way
-  pub due : (id : ConnId) → IsDue m now (stage_of (state_of m v.history) id) → IsOneOf killed id
+  pub gave_up : (id : ConnId) (way : Way) → IsOneOf killed id → HoldsNone (state_from m (state_of m v.seats.history) (planned_entries m p v)) id way
+  pub due : (id : ConnId) → IsDue m now (stage_of (state_of m v.seats.history) id) → IsOneOf killed id
 
 -- connections are freed; where nobody is entered, only one of a last incarnation is Dead then
 pub record CollectsBy {S A R : Type 0} (m : Meaning S A R) (v : View S A R) (p : Plan S A) : Type 0 where
   pub ids : List ConnId
   pub is : p ≡ record { acts = map (λ id. Free id) ids; entered = v.entered; answered = v.answered; builds = v.builds }
-  pub clean : v.crowd ≡ 0 → (id : ConnId) → stage_of (state_from m (state_of m v.history) (planned_entries m p v)) id ≡ Dead → 2 ^ 64 - 1 ≤ id.inc
+  pub clean : v.crowd ≡ 0 → (id : ConnId) → stage_of (state_from m (state_of m v.seats.history) (planned_entries m p v)) id ≡ Dead → 2 ^ 64 - 1 ≤ id.inc
 
 -- which plans end a call so
 abbrev pub EndsBy : {S A R : Type 0} → Meaning S A R → Ending S A → View S A R → Plan S A → Type 0
@@ -136,12 +136,12 @@ EndsBy m Collects v p = CollectsBy m v p
 
 -- the pass that has the turn may end it by this plan with this value
 pub record MayEnd {S A R : Type 0} (m : Meaning S A R) (p : Plan S A) (v : View S A R) (contents : Contents S) : Type 0 where
-  pub legal : LegalFrom m v.slots (state_of m v.history) (planned_entries m p v)
-  pub represents : Represents v.slots contents.store (state_of m (v.history ++ planned_entries m p v))
-  pub bare : DeadHoldNone (state_of m (v.history ++ planned_entries m p v))
+  pub legal : LegalFrom m v.seats.about (state_of m v.seats.history) (planned_entries m p v)
+  pub represents : Represents v.seats.about contents.store (state_of m (v.seats.history ++ planned_entries m p v))
+  pub bare : DeadHoldNone (state_of m (v.seats.history ++ planned_entries m p v))
   pub counted : contents.entered + one_if v.entered ≡ v.crowd + one_if p.entered
   pub tidy : IsTidy (ended m p v)
-  pub stays : Stays (state_of m (v.history ++ planned_entries m p v)) (ended m p v)
+  pub stays : Stays (state_of m (v.seats.history ++ planned_entries m p v)) (ended m p v)
   -- it frees nothing, or nobody is entered
   pub frees : ((id : ConnId) → frees id (planned_entries m p v) ≡ []) ⊎ (v.crowd ≡ 0)
 

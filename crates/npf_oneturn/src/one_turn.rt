@@ -39,7 +39,7 @@ impl<L: Law> OneTurn<L> {
     pub fn new(alloc: Global, slots: u32) -> Result<(OneTurn<L>, OneTurnPass<L>), NoMemory>
         ensures of { IfOk result (λ made. IsSeatOf made.0.table.shared.table_id made.1.seat.table_id) }
         ensures rests { IfOk result (λ made. IsResting made.1.seat.me) }
-        ensures sized { IfOk result (λ made. made.1.seat.me.0.slots ≡ made.0.table.shared.key) }
+        ensures sized { IfOk result (λ made. made.1.seat.me.0.seats.about ≡ made.0.table.shared.key) }
         ensures legal { IfOk result (λ made. IsPass L.meaning (show made.1.seat.me.0)) }
         ensures first { IfOk result (λ made. IsFirstPass slots (show made.1.seat.me.0)) }
     {
@@ -67,7 +67,7 @@ where
 
     ghost view = { λ pass. show pass.seat.me.0 };
 
-    ghost fits = { λ conns pass. IsSeatOf conns.table.shared.table_id pass.seat.table_id × IsResting pass.seat.me × (pass.seat.me.0.slots ≡ conns.table.shared.key) };
+    ghost fits = { λ conns pass. IsSeatOf conns.table.shared.table_id pass.seat.table_id × IsResting pass.seat.me × (pass.seat.me.0.seats.about ≡ conns.table.shared.key) };
 
     fn slots(&self) -> u32 {
         self.slots

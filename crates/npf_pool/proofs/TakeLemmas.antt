@@ -1,5 +1,5 @@
 -- Sweeps of a pool's words.
-use Rattle.std.proofs.Common.{◌≡◌, ◌≢◌, ℕ, ◌+◌, ◌-◌, ◌*◌, ◌/◌, ◌%◌, ◌^◌, ◌<◌, ◌≤◌, cond, eqb, eq-eqb, ne_eqb, min, Some, List, [], ◌∷◌, slice_index, refl, sym, ap, ◌∙◌, subst, ⊎_elim, arith, append-nil}
+use Rattle.std.proofs.Common.{◌≡◌, ◌≢◌, ℕ, ◌+◌, ◌-◌, ◌*◌, ◌/◌, ◌%◌, ◌^◌, ◌<◌, ◌≤◌, cond, eqb, eq-eqb, ne_eqb, min, Some, List, [], ◌∷◌, slice_index, refl, sym, ap, ◌∙◌, subst, ⊎_elim, arith, append-nil, length, Option, None, IfNone}
 use Rattle.std.specs.Int.{bit_at}
 use Rattle.std.proofs.lemmas.Bool.{cases_eq, cases_lt}
 use Rattle.std.proofs.lemmas.Nat.Bits.{bit_at_mask_inside}
@@ -28,7 +28,7 @@ use Rattle.npf_cells_rule.specs.declared.view.CellView.{CellView}
 use Rattle.npf_cells_rule.specs.Passes.{cell_pass}
 use Rattle.npf_cells_rule.specs.Stood.{StoodSo}
 use Rattle.npf_cells_rule.specs.Views.{with_pools}
-use Rattle.npf_cells_takes.specs.PoolKinds.{row_after, sweeping}
+use Rattle.npf_cells_takes.specs.PoolKinds.{NeedsNode, row_after, sweeping}
 use Rattle.npf_cells_takes.specs.SlotKinds.{claiming_slot, seeing_slots, HasClaimed, HasSeenSlots}
 use Rattle.npf_pool.specs.Take.{searching, having_swept, StoodFull, HasSeenMore}
 
@@ -43,6 +43,10 @@ row_grows row word so = ⊎_elim
 
 row_breaks : (row word found : ℕ) → found ≢ 2 ^ 64 - 1 → row_after row word found ≡ 0
 row_breaks row word found ne = ap (λ b. cond b (cond (eqb word 0) 1 (cond (eqb word row) (row + 1) 0)) 0) (ne_eqb found (2 ^ 64 - 1) ne)
+
+pub if_none : {A : Type 0} (o : Option A) (P Q : Type 0) → (P → Q) → IfNone o P → IfNone o Q
+if_none None P Q f h = f h
+if_none (Some a) P Q f h = h
 
 words_within : (layout : Layout) (pool : Pool) (word bit : ℕ) → word < pool_words (pool_places layout pool) → bit < 64 → 64 * word + bit < 64 * pool_words (pool_places layout pool)
 words_within layout Slots word bit h low = omega (arith, h, low)
@@ -73,6 +77,16 @@ module _ {S A R F : Type 0} where
   -- a claim that lost changes only what was found
   pub lost_search : (now next : Me F (CellView S A R)) → next ≡ with_pools now (record now.0.pools { found = next.0.pools.found }) → next ≡ with_pools now (searching now.0.pools next.0.pools)
   lost_search now next is = is ∙ ap (λ r. with_pools now (record now.0.pools { found = next.0.pools.found; row = r })) (sym (ap (λ (y : Me F (CellView S A R)). y.0.pools.row) is))
+
+  -- a pass that needs a node needs it after a search
+  pub needs_still : (digest : Key → ℕ) (old now : Me F (CellView S A R)) → now ≡ with_pools old (searching old.0.pools now.0.pools) → NeedsNode digest old.0 → NeedsNode digest now.0
+  needs_still digest old now is needs = record {
+    meeting = needs.meeting;
+    met = ap (λ (y : Me F (CellView S A R)). y.0.trie.meets) is ∙ needs.met;
+    parting = needs.parting;
+    parts = needs.parts;
+    few = subst (λ (y : Me F (CellView S A R)). needs.meeting.level + length y.0.pools.nodes < needs.parting) (sym is) needs.few;
+  }
 
   pub swept_more : (old now next : Me F (CellView S A R)) → now ≡ with_pools old (searching old.0.pools now.0.pools) →
       next ≡ with_pools now (having_swept now.0.pools next.0.pools) → next ≡ with_pools old (having_swept old.0.pools next.0.pools)

@@ -42,6 +42,7 @@ pub fn take<L: Law, H: KeyHash>(
         match find_clear(cells, pass, pool) {
             Some(place) => {
                 if cells.claim(pass, pool, place, n) {
+                    pass.set_hint(pool, place / 64);
                     return Some(place);
                 }
             }
@@ -51,12 +52,58 @@ pub fn take<L: Law, H: KeyHash>(
     unreachable!()
 }
 
-// Sweeps a pool, up to the first word that isn't full. Answers the first place whose bit it found clear.
+// Looks for a clear bit in the word where the pass found one last, and sweeps the pool if there is none. Answers the first place whose
+// bit it found clear.
 fn find_clear<L: Law, H: KeyHash>(
     cells: &Cells<L, H>,
     pass: &mut CellPass<L>,
     pool: Pool,
 ) -> Option<u32>
+    requires own { IsPassIn cells.now pass.old }
+    requires needs { pool ≡ Nodes → NeedsNode H.digest pass.old.seat.me.0 }
+    ensures own { IsPassIn cells.now pass.new }
+    ensures within { IfSome result (λ place. place < pool_places cells.now.table.shared.key pool) }
+    ensures searches { IfSome result (λ place. pool ≡ Nodes → pass.new.seat.me ≡ with_pools pass.old.seat.me (searching pass.old.seat.me.0.pools pass.new.seat.me.0.pools)) }
+    ensures sees { pool ≡ Slots → HasSeenMore L.meaning pass.old.seat.me pass.new.seat.me }
+    ensures none { IfNone result (pool ≡ Nodes → pass.new.seat.me ≡ with_pools pass.old.seat.me (having_swept pass.old.seat.me.0.pools pass.new.seat.me.0.pools)) }
+    ensures swept { IfNone result (pool ≡ Nodes → CountsSweep (pool_words cells.now.table.shared.key.nodes) pass.old.seat.me.0.pools pass.new.seat.me.0.pools) }
+    ensures full { IfNone result (pool ≡ Nodes → (word : ℕ) → word < pool_words cells.now.table.shared.key.nodes → StoodFull L.meaning H.digest cells.now.table.shared.key pass.old.seat.me.0 word) }
+    ensures claimed { IfNone result (pool ≡ Slots → IsFullBetween L.meaning (cell_pass pass.old.seat.me.0) pass.new.seat.me.0.seats.history) }
+{
+    match find_hinted(cells, pass, pool) {
+        Some(place) => Some(place),
+        None => sweep(cells, pass, pool),
+    }
+}
+
+// Loads the word in which the pass found a clear bit last. Answers the first place whose bit is clear there. Of the last word nothing is
+// loaded, since by such a load a row of full words may become whole.
+fn find_hinted<L: Law, H: KeyHash>(
+    cells: &Cells<L, H>,
+    pass: &mut CellPass<L>,
+    pool: Pool,
+) -> Option<u32>
+    requires own { IsPassIn cells.now pass.old }
+    requires needs { pool ≡ Nodes → NeedsNode H.digest pass.old.seat.me.0 }
+    ensures own { IsPassIn cells.now pass.new }
+    ensures within { IfSome result (λ place. place < pool_places cells.now.table.shared.key pool) }
+    ensures searches { pool ≡ Nodes → pass.new.seat.me ≡ with_pools pass.old.seat.me (searching pass.old.seat.me.0.pools pass.new.seat.me.0.pools) }
+    ensures sees { pool ≡ Slots → HasSeenMore L.meaning pass.old.seat.me pass.new.seat.me }
+{
+    let words = cells.layout().pool_words(pool);
+    let hint = pass.hint(pool);
+    if hint >= words.saturating_sub(1) {
+        return None;
+    }
+    let hinted = cells.load_pool(pass, pool, hint);
+    if hinted == u64::MAX {
+        return None;
+    }
+    Some(64 * hint + lowest_clear(hinted))
+}
+
+// Sweeps a pool, up to the first word that isn't full. Answers the first place whose bit it found clear.
+fn sweep<L: Law, H: KeyHash>(cells: &Cells<L, H>, pass: &mut CellPass<L>, pool: Pool) -> Option<u32>
     requires own { IsPassIn cells.now pass.old }
     requires needs { pool ≡ Nodes → NeedsNode H.digest pass.old.seat.me.0 }
     ensures own { IsPassIn cells.now pass.new }

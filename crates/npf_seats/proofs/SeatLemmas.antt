@@ -4,14 +4,14 @@ use Rattle.std.proofs.Common.{◌≡◌, ◌≢◌, ◌⊎◌, ℕ, zero, suc, �
 use Rattle.std.proofs.lemmas.Bool.{cases_eq}
 use Rattle.std.proofs.lemmas.List.{length-drop, length-take-le}
 use Rattle.std.proofs.lemmas.List.Elements.{Contains-append_cases, Contains-append_left, Contains-append_right, Contains-push}
-use Rattle.std.proofs.lemmas.List.Sums.{sum_by-append, sum_by_push, sum_by-take-drop}
-use mathlib.Core.Option.{some}
+use Rattle.std.proofs.lemmas.List.Sums.{sum_by-append, sum_by-cons, sum_by_push, sum_by-take-drop}
+use mathlib.Core.Option.{some, some-injective, some-ne-none}
 use lib.ListN.{get_elem?}
 use Rattle.atomic_table.proofs.Lists.{at_set, set_else, at_longer}
 use Rattle.npf_core.specs.History.{IsPrefix}
 use Rattle.npf_core.proofs.HistoryLemmas.{IsPrefix-self, IsPrefix-append, IsPrefix-trans}
 use Rattle.npf_seats.specs.declared.side.SeatSide.{SeatSide}
-use Rattle.npf_seats.specs.Moves.{givers_seat, given_seat, taking_seat, spent_seat}
+use Rattle.npf_seats.specs.Moves.{first_seat, givers_seat, given_seat, taking_seat, spent_seat}
 use Rattle.npf_seats.specs.Seats.{by_seat, IsSpentSeat, IsWhollySeen, FitsSeats, AnswersFor, HasSeat, Seats, owners, places_owned}
 use Rattle.npf_seats.specs.SeatsLaw.{OwnsPlaceAlone, AnswersForAll}
 use Rattle.npf_seats.specs.Sums.{occurs}
@@ -22,6 +22,39 @@ pub cases_lt : (a b : ℕ) → (a < b) ⊎ (b ≤ a)
 cases_lt a zero = inr (omega arith)
 cases_lt zero (suc b) = inl (omega arith)
 cases_lt (suc a) (suc b) = ⊎_elim (λ (h : a < b). inl (omega (arith, h))) (λ (h : b ≤ a). inr (omega (arith, h))) (cases_lt a b)
+
+-- the first seat, alone, keeps the part, where it owns each place once
+module _ {K E : Type 0} (seat_of : E → ℕ) (about : K) (all : ℕ) (readers : List ℕ) where
+  abbrev opener : SeatSide K E
+  opener = first_seat about readers
+
+  opener_fits : FitsSeats seat_of about (opener ∷ []) [] 0 opener
+  opener_fits = record {
+    sized = λ _. refl;
+    others = λ n c. absurd (none_listed n c);
+    seen = prefix_of_none [];
+    told = prefix_of_none [];
+    unborn = λ e. absurd (true≢false e);
+    lives = λ _. record { number = refl; own = refl };
+    joined = λ n c. absurd (none_listed n c);
+    theirs = λ n c. absurd (none_listed n c);
+  }
+
+  pub seats-first : ((reader : ℕ) → reader < all → occurs reader readers ≡ 1) → ((reader : ℕ) → all ≤ reader → occurs reader readers ≡ 0) → length readers ≡ all → Seats seat_of about all [] (opener ∷ [])
+  seats-first once never long = record {
+    each = each;
+    owned = λ reader h. let a = single (λ (u : SeatSide K E). occurs reader u.readers) in let b = once reader h in omega (arith, a, b);
+    beyond = λ reader h. let a = single (λ (u : SeatSide K E). occurs reader u.readers) in let b = never reader h in omega (arith, a, b);
+    total = let a = single (λ (u : SeatSide K E). length u.readers) in omega (arith, a, long);
+    known = λ n. inl refl;
+  }
+    where
+      single : (f : SeatSide K E → ℕ) → sum_by f (opener ∷ []) ≡ f opener
+      single f = let a = sum_by-cons f opener [] in omega (arith, a)
+
+      each : (j : ℕ) (v : SeatSide K E) → get_elem? (opener ∷ []) j ≡ some v → FitsSeats seat_of about (opener ∷ []) [] j v
+      each zero v e = subst (λ (u : SeatSide K E). FitsSeats seat_of about (opener ∷ []) [] 0 u) (some-injective _ _ e) opener_fits
+      each (suc j) v e = absurd (some-ne-none v (sym e))
 
 module _ {K E : Type 0} (seat_of : E → ℕ) (about : K) (all : ℕ) (log : List E) where
   -- a seat fits among others where what is spent stays so
@@ -430,11 +463,11 @@ module _ {K E : Type 0} (seat_of : E → ℕ) (about : K) (all : ℕ) (log : Lis
     pub most_places : length v.readers ≤ all
     most_places = let one = one_of_sum (λ (u : SeatSide K E). length u.readers) sides id v at in omega (arith, one, kept.total)
 
-  -- a seat adds an entry of its own, and has then seen all
+  -- a seat adds entries of its own, and has then seen all
   module _ (sides : List (SeatSide K E)) (id : ℕ) (v : SeatSide K E) (kept : Seats seat_of about all log sides) (at : get_elem? sides id ≡ some v)
-      (lives : v.lives ≡ true) (place : 1 ≤ length v.readers) (entry : E) (mine : seat_of entry ≡ id) where
+      (lives : v.lives ≡ true) (place : 1 ≤ length v.readers) (added : List E) (alone : (n : ℕ) → n ≢ id → by_seat seat_of n added ≡ []) where
     abbrev longer : List E
-    longer = log ++ entry ∷ []
+    longer = log ++ added
 
     abbrev adding : SeatSide K E
     adding = record v { history = longer }
@@ -443,8 +476,8 @@ module _ {K E : Type 0} (seat_of : E → ℕ) (about : K) (all : ℕ) (log : Lis
     its_fits = kept.each id v at
 
     -- no other number has more entries by it
-    pub others_none : (n : ℕ) → n ≢ id → by_seat seat_of n longer ≡ by_seat seat_of n log
-    others_none n ne = by_seat-append seat_of n log (entry ∷ []) ∙ (ap (λ es. by_seat seat_of n log ++ es) (not_of seat_of n entry (λ e. ne (sym e ∙ mine))) ∙ append-nil (by_seat seat_of n log))
+    others_none : (n : ℕ) → n ≢ id → by_seat seat_of n longer ≡ by_seat seat_of n log
+    others_none n ne = by_seat-append seat_of n log added ∙ (ap (λ es. by_seat seat_of n log ++ es) (alone n ne) ∙ append-nil (by_seat seat_of n log))
 
     spent_yet : (n : ℕ) → IsSpentSeat sides n → IsSpentSeat (set sides id adding) n
     spent_yet n = spent-set sides id n v adding at (λ none. none)
@@ -453,7 +486,7 @@ module _ {K E : Type 0} (seat_of : E → ℕ) (about : K) (all : ℕ) (log : Lis
     seen_yet seen n whole = record { same = others_none n (unspent sides id n v at place whole.spent) ∙ whole.same; spent = spent_yet n whole.spent }
 
     goes_on : IsPrefix log longer
-    goes_on = IsPrefix-append log (entry ∷ [])
+    goes_on = IsPrefix-append log added
 
     adding_fits : FitsSeats seat_of about (set sides id adding) longer id adding
     adding_fits = record {
@@ -479,8 +512,8 @@ module _ {K E : Type 0} (seat_of : E → ℕ) (about : K) (all : ℕ) (log : Lis
       theirs = λ n c. seen_yet u.told n (fits.theirs n c);
     }
 
-    pub seats-adds : Seats seat_of about all longer (set sides id adding)
-    seats-adds =
+    pub seats-adds-all : Seats seat_of about all longer (set sides id adding)
+    seats-adds-all =
         let own = own-set sides id v adding at refl in
         record {
           each = λ j u e. ⊎_elim
@@ -495,6 +528,11 @@ module _ {K E : Type 0} (seat_of : E → ℕ) (about : K) (all : ℕ) (log : Lis
               (λ (ne : n ≢ id). ⊎_elim (λ none. inl (others_none n ne ∙ none)) (λ has. inr (seat-set sides id n v adding at (λ p. p) (λ o. o) has)) (kept.known n))
               (cases_eq n id);
         }
+
+  -- a seat adds one entry of its own
+  pub seats-adds : (sides : List (SeatSide K E)) (id : ℕ) (v : SeatSide K E) → Seats seat_of about all log sides → get_elem? sides id ≡ some v → v.lives ≡ true → 1 ≤ length v.readers →
+      (entry : E) → seat_of entry ≡ id → Seats seat_of about all (log ++ entry ∷ []) (set sides id (record v { history = log ++ entry ∷ [] }))
+  seats-adds sides id v kept at lives place entry mine = seats-adds-all sides id v kept at lives place (entry ∷ []) (λ n ne. not_of seat_of n entry (λ e. ne (sym e ∙ mine)))
 
   -- a seat sees all that was added, and adds nothing
   module _ (sides : List (SeatSide K E)) (id : ℕ) (v : SeatSide K E) (kept : Seats seat_of about all log sides) (at : get_elem? sides id ≡ some v)

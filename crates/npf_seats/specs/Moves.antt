@@ -1,6 +1,20 @@
--- What splitting and joining make of seats.
-use Rattle.std.specs.Prelude.{◌+◌, ◌-◌, false, [], ◌∷◌, ◌++◌, length, take, drop}
+-- The first seat, and what splitting and joining make of seats.
+use Rattle.std.specs.Prelude.{ℕ, ◌-◌, true, false, List, [], ◌∷◌, ◌++◌, length, take, drop}
 use Rattle.npf_seats.specs.declared.side.SeatSide.{SeatSide}
+
+-- the first seat of an object, which owns its places
+abbrev pub first_seat : {K E : Type 0} → K → List ℕ → SeatSide K E
+first_seat about readers = record {
+  about = about;
+  number = 0;
+  lives = true;
+  history = [];
+  readers = readers;
+  joined = [];
+  told = [];
+  theirs = [];
+  others = [];
+}
 
 -- the last reader place is given up
 abbrev pub givers_seat : {K E : Type 0} → SeatSide K E → SeatSide K E

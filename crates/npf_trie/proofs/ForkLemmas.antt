@@ -14,13 +14,13 @@ use Rattle.npf_paths.specs.LevelLaw.{AreApart}
 use Rattle.npf_paths.specs.Paths.{AreDigits}
 use Rattle.npf_paths.proofs.BranchLemmas.{branch_same}
 use Rattle.npf_cells_words.specs.declared.layout.Layout.{Layout}
-use Rattle.npf_cells_words.specs.declared.layout.Pool.TheVariants.{Slots, Nodes}
+use Rattle.npf_cells_words.specs.declared.layout.Pool.TheVariants.{Nodes}
 use Rattle.npf_cells_lives.specs.declared.pools.PoolSide.{PoolSide}
 use Rattle.npf_cells_lives.specs.declared.pools.StoredWord.{StoredWord}
-use Rattle.npf_cells_words.specs.Layout.{key_field, field_at}
+use Rattle.npf_cells_words.specs.Layout.{field_at}
 use Rattle.npf_cells_holds.specs.PublishKinds.{cell_stored, stored_cell}
 use Rattle.npf_cells_leaves.specs.Trie.{digits_of}
-use Rattle.npf_trie.specs.Stores.{HasNewNodes, KeepsStoredKeys, LiesOutside, KeepsOutside, forked_cell}
+use Rattle.npf_trie.specs.Stores.{HasNewNodes, LiesOutside, KeepsOutside, forked_cell}
 
 are_digits : (digest : Key → ℕ) (key : Key) → AreDigits (digits_of digest key)
 are_digits digest key = record { root = grind arith; node = λ level h. grind arith }
@@ -74,13 +74,6 @@ others_apart node rest n apart (i, low, at) e =
     let there : node ≡ slice_index rest i = sym e ∙ (sym at ∙ get_or_default_zero rest i n low) in
     let none : 0 ≡ suc i = apart 0 (suc i) (omega arith) (omega (arith, low)) there in
     omega (arith, none)
-
--- keys are stored outside of nodes
-pub keys_kept : (layout : Layout) (nodes : List ℕ) (side : PoolSide) (old now : List StoredWord) → HasNewNodes layout side nodes → KeepsOutside layout nodes old now → KeepsStoredKeys layout old now
-keys_kept layout nodes side old now new keeps slot way key has = record {
-  five = has.five;
-  words = λ i low. keeps (field_at layout Slots slot (key_field way + i)) (λ n digit in' small same. let below = new.exist n in' in omega (arith, same, below, small)) ∙ has.words i low;
-}
 
 module _ (layout : Layout) (nodes : List ℕ) (node : ℕ) (rest : List ℕ) (e : nodes ≡ node ∷ rest) where
   pub first_in : Contains nodes node

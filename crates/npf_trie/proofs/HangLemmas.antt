@@ -189,7 +189,7 @@ module _ {S A R F : Type 0} (m : Meaning S A R) (digest : Key → ℕ) (layout :
         }
 
     -- it met the key itself, which has a holder
-    pub hangs_taken : (wanted : Wanted) → wanted ≡ record { id = id; key = key; way = way } → (found : Found) (next : Me F (CellView S A R)) → ComparesWords 5 now next →
+    pub hangs_taken : (wanted : Wanted) → wanted ≡ record { id = id; key = key; hash = wanted.hash; way = way } → (found : Found) (next : Me F (CellView S A R)) → ComparesWords 5 now next →
         ((leaf : LoadedLeaf) → now.0.trie.leaf ≡ Some leaf → length leaf.key.0 ≡ 5 → TellsMet leaf key (Holder found)) → HasHung m wanted (Held.Taken found) old next
     hangs_taken wanted wants found next compares met =
         let tells : TellsMet meets.leaf key (Holder found) = met meets.leaf (known (is_key meets.leaf.key key) refl) meets.is_leaf.five in

@@ -1,6 +1,5 @@
 -- What a pass stores in its own places before it puts something in the trie, and what it stored before of other words.
 use Rattle.std.specs.Prelude.{◌≡◌, ◌≢◌, ℕ, ◌<◌, ◌==◌, List, Contains, if◌then◌else◌}
-use Rattle.npf_types.specs.declared.key.Key.{Key}
 use Rattle.npf_types.specs.declared.key.Way.{Way}
 use Rattle.npf_core.specs.declared.conn_id.ConnId.{ConnId}
 use Rattle.npf_core.specs.Meaning.{Meaning}
@@ -14,7 +13,6 @@ use Rattle.npf_cells_lives.specs.declared.pools.PoolSide.{PoolSide}
 use Rattle.npf_cells_lives.specs.declared.pools.StoredWord.{StoredWord}
 use Rattle.npf_cells_holds.specs.HoldKinds.{MayHoldSo}
 use Rattle.npf_cells_words.specs.Layout.{field_at}
-use Rattle.npf_cells_holds.specs.PublishKinds.{HasStoredKey}
 use Rattle.npf_cells_lives.specs.Stored.{stored_value}
 
 -- the pass may store a key of that way in the slot: it is building the slot's connection, and has seen it take none
@@ -36,10 +34,6 @@ LiesOutside layout nodes word = (node digit : ℕ) → Contains nodes node → d
 -- what was stored of any word but those of these nodes' places is what it was
 abbrev pub KeepsOutside : Layout → List ℕ → List StoredWord → List StoredWord → Type 0
 KeepsOutside layout nodes old now = (word : ℕ) → LiesOutside layout nodes word → stored_value layout now word ≡ stored_value layout old word
-
--- keys whose words were stored are stored still
-abbrev pub KeepsStoredKeys : Layout → List StoredWord → List StoredWord → Type 0
-KeepsStoredKeys layout old now = (slot : ℕ) (way : Way) (key : Key) → HasStoredKey layout old slot way key → HasStoredKey layout now slot way key
 
 -- the cell of a digit's place in a node that leads on at two digits, or at one that is both
 abbrev pub forked_cell : ℕ → Cell → ℕ → Cell → ℕ → Cell

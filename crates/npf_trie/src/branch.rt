@@ -6,7 +6,7 @@ ghost use Rattle.npf_cells.specs.Cells.{IsPassIn};
 ghost use Rattle.npf_cells_rule.specs.Views.{with_pools};
 ghost use Rattle.npf_cells_holds.specs.PublishKinds.{cell_stored};
 ghost use Rattle.npf_cells_leaves.specs.Trie.{digits_of};
-ghost use Rattle.npf_trie.specs.Stores.{HasNewNodes, KeepsStoredKeys, KeepsOutside, forked_cell};
+ghost use Rattle.npf_trie.specs.Stores.{HasNewNodes, KeepsOutside, forked_cell};
 
 use npf_cells::{CellPass, Cells, Pool};
 use npf_core::Law;
@@ -14,50 +14,17 @@ use npf_paths::laws::cell_law;
 use npf_paths::{Cell, KeyHash, NODE_DIGITS, digit};
 use npf_types::Key;
 
-// A leaf at the foot of a branch, and the key that leads there, with its hash.
+/// A leaf at the foot of a branch, and the key that leads there, with its hash.
 #[derive(Clone, Copy)]
-struct Tip {
-    hash: u64,
-    key: Key,
-    leaf: Cell,
+pub(crate) struct Tip {
+    pub(crate) hash: u64,
+    pub(crate) key: Key,
+    pub(crate) leaf: Cell,
 }
 
-/// Stores the places of nodes that the pass owns, so that they lead two keys on: the first is to hang in a place of this level, and
-/// the last is that of the level at which the keys part, with the leaf of either.
+/// Stores the places of nodes that the pass owns, from the last up, so that they lead two keys on: the first is to hang in a place of
+/// this level, and the last is that of the level at which the keys part, with the leaf of either.
 pub(crate) fn build_branch<L: Law, H: KeyHash>(
-    cells: &Cells<L, H>,
-    pass: &mut CellPass<L>,
-    nodes: &[u32],
-    level: u32,
-    key: &Key,
-    other: &Key,
-    leaf: Cell,
-    other_leaf: Cell,
-)
-    requires own { IsPassIn cells.now pass.old }
-    requires some { 1 ≤ length nodes.now }
-    requires nodes { HasNewNodes cells.now.table.shared.key pass.old.seat.me.0.pools nodes.now }
-    requires parts { PartsAt (H.digest key.now) key.now (H.digest other.now) other.now (level + length nodes.now) }
-    ensures own { IsPassIn cells.now pass.new }
-    ensures next { pass.new.seat.me ≡ with_pools pass.old.seat.me (record pass.old.seat.me.0.pools { stored = pass.new.seat.me.0.pools.stored }) }
-    ensures branch { IsBranch (digits_of H.digest key.now) (digits_of H.digest other.now) (cell_stored cells.now.table.shared.key pass.new.seat.me.0.pools.stored) leaf other_leaf (level + 1) (slice_index nodes.now 0) nodes.now }
-    ensures keys { KeepsStoredKeys cells.now.table.shared.key pass.old.seat.me.0.pools.stored pass.new.seat.me.0.pools.stored }
-{
-    let mine = Tip {
-        hash: H::hash(key),
-        key: *key,
-        leaf,
-    };
-    let theirs = Tip {
-        hash: H::hash(other),
-        key: *other,
-        leaf: other_leaf,
-    };
-    build_below(cells, pass, nodes, level, &mine, &theirs);
-}
-
-// Builds the branch from its foot up, where the keys are hashed.
-fn build_below<L: Law, H: KeyHash>(
     cells: &Cells<L, H>,
     pass: &mut CellPass<L>,
     nodes: &[u32],
@@ -82,7 +49,7 @@ fn build_below<L: Law, H: KeyHash>(
             let other_at = digit(theirs.hash, &theirs.key, level + 1);
             fill_node(cells, pass, *node, at, mine.leaf, other_at, theirs.leaf);
         } else {
-            build_below(cells, pass, rest, level + 1, mine, theirs);
+            build_branch(cells, pass, rest, level + 1, mine, theirs);
             let next = Cell::Node(rest[0]);
             fill_node(cells, pass, *node, at, next, at, next);
         }

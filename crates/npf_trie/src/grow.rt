@@ -3,7 +3,7 @@ ghost use Rattle.npf_cells.specs.Cells.{IsPassIn};
 ghost use Rattle.npf_cells_rule.specs.Passes.{IsProtected};
 ghost use Rattle.npf_trie.specs.HoldKey.{CanHold, IsAtPlace, StepsSo, HasMet, HasGrown, HangsSo};
 
-use crate::branch::build_branch;
+use crate::branch::{Tip, build_branch};
 use crate::keys::store_key;
 use crate::lock::{lock, unlock};
 use crate::meet::meet;
@@ -30,32 +30,29 @@ pub(crate) fn grow<L: Law, H: KeyHash>(
     requires can { CanHold L.meaning cells.now.table.shared.key pass.old.seat.me.0 wanted.now.id wanted.now.way }
     requires at { IsAtPlace H.digest cells.now.table.shared.key pass.old.seat.me.0 wanted.now.key point }
     requires met { HasMet pass.old.seat.me.0.trie wanted.now.key point.level other.now }
+    requires hashed { wanted.now.hash ≡ H.digest wanted.now.key }
     ensures own { IsPassIn cells.now pass.new }
     ensures steps { StepsSo L.meaning H.digest cells.now.table.shared.key wanted.now point result pass.old.seat.me pass.new.seat.me }
 {
+    let mine = Tip {
+        hash: wanted.hash,
+        key: wanted.key,
+        leaf: wanted.leaf(),
+    };
+    let theirs = Tip {
+        hash: H::hash(&other.key),
+        key: other.key,
+        leaf: other.cell(),
+    };
     // Keys that meet share their digits down to this level, so they part further down.
-    let parting = match parting_level(
-        H::hash(&wanted.key),
-        &wanted.key,
-        H::hash(&other.key),
-        &other.key,
-    ) {
+    let parting = match parting_level(mine.hash, &mine.key, theirs.hash, &theirs.key) {
         Some(parting) if parting > point.level => parting,
         _ => return Step::Again,
     };
     let Some(nodes) = take_nodes(rt, cells, pass, parting - point.level) else {
         return Step::Ends(Held::NoNode);
     };
-    build_branch(
-        cells,
-        pass,
-        nodes.as_slice(),
-        point.level,
-        &wanted.key,
-        &other.key,
-        wanted.leaf(),
-        other.cell(),
-    );
+    build_branch(cells, pass, nodes.as_slice(), point.level, &mine, &theirs);
     store_key(cells, pass, wanted.id.slot, wanted.way, &wanted.key);
     lock(rt, cells, pass, point.place.lock());
     let step = hang(cells, pass, wanted, point, other, nodes[0]);

@@ -32,7 +32,7 @@ pub fn hold<L: Law, H: KeyHash>(
     ensures answers { SettlesHold L.meaning cells.now.table.shared.key id key way result pass.old.seat.me pass.new.seat.me }
 {
     let hash = H::hash(&key);
-    let wanted = Wanted { id, key, way };
+    let wanted = Wanted { id, key, hash, way };
     let mut point = Point {
         place: Place::Root(digit(hash, &key, 0)),
         level: 0,
@@ -73,6 +73,7 @@ fn step<L: Law, H: KeyHash>(
     requires protected { IsProtected pass.old.seat.me.0.epochs.pin }
     requires can { CanHold L.meaning cells.now.table.shared.key pass.old.seat.me.0 wanted.now.id wanted.now.way }
     requires at { IsAtPlace H.digest cells.now.table.shared.key pass.old.seat.me.0 wanted.now.key point }
+    requires hashed { wanted.now.hash ≡ H.digest wanted.now.key }
     ensures own { IsPassIn cells.now pass.new }
     ensures steps { StepsSo L.meaning H.digest cells.now.table.shared.key wanted.now point result pass.old.seat.me pass.new.seat.me }
 {

@@ -3,11 +3,12 @@ use npf_core::{ConnId, Found, Held};
 use npf_paths::{Cell, Place};
 use npf_types::{Key, Way};
 
-/// A key that is to be held for a connection, as its key of that way.
+/// A key that is to be held for a connection, as its key of that way, with the key's hash.
 #[derive(Clone, Copy, Debug, PartialEq, Eq)]
 pub(crate) struct Wanted {
     pub(crate) id: ConnId,
     pub(crate) key: Key,
+    pub(crate) hash: u64,
     pub(crate) way: Way,
 }
 

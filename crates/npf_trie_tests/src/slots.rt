@@ -1,5 +1,5 @@
 // The slots of small tables, whose bits lie in a word or two, and the incarnations of what a pass claimed.
-ghost use Rattle.std.specs.Prelude.{◌≡◌};
+ghost use Rattle.std.specs.Prelude.{◌≡◌, ◌≤◌};
 ghost use Rattle.npf_cells.specs.Cells.{IsPassIn};
 ghost use Rattle.npf_cells_rule.specs.Passes.{IsProtected};
 
@@ -71,7 +71,7 @@ fn take_in_turn(
     requires protected { IsProtected pass.old.seat.me.0.epochs.pin }
     requires other_protected { IsProtected other.old.seat.me.0.epochs.pin }
 {
-    for count in 0..50u32 {
+    for count in 0..5000u32 {
         match take(rt, cells, pass, Pool::Slots, 7) {
             Some(_) => {}
             None => return 2 * count,
@@ -81,12 +81,14 @@ fn take_in_turn(
             None => return 2 * count + 1,
         }
     }
-    100
+    10_000
 }
 
-// Of a table of 64 slots two passes take all, and the 65th is refused.
-fn tell_full(rt: &impl Wait, alloc: Global, told: &mut String) -> Result<(), Fail> {
-    let (cells, mut pass) = Cells::<FlowLaw, ByProtocol>::new(alloc, 64, 16)?;
+// Of a table of so many slots two passes take all, and one more is refused.
+fn tell_full(rt: &impl Wait, alloc: Global, slots: u32, told: &mut String) -> Result<(), Fail>
+    requires { (1 ≤ slots) × (slots ≤ 65536) }
+{
+    let (cells, mut pass) = Cells::<FlowLaw, ByProtocol>::new(alloc, slots, 16)?;
     let mut other = cells.split(&mut pass);
     enter(&cells, &mut pass);
     enter(&cells, &mut other);
@@ -111,7 +113,9 @@ fn slots_are_claimed_once(rt: HostRuntime) -> Result<(), Fail> {
     let mut told = String::new(rt.alloc());
     tell_claims(rt.alloc(), &mut told)?;
     tell_taken(&rt, rt.alloc(), &mut told)?;
-    tell_full(&rt, rt.alloc(), &mut told)?;
+    tell_full(&rt, rt.alloc(), 64, &mut told)?;
+    // Of 66 words each pass begins with its own.
+    tell_full(&rt, rt.alloc(), 4224, &mut told)?;
     tell_begun(&rt, rt.alloc(), &mut told)?;
     same(
         &rt,
@@ -120,6 +124,7 @@ fn slots_are_claimed_once(rt: HostRuntime) -> Result<(), Fail> {
 [true, false]
 ((true, 70), true)
 64
+4224
 [Some(ConnId { slot: 0, inc: 1 }), Some(ConnId { slot: 1, inc: 1 }), None]
 ",
     );

@@ -11,7 +11,10 @@ use npf_flow::FlowLaw;
 use std::alloc::Global;
 use std::test::Fail;
 
-// The reader loads the epoch and is set aside. The other raises it, loads it and scans all readers, the first being idle. The
+// The first pass of a table pins by this place.
+const FIRST_READER: u32 = 65;
+
+// The reader loads the epoch and is set aside. The other raises it, loads it and scans all readers, each being idle. The
 // reader pins what it loaded, and protects. The other raises the epoch by the scan that it made; it can't by the next one, until
 // the reader unpins. Tells what each loaded, and then whether the epoch was raised.
 fn tell_held(
@@ -35,7 +38,7 @@ fn tell_held(
     let raised_again = cells.advance(other, second);
     let raised_past_it = try_advance(cells, other);
     let third = cells.load_epoch(other);
-    let scanned = cells.scan_reader(other, 0);
+    let scanned = cells.scan_reader(other, FIRST_READER);
     cells.unpin(reader);
     let raised_after_it = try_advance(cells, other);
     put(told, &[first, second, protecting, third, scanned])?;

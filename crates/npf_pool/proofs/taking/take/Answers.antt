@@ -1,4 +1,5 @@
-use Rattle.std.proofs.Common.{◌/◌, refl}
+use Rattle.std.proofs.Common.{◌/◌, refl, sym, subst}
+use Rattle.npf_cells_takes.specs.SlotKinds.{HasClaimed}
 use Rattle.npf_pool.proofs.TakeLemmas.{searched_more, lost_search, sees_none, sees_then, seen_slots, claimed_since, claims_then, before_search}
 use Rattle.npf_pool.proofs.taking.take.Goals as goal
 
@@ -23,7 +24,8 @@ returns-then-claim-clause-claims g c = λ e.
     let old = c.args.pass.now.seat.me in
     let now = c.loop.pass.seat.me in
     let mid = c.find_clear.new.pass.seat.me in
-    claims_then g.L.Law.meaning c.args.n c.in-Some-find_clear.place old mid c.claim.new.pass.seat.me (sees_then g.L.Law.meaning old now mid (c.loop.invariant.seen e) (c.find_clear.ensures.sees e)) (c.claim.ensures.slot e c.if-claim.true)
+    subst (λ seat. HasClaimed g.L.Law.meaning c.args.n c.in-Some-find_clear.place old seat.me) (sym c.set_hint.ensures.seat)
+    (claims_then g.L.Law.meaning c.args.n c.in-Some-find_clear.place old mid c.claim.new.pass.seat.me (sees_then g.L.Law.meaning old now mid (c.loop.invariant.seen e) (c.find_clear.ensures.sees e)) (c.claim.ensures.slot e c.if-claim.true))
 
 pub returns-in-None-find_clear-clause-sees : goal.returns-in-None-find_clear-clause-sees
 returns-in-None-find_clear-clause-sees g c = λ e.

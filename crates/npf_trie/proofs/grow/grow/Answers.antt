@@ -21,7 +21,7 @@ build_branch-requires-clause-nodes g c =
 
 pub build_branch-requires-clause-parts : goal.build_branch-requires-clause-parts
 build_branch-requires-clause-parts g c =
-    parts_below _ _ _ _ _ _ c.in-Some.parting c.args.point.level _ c.in-Some.ensures.some c.hash.ensures c.hash-2.ensures c.if-parting-point.true
+    parts_below _ _ _ _ _ _ c.in-Some.parting c.args.point.level _ c.in-Some.ensures.some refl refl c.if-parting-point.true
     (ap length c.as_slice.ensures.value ∙ c.in-Some-take_nodes.ensures.takes.counted)
 
 pub store_key-requires-clause-may : goal.store_key-requires-clause-may

@@ -26,7 +26,7 @@ end-requires-clause-may g c =
     let r = c.requires.inside.own.1 in
     let here = represents_here m _ _ t _ c.slot_mut.ensures.value in
     let same = entered_here m _ _ t _ c.slot_mut.ensures.value in
-    let ends = c.end_connection.ensures.ends _ _ c.args.pass.now.seat.me.0.number Abandoned here (t.stays.built c.args.id c.requires.builds) in
+    let ends = c.end_connection.ensures.ends _ _ c.args.pass.now.seat.me.0.seats.number Abandoned here (t.stays.built c.args.id c.requires.builds) in
     may_abandon m _ _ t c.args.id c.requires.builds c.requires.inside.entered _ same ends (λ way. (shows_bare _ _ _ _ c.args.id way ends.works.represents).1 (c.end_connection.ensures.bare way))
 
 pub returns-clause-inside : goal.returns-clause-inside

@@ -26,7 +26,7 @@ end-requires-clause-may g c =
     let here = represents_here m _ _ t _ c.slot_mut.ensures.value in
     let same = entered_here m _ _ t _ c.slot_mut.ensures.value in
     let e = c.collect_contents.ensures in
-    may_collect m _ _ t c.requires.out.out _ _ here same e.entered (λ none. e.frees none _ _ c.args.pass.now.seat.me.0.number here) e.same
+    may_collect m _ _ t c.requires.out.out _ _ here same e.entered (λ none. e.frees none _ _ c.args.pass.now.seat.me.0.seats.number here) e.same
 
 pub returns-clause-out : goal.returns-clause-out
 returns-clause-out g c =

@@ -15,7 +15,7 @@ end-requires-clause-may g c =
     let r = c.requires.out.own.1 in
     let here = represents_here m _ _ t _ c.slot_mut.ensures.value in
     let same = entered_here m _ _ t _ c.slot_mut.ensures.value in
-    may_expire m _ _ t c.requires.out.out c.args.now _ c.slot_mut.result.now _ here same (c.expire_all-count.ensures _ _ c.args.pass.now.seat.me.0.number here)
+    may_expire m _ _ t c.requires.out.out c.args.now _ c.slot_mut.result.now _ here same (c.expire_all-count.ensures _ _ c.args.pass.now.seat.me.0.seats.number here)
 
 pub returns-clause-out : goal.returns-clause-out
 returns-clause-out g c =

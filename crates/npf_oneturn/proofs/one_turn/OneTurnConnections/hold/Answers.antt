@@ -29,7 +29,7 @@ end-requires-clause-may g c =
     let acted = hold_is_act m _ _ _ _ c.args.id c.args.key c.args.way _ here c.hold-held.ensures.answer in
     let none = still_none m _ _ t c.requires.inside.legal c.args.id c.args.way c.requires.builds c.requires.none in
     may_ask m _ _ t c.requires.inside.entered (Hold c.args.id c.args.key c.args.way) _ (record { built = t.stays.built c.args.id c.requires.builds; none = none }) (λ id e. absurd cc) (λ id why e. absurd cc) same
-    (acted.goes_on c.args.pass.now.seat.me.0.number)
+    (acted.goes_on c.args.pass.now.seat.me.0.seats.number)
 
 pub returns-clause-inside : goal.returns-clause-inside
 returns-clause-inside g c =

@@ -3,7 +3,7 @@ use Rattle.npf_oneturn.specs.Endings.{Plan}
 use Rattle.npf_oneturn.specs.Views.{one_if}
 use Rattle.npf_oneturn.specs.declared.rule.Ending.TheVariants.{Leaves}
 use Rattle.std.proofs.Common.{false, arith, rules}
-use Rattle.npf_oneturn.proofs.StayLemmas.{nothing_in}
+use Rattle.npf_seats.proofs.PrefixLemmas.{none_listed}
 use Rattle.npf_oneturn.proofs.CallLemmas.{has_slot, represents_here, entered_here, may_rest, rested}
 use Rattle.npf_oneturn.proofs.one_turn.OneTurnConnections.leave.Goals as goal
 
@@ -20,7 +20,7 @@ end-requires-clause-may g c =
     let here = represents_here m _ _ t _ c.slot_mut.ensures.value in
     let same = entered_here m _ _ t _ c.slot_mut.ensures.value in
     let one = ap one_if c.requires.inside.entered in
-    may_rest m _ _ t Leaves false _ _ _ refl here (omega (arith, same, one, t.counted, t.counts)) (λ e. refl) (λ e. c.requires.idle) r.place (λ id n. absurd (nothing_in id n)) t.stays.built
+    may_rest m _ _ t Leaves false _ _ _ refl here (omega (arith, same, one, t.counted, t.counts)) (λ e. refl) (λ e. c.requires.idle) r.place (λ id n. absurd (none_listed id n)) t.stays.built
 
 pub returns-clause-out : goal.returns-clause-out
 returns-clause-out g c =

@@ -17,7 +17,7 @@ end-requires-clause-may g c =
     let here = represents_here m _ _ t _ c.slot_mut.ensures.value in
     let same = entered_here m _ _ t _ c.slot_mut.ensures.value in
     may_ask m _ _ t c.requires.inside.entered (Look c.args.n c.args.key) _ tt (λ id e. absurd cc) (λ id why e. absurd cc) same
-    ((look_is_act m _ _ _ c.args.key here).goes_on c.args.pass.now.seat.me.0.number c.args.n)
+    ((look_is_act m _ _ _ c.args.key here).goes_on c.args.pass.now.seat.me.0.seats.number c.args.n)
 
 pub returns-clause-inside : goal.returns-clause-inside
 returns-clause-inside g c =

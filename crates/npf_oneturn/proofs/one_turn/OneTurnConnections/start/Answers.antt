@@ -18,7 +18,7 @@ end-requires-clause-may g c =
     let same = entered_here m _ _ t _ c.slot_mut.ensures.value in
     let built = t.stays.built c.args.id c.requires.builds in
     may_ask m _ _ t c.requires.inside.entered (Start c.args.id c.args.n c.args.init) _ built (λ id e. absurd cc) (λ id why e. absurd cc) same
-    (start_is_act m _ _ _ _ c.args.id c.args.init c.args.pass.now.seat.me.0.number here built c.start.ensures c.args.n)
+    (start_is_act m _ _ _ _ c.args.id c.args.init c.args.pass.now.seat.me.0.seats.number here built c.start.ensures c.args.n)
 
 pub returns-clause-inside : goal.returns-clause-inside
 returns-clause-inside g c =

@@ -18,7 +18,7 @@ end-requires-clause-may g c =
     let same = entered_here m _ _ t _ c.slot_mut.ensures.value in
     let acted = step_is_act m _ _ _ _ c.args.id c.args.way c.args.arg.now _ here (known_claimed _ _ c.args.id t.stays c.requires.known) c.step-stepped.ensures in
     may_ask m _ _ t c.requires.inside.entered (Step c.args.n c.args.id c.args.way c.args.arg.now) _ (known_claimed _ _ c.args.id t.stays c.requires.known) (λ id e. absurd cc) (λ id why e. absurd cc) same
-    (acted.goes_on c.args.pass.now.seat.me.0.number c.args.n)
+    (acted.goes_on c.args.pass.now.seat.me.0.seats.number c.args.n)
 
 pub returns-clause-inside : goal.returns-clause-inside
 returns-clause-inside g c =

@@ -3,7 +3,7 @@ use Rattle.npf_cells_words.specs.declared.layout.Pool.TheVariants.{Slots, Nodes}
 use Rattle.npf_cells_words.specs.Layout.{pool_places, pool_words}
 use Rattle.npf_cells.specs.Cells.{IsPassIn}
 use Rattle.npf_pool.proofs.TakeLemmas.{ClaimedBelow, FullBelow}
-use Rattle.npf_pool.proofs.taking.find_clear.Given as goal
+use Rattle.npf_pool.proofs.taking.sweep.Given as goal
 
 abbrev pub invariant-loop-word : goal.invariant-loop-word
 invariant-loop-word g l = record {

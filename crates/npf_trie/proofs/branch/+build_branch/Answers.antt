@@ -2,7 +2,7 @@ use Rattle.std.proofs.Common.{rules, ◌≡◌, ◌+◌, ◌≤◌, length, sym,
 use Rattle.std.specs.Prelude.{Contains}
 use Rattle.npf_paths.specs.Digits.{PartsAt}
 use Rattle.npf_trie.proofs.ForkLemmas.{first_in, rest_new, first_outside, rest_outside, foot_built, above_built}
-use Rattle.npf_trie.proofs.branch.+build_below.Goals as goal
+use Rattle.npf_trie.proofs.branch.+build_branch.Goals as goal
 
 pub fill_node-requires-clause-exists : goal.fill_node-requires-clause-exists
 fill_node-requires-clause-exists g t c =
@@ -18,11 +18,11 @@ fill_node-requires-clause-owned g t c =
 
 pub fill_node-requires-else-is_empty-clause-owned : goal.fill_node-requires-else-is_empty-clause-owned
 fill_node-requires-else-is_empty-clause-owned g t c =
-    subst (λ y. Contains y.0.pools.nodes c.in-Some.node.now) (sym c.build_below.ensures.next)
+    subst (λ y. Contains y.0.pools.nodes c.in-Some.node.now) (sym c.build_branch.ensures.next)
     (c.requires.nodes.owned c.in-Some.node.now (first_in c.args.cells.now.table.shared.key c.args.nodes.now c.in-Some.node.now c.in-Some.rest.now c.in-Some.ensures.cases.0))
 
-pub build_below-requires : goal.build_below-requires
-build_below-requires g t c κs within =
+pub build_branch-requires : goal.build_branch-requires
+build_branch-requires g t c κs within =
     let deeper : c.args.level + length c.args.nodes.now ≡ c.args.level + 1 + length c.in-Some.rest.now = omega (arith, c.in-Some.ensures.cases.1) in
     let some : 1 ≤ length c.in-Some.rest.now = search rules in (
       search rules,
@@ -68,9 +68,9 @@ returns-else-is_empty-clause-branch g t c =
     let some : 1 ≤ length c.in-Some.rest.now = search rules in
     above_built c.args.cells.now.table.shared.key c.args.nodes.now c.in-Some.node.now c.in-Some.rest.now c.in-Some.ensures.cases.0 g.H.KeyHash.digest c.args.mine.now.key c.args.theirs.now.key c.args.mine.now.hash c.args.theirs.now.hash c.args.level
     c.requires.mine c.requires.theirs c.requires.parts _ _ c.args.mine.now.leaf c.args.theirs.now.leaf c.digit-at.result c.digit-at.ensures.value some c.requires.nodes.apart c.fill_node-else-is_empty.ensures.cells
-    c.fill_node-else-is_empty.ensures.outside c.build_below.ensures.branch
+    c.fill_node-else-is_empty.ensures.outside c.build_branch.ensures.branch
 
 pub returns-else-is_empty-clause-outside : goal.returns-else-is_empty-clause-outside
 returns-else-is_empty-clause-outside g t c = λ word out.
     c.fill_node-else-is_empty.ensures.outside word (first_outside c.args.cells.now.table.shared.key c.args.nodes.now c.in-Some.node.now c.in-Some.rest.now c.in-Some.ensures.cases.0 word out) ∙
-    c.build_below.ensures.outside word (rest_outside c.args.cells.now.table.shared.key c.args.nodes.now c.in-Some.node.now c.in-Some.rest.now c.in-Some.ensures.cases.0 word out)
+    c.build_branch.ensures.outside word (rest_outside c.args.cells.now.table.shared.key c.args.nodes.now c.in-Some.node.now c.in-Some.rest.now c.in-Some.ensures.cases.0 word out)
