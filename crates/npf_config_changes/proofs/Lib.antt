@@ -1,11 +1,11 @@
-mod AdditionLemmas
+pub mod AdditionLemmas
 mod AnswerLemmas
-mod AskLemmas
+pub mod AskLemmas
 mod ElementLemmas
 mod EntryLemmas
-mod FindLemmas
+pub mod FindLemmas
 mod KeptLemmas
 mod LawLemmas
 mod LoneLemmas
-mod NextLemmas
+pub mod NextLemmas
 mod ReadLemmas

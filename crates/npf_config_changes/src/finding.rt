@@ -16,7 +16,7 @@ pub(crate) fn is_name(name: &Name, other: &Name) -> bool
 }
 
 /// The place of the table of this name, counted from 0.
-pub(crate) fn table_place(decls: &[TableDecl], name: &Name) -> Option<usize>
+pub fn table_place(decls: &[TableDecl], name: &Name) -> Option<usize>
     ensures place { result ≡ first_where (λ decl. are_one_name decl.name name.now) 0 decls.now }
     ensures bound { IfSome result (λ at. at < length decls.now) }
 {

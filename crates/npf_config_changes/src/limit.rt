@@ -37,7 +37,7 @@ fn count<T>(list: &Option<List<T>>) -> usize
 }
 
 /// How many elements the lists of a model have.
-pub(crate) fn model_elements(model: &Model) -> u128
+pub fn model_elements(model: &Model) -> u128
     requires { IsBuildable model.now }
     ensures { result ≡ model_elements model.now }
 {

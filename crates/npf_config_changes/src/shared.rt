@@ -8,7 +8,7 @@ use std::alloc::Global;
 use std::sync::Arc;
 
 /// The same tables, each shared once more.
-pub(crate) fn shared(alloc: Global, tables: &[Arc<Table>]) -> Result<Vec<Arc<Table>>, NoMemory>
+pub fn shared(alloc: Global, tables: &[Arc<Table>]) -> Result<Vec<Arc<Table>>, NoMemory>
     ensures { IfOk result (λ shared. map arc_value shared.items ≡ map arc_value tables.now) }
 {
     let mut shared = Vec::with_capacity(alloc, tables.len())?;

@@ -1,0 +1,6 @@
+mod CompileLemmas
+mod EachLemmas
+mod LayoutLemmas
+mod ReloadLemmas
+mod RulesetLemmas
+mod TakenLemmas
