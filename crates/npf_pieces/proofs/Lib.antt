@@ -1,5 +1,9 @@
 pub mod CountLemmas
+pub mod DataLemmas
+pub mod DatagramsLemmas
+pub mod HeaderLemmas
 pub mod JudgedLemmas
 pub mod OpenSetLemmas
 pub mod PieceLemmas
 pub mod SetLemmas
+pub mod WholeSetLemmas

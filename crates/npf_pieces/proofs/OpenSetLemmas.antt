@@ -26,6 +26,7 @@ taken_of a size short good placed = record {
     end = placed.end;
     within = omega (arith, placed.within, short);
     named = placed.named;
+    behind = placed.behind;
   };
 }
 

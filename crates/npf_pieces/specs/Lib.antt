@@ -1,3 +1,6 @@
+pub mod Datagram
+pub mod DatagramAt
+pub mod Datagrams
 pub mod Ipv4
 pub mod Ipv6
 pub mod Judged

@@ -1,5 +1,7 @@
 -- What a packet is: no fragment, a fragment of no datagram, or a piece of one.
 use Rattle.std.specs.Prelude.{◌≡◌, ℕ, ◌+◌, ◌-◌, ◌%◌, ◌≤◌, ◌<◌, ◌==◌, ◌&&◌, ◌||◌, ◌⊎◌, nat_lt, not, if◌then◌else◌, Bool, true, Option, Some, None, ⊤}
+use Rattle.npf_types.specs.declared.address.Addr.{Addr}
+use Rattle.npf_types.specs.declared.address.Addr.TheVariants.{V4, V6}
 use Rattle.npf_packet.specs.declared.fragment_at.FragmentAt.{FragmentAt}
 use Rattle.npf_packet.specs.FragmentAt.{FindsFragment}
 use Rattle.npf_packet.specs.Place.{least_ip_header}
@@ -64,6 +66,11 @@ pub record IsGood (piece : Piece) : Type 0 where
   pub filled : (is_all piece ≡ true) ⊎ (1 ≤ length_of piece)
   pub within : end_of piece ≤ 65535
 
+-- in IPv6 alone a byte of the IP headers names the fragment header
+abbrev pub named_from : Addr → ℕ → ℕ
+named_from (V4 _) ip_at = 0
+named_from (V6 _) ip_at = ip_at
+
 -- its parts follow one another within the packet's bytes, of which there are `size`
 pub record IsPlacedPiece (size : ℕ) (piece : Piece) : Type 0 where
   pub header : piece.ip_at + least_ip_header piece.key.src ≤ piece.head_end
@@ -71,6 +78,7 @@ pub record IsPlacedPiece (size : ℕ) (piece : Piece) : Type 0 where
   pub end : piece.data_at ≤ piece.end
   pub within : piece.end ≤ size
   pub named : piece.next_at < piece.head_end
+  pub behind : named_from piece.key.src piece.ip_at ≤ piece.next_at
 
 -- for each packet there is one answer
 abbrev pub OneSeeing : Type 0

@@ -2,9 +2,10 @@
 
 use crate::piece::Piece;
 
-/// A piece that came at this time, in nanoseconds.
+/// A piece that came at this time, in nanoseconds: the run's packet of this place, from 0.
 #[derive(Clone, Copy, Debug, PartialEq, Eq)]
 pub struct Arrived {
+    pub place: usize,
     pub time: u64,
     pub piece: Piece,
 }

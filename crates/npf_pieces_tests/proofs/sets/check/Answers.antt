@@ -1,7 +1,7 @@
 use Rattle.std.proofs.Common.{[], ◌∷◌}
 use Rattle.std.proofs.lemmas.List.Elements.{All-nil, All-push}
 use Rattle.npf_pieces.specs.OpenSet.{IsTaken}
-use Rattle.npf_pieces.proofs.tests.check.Goals as goal
+use Rattle.npf_pieces_tests.proofs.sets.check.Goals as goal
 
 pub sets_of-requires : goal.sets_of-requires
 sets_of-requires g c =

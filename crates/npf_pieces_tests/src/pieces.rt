@@ -1,19 +1,13 @@
 // Packets as the RFCs lay them out, with what they are reckoned by hand to be.
 ghost use Rattle.std.specs.Prelude.{◌≤◌, length};
-ghost use Rattle.npf_pieces.specs.OpenSet.{IsTaken};
 ghost use Rattle.npf_pieces.specs.Piece.{IfPiece, IsGood, IsPlacedPiece};
 
-use crate::arrived::{Arrived, Ending, SetAt};
-use crate::laws::one_seeing;
-use crate::piece::{FragKey, Piece, Seen, piece_of};
-use crate::sets::sets_of;
+use npf_pieces::{FragKey, Piece, Seen, one_seeing, piece_of};
 use npf_traffic::{Packet, PacketBytes};
 use npf_types::{Addr, Dir, IfId, Link};
-use std::alloc::Global;
-use std::process::Abort;
 
 /// The header of a datagram from 10.0.0.1 to 192.0.2.1 with the identification 0x1234.
-const HEADER: [u8; 20] = [
+pub(crate) const HEADER: [u8; 20] = [
     0x45, 0, 0, 36, 0x12, 0x34, 0x20, 0, 64, 17, 0, 0, 10, 0, 0, 1, 192, 0, 2, 1,
 ];
 
@@ -41,7 +35,7 @@ const fn piece(from: u32, last: bool, end: u32) -> Seen {
     })
 }
 
-fn seen(link: Link, bytes: &mut [u8]) -> Seen
+pub(crate) fn seen(link: Link, bytes: &mut [u8]) -> Seen
     requires { length bytes.old ≤ 100 }
     ensures good { IfPiece IsGood result }
     ensures placed { IfPiece (IsPlacedPiece (length bytes.old)) result }
@@ -132,63 +126,4 @@ fn piece_v6(from: u32, last: bool, size: u8) -> Seen {
         data_at: 48,
         end: 48 + u32::from(size),
     })
-}
-
-/// A piece of a datagram that came at this second.
-fn arrived(rt: &impl Abort, second: u32, upper: u8, lower: u8, total: u8) -> Arrived
-    ensures { IsTaken result }
-{
-    let mut bytes = [0; 36];
-    bytes[..20].copy_from_slice(&HEADER);
-    bytes[3] = total;
-    bytes[6] = upper;
-    bytes[7] = lower;
-    match seen(Link::Raw, &mut bytes) {
-        Seen::Piece(piece) => Arrived {
-            time: u64::from(second) * 1_000_000_000,
-            piece,
-        },
-        _ => panic!(rt; "no piece"),
-    }
-}
-
-#[test]
-fn sets_of_pieces(rt: HostRuntime) {
-    let first = arrived(&rt, 1, 0x20, 0, 36);
-    let overlapping = arrived(&rt, 2, 0, 1, 36);
-    let last = arrived(&rt, 2, 0, 2, 28);
-    let late = arrived(&rt, 31, 0, 2, 28);
-    let complete = SetAt {
-        first: 0,
-        behind: 2,
-        ending: Ending::Complete,
-    };
-    let refused = SetAt {
-        ending: Ending::Refused,
-        ..complete
-    };
-    let waits = SetAt {
-        first: 0,
-        behind: 1,
-        ending: Ending::Unfinished,
-    };
-    let waits_too = SetAt {
-        first: 1,
-        behind: 2,
-        ..waits
-    };
-    check(&rt, rt.alloc(), first, last, &[complete]);
-    check(&rt, rt.alloc(), last, first, &[complete]);
-    check(&rt, rt.alloc(), first, overlapping, &[refused]);
-    check(&rt, rt.alloc(), first, first, &[refused]);
-    check(&rt, rt.alloc(), last, last, &[refused]);
-    check(&rt, rt.alloc(), first, late, &[waits, waits_too]);
-}
-
-fn check(rt: &impl Abort, alloc: Global, one: Arrived, other: Arrived, want: &[SetAt])
-    requires one { IsTaken one }
-    requires other { IsTaken other }
-{
-    let sets = sets_of(alloc, &[one, other]).expect(rt, "memory");
-    assert_eq!(rt; sets.as_slice(), want);
 }

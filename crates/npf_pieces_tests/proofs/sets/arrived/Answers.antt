@@ -1,7 +1,7 @@
 use Rattle.std.proofs.Common.{rules, arith}
 use Rattle.std.proofs.lemmas.Grind.{common_steps}
 use Rattle.npf_pieces.proofs.OpenSetLemmas.{taken_of}
-use Rattle.npf_pieces.proofs.tests.arrived.Goals as goal
+use Rattle.npf_pieces_tests.proofs.sets.arrived.Goals as goal
 
 pub returns : goal.returns
 returns g c =
