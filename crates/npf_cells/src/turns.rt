@@ -59,8 +59,8 @@ impl<L: Law, W: ToldAct<L::State, L::Arg>> Play<
 impl<L: Law, H: KeyHash> Cells<L, H> {
     ghost use Rattle.std.specs.Prelude.{◌≡◌, ◌<◌, true, false, None, [], ◌∷◌};
     ghost use Rattle.npf_cells.specs.Cells.{IsPassIn};
-    ghost use Rattle.npf_cells_turns.specs.EndKinds.{MayEnd, TellsEnd};
-    ghost use Rattle.npf_cells_turns.specs.TurnKinds.{GotTurn, HasTaken, HasTurn};
+    ghost use Rattle.npf_cells_turns.specs.EndKinds.{MayEndTurn, TellsEnd};
+    ghost use Rattle.npf_cells_turns.specs.TurnKinds.{GotTurn, HasTaken, HasSlotTurn};
 
     /// Tries to get a slot's turn. Answers whether it did: false exactly where a pass had it. The pass then carries what the slot held,
     /// which it moves by `exchange`.
@@ -103,7 +103,7 @@ impl<L: Law, H: KeyHash> Cells<L, H> {
         flow: Option<(L::State, u64)>,
     ) -> Option<(L::State, u64)>
         requires own { IsPassIn self.now pass.old }
-        requires turn { HasTurn pass.old.seat.me.0 slot }
+        requires turn { HasSlotTurn pass.old.seat.me.0 slot }
         ensures own { IsPassIn self.now pass.new }
         ensures gives { pass.old.seat.me.1 ≡ (slot, result) ∷ [] }
         ensures next { pass.new.seat.me ≡ (pass.old.seat.me.0, (slot, flow) ∷ []) }
@@ -118,7 +118,7 @@ impl<L: Law, H: KeyHash> Cells<L, H> {
     pub fn end_turn(&self, pass: &mut CellPass<L>, slot: u32, act: &TurnAct<'_, L::State, L::Arg>)
         requires own { IsPassIn self.now pass.old }
         requires slot { slot < self.now.table.shared.key.slots }
-        requires may { MayEnd L.meaning act.now slot pass.old.seat.me }
+        requires may { MayEndTurn L.meaning act.now slot pass.old.seat.me }
         ensures own { IsPassIn self.now pass.new }
         ensures tells { TellsEnd L.meaning act.now pass.old.seat.me pass.new.seat.me }
     {
@@ -133,7 +133,7 @@ impl<L: Law, H: KeyHash> Cells<L, H> {
     )
         requires own { IsPassIn self.now pass.old }
         requires slot { slot < self.now.table.shared.key.slots }
-        requires may { MayEnd L.meaning act.now slot pass.old.seat.me }
+        requires may { MayEndTurn L.meaning act.now slot pass.old.seat.me }
         requires aim { W.act ≡ act.now }
         ensures own { IsPassIn self.now pass.new }
         ensures tells { TellsEnd L.meaning act.now pass.old.seat.me pass.new.seat.me }

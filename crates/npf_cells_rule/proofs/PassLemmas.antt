@@ -8,7 +8,7 @@ use Rattle.npf_cells_pins.specs.declared.pin.Pin.TheVariants.{Idle, Pinned, Prot
 use Rattle.npf_cells_lives.specs.declared.pools.PoolSide.{PoolSide}
 use Rattle.npf_cells_lives.specs.declared.turn.Turn.{Turn}
 use Rattle.npf_cells_rule.specs.declared.view.CellView.{CellView}
-use Rattle.npf_cells_rule.specs.Passes.{Carries, IsPassOf, is_pinned, IsProtected}
+use Rattle.npf_cells_rule.specs.Passes.{CarriesByTurn, IsPassOf, is_pinned, IsProtected}
 use Rattle.npf_cells_rule.specs.Views.{with_pools}
 
 -- a pass of the table stays one through a step that changes what it knows and has of the pools
@@ -37,5 +37,5 @@ pinned_in (Pinned epoch) h = refl
 pinned_in (Protected pinned epoch) h = refl
 
 -- a pass without a turn carries nothing
-pub turnless_free : {S F : Type 0} {turn : Option (Turn S)} {carried : List (ℕ × F)} → turn ≡ None → Carries turn carried → carried ≡ []
+pub turnless_free : {S F : Type 0} {turn : Option (Turn S)} {carried : List (ℕ × F)} → turn ≡ None → CarriesByTurn turn carried → carried ≡ []
 turnless_free {carried = carried} none carries = rw none at carries

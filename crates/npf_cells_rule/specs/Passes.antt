@@ -41,15 +41,15 @@ cell_pass v = record {
 }
 
 -- a pass carries the value of the slot whose turn it has, and nothing else
-abbrev pub Carries : {S F : Type 0} → Option (Turn S) → List (ℕ × F) → Type 0
-Carries {S} {F} None carried = carried ≡ []
-Carries {S} {F} (Some turn) carried = (value : F) × (carried ≡ (turn.slot, value) ∷ [])
+abbrev pub CarriesByTurn : {S F : Type 0} → Option (Turn S) → List (ℕ × F) → Type 0
+CarriesByTurn {S} {F} None carried = carried ≡ []
+CarriesByTurn {S} {F} (Some turn) carried = (value : F) × (carried ≡ (turn.slot, value) ∷ [])
 
 -- a pass of this table, between two calls: it has its number and all that it was told, and knows which reader places it owns
 pub record IsPassOf {S A R F : Type 0} (layout : Layout) (table seat : TableId) (readers : List ℕ) (me : Me F (CellView S A R)) : Type 0 where
   pub same : seat ≡ table
   pub words : table.words ≡ word_count layout
-  pub carries : Carries me.0.turn me.1
+  pub carries : CarriesByTurn me.0.turn me.1
   pub sized : me.0.seats.about ≡ layout.slots
   pub lives : me.0.seats.lives ≡ true
   pub theirs : me.0.seats.theirs ≡ []

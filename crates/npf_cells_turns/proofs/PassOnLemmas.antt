@@ -10,16 +10,16 @@ use Rattle.npf_cells_words.specs.declared.layout.Layout.{Layout}
 use Rattle.npf_cells_lives.specs.declared.turn.Turn.{Turn}
 use Rattle.npf_cells_lives.specs.Turns.{Running, running}
 use Rattle.npf_cells_rule.specs.declared.view.CellView.{CellView}
-use Rattle.npf_cells_rule.specs.Passes.{Carries, IsPassOf}
+use Rattle.npf_cells_rule.specs.Passes.{CarriesByTurn, IsPassOf}
 use Rattle.npf_cells_turns.specs.declared.act.TurnAct.{TurnAct}
 use Rattle.npf_cells_turns.specs.declared.act.TurnAct.TheVariants.{Nothing, Start, Step as Steps, Abandoned, Expired}
 use Rattle.npf_cells_turns.specs.EndKinds.{acted, TellsEnd}
-use Rattle.npf_cells_turns.specs.TurnKinds.{TriesTurn, HasTurn}
+use Rattle.npf_cells_turns.specs.TurnKinds.{TriesTurn, HasSlotTurn}
 
 module _ {S A R : Type 0} (layout : Layout) (table seat : TableId) (readers : List ℕ) (me : Me (Running S) (CellView S A R)) where
   -- through one that changes its turn alone, and what it carries
   pub turned_on : (seat' : TableId) (next : Me (Running S) (CellView S A R)) (turn : Option (Turn S)) (carried : List (ℕ × Running S)) → IsPassOf layout table seat readers me → seat' ≡ seat →
-      next ≡ (record me.0 { turn = turn }, carried) → Carries turn carried → IsPassOf layout table seat' readers next
+      next ≡ (record me.0 { turn = turn }, carried) → CarriesByTurn turn carried → IsPassOf layout table seat' readers next
   turned_on seat' next turn carried own same is carries = rw is (record {
     same = same ∙ own.same;
     words = own.words;
@@ -56,22 +56,22 @@ module _ {S A R : Type 0} (layout : Layout) (table seat : TableId) (readers : Li
   })
 
   -- a pass with a slot's turn carries its value
-  pub carried_there : (slot : ℕ) → IsPassOf layout table seat readers me → HasTurn me.0 slot → (value : Running S) × (me.1 ≡ (slot, value) ∷ [])
+  pub carried_there : (slot : ℕ) → IsPassOf layout table seat readers me → HasSlotTurn me.0 slot → (value : Running S) × (me.1 ≡ (slot, value) ∷ [])
   carried_there slot own has =
-      let carries : Carries (Some has.turn) me.1 = subst (λ turn. Carries turn me.1) has.has own.carries in
+      let carries : CarriesByTurn (Some has.turn) me.1 = subst (λ turn. CarriesByTurn turn me.1) has.has own.carries in
       (carries.0, carries.1 ∙ ap (λ p. (p, carries.0) ∷ []) has.there)
 
   -- and nothing else
-  pub given_out : (slot : ℕ) → IsPassOf layout table seat readers me → HasTurn me.0 slot → (value : Running S) → me.1 ≡ (slot, value) ∷ rest me.1 → (me.1 ≡ (slot, value) ∷ []) × (rest me.1 ≡ [])
+  pub given_out : (slot : ℕ) → IsPassOf layout table seat readers me → HasSlotTurn me.0 slot → (value : Running S) → me.1 ≡ (slot, value) ∷ rest me.1 → (me.1 ≡ (slot, value) ∷ []) × (rest me.1 ≡ [])
   given_out slot own has value is =
       let none : rest me.1 ≡ [] = ap rest (carried_there slot own has).1 in
       (is ∙ ap (λ xs. (slot, value) ∷ xs) none, none)
 
   -- and does so when it has moved another in
-  pub exchanged_on : (seat' : TableId) (next : Me (Running S) (CellView S A R)) (slot : ℕ) (value : Running S) → IsPassOf layout table seat readers me → seat' ≡ seat → HasTurn me.0 slot →
+  pub exchanged_on : (seat' : TableId) (next : Me (Running S) (CellView S A R)) (slot : ℕ) (value : Running S) → IsPassOf layout table seat readers me → seat' ≡ seat → HasSlotTurn me.0 slot →
       next ≡ (me.0, (slot, value) ∷ []) → IsPassOf layout table seat' readers next
   exchanged_on seat' next slot value own same has is =
-      turned_on seat' next me.0.turn ((slot, value) ∷ []) own same is (subst (λ turn. Carries turn ((slot, value) ∷ [])) (sym has.has) (value, ap (λ p. (p, value) ∷ []) (sym has.there)))
+      turned_on seat' next me.0.turn ((slot, value) ∷ []) own same is (subst (λ turn. CarriesByTurn turn ((slot, value) ∷ [])) (sym has.has) (value, ap (λ p. (p, value) ∷ []) (sym has.there)))
 
 -- through a try of a turn
 pub tried_on : {S A R : Type 0} (m : Meaning S A R) (digest : Key → ℕ) (layout aim : Layout) (slot : ℕ) (st : Step (Running S)) (table seat seat' : TableId) (readers : List ℕ) (found : ℕ) (me next : Me (Running S) (CellView S A R)) →

@@ -21,7 +21,7 @@ use Rattle.npf_cells_lives.specs.declared.pools.PoolSide.{PoolSide}
 use Rattle.npf_cells_lives.specs.Turns.{Running}
 use Rattle.npf_cells_rule.specs.declared.view.CellView.{CellView}
 use Rattle.npf_cells_rule.specs.Passes.{cell_pass}
-use Rattle.npf_cells_turns.specs.EndKinds.{given_up}
+use Rattle.npf_cells_turns.specs.EndKinds.{without_build}
 
 -- the pass has seen this history, and this is its side of the pools
 abbrev pub seen_with : {S A R : Type 0} → CellView S A R → List (Entry S A R) → PoolSide → CellView S A R
@@ -39,11 +39,11 @@ HasStepped m id n way arg reply old now = HasDone m (Step n id way arg) (ToStep 
 
 -- a connection that the pass was building is Live
 abbrev pub HasStarted : {S A R : Type 0} → Meaning S A R → ConnId → ℕ → S → Me (Running S) (CellView S A R) → Me (Running S) (CellView S A R) → Type 0
-HasStarted m id n init old now = HasDone m (Start id n init) Nothing (given_up id old.0.pools) old now
+HasStarted m id n init old now = HasDone m (Start id n init) Nothing (without_build id old.0.pools) old now
 
 -- a connection that the pass was building is given up
 abbrev pub HasKilled : {S A R : Type 0} → Meaning S A R → ConnId → Me (Running S) (CellView S A R) → Me (Running S) (CellView S A R) → Type 0
-HasKilled m id old now = HasDone m (Kill id Reasons.Abandoned) Nothing (given_up id old.0.pools) old now
+HasKilled m id old now = HasDone m (Kill id Reasons.Abandoned) Nothing (without_build id old.0.pools) old now
 
 -- the slot's connection was due and is killed; or what the pass has seen has none there that is due
 pub record LeavesIdle {S A R : Type 0} (m : Meaning S A R) (slot now : ℕ) (old next : Me (Running S) (CellView S A R)) : Type 0 where
