@@ -59,7 +59,7 @@ impl<L: Law, W: ToldAct<L::State, L::Arg>> Play<
 impl<L: Law, H: KeyHash> Cells<L, H> {
     ghost use Rattle.std.specs.Prelude.{◌≡◌, ◌<◌, true, false, None, [], ◌∷◌};
     ghost use Rattle.npf_cells.specs.Cells.{IsPassIn};
-    ghost use Rattle.npf_cells_turns.specs.EndKinds.{MayEndTurn, TellsEnd};
+    ghost use Rattle.npf_cells_turns.specs.EndKinds.{MayEndBy, TellsEnd};
     ghost use Rattle.npf_cells_turns.specs.TurnKinds.{GotTurn, HasTaken, HasSlotTurn};
 
     /// Tries to get a slot's turn. Answers whether it did: false exactly where a pass had it. The pass then carries what the slot held,
@@ -118,7 +118,7 @@ impl<L: Law, H: KeyHash> Cells<L, H> {
     pub fn end_turn(&self, pass: &mut CellPass<L>, slot: u32, act: &TurnAct<'_, L::State, L::Arg>)
         requires own { IsPassIn self.now pass.old }
         requires slot { slot < self.now.table.shared.key.slots }
-        requires may { MayEndTurn L.meaning act.now slot pass.old.seat.me }
+        requires may { MayEndBy L.meaning act.now slot pass.old.seat.me }
         ensures own { IsPassIn self.now pass.new }
         ensures tells { TellsEnd L.meaning act.now pass.old.seat.me pass.new.seat.me }
     {
@@ -133,7 +133,7 @@ impl<L: Law, H: KeyHash> Cells<L, H> {
     )
         requires own { IsPassIn self.now pass.old }
         requires slot { slot < self.now.table.shared.key.slots }
-        requires may { MayEndTurn L.meaning act.now slot pass.old.seat.me }
+        requires may { MayEndBy L.meaning act.now slot pass.old.seat.me }
         requires aim { W.act ≡ act.now }
         ensures own { IsPassIn self.now pass.new }
         ensures tells { TellsEnd L.meaning act.now pass.old.seat.me pass.new.seat.me }

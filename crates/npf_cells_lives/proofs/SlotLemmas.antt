@@ -24,7 +24,7 @@ use Rattle.npf_seats.proofs.SumLemmas.{sum-set}
 use Rattle.npf_cells_lives.specs.declared.pools.PoolSide.{PoolSide}
 use Rattle.npf_cells_lives.specs.Conns.{FitsBuilds, unstored_by}
 use Rattle.npf_cells_lives.specs.Pools.{claim_bit, taken}
-use Rattle.npf_cells_lives.specs.Turns.{phase_number}
+use Rattle.npf_cells_lives.specs.Turns.{stage_phase}
 use Rattle.npf_cells_lives.proofs.ConnLemmas.{BuildsIn, builds-set}
 use Rattle.npf_cells_lives.proofs.PoolLemmas.{taken-set}
 
@@ -51,8 +51,8 @@ module _ {S A R : Type 0} (m : Meaning S A R) (k : Machine S) (seat packet slot 
   pub now_taken : claim_bit (claimed.slot slot).stage ≡ 1
   now_taken = ap (λ b. claim_bit (cond b (changed m seat (Claim packet slot) (k.slot slot)) (k.slot slot)).stage) (eq-eqb slot slot refl)
 
-  pub now_building : phase_number (claimed.slot slot).stage ≡ 0
-  now_building = ap (λ b. phase_number (cond b (changed m seat (Claim packet slot) (k.slot slot)) (k.slot slot)).stage) (eq-eqb slot slot refl)
+  pub now_building : stage_phase (claimed.slot slot).stage ≡ 0
+  now_building = ap (λ b. stage_phase (cond b (changed m seat (Claim packet slot) (k.slot slot)) (k.slot slot)).stage) (eq-eqb slot slot refl)
 
   pub slot_else : (p : ℕ) → p ≢ slot → claimed.slot p ≡ k.slot p
   slot_else p ne = ap (λ b. cond b (changed m seat (Claim packet slot) (k.slot p)) (k.slot p)) (ne_eqb slot p (λ e. ne (sym e)))

@@ -13,28 +13,28 @@ use Rattle.npf_cells_words.specs.declared.layout.Layout.{Layout}
 use Rattle.npf_seats.proofs.SumLemmas.{sum-set, one_of_sum, two_of_sum}
 use Rattle.npf_cells_lives.specs.declared.turn.Turn.{Turn}
 use Rattle.npf_cells_lives.specs.LivesLaw.{TurnAlone}
-use Rattle.npf_cells_lives.specs.Turns.{Homes, running, phase_number, turn_word, phase_word, has_turn, turn_holders, StaysAt, FitsTurn, IsAtHome, Turns}
+use Rattle.npf_cells_lives.specs.Turns.{Homes, running, stage_phase, turn_word, phase_word, has_turn, turn_holders, StaysAt, FitsTurn, IsAtHome, Turns}
 
 -- a slot whose phase is 0 holds nothing
-nothing_runs : {S : Type 0} (stage : Stage S) → phase_number stage ≡ 0 → running stage ≡ None
+nothing_runs : {S : Type 0} (stage : Stage S) → stage_phase stage ≡ 0 → running stage ≡ None
 nothing_runs Vacant e = refl
 nothing_runs (Building seat) e = refl
 nothing_runs (Live flow steps) e = absurd cc
 nothing_runs Dead e = refl
 
-pub phase_stays : {S : Type 0} (was now : Slot S) → StaysAt was now → phase_number now.stage ≡ phase_number was.stage
-phase_stays {S} was now stays = ⊎_elim (λ (same : now ≡ was). ap (λ (x : Slot S). phase_number x.stage) same) (λ (none : (phase_number was.stage ≡ 0) × (phase_number now.stage ≡ 0)). none.1 ∙ sym none.0) stays
+pub phase_stays : {S : Type 0} (was now : Slot S) → StaysAt was now → stage_phase now.stage ≡ stage_phase was.stage
+phase_stays {S} was now stays = ⊎_elim (λ (same : now ≡ was). ap (λ (x : Slot S). stage_phase x.stage) same) (λ (none : (stage_phase was.stage ≡ 0) × (stage_phase now.stage ≡ 0)). none.1 ∙ sym none.0) stays
 
 pub running_stays : {S : Type 0} (was now : Slot S) → StaysAt was now → running now.stage ≡ running was.stage
 running_stays {S} was now stays = ⊎_elim
     (λ (same : now ≡ was). ap (λ (x : Slot S). running x.stage) same)
-    (λ (none : (phase_number was.stage ≡ 0) × (phase_number now.stage ≡ 0)). nothing_runs now.stage none.1 ∙ sym (nothing_runs was.stage none.0))
+    (λ (none : (stage_phase was.stage ≡ 0) × (stage_phase now.stage ≡ 0)). nothing_runs now.stage none.1 ∙ sym (nothing_runs was.stage none.0))
     stays
 
 stays_on : {S : Type 0} (x y z : Slot S) → StaysAt x y → StaysAt y z → StaysAt x z
 stays_on {S} x y z first second = ⊎_elim
     (λ (same : y ≡ x). subst (λ (a : Slot S). StaysAt a z) same second)
-    (λ (none : (phase_number x.stage ≡ 0) × (phase_number y.stage ≡ 0)). inr (none.0, phase_stays y z second ∙ none.1))
+    (λ (none : (stage_phase x.stage ≡ 0) × (stage_phase y.stage ≡ 0)). inr (none.0, phase_stays y z second ∙ none.1))
     first
 
 -- who has a slot's turn has it once

@@ -22,11 +22,11 @@ running (Live flow steps) = Some (flow, steps)
 running Dead = None
 
 -- the phase of a slot's connection: 1 where it is Live, 2 where it is Dead
-abbrev pub phase_number : {S : Type 0} → Stage S → ℕ
-phase_number Vacant = 0
-phase_number (Building seat) = 0
-phase_number (Live flow steps) = 1
-phase_number Dead = 2
+abbrev pub stage_phase : {S : Type 0} → Stage S → ℕ
+stage_phase Vacant = 0
+stage_phase (Building seat) = 0
+stage_phase (Live flow steps) = 1
+stage_phase Dead = 2
 
 -- the slots of the table: each is at home with its value, or out with a pass
 abbrev pub Homes : Type 0 → Type 0
@@ -53,7 +53,7 @@ turn_holders turn_of views slot = sum_by (λ v. has_turn slot (turn_of v)) views
 
 -- a slot is still at what it was, or its connection was neither Live nor Dead, and isn't
 abbrev pub StaysAt : {S : Type 0} → Slot S → Slot S → Type 0
-StaysAt was now = (now ≡ was) ⊎ ((phase_number was.stage ≡ 0) × (phase_number now.stage ≡ 0))
+StaysAt was now = (now ≡ was) ⊎ ((stage_phase was.stage ≡ 0) × (stage_phase now.stage ≡ 0))
 
 -- what the part says of a turn that a pass has: the phase's word is as the pass knows it, and the slot is still at what it was
 pub record FitsTurn {S : Type 0} (layout : Layout) (k : Machine S) (words : List ℕ) (turn : Turn S) : Type 0 where
@@ -64,7 +64,7 @@ pub record FitsTurn {S : Type 0} (layout : Layout) (k : Machine S) (words : List
 -- a slot whose turn nobody has holds its connection's flow and count, and its phase
 pub record IsAtHome {S : Type 0} (layout : Layout) (k : Machine S) (words : List ℕ) (homes : Homes S) (slot : ℕ) : Type 0 where
   pub there : get_elem? homes slot ≡ some (some (running (k.slot slot).stage))
-  pub phase : phase_word layout words slot ≡ phase_number (k.slot slot).stage
+  pub phase : phase_word layout words slot ≡ stage_phase (k.slot slot).stage
 
 -- over views of which each has a turn or none: the word of a turn is 1 where a pass has it, which is one alone, and 0 where none has
 pub record Turns {S V : Type 0} (turn_of : V → Option (Turn S)) (layout : Layout) (k : Machine S) (words : List ℕ) (homes : Homes S) (views : List V) : Type 0 where

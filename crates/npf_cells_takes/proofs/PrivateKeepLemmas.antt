@@ -39,7 +39,7 @@ use Rattle.npf_cells_rule.proofs.LawLemmas.{builds_alone, owns_alone}
 use Rattle.npf_cells_takes.specs.PrivateKinds.{ShowsInc, ShowsTurnInc, MayStore, MayStoreInNode, MayStoreInSlot, MayStorePhase, storing, with_phase, LoadsInc, StoresPrivate}
 use Rattle.npf_cells_takes.proofs.PhaseKeepLemmas.{phase_stored}
 use Rattle.npf_cells_takes.proofs.PrivateTrieLemmas.{node_keeps, slot_keeps}
-use Rattle.npf_cells_lives.specs.Turns.{Running, phase_number, Turns}
+use Rattle.npf_cells_lives.specs.Turns.{Running, stage_phase, Turns}
 
 -- the pass may store in a word of its own that isn't a phase
 abbrev MayStoreOwn : {S A R : Type 0} → Meaning S A R → CellView S A R → Pool → ℕ → ℕ → ℕ → Type 0
@@ -89,7 +89,7 @@ module _ {S A R : Type 0} (m : Meaning S A R) (digest : Key → ℕ) (layout : L
           (inc_shown pool_side m layout kept.log s.words s.views id v kept.connections at i c (subst (λ p. p < layout.slots) (sym e) within))
 
   -- nobody still has to store the incarnation of a connection that is Live or Dead
-  none_owes : (s : State (Running S) (CellView S A R)) (kept : IsCells m digest layout s) (id : ℕ) (v : CellView S A R) → get_elem? s.views id ≡ some v → (slot : ℕ) → phase_number ((state_of m kept.log).slot slot).stage ≢ 0 → unstored_by pool_side s.views slot ≡ 0
+  none_owes : (s : State (Running S) (CellView S A R)) (kept : IsCells m digest layout s) (id : ℕ) (v : CellView S A R) → get_elem? s.views id ≡ some v → (slot : ℕ) → stage_phase ((state_of m kept.log).slot slot).stage ≢ 0 → unstored_by pool_side s.views slot ≡ 0
   none_owes s kept id v at slot settled = sum_alone (λ (u : CellView S A R). occurs slot u.pools.unstored) s.views id v at (λ i u ne e. owes i u e) ∙ owes id v at
     where
       owes : (j : ℕ) (u : CellView S A R) → get_elem? s.views j ≡ some u → occurs slot u.pools.unstored ≡ 0
@@ -99,14 +99,14 @@ module _ {S A R : Type 0} (m : Meaning S A R) (digest : Key → ℕ) (layout : L
           let fits = kept.connections.each j u e in
           let owed = fits.owing slot c in
           let stage = building_at ((state_of m kept.log).slot owed.id.slot) owed.id.inc j (fits.building owed.id owed.built) in
-          absurd (settled (subst (λ p. phase_number ((state_of m kept.log).slot p).stage ≡ 0) owed.there (ap phase_number stage.1))))
+          absurd (settled (subst (λ p. stage_phase ((state_of m kept.log).slot p).stage ≡ 0) owed.there (ap stage_phase stage.1))))
           (occurs_or slot u.pools.unstored)
 
   shows_turn_inc : (s : State (Running S) (CellView S A R)) (kept : IsCells m digest layout s) (id : ℕ) (v : CellView S A R) → get_elem? s.views id ≡ some v → (slot : ℕ) → ShowsTurnInc v.turn slot (inc_word layout s.words slot)
   shows_turn_inc s kept id v at slot turn has there settled =
       let fits = kept.turns.each id v turn at has in
       let same : (state_of m kept.log).slot turn.slot ≡ turn.was = ⊎_elim (λ e. e) (λ idle. absurd (settled idle.0)) fits.stays in
-      let none = none_owes s kept id v at turn.slot (λ idle. settled (ap (λ (x : Slot S). phase_number x.stage) (sym same) ∙ idle)) in
+      let none = none_owes s kept id v at turn.slot (λ idle. settled (ap (λ (x : Slot S). stage_phase x.stage) (sym same) ∙ idle)) in
       let word = kept.connections.incs turn.slot fits.exists in
       let last = ap (λ (x : Slot S). x.inc) same in
       let here : inc_word layout s.words turn.slot ≡ turn.was.inc = omega (arith, word, none, last) in

@@ -51,7 +51,7 @@ use Rattle.npf_cells_rule.proofs.PassLemmas.{pinned_in}
 use Rattle.npf_cells_rule.proofs.StoodLemmas.{stood_so}
 use Rattle.npf_cells_takes.specs.SlotKinds.{claiming_slot, HasClaimed, ClaimsSlot}
 use Rattle.npf_cells_takes.proofs.PoolKeepLemmas.{pool_step}
-use Rattle.npf_cells_lives.specs.Turns.{Running, StaysAt, phase_number}
+use Rattle.npf_cells_lives.specs.Turns.{Running, StaysAt, stage_phase}
 
 module _ {S A R : Type 0} (m : Meaning S A R) (digest : Key → ℕ) (layout : Layout) where
   module _ (s : State (Running S) (CellView S A R)) (id : ℕ) (me : Me (Running S) (CellView S A R)) (kept : IsCells m digest layout s) (at : get_elem? s.views id ≡ some me.0)
@@ -98,7 +98,7 @@ module _ {S A R : Type 0} (m : Meaning S A R) (digest : Key → ℕ) (layout : L
     -- a slot that is claimed was neither Live nor Dead, and isn't
     slots_stay : MayFollow m layout.slots k entry → (p : ℕ) → StaysAt (k.slot p) ((claimed m k id packet slot).slot p)
     slots_stay may p = ⊎_elim
-        (λ (e : p ≡ slot). subst (λ q. StaysAt (k.slot q) ((claimed m k id packet slot).slot q)) (sym e) (inr (ap phase_number may.allowed.unclaimed, now_building m k id packet slot)))
+        (λ (e : p ≡ slot). subst (λ q. StaysAt (k.slot q) ((claimed m k id packet slot).slot q)) (sym e) (inr (ap stage_phase may.allowed.unclaimed, now_building m k id packet slot)))
         (λ ne. inl (slot_else m k id packet slot p ne))
         (cases_eq p slot)
 

@@ -16,7 +16,7 @@ use Rattle.npf_cells_leaves.specs.declared.trie.LoadedLeaf.{LoadedLeaf}
 use Rattle.npf_cells_leaves.specs.declared.trie.TrieSide.{TrieSide}
 use Rattle.npf_cells_lives.specs.declared.pools.PoolSide.{PoolSide}
 use Rattle.npf_cells_lives.specs.declared.turn.Turn.{Turn}
-use Rattle.npf_cells_lives.specs.Turns.{phase_number}
+use Rattle.npf_cells_lives.specs.Turns.{stage_phase}
 use Rattle.npf_cells_rule.specs.declared.view.CellView.{CellView}
 use Rattle.npf_cells_rule.specs.Views.{with_pools}
 
@@ -33,11 +33,11 @@ ShowsLeafInc side slot found = (leaf : LoadedLeaf) → side.leaf ≡ Some leaf �
 
 -- and who has the slot's turn: that of the connection that was Live or Dead there
 abbrev pub ShowsTurnInc : {S : Type 0} → Option (Turn S) → ℕ → ℕ → Type 0
-ShowsTurnInc turn slot found = (t : Turn _) → turn ≡ Some t → t.slot ≡ slot → phase_number t.was.stage ≢ 0 → found ≡ t.was.inc
+ShowsTurnInc turn slot found = (t : Turn _) → turn ≡ Some t → t.slot ≡ slot → stage_phase t.was.stage ≢ 0 → found ≡ t.was.inc
 
 -- the pass has the turn of a slot whose connection was Live or Dead
 abbrev pub HasTurnIn : {S : Type 0} → Option (Turn S) → ℕ → Type 0
-HasTurnIn turn slot = (t : Turn _) × (turn ≡ Some t) × (t.slot ≡ slot) × (phase_number t.was.stage ≢ 0)
+HasTurnIn turn slot = (t : Turn _) × (turn ≡ Some t) × (t.slot ≡ slot) × (stage_phase t.was.stage ≢ 0)
 
 -- the leaf that the pass loaded last is of the slot's connection
 abbrev pub HasLeafIn : TrieSide → ℕ → Type 0

@@ -19,19 +19,19 @@ use Rattle.npf_core.specs.Replies.{step_answer}
 use Rattle.npf_core.proofs.EqualityLemmas.{is_id-Decides}
 use Rattle.npf_connections.specs.Answered.{without}
 use Rattle.npf_cells_lives.specs.Pools.{claim_bit}
-use Rattle.npf_cells_lives.specs.Turns.{running, phase_number, StaysAt}
+use Rattle.npf_cells_lives.specs.Turns.{running, stage_phase, StaysAt}
 use Rattle.npf_cells_lives.proofs.ConnLemmas.{building_at}
 use Rattle.npf_cells_lives.proofs.StoredLemmas.{filter_has, has_filtered}
 use Rattle.npf_cells_lives.proofs.TurnLemmas.{phase_stays, running_stays}
 
 -- a step leaves what isn't Live, and the phase
-pub stepped_idle : {S A R : Type 0} (m : Meaning S A R) (way : Way) (arg : A) (stage : Stage S) → phase_number stage ≡ 0 → stepped m way arg stage ≡ stage
+pub stepped_idle : {S A R : Type 0} (m : Meaning S A R) (way : Way) (arg : A) (stage : Stage S) → stage_phase stage ≡ 0 → stepped m way arg stage ≡ stage
 stepped_idle m way arg Vacant e = refl
 stepped_idle m way arg (Building seat) e = refl
 stepped_idle m way arg (Live flow steps) e = absurd cc
 stepped_idle m way arg Dead e = refl
 
-pub stepped_phase : {S A R : Type 0} (m : Meaning S A R) (way : Way) (arg : A) (stage : Stage S) → phase_number (stepped m way arg stage) ≡ phase_number stage
+pub stepped_phase : {S A R : Type 0} (m : Meaning S A R) (way : Way) (arg : A) (stage : Stage S) → stage_phase (stepped m way arg stage) ≡ stage_phase stage
 stepped_phase m way arg Vacant = refl
 stepped_phase m way arg (Building seat) = refl
 stepped_phase m way arg (Live flow steps) = refl
@@ -44,7 +44,7 @@ stepped_bit m way arg (Live flow steps) = refl
 stepped_bit m way arg Dead = refl
 
 -- what is neither Live nor Dead answers a step that it isn't Live
-idle_answer : {S A R : Type 0} (m : Meaning S A R) (way : Way) (arg : A) (stage : Stage S) → phase_number stage ≡ 0 → step_answer m way arg stage ≡ NotLive
+idle_answer : {S A R : Type 0} (m : Meaning S A R) (way : Way) (arg : A) (stage : Stage S) → stage_phase stage ≡ 0 → step_answer m way arg stage ≡ NotLive
 idle_answer m way arg Vacant e = refl
 idle_answer m way arg (Building seat) e = refl
 idle_answer m way arg (Live flow steps) e = absurd cc
@@ -56,7 +56,7 @@ due_bit m now (Building seat) due = absurd due
 due_bit m now (Live flow steps) due = refl
 due_bit m now Dead due = absurd due
 
-pub due_settled : {S A R : Type 0} (m : Meaning S A R) (now : ℕ) (stage : Stage S) → IsDue m now stage → phase_number stage ≡ 1
+pub due_settled : {S A R : Type 0} (m : Meaning S A R) (now : ℕ) (stage : Stage S) → IsDue m now stage → stage_phase stage ≡ 1
 due_settled m now Vacant due = absurd due
 due_settled m now (Building seat) due = absurd due
 due_settled m now (Live flow steps) due = refl
@@ -67,19 +67,19 @@ module _ {S A R : Type 0} (m : Meaning S A R) (was now : Slot S) (stays : StaysA
   pub answer_stays : step_answer m way arg now.stage ≡ step_answer m way arg was.stage
   answer_stays = ⊎_elim
       (λ (same : now ≡ was). ap (λ (x : Slot S). step_answer m way arg x.stage) same)
-      (λ (idle : (phase_number was.stage ≡ 0) × (phase_number now.stage ≡ 0)). idle_answer m way arg now.stage idle.1 ∙ sym (idle_answer m way arg was.stage idle.0))
+      (λ (idle : (stage_phase was.stage ≡ 0) × (stage_phase now.stage ≡ 0)). idle_answer m way arg now.stage idle.1 ∙ sym (idle_answer m way arg was.stage idle.0))
       stays
 
   pub step_stays : StaysAt (record was { stage = stepped m way arg was.stage }) (record now { stage = stepped m way arg now.stage })
   step_stays = ⊎_elim
       (λ (same : now ≡ was). inl (ap (λ (x : Slot S). record x { stage = stepped m way arg x.stage }) same))
-      (λ (idle : (phase_number was.stage ≡ 0) × (phase_number now.stage ≡ 0)). inr (stepped_phase m way arg was.stage ∙ idle.0, stepped_phase m way arg now.stage ∙ idle.1))
+      (λ (idle : (stage_phase was.stage ≡ 0) × (stage_phase now.stage ≡ 0)). inr (stepped_phase m way arg was.stage ∙ idle.0, stepped_phase m way arg now.stage ∙ idle.1))
       stays
 
   pub step_runs : running (stepped m way arg now.stage) ≡ running (stepped m way arg was.stage)
   step_runs = running_stays (record was { stage = stepped m way arg was.stage }) (record now { stage = stepped m way arg now.stage }) step_stays
 
-  pub step_phase : phase_number (stepped m way arg now.stage) ≡ phase_number (stepped m way arg was.stage)
+  pub step_phase : stage_phase (stepped m way arg now.stage) ≡ stage_phase (stepped m way arg was.stage)
   step_phase = phase_stays (record was { stage = stepped m way arg was.stage }) (record now { stage = stepped m way arg now.stage }) step_stays
 
 -- an act changes the stage of this slot alone, and no holder

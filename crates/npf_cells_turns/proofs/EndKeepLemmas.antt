@@ -34,7 +34,7 @@ use Rattle.npf_cells_lives.specs.declared.turn.Turn.{Turn}
 use Rattle.npf_cells_lives.specs.Conns.{IsBuiltIn, FitsBuilds}
 use Rattle.npf_cells_lives.specs.Pools.{claim_bit}
 use Rattle.npf_cells_lives.specs.Stored.{FitsStored}
-use Rattle.npf_cells_lives.specs.Turns.{Running, running, phase_number, StaysAt}
+use Rattle.npf_cells_lives.specs.Turns.{Running, running, stage_phase, StaysAt}
 use Rattle.npf_cells_lives.proofs.ConnLemmas.{one_builder}
 use Rattle.npf_cells_lives.proofs.StoredLemmas.{fits_but}
 use Rattle.npf_cells_lives.proofs.TurnLemmas.{phase_stays, running_stays}
@@ -43,13 +43,13 @@ use Rattle.npf_cells_rule.specs.Cells.{IsCells}
 use Rattle.npf_cells_rule.specs.Passes.{cell_pass}
 use Rattle.npf_cells_turns.specs.declared.act.TurnAct.{TurnAct}
 use Rattle.npf_cells_turns.specs.declared.act.TurnAct.TheVariants.{Nothing, Start, Step as Steps, Abandoned, Expired}
-use Rattle.npf_cells_turns.specs.EndKinds.{stage_by, BuildsThere, KnowsThere, IsDueThere, MayAct, MayEndTurn, act_entries, building_after, without_build, HasActed, TellsEnd, EndsTurn}
+use Rattle.npf_cells_turns.specs.EndKinds.{stage_by, BuildsThere, KnowsThere, IsDueThere, MayAct, MayEndBy, act_entries, building_after, without_build, HasActed, TellsEnd, EndsTurn}
 use Rattle.npf_cells_turns.proofs.ActLemmas.{stepped_idle, stepped_bit, due_bit, due_settled, answer_stays, step_runs, step_phase, ActsOn, starts_on, steps_on, kills_on, still_building, building_in, not_without, in_without}
 use Rattle.npf_cells_turns.proofs.EndLemmas.{ends_alone, ends_with, adds_act, legal_after}
 
 -- where a Building slot is stepped it stays so
 stepped_building : {S A R : Type 0} (m : Meaning S A R) (way : Way) (arg : A) (stage : Stage S) (j : ℕ) → stage ≡ Building j → step_of m way arg stage ≡ stage
-stepped_building m way arg stage j e = stepped_idle m way arg stage (ap phase_number e)
+stepped_building m way arg stage j e = stepped_idle m way arg stage (ap stage_phase e)
 
 module _ {S A R : Type 0} (m : Meaning S A R) (digest : Key → ℕ) (layout : Layout) where
   module _ (s : State (Running S) (CellView S A R)) (kept : IsCells m digest layout s) (id : ℕ) (v : CellView S A R) (turn : Turn S) (at : get_elem? s.views id ≡ some v) (has : v.turn ≡ Some turn)
@@ -117,7 +117,7 @@ module _ {S A R : Type 0} (m : Meaning S A R) (digest : Key → ℕ) (layout : L
       fewer : v.pools.builds ≡ [] → side.builds ≡ []
       fewer none = ap (without conn) none
 
-      module _ (value : Running S) (follows : MayFollow m layout.slots k entry) (freeless : (i : ConnId) → ¬ (entry.act ≡ Acts.Free i)) (bit : claim_bit stage ≡ 1) (runs : value ≡ running stage) (phase : turn.phase ≡ phase_number stage) where
+      module _ (value : Running S) (follows : MayFollow m layout.slots k entry) (freeless : (i : ConnId) → ¬ (entry.act ≡ Acts.Free i)) (bit : claim_bit stage ≡ 1) (runs : value ≡ running stage) (phase : turn.phase ≡ stage_phase stage) where
         abbrev pub builder : CellView S A R
         builder = record v { seats = record v.seats { history = kept.log ++ entry ∷ [] }; pools = side; turn = None }
 
@@ -161,7 +161,7 @@ module _ {S A R : Type 0} (m : Meaning S A R) (digest : Key → ℕ) (layout : L
     -- a connection that isn't Building is stepped or killed
     module _ (entry : Entry S A R) (mine' : entry.seat ≡ id) (stage : Stage S) (acts : ActsOn k (after m k entry) turn.slot stage)
         (leaves : (i : ConnId) (j : ℕ) → stage_of k i ≡ Building j → i.slot ≡ turn.slot → stage ≡ x.stage)
-        (value : Running S) (follows : MayFollow m layout.slots k entry) (freeless : (i : ConnId) → ¬ (entry.act ≡ Acts.Free i)) (bit : claim_bit stage ≡ claim_bit x.stage) (runs : value ≡ running stage) (phase : turn.phase ≡ phase_number stage) where
+        (value : Running S) (follows : MayFollow m layout.slots k entry) (freeless : (i : ConnId) → ¬ (entry.act ≡ Acts.Free i)) (bit : claim_bit stage ≡ claim_bit x.stage) (runs : value ≡ running stage) (phase : turn.phase ≡ stage_phase stage) where
       fits_on : (j : ℕ) (builds : List ConnId) (unstored : List ℕ) → FitsBuilds k j builds unstored → FitsBuilds (after m k entry) j builds unstored
       fits_on j builds unstored fits = record {
         building = λ i c. still_building k (after m k entry) turn.slot stage acts i j (fits.building i c) (leaves i j (fits.building i c));
@@ -189,7 +189,7 @@ module _ {S A R : Type 0} (m : Meaning S A R) (digest : Key → ℕ) (layout : L
     stage_there conn there last =
         ap (λ p. stage_at (k.slot p) conn.inc) there ∙ ap (λ b. cond b x.stage Vacant) (eq-eqb x.inc conn.inc last)
 
-    steps : (conn : ConnId) (n : ℕ) (way : Way) (lent : Bor A) → KnowsThere v turn conn → turn.phase ≡ phase_number (step_of m way lent.now turn.was.stage) → Ended (Steps conn n way lent)
+    steps : (conn : ConnId) (n : ℕ) (way : Way) (lent : Bor A) → KnowsThere v turn conn → turn.phase ≡ stage_phase (step_of m way lent.now turn.was.stage) → Ended (Steps conn n way lent)
     steps conn n way lent there phase =
         let legal = plain_legal entry refl stage acts leaves value follows (λ i e. absurd cc) (stepped_bit m way arg x.stage) runs phased in (
           stepper entry refl stage acts leaves value follows (λ i e. absurd cc) (stepped_bit m way arg x.stage) runs phased,
@@ -239,7 +239,7 @@ module _ {S A R : Type 0} (m : Meaning S A R) (digest : Key → ℕ) (layout : L
         runs : value ≡ running stage
         runs = sym (step_runs m turn.was x stays way arg)
 
-        phased : turn.phase ≡ phase_number stage
+        phased : turn.phase ≡ stage_phase stage
         phased = phase ∙ sym (step_phase m turn.was x stays way arg)
 
     expires : (conn : ConnId) (now : ℕ) → IsDueThere m turn conn now → turn.phase ≡ 2 → Ended (Expired conn now)
@@ -264,7 +264,7 @@ module _ {S A R : Type 0} (m : Meaning S A R) (digest : Key → ℕ) (layout : L
 
         -- it is still as it was
         same : x ≡ turn.was
-        same = ⊎_elim (λ e. e) (λ (idle : (phase_number turn.was.stage ≡ 0) × (phase_number x.stage ≡ 0)). absurd (let no : 1 ≡ 0 = sym (due_settled m now turn.was.stage there.due) ∙ idle.0 in cc)) stays
+        same = ⊎_elim (λ e. e) (λ (idle : (stage_phase turn.was.stage ≡ 0) × (stage_phase x.stage ≡ 0)). absurd (let no : 1 ≡ 0 = sym (due_settled m now turn.was.stage there.due) ∙ idle.0 in cc)) stays
 
         due : IsDue m now x.stage
         due = subst (λ (y : Slot S). IsDue m now y.stage) (sym same) there.due
@@ -276,23 +276,23 @@ module _ {S A R : Type 0} (m : Meaning S A R) (digest : Key → ℕ) (layout : L
         bit = sym (due_bit m now x.stage due)
 
         leaves : (i : ConnId) (j : ℕ) → stage_of k i ≡ Building j → i.slot ≡ turn.slot → Dead ≡ x.stage
-        leaves i j built here = absurd (let no : 1 ≡ 0 = sym (due_settled m now x.stage due) ∙ ap phase_number (building_in k turn.slot i j built here).1 in cc)
+        leaves i j built here = absurd (let no : 1 ≡ 0 = sym (due_settled m now x.stage due) ∙ ap stage_phase (building_in k turn.slot i j built here).1 in cc)
 
-    nothing : turn.phase ≡ phase_number turn.was.stage → Ended Nothing
+    nothing : turn.phase ≡ stage_phase turn.was.stage → Ended Nothing
     nothing phase = (
       record v { turn = None },
       ends_alone m digest layout s kept id v turn at has (running turn.was.stage) seated (sym (running_stays turn.was x stays)) (phase ∙ sym (phase_stays turn.was x stays)),
       refl,
     )
 
-    pub ends : (act : TurnAct S A) → MayAct m v turn act → turn.phase ≡ phase_number (stage_by m act turn.was.stage) → Ended act
+    pub ends : (act : TurnAct S A) → MayAct m v turn act → turn.phase ≡ stage_phase (stage_by m act turn.was.stage) → Ended act
     ends Nothing may phase = nothing phase
     ends (Start conn n init) may phase = starts conn n init may phase
     ends (Steps conn n way arg) may phase = steps conn n way arg may phase
     ends (Abandoned conn) may phase = abandons conn may phase
     ends (Expired conn now) may phase = expires conn now may phase
 
-  pub may_end : (st : Step (Running S)) (id n slot : ℕ) (act : TurnAct S A) (me : Me (Running S) (CellView S A R)) → me.0.seats.lives ≡ true → me.0.seats.theirs ≡ [] → 1 ≤ length me.0.seats.readers → MayEndTurn m act slot me →
+  pub may_end : (st : Step (Running S)) (id n slot : ℕ) (act : TurnAct S A) (me : Me (Running S) (CellView S A R)) → me.0.seats.lives ≡ true → me.0.seats.theirs ≡ [] → 1 ≤ length me.0.seats.readers → MayEndBy m act slot me →
       Allows (IsCells m digest layout) n id me (field_at layout Slots slot turn_field) (λ _. 0) (λ _. EndsTurn m act st me 0)
   may_end st id n slot act me lives settled seated may =
       subst (λ (y : ℕ × List (ℕ × Running S)). Allows (IsCells m digest layout) n id (me.0, y.1) (field_at layout Slots y.0 turn_field) (λ _. 0) (λ _. EndsTurn m act st (me.0, y.1) 0)) (λ i. (may.there i, sym may.carries i))

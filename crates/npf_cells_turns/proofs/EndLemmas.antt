@@ -33,7 +33,7 @@ use Rattle.npf_cells_lives.specs.declared.turn.Turn.{Turn}
 use Rattle.npf_cells_lives.specs.Conns.{FitsBuilds, Conns, entry_seat}
 use Rattle.npf_cells_lives.specs.Pools.{claim_bit, taken}
 use Rattle.npf_cells_lives.specs.Stored.{FitsStored}
-use Rattle.npf_cells_lives.specs.Turns.{Homes, Running, running, phase_number, has_turn, turn_holders, FitsTurn, Turns}
+use Rattle.npf_cells_lives.specs.Turns.{Homes, Running, running, stage_phase, has_turn, turn_holders, FitsTurn, Turns}
 use Rattle.npf_cells_lives.proofs.ConnLemmas.{BuildsIn, unstored-set}
 use Rattle.npf_cells_lives.proofs.LockLemmas.{locks-same, holders-set}
 use Rattle.npf_cells_lives.proofs.PoolLemmas.{pools-kept, taken-set}
@@ -77,7 +77,7 @@ module _ {S A R : Type 0} (m : Meaning S A R) (digest : Key → ℕ) (layout : L
         omega (arith, more, before, now, all)
 
     -- the part on turns, where the slot holds what it is at then
-    pub turns_end : (k' : Machine S) (w : CellView S A R) → w.turn ≡ None → ((p : ℕ) → p ≢ slot → k'.slot p ≡ k.slot p) → value ≡ running (k'.slot slot).stage → turn.phase ≡ phase_number (k'.slot slot).stage →
+    pub turns_end : (k' : Machine S) (w : CellView S A R) → w.turn ≡ None → ((p : ℕ) → p ≢ slot → k'.slot p ≡ k.slot p) → value ≡ running (k'.slot slot).stage → turn.phase ≡ stage_phase (k'.slot slot).stage →
         Turns turn_side layout k' ws homes' (set s.views id w)
     turns_end k' w none elsewhere runs phase = turns-changed turn_side layout k k' s.words ws s.homes homes' s.views id v w slot kept.turns at (record {
       reach = length-set s.homes slot (some value);
@@ -97,14 +97,14 @@ module _ {S A R : Type 0} (m : Meaning S A R) (digest : Key → ℕ) (layout : L
     })
 
     -- nothing was done
-    pub ends_alone : 1 ≤ length v.seats.readers → value ≡ running (k.slot slot).stage → turn.phase ≡ phase_number (k.slot slot).stage →
+    pub ends_alone : 1 ≤ length v.seats.readers → value ≡ running (k.slot slot).stage → turn.phase ≡ stage_phase (k.slot slot).stage →
         IsCells m digest layout (record { words = ws; homes = homes'; views = set s.views id (record v { turn = None }) })
     ends_alone seated runs phase = turn_step m digest layout s kept slot turn_field 0 fits.exists (inl refl) id v (record v { turn = None }) homes' at refl refl refl refl
         (alone_still v (record v { turn = None }) (kept.alone id v at) seated refl (λ none. none)) (turns_end k (record v { turn = None }) refl (λ p ne. refl) runs phase)
 
     -- an act was done, which changes the stage of this slot alone, and what the pass builds and stored
     module _ (lives : v.seats.lives ≡ true) (settled : v.seats.theirs ≡ []) (seated : 1 ≤ length v.seats.readers) (entry : Entry S A R) (mine : entry.seat ≡ id) (follows : MayFollow m layout.slots k entry) (freeless : (i : ConnId) → ¬ (entry.act ≡ Free i))
-        (stage : Stage S) (acts : ActsOn k (after m k entry) slot stage) (bit : claim_bit stage ≡ claim_bit (k.slot slot).stage) (runs : value ≡ running stage) (phase : turn.phase ≡ phase_number stage)
+        (stage : Stage S) (acts : ActsOn k (after m k entry) slot stage) (bit : claim_bit stage ≡ claim_bit (k.slot slot).stage) (runs : value ≡ running stage) (phase : turn.phase ≡ stage_phase stage)
         (side : PoolSide) (nodes : side.nodes ≡ v.pools.nodes) (unstored : side.unstored ≡ v.pools.unstored) (stored : FitsStored layout s.words side) (builds : FitsBuilds (after m k entry) id side.builds side.unstored)
         (others : (j : ℕ) (u : CellView S A R) → j ≢ id → get_elem? s.views j ≡ some u → FitsBuilds (after m k entry) j u.pools.builds u.pools.unstored) where
       abbrev k' : Machine S
@@ -148,7 +148,7 @@ module _ {S A R : Type 0} (m : Meaning S A R) (digest : Key → ℕ) (layout : L
       }
 
       turns_after : Turns turn_side layout k' ws homes' (set s.views id actor)
-      turns_after = turns_end k' actor refl acts.elsewhere (runs ∙ ap running (sym stage_is)) (phase ∙ ap phase_number (sym stage_is))
+      turns_after = turns_end k' actor refl acts.elsewhere (runs ∙ ap running (sym stage_is)) (phase ∙ ap stage_phase (sym stage_is))
         where
           stage_is : (k'.slot slot).stage ≡ stage
           stage_is = ap (λ x. x.stage) acts.here

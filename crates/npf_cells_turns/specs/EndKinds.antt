@@ -19,7 +19,7 @@ use Rattle.npf_connections.specs.Pass.{Pass, IsPass, Knows}
 use Rattle.npf_cells_lives.specs.declared.pools.PoolSide.{PoolSide}
 use Rattle.npf_cells_lives.specs.declared.turn.Turn.{Turn}
 use Rattle.npf_cells_lives.specs.Stored.{stored_but}
-use Rattle.npf_cells_lives.specs.Turns.{Running, running, phase_number}
+use Rattle.npf_cells_lives.specs.Turns.{Running, running, stage_phase}
 use Rattle.npf_cells_rule.specs.declared.view.CellView.{CellView}
 use Rattle.npf_cells_rule.specs.Passes.{cell_pass}
 use Rattle.npf_cells_turns.specs.declared.act.TurnAct.{TurnAct}
@@ -59,13 +59,13 @@ MayAct m v turn (Abandoned id) = BuildsThere v turn id
 MayAct m v turn (Expired id now) = IsDueThere m turn id now
 
 -- a turn may be ended with an act where the pass may do it, carries the flow and count that it leaves, and has stored the phase that it leaves
-pub record MayEndTurn {S A R : Type 0} (m : Meaning S A R) (act : TurnAct S A) (slot : ℕ) (me : Me (Running S) (CellView S A R)) : Type 0 where
+pub record MayEndBy {S A R : Type 0} (m : Meaning S A R) (act : TurnAct S A) (slot : ℕ) (me : Me (Running S) (CellView S A R)) : Type 0 where
   pub turn : Turn S
   pub has : me.0.turn ≡ Some turn
   pub there : turn.slot ≡ slot
   pub may : MayAct m me.0 turn act
   pub carries : me.1 ≡ (turn.slot, running (stage_by m act turn.was.stage)) ∷ []
-  pub phase : turn.phase ≡ phase_number (stage_by m act turn.was.stage)
+  pub phase : turn.phase ≡ stage_phase (stage_by m act turn.was.stage)
 
 -- the entry of an act on a slot that was at this
 abbrev pub act_entries : {S A R : Type 0} → Meaning S A R → Pass (Entry S A R) → Stage S → TurnAct S A → List (Entry S A R)

@@ -8,13 +8,13 @@ use Rattle.npf_cells_words.specs.declared.layout.Layout.{Layout}
 use Rattle.npf_cells_words.specs.declared.layout.Pool.TheVariants.{Slots}
 use Rattle.npf_cells_words.specs.Layout.{turn_field, field_at}
 use Rattle.npf_cells_lives.specs.declared.turn.Turn.{Turn}
-use Rattle.npf_cells_lives.specs.Turns.{Running, running, phase_number}
+use Rattle.npf_cells_lives.specs.Turns.{Running, running, stage_phase}
 use Rattle.npf_cells_rule.specs.declared.view.CellView.{CellView}
 use Rattle.npf_cells_rule.specs.Stood.{StoodSo}
 
 -- the turn of a slot that is at this
 abbrev pub turn_at : {S : Type 0} → ℕ → Slot S → Turn S
-turn_at slot x = record { slot = slot; was = x; phase = phase_number x.stage }
+turn_at slot x = record { slot = slot; was = x; phase = stage_phase x.stage }
 
 -- the pass got the turn, and carries what the slot held
 pub record HasTaken {S A R : Type 0} (slot : ℕ) (old now : Me (Running S) (CellView S A R)) : Type 0 where

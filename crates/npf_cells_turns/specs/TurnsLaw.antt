@@ -12,7 +12,7 @@ use Rattle.npf_cells_lives.specs.Turns.{Running}
 use Rattle.npf_cells_rule.specs.declared.view.CellView.{CellView}
 use Rattle.npf_cells_rule.specs.Cells.{IsCells}
 use Rattle.npf_cells_turns.specs.declared.act.TurnAct.{TurnAct}
-use Rattle.npf_cells_turns.specs.EndKinds.{MayEndTurn, EndsTurn}
+use Rattle.npf_cells_turns.specs.EndKinds.{MayEndBy, EndsTurn}
 use Rattle.npf_cells_turns.specs.SightKinds.{Sees}
 use Rattle.npf_cells_turns.specs.TurnKinds.{TriesTurn}
 use Rattle.npf_cells_turns.specs.WordKinds.{LoadsWord}
@@ -23,4 +23,4 @@ pub record KeepsTurns {S A R : Type 0} (m : Meaning S A R) (digest : Key → ℕ
   pub sees : (st : Step (Running S)) (id n i : ℕ) (me : Me (Running S) (CellView S A R)) → me.0.seats.lives ≡ true → me.0.seats.theirs ≡ [] → 1 ≤ length me.0.seats.readers → Allows (IsCells m digest layout) n id me i (λ k. k) (Sees m st me)
   pub loads_word : (st : Step (Running S)) (id n : ℕ) (pool : Pool) (place field : ℕ) (me : Me (Running S) (CellView S A R)) → me.0.seats.lives ≡ true → Allows (IsCells m digest layout) n id me (field_at layout pool place field) (λ k. k) (LoadsWord m digest layout pool place field st me)
   pub takes : (st : Step (Running S)) (id n slot : ℕ) (me : Me (Running S) (CellView S A R)) → me.0.seats.lives ≡ true → 1 ≤ length me.0.seats.readers → slot < layout.slots → me.0.turn ≡ None → me.1 ≡ [] → Allows (IsCells m digest layout) n id me (field_at layout Slots slot turn_field) (λ k. either (eqb k 0) 1 k) (TriesTurn m digest layout slot st me)
-  pub ends : (st : Step (Running S)) (id n slot : ℕ) (act : TurnAct S A) (me : Me (Running S) (CellView S A R)) → me.0.seats.lives ≡ true → me.0.seats.theirs ≡ [] → 1 ≤ length me.0.seats.readers → MayEndTurn m act slot me → Allows (IsCells m digest layout) n id me (field_at layout Slots slot turn_field) (λ _. 0) (λ _. EndsTurn m act st me 0)
+  pub ends : (st : Step (Running S)) (id n slot : ℕ) (act : TurnAct S A) (me : Me (Running S) (CellView S A R)) → me.0.seats.lives ≡ true → me.0.seats.theirs ≡ [] → 1 ≤ length me.0.seats.readers → MayEndBy m act slot me → Allows (IsCells m digest layout) n id me (field_at layout Slots slot turn_field) (λ _. 0) (λ _. EndsTurn m act st me 0)

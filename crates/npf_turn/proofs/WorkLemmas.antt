@@ -16,13 +16,13 @@ use Rattle.npf_connections.specs.Pass.{Knows}
 use Rattle.npf_cells_words.specs.declared.layout.Pool.TheVariants.{Slots}
 use Rattle.npf_cells_words.specs.Layout.{phase_field}
 use Rattle.npf_cells_lives.specs.declared.turn.Turn.{Turn}
-use Rattle.npf_cells_lives.specs.Turns.{Running, running, phase_number}
+use Rattle.npf_cells_lives.specs.Turns.{Running, running, stage_phase}
 use Rattle.npf_cells_rule.specs.declared.view.CellView.{CellView}
 use Rattle.npf_cells_rule.specs.Passes.{cell_pass}
 use Rattle.npf_cells_takes.specs.PrivateKinds.{ShowsTurnInc, MayStore, stored_in}
 use Rattle.npf_cells_turns.specs.declared.act.TurnAct.{TurnAct}
 use Rattle.npf_cells_turns.specs.declared.act.TurnAct.TheVariants.{Step as Steps, Expired}
-use Rattle.npf_cells_turns.specs.EndKinds.{stage_by, MayAct, MayEndTurn}
+use Rattle.npf_cells_turns.specs.EndKinds.{stage_by, MayAct, MayEndBy}
 use Rattle.npf_cells_turns.specs.TurnKinds.{HasTaken, HasSlotTurn}
 use Rattle.npf_cells_turns.proofs.ActLemmas.{stepped_phase}
 
@@ -53,7 +53,7 @@ module _ {S A R : Type 0} where
   pub record Works (old : Me (Running S) (CellView S A R)) (slot : ℕ) (was : Slot S) (phase : ℕ) (value : Running S) (now : Me (Running S) (CellView S A R)) : Type 0 where
     pub is : now ≡ (record old.0 { turn = Some (turn_of slot was phase) }, (slot, value) ∷ [])
 
-  pub works : (old now : Me (Running S) (CellView S A R)) (slot : ℕ) (taken : HasTaken slot old now) → Works old slot taken.was (phase_number taken.was.stage) (running taken.was.stage) now
+  pub works : (old now : Me (Running S) (CellView S A R)) (slot : ℕ) (taken : HasTaken slot old now) → Works old slot taken.was (stage_phase taken.was.stage) (running taken.was.stage) now
   works old now slot taken = record { is = taken.is }
 
   module _ (old now : Me (Running S) (CellView S A R)) (slot : ℕ) (was : Slot S) (phase : ℕ) (value : Running S) (so : Works old slot was phase value now) where
@@ -82,7 +82,7 @@ module _ {S A R : Type 0} where
     pub phased : (next : Me (Running S) (CellView S A R)) (number : ℕ) → next ≡ stored_in Slots slot phase_field number now → Works old slot was number value next
     phased next number is = record { is = is ∙ ap (stored_in Slots slot phase_field number) so.is }
 
-    pub may_end : (m : Meaning S A R) (act : TurnAct S A) → MayAct m now.0 (turn_of slot was phase) act → value ≡ running (stage_by m act was.stage) → phase ≡ phase_number (stage_by m act was.stage) → MayEndTurn m act slot now
+    pub may_end : (m : Meaning S A R) (act : TurnAct S A) → MayAct m now.0 (turn_of slot was phase) act → value ≡ running (stage_by m act was.stage) → phase ≡ stage_phase (stage_by m act was.stage) → MayEndBy m act slot now
     may_end m act may runs phase_is = record {
       turn = turn_of slot was phase;
       has = turn_is;
@@ -93,8 +93,8 @@ module _ {S A R : Type 0} where
     }
 
     -- it may end the turn with a step, where it carries the flow and the count that the step leaves
-    pub may_step : (m : Meaning S A R) (id : ConnId) (n : ℕ) (way : Way) (arg : Bor A) (flow : S) (steps : ℕ) → id.slot ≡ slot → old.0.turn ≡ None → Knows (cell_pass old.0) id → running was.stage ≡ Some (flow, steps) → phase ≡ phase_number was.stage →
-        value ≡ Some (m.next flow way arg.now, min (steps + 1) (2 ^ 64 - 1)) → MayEndTurn m (Steps id n way arg) slot now
+    pub may_step : (m : Meaning S A R) (id : ConnId) (n : ℕ) (way : Way) (arg : Bor A) (flow : S) (steps : ℕ) → id.slot ≡ slot → old.0.turn ≡ None → Knows (cell_pass old.0) id → running was.stage ≡ Some (flow, steps) → phase ≡ stage_phase was.stage →
+        value ≡ Some (m.next flow way arg.now, min (steps + 1) (2 ^ 64 - 1)) → MayEndBy m (Steps id n way arg) slot now
     may_step m id n way arg flow steps there turnless known held phase_is value_is =
         let live = is_live was.stage flow steps held in
         may_end m (Steps id n way arg)
@@ -102,7 +102,7 @@ module _ {S A R : Type 0} where
         (value_is ∙ ap (λ x. running (stepped m way arg.now x)) (sym live)) (phase_is ∙ sym (stepped_phase m way arg.now was.stage))
 
     -- or by killing what was Live and due
-    pub may_expire : (m : Meaning S A R) (id : ConnId) (time : ℕ) (flow : S) (steps : ℕ) → id.slot ≡ slot → was.inc ≡ id.inc → running was.stage ≡ Some (flow, steps) → IsTrue (m.is_due flow time) → phase ≡ 2 → value ≡ None → MayEndTurn m (Expired id time) slot now
+    pub may_expire : (m : Meaning S A R) (id : ConnId) (time : ℕ) (flow : S) (steps : ℕ) → id.slot ≡ slot → was.inc ≡ id.inc → running was.stage ≡ Some (flow, steps) → IsTrue (m.is_due flow time) → phase ≡ 2 → value ≡ None → MayEndBy m (Expired id time) slot now
     may_expire m id time flow steps there inc held due phase_is value_is =
         may_end m (Expired id time)
         (record { there = there; inc = inc; due = subst (IsDue m time) (sym (is_live was.stage flow steps held)) due })
@@ -112,4 +112,4 @@ module _ {S A R : Type 0} where
     pub inc_shown : (found : ℕ) (flow : S) (steps : ℕ) → running was.stage ≡ Some (flow, steps) → ShowsTurnInc now.0.turn slot found → found ≡ was.inc
     inc_shown found flow steps held shows =
         let live = is_live was.stage flow steps held in
-        shows (turn_of slot was phase) turn_is refl (λ none. absurd (let no : 1 ≡ 0 = sym (ap phase_number live) ∙ none in cc))
+        shows (turn_of slot was phase) turn_is refl (λ none. absurd (let no : 1 ≡ 0 = sym (ap stage_phase live) ∙ none in cc))
