@@ -16,5 +16,5 @@ hold-requires-clause-can g c = record {
 
 pub start-requires-clause-builds : goal.start-requires-clause-builds
 start-requires-clause-builds g c =
-  let me = ap (λ y. y.0.pools.builds) c.in-Done.ensures.answers.is in
-  subst (λ (ids : List ConnId). Contains ids c.in_ok-id.id) (sym me) (c.in_ok-id.ensures.begun.may Forward).built
+    let me = ap (λ y. y.0.pools.builds) c.in-Done.ensures.answers.is in
+    subst (λ (ids : List ConnId). Contains ids c.in_ok-id.id) (sym me) (c.in_ok-id.ensures.begun.may Forward).built
