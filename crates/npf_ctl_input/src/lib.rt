@@ -15,5 +15,5 @@ mod source;
 
 pub use file::read_file;
 pub use interfaces::read_interfaces;
-pub use loading::{load_alone, load_file};
+pub use loading::{load_alone, load_file, told_fault};
 pub use source::{Source, read_source};

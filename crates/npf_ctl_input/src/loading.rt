@@ -62,7 +62,7 @@ fn load_text<F: Files>(
 }
 
 /// How a fault of the configuration of this file is told: one of its text with this file, one of a table's file with that one.
-fn told_fault(alloc: Global, conf: &str, fault: LoadFault) -> Result<CommandFault, NoMemory>
+pub fn told_fault(alloc: Global, conf: &str, fault: LoadFault) -> Result<CommandFault, NoMemory>
     ensures { IfOk result (λ told. told ≡ told_load conf.now fault) }
 {
     match fault {

@@ -15,9 +15,11 @@ use Rattle.npf_ctl_input.specs.Interfaces.{ReadsInterfaces}
 use Rattle.npf_ctl_input.specs.Laws.{ConfigurationsAreOfContents, FilesAreOfContents, InterfacesAreOfContents}
 use Rattle.npf_ctl_input.specs.Loading.{LoadsFile}
 use Rattle.npf_ctl_input.specs.Source.{Source, Alone, Scripted, ReadsSource, lines_of_source}
+use Rattle.npf_ctl_input.proofs.ReadingLemmas.{meets_told}
 use Rattle.npf_ctl_prepare.specs.Captures.{GathersCaptures, GathersLine, ReadsCaptureFile, interface_id}
 use Rattle.npf_ctl_prepare.specs.Making.{MakesConfigurations, MakesNext}
 use Rattle.npf_ctl_prepare.specs.Prepares.{KeepsScriptLimits, RunPlan, Plans, PreparesRun, PreparesSource, RunNames, numbered_by}
+use Rattle.npf_ctl_prepare.proofs.ReloadingLemmas.{reload_lasts}
 
 andthen_lasts :
     {A B F : Type 0} (first wider : Stage A F) (next then_ : A → Stage B F) → ((result : Result A F) → first result → wider result) →
@@ -55,7 +57,7 @@ module _ (tree : Tree) (before after : FilesMoment) (told : before.contents ≡ 
   module _ (ifaces : List Iface) (script : List ℕ) where
     next_lasts : (old : Configuration) (line : ℕ × ScriptLine) (result : Result Configuration CommandFault) →
         MakesNext before after ifaces script old line result → MakesNext alone alone ifaces script old line result
-    next_lasts old (n, Said.Reload file) result is = configurations ifaces file tree before after result told well is
+    next_lasts old (n, Said.Reload file) result is = reload_lasts before after alone alone (meets_told tree before after told well) ifaces old file result is
     next_lasts old (n, line) result is = is
 
     configs_last : (lines : List (ℕ × ScriptLine)) (made : List Configuration) (last : Configuration) (result : Result (List Configuration) CommandFault) →

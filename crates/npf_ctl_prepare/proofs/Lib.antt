@@ -6,4 +6,5 @@ mod LineLemmas
 mod MakeLemmas
 mod NumberLemmas
 mod PrepareLemmas
+mod ReloadingLemmas
 mod StageLemmas

@@ -26,11 +26,11 @@ use Rattle.npf_ctl_script.specs.declared.script.ScriptLine.TheVariants as Said
 use Rattle.npf_ctl_schedule.specs.Schedule.{changes_in, makes_change, unnumbered}
 use Rattle.npf_ctl_messages.specs.declared.fault.CommandFault.{CommandFault}
 use Rattle.npf_ctl_input.specs.Around.{Around}
-use Rattle.npf_ctl_input.specs.Loading.{LoadsFile}
 use Rattle.npf_ctl_input.specs.Unless.{IfTold, UnlessMemory}
 use Rattle.npf_ctl_input.proofs.AroundLemmas.{around_first, around_next}
 use Rattle.npf_ctl_input.proofs.UnlessLemmas.{unless_lasts}
 use Rattle.npf_ctl_prepare.specs.Making.{MakesConfigurations, MakesNext, told_at_line}
+use Rattle.npf_ctl_prepare.specs.Reloading.{ReloadsFile}
 use Rattle.npf_ctl_prepare.specs.Told.{AnswersChange, IsChangeable, TellsChange, made_of, with_next}
 use Rattle.npf_ctl_prepare.proofs.AroundLemmas.{faultless_none, faultless_on, reads_none, reads_on}
 use Rattle.npf_ctl_prepare.proofs.StageLemmas.{told_as, told_unless}
@@ -97,20 +97,11 @@ module _ (before after : FilesMoment) (ifaces : List Iface) (script : List ℕ) 
     changeable = λ most within. told_is script n (IsChangeable (most + 1)) changed answer (both_changeable (most + 1) changed loaded (ids most within)) tells;
   }
 
-more_changeable : (most : ℕ) (answer : Option Config) → IfSome answer (IsChangeable 1) → IfSome answer (IsChangeable (most + 1))
-more_changeable most None is = tt
-more_changeable most (Some next) is = changeable_more 1 (most + 1) (omega arith) next is
-
-all_changeable : (most : ℕ) (answer : Result (Option Config) CommandFault) → IfOk answer (λ next. IfSome next (IsChangeable 1)) →
-    IfOk answer (λ next. IfSome next (IsChangeable (most + 1)))
-all_changeable most (Ok next) is = more_changeable most next is
-all_changeable most (Err fault) is = tt
-
 module _ (before after : FilesMoment) (ifaces : List Iface) (script : List ℕ) (last : Config) (n : ℕ) where
   pub reload_answers : (file : List ℕ) (answer : Result (Option Config) CommandFault) →
-      UnlessMemory (made_of (configuration last)) answer (LoadsFile before after ifaces file) → IfOk answer (λ next. is_some next ≡ true) →
-      IfOk answer (λ next. IfSome next (IsChangeable 1)) → AnswersChange before after ifaces script last (n, Said.Reload file) answer
-  reload_answers file answer comes makes changeable = record { comes = comes; makes = makes; changeable = λ most within. all_changeable most answer changeable }
+      UnlessMemory (made_of (configuration last)) answer (ReloadsFile before after ifaces (configuration last) file) → IfOk answer (λ next. is_some next ≡ true) →
+      ((most : ℕ) → HasNextIds most last.model → IfOk answer (λ next. IfSome next (IsChangeable (most + 1)))) → AnswersChange before after ifaces script last (n, Said.Reload file) answer
+  reload_answers file answer comes makes changeable = record { comes = comes; makes = makes; changeable = changeable }
 
   -- a line that makes no change answers none
   pub nothing_answers : (said : ScriptLine) → makes_change said ≡ false → AnswersChange before after ifaces script last (n, said) (Ok None)

@@ -4,5 +4,6 @@ pub mod Laws
 pub mod Making
 pub mod Playable
 pub mod Prepares
+pub mod Reloading
 pub mod Told
 pub mod View

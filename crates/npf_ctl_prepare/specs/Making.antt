@@ -17,7 +17,7 @@ use Rattle.npf_ctl_schedule.specs.Schedule.{makes_change}
 use Rattle.npf_ctl_messages.specs.declared.fault.CommandFault.{CommandFault}
 use Rattle.npf_ctl_messages.specs.declared.fault.CommandFault.TheVariants.{Line, NoMemory}
 use Rattle.npf_ctl_messages.specs.declared.fault.LineFault.TheVariants as LineIs
-use Rattle.npf_ctl_input.specs.Loading.{LoadsFile}
+use Rattle.npf_ctl_prepare.specs.Reloading.{ReloadsFile}
 
 -- how a refused change is told, at its line of this script
 abbrev pub told_at_line : List ℕ → ℕ → ChangeFault → CommandFault
@@ -35,7 +35,7 @@ AddsRuleAlone old name ifaces text = AddsRule old name ifaces text andthen λ ad
 module _ (before after : FilesMoment) (ifaces : List Iface) (script : List ℕ) where
   -- the configuration that a line makes of the one before it
   abbrev pub MakesNext : Configuration → ℕ × ScriptLine → Stage Configuration CommandFault
-  MakesNext old (line, Said.Reload file) = LoadsFile before after ifaces file
+  MakesNext old (line, Said.Reload file) = ReloadsFile before after ifaces old file
   MakesNext old (line, Said.RuleAdd name text) = AddsRuleAlone old name ifaces text told_by told_at_line script line
   MakesNext old (line, Said.RuleRem name id) = RemovesRule old name id told_by told_at_line script line
   MakesNext old (line, Said.RuleFlush name) = FlushesRules old name told_by told_at_line script line

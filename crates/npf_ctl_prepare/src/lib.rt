@@ -3,7 +3,7 @@
 // order of work"). The first fault that is met ends it.
 //
 // `prepare` is the whole work, and `orders` reads what the run is to do; `limits` tests how much of it there is, `captures` gathers the
-// packets, `making` makes the configurations, and `numbering` gives the first one the numbers of the run's interfaces.
+// packets, `making` makes the configurations, `reloading` those of files, and `numbering` gives the first one the numbers of the run's interfaces.
 //
 // The contract: what is prepared is a plan that the stages of specs/Prepares may come to, or the first fault is told, and want of memory
 // says nothing; what is prepared may be played.
@@ -16,5 +16,6 @@ mod making;
 mod numbering;
 mod orders;
 mod prepare;
+mod reloading;
 
 pub use prepare::{Prepared, RunFiles, prepare_run};

@@ -2,7 +2,6 @@
 ghost use Rattle.std.specs.Prelude.{◌≡◌, ◌≢◌, ◌≤◌, ◌+◌, ℕ, true, [], ◌∷◌, All, Ok, IfErr, IfOk, IfSome, OnOk, length, map, option_map, unwrap_or};
 ghost use Rattle.std.specs.Option.{is_some};
 ghost use Rattle.std.specs.Str.{IsUtf8};
-ghost use Rattle.npf_model.specs.Configuration.{Configuration};
 ghost use Rattle.npf_config_changes.specs.Told.{EndsUnlessMemory};
 ghost use Rattle.npf_outside.specs.Files.{FilesMoment, SameReadFaults};
 ghost use Rattle.npf_ruleset.specs.Configuration.{configuration};
@@ -13,12 +12,12 @@ ghost use Rattle.npf_ctl_input.specs.Around.{Around};
 ghost use Rattle.npf_ctl_input.specs.Rules.{AddsShortRule};
 ghost use Rattle.npf_ctl_input.specs.Unless.{UnlessMemory};
 ghost use Rattle.npf_ctl_prepare.specs.Known.{NamesTextFile};
-ghost use Rattle.npf_ctl_input.specs.Loading.{LoadsFile};
 ghost use Rattle.npf_ctl_prepare.specs.Making.{AddsRuleAlone, MakesConfigurations, MakesNext, told_at_line};
+ghost use Rattle.npf_ctl_prepare.specs.Reloading.{ReloadsFile};
 ghost use Rattle.npf_ctl_prepare.specs.Told.{AnswersChange, IsChangeable, TellsChange, made_of, with_next};
 
+use crate::reloading::reload_file;
 use npf_config_changes::{ChangeFault, rule_add, rule_flush, rule_rem, table_add, table_rem};
-use npf_ctl_input::load_file;
 use npf_ctl_messages::{CommandFault, LineFault};
 use npf_ctl_script::ScriptLine;
 use npf_model::Ifaces;
@@ -88,7 +87,7 @@ fn make_next<F: Files>(
 {
     let number = line.0;
     match &line.1 {
-        ScriptLine::Reload { file } => reload(alloc, ifaces, file.as_slice(), files),
+        ScriptLine::Reload { file } => reload(alloc, last, ifaces, file.as_slice(), files),
         ScriptLine::RuleAdd { name, text } => told(
             alloc,
             script,
@@ -123,25 +122,26 @@ fn make_next<F: Files>(
     }
 }
 
-/// The configuration of this file.
+/// The configuration of this file, which takes over the dynamic rules of the last one.
 fn reload<F: Files>(
     alloc: Global,
+    last: &Config,
     ifaces: &Ifaces,
     file: &[u8],
     files: &mut F,
 ) -> Result<Option<Config>, CommandFault>
     requires { IsUtf8 file.now }
-    ensures comes { (before after : FilesMoment) (last : Configuration) → Around before (F.moment files.old) (F.moment files.new) after
-        → UnlessMemory (made_of last) result (LoadsFile before after ifaces.now.list file.now) }
+    ensures comes { (before after : FilesMoment) → Around before (F.moment files.old) (F.moment files.new) after
+        → UnlessMemory (made_of (configuration last.now)) result (ReloadsFile before after ifaces.now.list (configuration last.now) file.now) }
     ensures makes { IfOk result (λ next. is_some next ≡ true) }
-    ensures changeable { IfOk result (λ next. IfSome next (IsChangeable 1)) }
+    ensures changeable { (most : ℕ) → HasNextIds most last.now.model → IfOk result (λ next. IfSome next (IsChangeable (most + 1))) }
     ensures reads { OnlyReads (F.moment files.old) (F.moment files.new) }
     ensures faultless { OnOk result (SameReadFaults (F.moment files.old) (F.moment files.new)) }
 {
     let Ok(file) = str::from_utf8(file) else {
         unreachable!()
     };
-    let config = load_file(alloc, ifaces, file, files)?;
+    let config = reload_file(alloc, last, ifaces, file, files)?;
     Ok(Some(config))
 }
 

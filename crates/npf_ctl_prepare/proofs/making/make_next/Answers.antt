@@ -7,9 +7,9 @@ use Rattle.npf_config_changes.specs.Changes.{FlushesRules, RemovesRule}
 use Rattle.npf_config_changes.specs.Entries.{AddsEntry, RemovesEntry}
 use Rattle.npf_ctl_script.specs.declared.script.ScriptLine.{ScriptLine}
 use Rattle.npf_ctl_script.specs.declared.script.ScriptLine.TheVariants as Said
-use Rattle.npf_ctl_input.specs.Loading.{LoadsFile}
 use Rattle.npf_ctl_input.specs.Unless.{UnlessMemory}
 use Rattle.npf_ctl_prepare.specs.Making.{AddsRuleAlone, told_at_line}
+use Rattle.npf_ctl_prepare.specs.Reloading.{ReloadsFile}
 use Rattle.npf_ctl_prepare.specs.Told.{AnswersChange, made_of}
 use Rattle.npf_ctl_prepare.proofs.MakeLemmas.{change_answers, ids_kept, not_change, nothing_answers, reload_answers}
 use Rattle.npf_ctl_prepare.proofs.making.make_next.Goals as goal
@@ -18,8 +18,8 @@ pub returns-in-Reload-clause-answers : goal.returns-in-Reload-clause-answers
 returns-in-Reload-clause-answers g c = λ before after around.
     let last = c.args.last.now in
     let n = c.args.line.now.0 in
-    let comes = subst (λ (file : List ℕ). UnlessMemory (made_of (configuration last)) c.reload.result (LoadsFile before after c.args.ifaces.now.list file)) c.as_slice.ensures
-    (c.reload.ensures.comes before after (configuration last) around) in
+    let comes = subst (λ (file : List ℕ). UnlessMemory (made_of (configuration last)) c.reload.result (ReloadsFile before after c.args.ifaces.now.list (configuration last) file)) c.as_slice.ensures
+    (c.reload.ensures.comes before after around) in
     subst (λ (said : ScriptLine). AnswersChange before after c.args.ifaces.now.list c.args.script.now last (n, said) c.reload.result) (sym c.in-Reload.is)
     (reload_answers before after c.args.ifaces.now.list c.args.script.now last n c.in-Reload.file c.reload.result comes c.reload.ensures.makes c.reload.ensures.changeable)
 
