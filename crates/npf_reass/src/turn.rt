@@ -1,0 +1,84 @@
+ghost use Rattle.std.specs.Prelude.{◌≡◌, ◌<◌};
+ghost use Rattle.npf_reass.specs.Passes.{IsReassSeat, IsRestingPass};
+ghost use Rattle.npf_reass.specs.Turn.{MayEndClass, HasEndedTurn, HasTaken};
+
+use crate::offer::{Gathered, ReassSize};
+use crate::rule::{GatheringRule, TakesTurn};
+use crate::view::ReassView;
+use atomic_table::{Play, Seat, Shared};
+use npf_pieces::Piece;
+use std::marker::{Brand, PhantomData};
+use std::sync::Wait;
+
+pub(crate) type Words = Shared<Gathered, ReassView, ReassSize, GatheringRule>;
+
+pub(crate) type Place = Seat<Gathered, ReassView>;
+
+pub(crate) const FREE: u64 = 0;
+
+const TAKEN: u64 = 1;
+
+/// Takes the turn of the class, once it is free.
+pub(crate) fn take(rt: &impl Wait, words: &Words, seat: &mut Place, class: u32)
+    requires of { IsReassSeat words.now.key words.now.table_id seat.old.table_id }
+    requires rests { IsRestingPass words.now.key seat.old.me }
+    requires inside { class < words.now.key.classes }
+    ensures of { IsReassSeat words.now.key words.now.table_id seat.new.table_id }
+    ensures id { seat.new.id ≡ seat.old.id }
+    ensures taken { HasTaken seat.old.me.0 class seat.new.me }
+{
+    let word = class as usize;
+    for _ in rt.forever() {
+        if words.peek(word) == FREE
+            && words.compare_exchange::<TakesTurn>(seat, word, FREE, TAKEN) == FREE
+        {
+            return;
+        }
+    }
+}
+
+/// What the end of a turn is told.
+trait Aim {
+    ghost use Rattle.std.specs.Prelude.{ℕ, Option};
+    ghost use Rattle.npf_pieces.specs.declared.piece.Piece.{Piece};
+
+    ghost offered: { Option (ℕ × Piece) };
+}
+
+impl Aim for Brand {
+    ghost use Rattle.std.specs.Prelude.{None};
+
+    ghost offered = { None };
+}
+
+struct EndsTurn<W> {
+    aim: PhantomData<W>,
+}
+
+impl<W: Aim> Play<Gathered, ReassView> for EndsTurn<W> {
+    ghost use Rattle.npf_reass.specs.Turn.{EndsTurn};
+
+    ghost then = { EndsTurn W.offered };
+}
+
+fn end_as<W: Aim>(words: &Words, seat: &mut Place, class: u32, offered: Option<(u64, Piece)>)
+    requires of { IsReassSeat words.now.key words.now.table_id seat.old.table_id }
+    requires inside { class < words.now.key.classes }
+    requires aim { W.offered ≡ offered }
+    requires may { MayEndClass words.now.key.classes class offered seat.old.me }
+    ensures of { IsReassSeat words.now.key words.now.table_id seat.new.table_id }
+    ensures ended { HasEndedTurn offered seat.old.me seat.new.me }
+{
+    words.store::<EndsTurn<W>>(seat, class as usize, FREE);
+}
+
+/// Ends the turn of the class: what was offered, if it was, stands.
+pub(crate) fn end(words: &Words, seat: &mut Place, class: u32, offered: Option<(u64, Piece)>)
+    requires of { IsReassSeat words.now.key words.now.table_id seat.old.table_id }
+    requires inside { class < words.now.key.classes }
+    requires may { MayEndClass words.now.key.classes class offered seat.old.me }
+    ensures of { IsReassSeat words.now.key words.now.table_id seat.new.table_id }
+    ensures ended { HasEndedTurn offered seat.old.me seat.new.me }
+{
+    end_as::<Brand>(words, seat, class, offered);
+}
