@@ -19,7 +19,7 @@ use Rattle.npf_reass.specs.declared.offer.Offer.{Offer}
 use Rattle.npf_reass.specs.declared.offer.ReassSize.{ReassSize}
 use Rattle.npf_reass.specs.declared.view.ReassView.{ReassView}
 use Rattle.npf_reass.specs.Class.{of_class, offer_seat}
-use Rattle.npf_reass.specs.Gathering.{HasClassHolder, IsAtHome, IsGathering, reass_seat}
+use Rattle.npf_reass.specs.Gathering.{HasClassHolder, IsClassHome, IsGathering, reass_seat}
 use Rattle.npf_reass.specs.Passes.{view_sight}
 use Rattle.npf_reass.specs.Sight.{IsOwnNumber}
 use Rattle.npf_reass.proofs.TurnsLemmas.{no_turn, turn_there}
@@ -93,8 +93,8 @@ module _ (size : ReassSize) (s : State Gathered ReassView) (id : ℕ) (v : Reass
   whole : kept.log ≡ v.seats.history
   whole = fits.seen.goes_on ∙ ap (λ (xs : List Offer). v.seats.history ++ xs) (none_left fits.seen.rest rest_of) ∙ append-nil v.seats.history
 
-  pub all_home : (class : ℕ) → class < size.classes → IsAtHome size.classes s.homes v.seats.history class
-  all_home class h = subst (λ (log : List Offer). IsAtHome size.classes s.homes log class) whole (kept.home class h (free class h))
+  pub all_home : (class : ℕ) → class < size.classes → IsClassHome size.classes s.homes v.seats.history class
+  all_home class h = subst (λ (log : List Offer). IsClassHome size.classes s.homes log class) whole (kept.home class h (free class h))
 
   pub alone : (offer : Offer) → Contains v.seats.history offer → IsOwnNumber (view_sight v) offer.seat
   alone offer c = ⊎_elim

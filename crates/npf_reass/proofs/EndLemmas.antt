@@ -22,7 +22,7 @@ use Rattle.npf_reass.specs.Class.{class_of, of_class, offer_seat, offered}
 use Rattle.npf_reass.specs.Gathering.{HasClassHolder, HasClassTurn, IsGathering, reass_seat}
 use Rattle.npf_reass.specs.Passes.{view_sight}
 use Rattle.npf_reass.specs.Sight.{AddsOffer}
-use Rattle.npf_reass.specs.Turn.{EndsTurn, HasTaken, IsOfClass, MayEndClass, added}
+use Rattle.npf_reass.specs.Turn.{EndsClassTurn, HasTakenClass, IsOfClass, MayEndClass, added}
 use Rattle.npf_reass.proofs.TakeLemmas.{is_false}
 use Rattle.npf_reass.proofs.TurnsLemmas.{no_turn, one_turn, turn_there}
 
@@ -164,12 +164,12 @@ module _ (size : ReassSize) (s : State Gathered ReassView) (id : ℕ) (v : Reass
 
 -- the turn may be ended so
 pub end_turn : (size : ReassSize) (id n class : ℕ) (o : Option (ℕ × Piece)) (st : Step Gathered) (me : Me Gathered ReassView) → n ≡ size.classes
-    → MayEndClass size.classes class o me → Allows (IsGathering size) n id me class (λ k. 0) (λ k. EndsTurn o st me 0)
+    → MayEndClass size.classes class o me → Allows (IsGathering size) n id me class (λ k. 0) (λ k. EndsClassTurn o st me 0)
 end_turn size id n class o st me count may =
-    subst (λ (carried : List (ℕ × Gathered)). Allows (IsGathering size) n id (me.0, carried) class (λ k. 0) (λ k. EndsTurn o st (me.0, carried) 0)) (sym may.has) (by_offer o may.fills may.classed)
+    subst (λ (carried : List (ℕ × Gathered)). Allows (IsGathering size) n id (me.0, carried) class (λ k. 0) (λ k. EndsClassTurn o st (me.0, carried) 0)) (sym may.has) (by_offer o may.fills may.classed)
   where
     by_offer : (o : Option (ℕ × Piece)) → may.slot.offers.items ≡ me.0.held ++ added o → IsOfClass size.classes class o
-        → Allows (IsGathering size) n id (me.0, (class, may.slot) ∷ []) class (λ k. 0) (λ k. EndsTurn o st (me.0, (class, may.slot) ∷ []) 0)
+        → Allows (IsGathering size) n id (me.0, (class, may.slot) ∷ []) class (λ k. 0) (λ k. EndsClassTurn o st (me.0, (class, may.slot) ∷ []) 0)
     by_offer None fills classed s kept homes at bound = (
       rested size s id me.0 may.slot class kept (homes ∙ count) at may.turn,
       gives,
@@ -199,7 +199,7 @@ unfolding carried_slot
 slot_same n x y xs ys e = ap (carried_slot x) e
 
 -- a pass that took the turn may end it, once the slot has the offer, if there is one
-pub may_end : (classes class : ℕ) (o : Option (ℕ × Piece)) (v : ReassView) (me : Me Gathered ReassView) (lent slot : Gathered) → HasTaken v class me
+pub may_end : (classes class : ℕ) (o : Option (ℕ × Piece)) (v : ReassView) (me : Me Gathered ReassView) (lent slot : Gathered) → HasTakenClass v class me
     → me.1 ≡ (class, lent) ∷ rest me.1 → slot.offers.items ≡ lent.offers.items ++ added o → IsOfClass classes class o
     → MayEndClass classes class o (me.0, (class, slot) ∷ rest me.1)
 may_end classes class o v me lent slot taken lends fills classed =
@@ -214,6 +214,6 @@ may_end classes class o v me lent slot taken lends fills classed =
     }
 
 -- what the end of such a turn leaves
-pub ended_me : (v : ReassView) (class : ℕ) (me : Me Gathered ReassView) (slot : Gathered) (taken : HasTaken v class me)
+pub ended_me : (v : ReassView) (class : ℕ) (me : Me Gathered ReassView) (slot : Gathered) (taken : HasTakenClass v class me)
     → (let x : Me Gathered ReassView = (me.0, (class, slot) ∷ rest me.1) in x) ≡ (record v { turn = Some class; held = taken.slot.offers.items }, (class, slot) ∷ [])
 ended_me v class me slot taken = ap (λ (y : Me Gathered ReassView). let x : Me Gathered ReassView = (y.0, (class, slot) ∷ rest y.1) in x) taken.is

@@ -16,12 +16,12 @@ use Rattle.npf_reass.specs.declared.offer.Offer.{Offer}
 use Rattle.npf_reass.specs.declared.offer.ReassSize.{ReassSize}
 use Rattle.npf_reass.specs.declared.view.ReassView.{ReassView}
 use Rattle.npf_reass.specs.Class.{offer_seat}
-use Rattle.npf_reass.specs.Gathering.{IsAtHome, IsGathering, first_reass_view}
+use Rattle.npf_reass.specs.Gathering.{IsClassHome, IsGathering, first_reass_view}
 use Rattle.npf_reass.proofs.TurnsLemmas.{no_turn}
 
 -- a slot without offers is at home
 empty_home : (classes : ℕ) (homes : List Gathered) (class : ℕ) → class < length homes → All (λ (slot : Gathered). slot.offers.items ≡ []) homes
-    → IsAtHome classes (map some homes) [] class
+    → IsClassHome classes (map some homes) [] class
 empty_home classes [] class h empty = absurd (omega (arith, h))
 empty_home classes (slot ∷ homes) zero h empty = record { slot = slot; there = refl; has = All-head (λ (slot : Gathered). slot.offers.items ≡ []) slot homes empty }
 empty_home classes (slot ∷ homes) (suc class) h empty =

@@ -15,7 +15,7 @@ use Rattle.npf_reass.specs.declared.offer.Gathered.{Gathered}
 use Rattle.npf_reass.specs.declared.offer.ReassSize.{ReassSize}
 use Rattle.npf_reass.specs.declared.view.ReassView.{ReassView}
 use Rattle.npf_reass.specs.Class.{offer_seat}
-use Rattle.npf_reass.specs.Gathering.{HasClassHolder, HasClassTurn, IsAtHome, IsGathering, reass_seat}
+use Rattle.npf_reass.specs.Gathering.{HasClassHolder, HasClassTurn, IsClassHome, IsGathering, reass_seat}
 use Rattle.npf_reass.specs.Passes.{IsRestingPass}
 use Rattle.npf_reass.specs.Turn.{TakesTurn}
 use Rattle.npf_reass.proofs.TurnsLemmas.{no_turn, one_turn, turn_there}
@@ -34,7 +34,7 @@ module _ (size : ReassSize) where
 
   module _ (s : State Gathered ReassView) (id : ℕ) (v : ReassView) (class : ℕ) (kept : IsGathering size s) (at : get_elem? s.views id ≡ some v) (inside : class < size.classes)
       (lives : v.seats.lives ≡ true) (rests : v.turn ≡ None) (place : 1 ≤ length v.seats.readers) (free : slice_index s.words class ≡ 0) where
-    home : IsAtHome size.classes s.homes kept.log class
+    home : IsClassHome size.classes s.homes kept.log class
     home = kept.home class inside free
 
     -- the view of the pass that took the turn

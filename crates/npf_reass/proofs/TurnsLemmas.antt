@@ -8,7 +8,7 @@ use Rattle.atomic_table.proofs.Lists.{at_set, at_snoc, at_longer, set_else}
 use Rattle.npf_seats.proofs.SumLemmas.{one_there}
 use Rattle.npf_reass.specs.declared.offer.Offer.{Offer}
 use Rattle.npf_reass.specs.declared.view.ReassView.{ReassView}
-use Rattle.npf_reass.specs.Gathering.{HasClassHolder, Turns}
+use Rattle.npf_reass.specs.Gathering.{HasClassHolder, ClassTurns}
 
 pub pushed_side : {X Y : Type 0} (f : X → Y) (xs : List X) (i : ℕ) (x y : X) → map f (set xs i x ++ y ∷ []) ≡ set (map f xs) i (f x) ++ f y ∷ []
 pushed_side f xs i x y = map-append f (set xs i x) (y ∷ []) ∙ ap (λ z. z ++ f y ∷ []) (map-set f xs i x)
@@ -28,7 +28,7 @@ turn_there views i j v u at there e = ap (λ (y : ReassView). y.turn) (sym (one_
 
 module _ (classes : ℕ) (words : List ℕ) (log : List Offer) (holder : ℕ → ℕ) where
   pub turns-set : (views : List ReassView) (id : ℕ) (v w : ReassView) → get_elem? views id ≡ some v → v.turn ≡ None → w.turn ≡ None
-      → Turns classes words log holder views → Turns classes words log holder (set views id w)
+      → ClassTurns classes words log holder views → ClassTurns classes words log holder (set views id w)
   turns-set views id v w at rests still kept = record {
     busy = λ class h. ⊎_elim
         (λ (free : slice_index words class ≡ 0). inl free)
@@ -45,7 +45,7 @@ module _ (classes : ℕ) (words : List ℕ) (log : List Offer) (holder : ℕ →
   }
 
   pub turns-push : (views : List ReassView) (w : ReassView) → w.turn ≡ None
-      → Turns classes words log holder views → Turns classes words log holder (views ++ w ∷ [])
+      → ClassTurns classes words log holder views → ClassTurns classes words log holder (views ++ w ∷ [])
   turns-push views w still kept = record {
     busy = λ class h. ⊎_elim
         (λ (free : slice_index words class ≡ 0). inl free)

@@ -16,7 +16,7 @@ abbrev pub reass_seat : ReassView → SeatSide ReassSize Offer
 reass_seat v = v.seats
 
 -- the slot of a class is at home, and has what was offered of it
-pub record IsAtHome (classes : ℕ) (homes : List (Option Gathered)) (log : List Offer) (class : ℕ) : Type 0 where
+pub record IsClassHome (classes : ℕ) (homes : List (Option Gathered)) (log : List Offer) (class : ℕ) : Type 0 where
   pub slot : Gathered
   pub there : get_elem? homes class ≡ some (some slot)
   pub has : slot.offers.items ≡ of_class classes class log
@@ -37,7 +37,7 @@ pub record HasClassTurn (classes : ℕ) (words : List ℕ) (log : List Offer) (h
   pub held : v.held ≡ of_class classes class log
 
 -- where a class's turn is free its slot is at home; where it isn't, one pass has the turn
-pub record Turns (classes : ℕ) (words : List ℕ) (log : List Offer) (holder : ℕ → ℕ) (views : List ReassView) : Type 0 where
+pub record ClassTurns (classes : ℕ) (words : List ℕ) (log : List Offer) (holder : ℕ → ℕ) (views : List ReassView) : Type 0 where
   pub busy : (class : ℕ) → class < classes → (slice_index words class ≡ 0) ⊎ HasClassHolder views (holder class) class
   pub turns : (j class : ℕ) (v : ReassView) → get_elem? views j ≡ some v → v.turn ≡ Some class → HasClassTurn classes words log holder class j v
 
@@ -46,8 +46,8 @@ pub record IsGathering (size : ReassSize) (s : State Gathered ReassView) : Type 
   pub holder : ℕ → ℕ
   pub seats : Seats offer_seat size size.passes log (map reass_seat s.views)
   pub wide : length s.words ≡ size.classes
-  pub home : (class : ℕ) → class < size.classes → slice_index s.words class ≡ 0 → IsAtHome size.classes s.homes log class
-  pub turns : Turns size.classes s.words log holder s.views
+  pub home : (class : ℕ) → class < size.classes → slice_index s.words class ≡ 0 → IsClassHome size.classes s.homes log class
+  pub turns : ClassTurns size.classes s.words log holder s.views
 
 -- the first pass owns all places
 abbrev pub first_reass_view : ReassSize → ReassView

@@ -10,13 +10,13 @@ use Rattle.npf_reass.specs.Passes.{view_sight}
 use Rattle.npf_reass.specs.Sight.{AddsNothing, AddsOffer}
 
 -- it took the turn of the class, and has its slot
-pub record HasTaken (v : ReassView) (class : ℕ) (me : Me Gathered ReassView) : Type 0 where
+pub record HasTakenClass (v : ReassView) (class : ℕ) (me : Me Gathered ReassView) : Type 0 where
   pub slot : Gathered
   pub is : me ≡ (record v { turn = Some class; held = slot.offers.items }, (class, slot) ∷ [])
 
 -- what a try to take the turn tells
 pub record TakesTurn (step : Step Gathered) (me : Me Gathered ReassView) (found : ℕ) (next : Me Gathered ReassView) : Type 0 where
-  pub won : found ≡ 0 → HasTaken me.0 step.word next
+  pub won : found ≡ 0 → HasTakenClass me.0 step.word next
   pub lost : found ≢ 0 → next ≡ me
 
 -- what an offer, if there is one, adds to a slot
@@ -48,5 +48,5 @@ pub record HasEndedTurn (offered : Option (ℕ × Piece)) (me next : Me Gathered
   pub is : next ≡ (record me.0 { seats = record me.0.seats { history = history }; turn = None; held = [] }, rest me.1)
   pub adds : AddsOffered offered me.0 next.0
 
-abbrev pub EndsTurn : Option (ℕ × Piece) → Step Gathered → Me Gathered ReassView → ℕ → Me Gathered ReassView → Type 0
-EndsTurn offered step me found next = HasEndedTurn offered me next
+abbrev pub EndsClassTurn : Option (ℕ × Piece) → Step Gathered → Me Gathered ReassView → ℕ → Me Gathered ReassView → Type 0
+EndsClassTurn offered step me found next = HasEndedTurn offered me next

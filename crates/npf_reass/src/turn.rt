@@ -1,6 +1,6 @@
 ghost use Rattle.std.specs.Prelude.{◌≡◌, ◌<◌};
 ghost use Rattle.npf_reass.specs.Passes.{IsReassSeat, IsRestingPass};
-ghost use Rattle.npf_reass.specs.Turn.{MayEndClass, HasEndedTurn, HasTaken};
+ghost use Rattle.npf_reass.specs.Turn.{MayEndClass, HasEndedTurn, HasTakenClass};
 
 use crate::offer::{Gathered, ReassSize};
 use crate::rule::{GatheringRule, TakesTurn};
@@ -25,7 +25,7 @@ pub(crate) fn take(rt: &impl Wait, words: &Words, seat: &mut Place, class: u32)
     requires inside { class < words.now.key.classes }
     ensures of { IsReassSeat words.now.key words.now.table_id seat.new.table_id }
     ensures id { seat.new.id ≡ seat.old.id }
-    ensures taken { HasTaken seat.old.me.0 class seat.new.me }
+    ensures taken { HasTakenClass seat.old.me.0 class seat.new.me }
 {
     let word = class as usize;
     for _ in rt.forever() {
@@ -51,14 +51,14 @@ impl Aim for Brand {
     ghost offered = { None };
 }
 
-struct EndsTurn<W> {
+struct EndsClassTurn<W> {
     aim: PhantomData<W>,
 }
 
-impl<W: Aim> Play<Gathered, ReassView> for EndsTurn<W> {
-    ghost use Rattle.npf_reass.specs.Turn.{EndsTurn};
+impl<W: Aim> Play<Gathered, ReassView> for EndsClassTurn<W> {
+    ghost use Rattle.npf_reass.specs.Turn.{EndsClassTurn};
 
-    ghost then = { EndsTurn W.offered };
+    ghost then = { EndsClassTurn W.offered };
 }
 
 fn end_as<W: Aim>(words: &Words, seat: &mut Place, class: u32, offered: Option<(u64, Piece)>)
@@ -69,7 +69,7 @@ fn end_as<W: Aim>(words: &Words, seat: &mut Place, class: u32, offered: Option<(
     ensures of { IsReassSeat words.now.key words.now.table_id seat.new.table_id }
     ensures ended { HasEndedTurn offered seat.old.me seat.new.me }
 {
-    words.store::<EndsTurn<W>>(seat, class as usize, FREE);
+    words.store::<EndsClassTurn<W>>(seat, class as usize, FREE);
 }
 
 /// Ends the turn of the class: what was offered, if it was, stands.

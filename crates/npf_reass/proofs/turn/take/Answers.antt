@@ -3,7 +3,7 @@ use Rattle.atomic_table.specs.Table.{Me}
 use Rattle.npf_reass.specs.declared.offer.Gathered.{Gathered}
 use Rattle.npf_reass.specs.declared.view.ReassView.{ReassView}
 use Rattle.npf_reass.specs.Passes.{IsRestingPass}
-use Rattle.npf_reass.specs.Turn.{HasTaken}
+use Rattle.npf_reass.specs.Turn.{HasTakenClass}
 use Rattle.npf_reass.proofs.TakeLemmas.{try_turn}
 use Rattle.npf_reass.proofs.turn.take.Goals as goal
 
@@ -16,4 +16,4 @@ compare_exchange-requires g c = (
 
 pub returns-then-compare_exchange-eq-FREE-clause-taken : goal.returns-then-compare_exchange-eq-FREE-clause-taken
 returns-then-compare_exchange-eq-FREE-clause-taken g c =
-    subst (λ (y : Me Gathered ReassView). HasTaken y.0 c.args.class c.compare_exchange.new.seat.me) c.loop.invariant.4 (c.compare_exchange.ensures.2.won (omega arith))
+    subst (λ (y : Me Gathered ReassView). HasTakenClass y.0 c.args.class c.compare_exchange.new.seat.me) c.loop.invariant.4 (c.compare_exchange.ensures.2.won (omega arith))
