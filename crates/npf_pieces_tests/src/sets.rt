@@ -7,8 +7,11 @@ use npf_types::Link;
 use std::alloc::Global;
 use std::process::Abort;
 
-/// A piece of a datagram that came at this second.
-fn arrived(rt: &impl Abort, second: u32, upper: u8, lower: u8, total: u8) -> Arrived
+/// A second, in nanoseconds.
+const SECOND: u64 = 1_000_000_000;
+
+/// A piece of a datagram that came at this time, with the bytes of its fragment field and so many bytes in all.
+fn arrived(rt: &impl Abort, time: u64, upper: u8, lower: u8, total: u8) -> Arrived
     ensures { IsTaken result }
 {
     let mut bytes = [0; 36];
@@ -19,7 +22,7 @@ fn arrived(rt: &impl Abort, second: u32, upper: u8, lower: u8, total: u8) -> Arr
     match seen(Link::Raw, &mut bytes) {
         Seen::Piece(piece) => Arrived {
             place: 0,
-            time: u64::from(second) * 1_000_000_000,
+            time,
             piece,
         },
         _ => panic!(rt; "no piece"),
@@ -28,10 +31,14 @@ fn arrived(rt: &impl Abort, second: u32, upper: u8, lower: u8, total: u8) -> Arr
 
 #[test]
 fn sets_of_pieces(rt: HostRuntime) {
-    let first = arrived(&rt, 1, 0x20, 0, 36);
-    let overlapping = arrived(&rt, 2, 0, 1, 36);
-    let last = arrived(&rt, 2, 0, 2, 28);
-    let late = arrived(&rt, 31, 0, 2, 28);
+    let first = arrived(&rt, SECOND, 0x20, 0, 36);
+    let overlapping = arrived(&rt, 2 * SECOND, 0, 1, 36);
+    let last = arrived(&rt, 2 * SECOND, 0, 2, 28);
+    let in_time = arrived(&rt, 31 * SECOND - 1, 0, 2, 28);
+    let late = arrived(&rt, 31 * SECOND, 0, 2, 28);
+    let other_last = arrived(&rt, 2 * SECOND, 0, 1, 28);
+    let past_last = arrived(&rt, 2 * SECOND, 0x20, 3, 28);
+    let behind_gap = arrived(&rt, 2 * SECOND, 0, 3, 28);
     let complete = SetAt {
         first: 0,
         behind: 2,
@@ -39,6 +46,10 @@ fn sets_of_pieces(rt: HostRuntime) {
     };
     let refused = SetAt {
         ending: Ending::Refused,
+        ..complete
+    };
+    let unfinished = SetAt {
+        ending: Ending::Unfinished,
         ..complete
     };
     let waits = SetAt {
@@ -56,6 +67,11 @@ fn sets_of_pieces(rt: HostRuntime) {
     check(&rt, rt.alloc(), first, overlapping, &[refused]);
     check(&rt, rt.alloc(), first, first, &[refused]);
     check(&rt, rt.alloc(), last, last, &[refused]);
+    check(&rt, rt.alloc(), last, other_last, &[refused]);
+    check(&rt, rt.alloc(), last, past_last, &[refused]);
+    check(&rt, rt.alloc(), past_last, last, &[refused]);
+    check(&rt, rt.alloc(), first, behind_gap, &[unfinished]);
+    check(&rt, rt.alloc(), first, in_time, &[complete]);
     check(&rt, rt.alloc(), first, late, &[waits, waits_too]);
 }
 
