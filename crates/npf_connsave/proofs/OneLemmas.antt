@@ -19,7 +19,7 @@ use Rattle.npf_connections.specs.Stay.{GoesOn}
 use Rattle.npf_flow.specs.declared.flow.Flow.{Flow}
 use Rattle.npf_flow.specs.Flows.{flow_law}
 use Rattle.npf_saved.specs.declared.saved.Saved.{Saved}
-use Rattle.npf_connsave.specs.Loading.{AreFree, FlowEntry, IsFull, LeavesOne, RefusesKeys, StartsOne, StaysSole, View, entry, key_entries}
+use Rattle.npf_connsave.specs.Loading.{AllClaimed, AreFree, FlowEntry, LeavesOne, RefusesKeys, StartsOne, StaysSole, View, entry, key_entries}
 use Rattle.npf_connsave.proofs.KeysLemmas.{three_behind}
 
 -- a call that goes on in this way leaves the pass with its table
@@ -45,7 +45,7 @@ no_rest history point last one two same = by one.rest one.goes_on where
       absurd (omega (arith, first, second, third))
 
 -- where no slot was given, each is claimed
-pub full_now : (old : View) (last : List FlowEntry) → last ≡ old.history → IsFullBetween flow_law old last → IsFull (state_of flow_law old.history) old.slots
+pub full_now : (old : View) (last : List FlowEntry) → last ≡ old.history → IsFullBetween flow_law old last → AllClaimed (state_of flow_law old.history) old.slots
 full_now old last same full slot below =
     let there = full slot below in
     subst (λ (h : List FlowEntry). IsClaimed ((state_of flow_law h).slot slot).stage) (no_rest old.history there.point last there.begins there.goes_on same) there.claimed

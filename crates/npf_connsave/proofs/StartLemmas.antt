@@ -18,7 +18,7 @@ use Rattle.npf_flow.specs.Flows.{flow_law}
 use Rattle.npf_saved.specs.declared.saved.Saved.{Saved}
 use Rattle.npf_saved.specs.Fields.{FitsSaved}
 use Rattle.npf_saved_file.specs.Conns.{AreDistinct, AreSavedConns, key_list, saved_keys}
-use Rattle.npf_connsave.specs.Loading.{AreFree, FlowEntry, IsFull, LeavesFront, LeavesOne, StartsOne, StaysSole, View, key_entries, left_entries, load_entries, loaded_conns, loaded_entries}
+use Rattle.npf_connsave.specs.Loading.{AllClaimed, AreFree, FlowEntry, LeavesFront, LeavesOne, StartsOne, StaysSole, View, key_entries, left_entries, load_entries, loaded_conns, loaded_entries}
 use Rattle.npf_connsave.specs.Saving.{AreSavedOf, IsSavedOf}
 use Rattle.npf_connsave.proofs.BuiltLemmas.{AreLoaded, way_key}
 use Rattle.npf_connsave.proofs.KeysLemmas.{parted}
@@ -70,7 +70,7 @@ one_started old now last done saved so_far legal after opener same starts =
     }
 
 -- a table with fewer connections than slots isn't full
-pub has_room : (k : Machine Flow) (slots : ℕ) (done : List Saved) → AreLoaded k done → length done < slots → ¬ IsFull k slots
+pub has_room : (k : Machine Flow) (slots : ℕ) (done : List Saved) → AreLoaded k done → length done < slots → ¬ AllClaimed k slots
 has_room k slots done loaded room full =
     let counted = loaded.counted in
     let many = has_all slots loaded.slots (λ s below. loaded.claimed s (full s below)) in
@@ -129,7 +129,7 @@ module _ (all : List Saved) (n : ℕ) (saved : Saved) (within : n < length all) 
               left (y ∷ ys) zs (suc i) d within = left ys zs i d (omega (arith, within))
               left [] zs i d within = absurd (omega (arith, within))
 
-  pub next_room : (k : Machine Flow) (slots : ℕ) → AreLoaded k (take n all) → length all ≤ slots → ¬ IsFull k slots
+  pub next_room : (k : Machine Flow) (slots : ℕ) → AreLoaded k (take n all) → length all ≤ slots → ¬ AllClaimed k slots
   next_room k slots loaded room = let long = length-take-le n all (omega (arith, within)) in has_room k slots (take n all) loaded (omega (arith, long, within, room))
 
   pub next_opener : saved.flow.opener ≡ 0

@@ -104,8 +104,8 @@ pub record RefusesKeys (old new : View) (id : ConnId) (saved : Saved) : Type 0 w
   pub sweeps : old.sweeps + 1 ≤ new.sweeps
 
 -- each slot is claimed
-abbrev pub IsFull : Machine Flow → ℕ → Type 0
-IsFull k slots = (slot : ℕ) → slot < slots → IsClaimed (k.slot slot).stage
+abbrev pub AllClaimed : Machine Flow → ℕ → Type 0
+AllClaimed k slots = (slot : ℕ) → slot < slots → IsClaimed (k.slot slot).stage
 
 -- the connection was loaded, and nothing else
 pub record StartsOne (old new : View) (saved : Saved) : Type 0 where

@@ -7,7 +7,7 @@ ghost use Rattle.npf_connections.specs.Pass.{all_places};
 ghost use Rattle.npf_connections.specs.Stay.{IsIn, IsOut};
 ghost use Rattle.npf_flow.specs.Flows.{flow_law};
 ghost use Rattle.npf_saved_file.specs.Conns.{AreDistinct, AreSavedConns, key_list, saved_keys};
-ghost use Rattle.npf_connsave.specs.Loading.{AreFree, IsFull, LeavesFront, LeavesOne, LoadsSaved, RefusesKey, RefusesKeys, RefusesLoaded, StartsAll, StartsOne, StaysSole, hold_entries_of, key_entries};
+ghost use Rattle.npf_connsave.specs.Loading.{AllClaimed, AreFree, LeavesFront, LeavesOne, LoadsSaved, RefusesKey, RefusesKeys, RefusesLoaded, StartsAll, StartsOne, StaysSole, hold_entries_of, key_entries};
 
 use npf_connections::Connections;
 use npf_core::{ConnId, Held};
@@ -92,7 +92,7 @@ fn start_one<R: Wait, C: Connections<FlowLaw>>(
     requires inside { IsIn flow_law (C.fits conns.now) C.view pass.old }
     requires idle { (C.view pass.old).builds ≡ [] }
     requires sole { (C.view pass.old).places ≡ all_places }
-    requires room { ¬ IsFull (state_of flow_law (C.view pass.old).history) (C.view pass.old).slots }
+    requires room { ¬ AllClaimed (state_of flow_law (C.view pass.old).history) (C.view pass.old).slots }
     requires free { AreFree (state_of flow_law (C.view pass.old).history) (saved_keys saved.now) }
     requires apart { AreDistinct (saved_keys saved.now) }
     ensures inside { IsIn flow_law (C.fits conns.now) C.view pass.new }
