@@ -1,32 +1,28 @@
 -- A table has one text.
-use Rattle.std.proofs.Common.{◌≡◌, ◌<◌, ◌≤◌, ◌+◌, ℕ, zero, suc, Option, Some, None, List, [], ◌∷◌, Contains, length, get_or, refl, sym, ap, subst, ◌∙◌, inl, inr, arith}
+use Rattle.std.proofs.Common.{◌≡◌, zero, suc, Option, Some, None, List, [], ◌∷◌, Contains, refl, sym, ap, subst, ◌∙◌, inl, inr, arith}
 use Rattle.std.specs.Prelude.{◌⊎◌}
-use Rattle.std.specs.Cmp.Lexicographic.{slice_cmp}
-use Rattle.std.specs.Ordering.{nat_cmp, ordering_reverse}
-use Rattle.std.specs.declared.cmp.Ordering.{Ordering}
+use Rattle.std.specs.Ordering.{ordering_reverse}
 use Rattle.std.specs.declared.cmp.Ordering.TheVariants.{Less, Equal, Greater}
 use Rattle.std.proofs.lemmas.Cmp.{tied_itself}
-use Rattle.std.proofs.lemmas.List.{get_or_default}
 use Rattle.std.proofs.lemmas.List.Elements.{All-contains}
 use Rattle.npf_types.specs.declared.key.Key.{Key}
 use Rattle.npf_types.specs.declared.key.Way.{Way}
 use Rattle.npf_types.specs.declared.key.Way.TheVariants.{Forward, Backward, Port}
-use Rattle.npf_types.specs.declared.name.Name.{Name}
 use Rattle.npf_types.specs.contracts.key.KeyOrd.TheImpl.Laws.{total-law}
 use Rattle.npf_core.specs.declared.conn_id.ConnId.{ConnId}
 use Rattle.npf_core.specs.declared.stage.Stage.TheVariants.{Live}
 use Rattle.npf_core.specs.Copying.{HoldsIf}
 use Rattle.npf_core.specs.HolderLaw.{HoldsOneAWay}
-use Rattle.npf_core.specs.History.{Legal, state_of}
-use Rattle.npf_core.specs.Machine.{Machine, stage_of}
+use Rattle.npf_core.specs.History.{state_of}
+use Rattle.npf_core.specs.Machine.{Machine}
 use Rattle.npf_core.proofs.HolderLemmas.{hold_one_a_way}
 use Rattle.npf_flow.specs.declared.flow.Flow.{Flow}
 use Rattle.npf_flow.specs.Flows.{flow_law}
 use Rattle.npf_saved.specs.declared.saved.Saved.{Saved}
 use Rattle.npf_saved.specs.File.{saved_text}
 use Rattle.npf_saved_file.specs.Conns.{AreRising, ComesBefore}
-use Rattle.npf_connsave.specs.Laws.{OneSavedText}
-use Rattle.npf_connsave.specs.Saving.{AreSavedOf, IsSavedAs, IsSavedText, saved_flow}
+use Rattle.npf_connsave.specs.Laws.{OneSavedText, SavesAsLoaded}
+use Rattle.npf_connsave.specs.Saving.{AreSavedOf, IsSavedAs, saved_flow}
 use Rattle.npf_connsave.proofs.CopyLemmas.{one_holder, saved_live}
 
 -- two lists that rise and have the same items are one
@@ -104,3 +100,6 @@ pub one_saved_text : OneSavedText
 one_saved_text slots history names text other legal one two =
     let k = state_of flow_law history in
     one.spelled ∙ ap (saved_text names) (one_saved_list k (hold_one_a_way flow_law slots history legal) one.conns two.conns one.saved two.saved) ∙ sym two.spelled
+
+pub saves_again : SavesAsLoaded
+saves_again slots names text saved old new legal loads saving = one_saved_text slots new.history names saved text legal saving loads.same

@@ -1,4 +1,12 @@
+pub mod BuiltLemmas
 pub mod CopyLemmas
+pub mod KeysLemmas
 pub mod LawLemmas
+pub mod LoadLemmas
+pub mod LoadingLemmas
+pub mod OneLemmas
+pub mod RoomLemmas
 pub mod SlotLemmas
 pub mod SortLemmas
+pub mod StartLemmas
+pub mod StayLemmas

@@ -1,5 +1,5 @@
-use Rattle.std.proofs.Common.{◌++◌, ◌∷◌, ◌+◌, [], List, sym, ap, subst, ◌∙◌}
-use Rattle.npf_core.specs.Copying.{Copies, IsKept}
+use Rattle.std.proofs.Common.{◌+◌, sym, ap, subst, ◌∙◌}
+use Rattle.npf_core.specs.Copying.{IsKept}
 use Rattle.npf_core.specs.History.{state_of}
 use Rattle.npf_core.specs.Machine.{IsLive}
 use Rattle.npf_core.specs.declared.entry.Entry.{Entry}
@@ -9,7 +9,6 @@ use Rattle.npf_flow.specs.declared.flow.Flow.{Flow}
 use Rattle.npf_flow.specs.declared.step.FlowArg.{FlowArg}
 use Rattle.npf_flow.specs.declared.step.FlowReply.{FlowReply}
 use Rattle.npf_flow.specs.Flows.{flow_law}
-use Rattle.npf_saved.specs.declared.saved.Saved.{Saved}
 use Rattle.npf_connsave.specs.Copied.{AreCopied}
 use Rattle.npf_connsave.proofs.CopyLemmas.{keyless_more, one_more, vacant_more}
 use Rattle.npf_connsave.proofs.saving.copies.Goals as goal
