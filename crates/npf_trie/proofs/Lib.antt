@@ -1,3 +1,4 @@
+mod CountLemmas
 mod FillLemmas
 mod ForkLemmas
 mod GrowLemmas

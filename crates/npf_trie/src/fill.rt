@@ -1,4 +1,4 @@
-ghost use Rattle.std.specs.Prelude.{◌≡◌};
+ghost use Rattle.std.specs.Prelude.{◌≡◌, ◌≤◌};
 ghost use Rattle.npf_cells.specs.Cells.{IsPassIn};
 ghost use Rattle.npf_cells_rule.specs.Passes.{IsProtected};
 ghost use Rattle.npf_trie.specs.HoldKey.{CanHold, IsAtPlace, StepsSo};
@@ -26,6 +26,7 @@ pub(crate) fn fill<L: Law, H: KeyHash>(
     requires at { IsAtPlace H.digest cells.now.table.shared.key pass.old.seat.me.0 wanted.now.key point }
     ensures own { IsPassIn cells.now pass.new }
     ensures steps { StepsSo L.meaning H.digest cells.now.table.shared.key wanted.now point result pass.old.seat.me pass.new.seat.me }
+    ensures loads { pass.old.seat.me.0.trie.places ≤ pass.new.seat.me.0.trie.places }
 {
     store_key(cells, pass, wanted.id.slot, wanted.way, &wanted.key);
     lock(rt, cells, pass, point.place.lock());

@@ -1,4 +1,4 @@
-ghost use Rattle.std.specs.Prelude.{◌≡◌, ◌∷◌, []};
+ghost use Rattle.std.specs.Prelude.{◌≡◌, ◌≤◌, ◌∷◌, []};
 ghost use Rattle.npf_cells.specs.Cells.{IsPassIn};
 ghost use Rattle.npf_cells_rule.specs.Passes.{IsProtected};
 ghost use Rattle.npf_trie.specs.HoldKey.{CanHold, IsAtPlace, StepsSo, HasMet, HasGrown, HangsSo};
@@ -33,6 +33,7 @@ pub(crate) fn grow<L: Law, H: KeyHash>(
     requires hashed { wanted.now.hash ≡ H.digest wanted.now.key }
     ensures own { IsPassIn cells.now pass.new }
     ensures steps { StepsSo L.meaning H.digest cells.now.table.shared.key wanted.now point result pass.old.seat.me pass.new.seat.me }
+    ensures loads { pass.old.seat.me.0.trie.places ≤ pass.new.seat.me.0.trie.places }
 {
     let mine = Tip {
         hash: wanted.hash,
@@ -79,6 +80,7 @@ fn hang<L: Law, H: KeyHash>(
     requires grown { HasGrown L.meaning H.digest cells.now.table.shared.key pass.old.seat.me.0 wanted.now point other.now first }
     ensures own { IsPassIn cells.now pass.new }
     ensures hangs { HangsSo L.meaning H.digest cells.now.table.shared.key wanted.now point result pass.old.seat.me pass.new.seat.me }
+    ensures loads { pass.old.seat.me.0.trie.places ≤ pass.new.seat.me.0.trie.places }
 {
     match cells.load_place(pass, point.place, &wanted.aim()) {
         Cell::Node(node) => Step::Leads(node),

@@ -1,4 +1,4 @@
-ghost use Rattle.std.specs.Prelude.{◌≡◌, ◌<◌};
+ghost use Rattle.std.specs.Prelude.{◌≡◌, ◌+◌, ◌≤◌, ◌<◌};
 ghost use Rattle.npf_paths.specs.Digits.{digit_of};
 ghost use Rattle.npf_paths.specs.declared.place.Place.TheVariants as Places;
 ghost use Rattle.npf_cells.specs.Cells.{IsPassIn};
@@ -16,7 +16,8 @@ use npf_types::{Key, Way};
 use std::sync::Wait;
 
 /// The key for a connection that the pass is building, as its key of that way: Done, or Taken by its holder. NoNode where it meets another
-/// key and too few nodes are left, as a sweep found. After each answer the pass has neither a node nor a lock. It may wait for a lock.
+/// key and too few nodes are left, as a sweep found. After each answer the pass has neither a node nor a lock, and has loaded a place in this
+/// call, so that the key which it met last is one that it met in it. It may wait for a lock.
 pub fn hold<L: Law, H: KeyHash>(
     rt: &impl Wait,
     cells: &Cells<L, H>,
@@ -30,6 +31,7 @@ pub fn hold<L: Law, H: KeyHash>(
     requires can { CanHold L.meaning cells.now.table.shared.key pass.old.seat.me.0 id way }
     ensures own { IsPassIn cells.now pass.new }
     ensures answers { SettlesHold L.meaning cells.now.table.shared.key id key way result pass.old.seat.me pass.new.seat.me }
+    ensures loaded { pass.old.seat.me.0.trie.places + 1 ≤ pass.new.seat.me.0.trie.places }
 {
     let hash = H::hash(&key);
     let wanted = Wanted { id, key, hash, way };
@@ -76,6 +78,7 @@ fn step<L: Law, H: KeyHash>(
     requires hashed { wanted.now.hash ≡ H.digest wanted.now.key }
     ensures own { IsPassIn cells.now pass.new }
     ensures steps { StepsSo L.meaning H.digest cells.now.table.shared.key wanted.now point result pass.old.seat.me pass.new.seat.me }
+    ensures loaded { pass.old.seat.me.0.trie.places + 1 ≤ pass.new.seat.me.0.trie.places }
 {
     match cells.load_place(pass, point.place, &wanted.aim()) {
         Cell::Node(node) => Step::Leads(node),

@@ -1,3 +1,5 @@
+use Rattle.std.proofs.Common.{refl, ap, arith}
+use Rattle.npf_trie.proofs.CountLemmas.{by_load, by_pools, by_store, by_trie, by_words}
 use Rattle.npf_trie.proofs.StepLemmas.{leaf_loaded}
 use Rattle.npf_trie.proofs.FillLemmas.{aims_there, aims_so, aim_tells, ready_now, only_lock, freed_so, may_fill, came_empty, came_node, came_holder, came_other, came_mark}
 use Rattle.npf_trie.proofs.fill.fill.Goals as goal
@@ -43,4 +45,35 @@ returns-clause-steps g c =
       | in-Leaf+in-Holder w ↦ freed_so ready _ _ _ _ _ w.step-is (λ i. (w.pass-is i).seat.me) c.unlock.ensures.frees (came_holder ready c.aim.ensures _ _ _ _ w.in-Leaf.ensures.tells w.meet.ensures.compares _ w.in-Holder.ensures.met)
       | in-Leaf+in-Other w ↦ freed_so ready _ _ _ _ _ w.step-is (λ i. (w.pass-is i).seat.me) c.unlock.ensures.frees (came_other ready c.aim.ensures _ _ _ _ w.in-Leaf.ensures.tells w.meet.ensures.compares _ w.in-Other.ensures.met)
       | in-Mark w ↦ freed_so ready _ _ _ _ _ w.step-is (λ i. (w.pass-is i).seat.me) c.unlock.ensures.frees (came_mark ready c.aim.ensures _ w.in-Mark.ensures.tells)
+    ]
+
+pub returns-clause-loads : goal.returns-clause-loads
+returns-clause-loads g c =
+    let stored = by_pools c.args.pass.now.seat.me c.store_key.new.pass.seat.me _ c.store_key.ensures.next in
+    let locked = by_trie c.store_key.new.pass.seat.me c.lock-2.new.pass.seat.me _ c.lock-2.ensures.gets refl in
+    let freed = ap (λ me. me.0.trie.places) c.unlock.ensures.frees in
+    elim c.match-load_place.branch [
+      | in-Empty w ↦
+          let load = by_load g.L.Law.meaning g.H.KeyHash.digest c.args.cells.now.table.shared.key c.args.wanted.now c.args.point _ c.aim.ensures _ _ _ w.in-Empty.ensures.tells in
+          let put = by_store g.L.Law.meaning g.H.KeyHash.digest c.args.cells.now.table.shared.key c.args.wanted.now c.args.point _ w.aim-in-Empty.ensures _ _ _ w.publish_place.ensures.published in
+          let same = ap (λ pass. pass.seat.me.0.trie.places) w.pass-is in
+          omega (arith, stored, locked, freed, load, put, same)
+      | in-Node w ↦
+          let load = by_load g.L.Law.meaning g.H.KeyHash.digest c.args.cells.now.table.shared.key c.args.wanted.now c.args.point _ c.aim.ensures _ _ _ w.in-Node.ensures.tells in
+          let same = ap (λ pass. pass.seat.me.0.trie.places) w.pass-is in
+          omega (arith, stored, locked, freed, load, same)
+      | in-Leaf+in-Holder w ↦
+          let load = by_load g.L.Law.meaning g.H.KeyHash.digest c.args.cells.now.table.shared.key c.args.wanted.now c.args.point _ c.aim.ensures _ _ _ w.in-Leaf.ensures.tells in
+          let words = by_words _ _ _ w.meet.ensures.compares in
+          let same = ap (λ pass. pass.seat.me.0.trie.places) w.pass-is in
+          omega (arith, stored, locked, freed, load, words, same)
+      | in-Leaf+in-Other w ↦
+          let load = by_load g.L.Law.meaning g.H.KeyHash.digest c.args.cells.now.table.shared.key c.args.wanted.now c.args.point _ c.aim.ensures _ _ _ w.in-Leaf.ensures.tells in
+          let words = by_words _ _ _ w.meet.ensures.compares in
+          let same = ap (λ pass. pass.seat.me.0.trie.places) w.pass-is in
+          omega (arith, stored, locked, freed, load, words, same)
+      | in-Mark w ↦
+          let load = by_load g.L.Law.meaning g.H.KeyHash.digest c.args.cells.now.table.shared.key c.args.wanted.now c.args.point _ c.aim.ensures _ _ _ w.in-Mark.ensures.tells in
+          let same = ap (λ pass. pass.seat.me.0.trie.places) w.pass-is in
+          omega (arith, stored, locked, freed, load, same)
     ]

@@ -1,6 +1,7 @@
-use Rattle.std.proofs.Common.{ap, sym, rules, ◌≡◌, length, subst, ◌∙◌, refl, ◌≢◌}
+use Rattle.std.proofs.Common.{ap, sym, rules, arith, ◌≡◌, length, subst, ◌∙◌, refl, ◌≢◌}
 use Rattle.std.specs.Prelude.{Contains, slice_index}
 use Rattle.npf_paths.specs.Places.{lock_of}
+use Rattle.npf_trie.proofs.CountLemmas.{by_pools, by_trie}
 use Rattle.npf_trie.proofs.GrowLemmas.{took_so, took_more, gave_all, parts_below, branch_so, readies, may_still, ends_without, has_grown, owns_still, steps_done, steps_back}
 use Rattle.npf_core.specs.declared.held.Held.{Held}
 use Rattle.npf_trie.specs.declared.step.Step.TheVariants.{Ends}
@@ -60,3 +61,27 @@ returns-in_default-step-clause-steps g c =
       | in_default-step-via-in_default w ↦ λ e. search rules
     ] in
     steps_back _ _ _ c.args.wanted.now c.args.point _ c.requires.can c.take_nodes.new.pass.seat.me.0.pools _ _ _ ready (took_more c.in-Some-take_nodes.ensures.takes) _ _ _ _ c.unlock.ensures.frees (gave_all c.unlock.new.pass.seat.me c.give_all.new.pass.seat.me c.give_all.ensures.next) c.hang-step.result differs c.hang-step.ensures.hangs
+
+pub returns-in_default-take_nodes-clause-loads : goal.returns-in_default-take_nodes-clause-loads
+returns-in_default-take_nodes-clause-loads g c = let same = by_pools c.args.pass.now.seat.me c.take_nodes.new.pass.seat.me _ c.in_default-take_nodes.ensures.none.is in omega (arith, same)
+
+pub returns-in-Ends-Done-clause-loads : goal.returns-in-Ends-Done-clause-loads
+returns-in-Ends-Done-clause-loads g c =
+    let took = by_pools c.args.pass.now.seat.me c.take_nodes.new.pass.seat.me _ c.in-Some-take_nodes.ensures.takes.is in
+    let built = by_pools c.take_nodes.new.pass.seat.me c.build_branch.new.pass.seat.me _ c.build_branch.ensures.next in
+    let filled = by_pools c.build_branch.new.pass.seat.me c.store_key.new.pass.seat.me _ c.store_key.ensures.next in
+    let locked = by_trie c.store_key.new.pass.seat.me c.lock-2.new.pass.seat.me _ c.lock-2.ensures.gets refl in
+    let hung = c.hang-step.ensures.loads in
+    let freed = by_trie c.hang-step.new.pass.seat.me c.unlock.new.pass.seat.me _ c.unlock.ensures.frees refl in
+    omega (arith, took, built, filled, locked, hung, freed)
+
+pub returns-in_default-step-clause-loads : goal.returns-in_default-step-clause-loads
+returns-in_default-step-clause-loads g c =
+    let took = by_pools c.args.pass.now.seat.me c.take_nodes.new.pass.seat.me _ c.in-Some-take_nodes.ensures.takes.is in
+    let built = by_pools c.take_nodes.new.pass.seat.me c.build_branch.new.pass.seat.me _ c.build_branch.ensures.next in
+    let filled = by_pools c.build_branch.new.pass.seat.me c.store_key.new.pass.seat.me _ c.store_key.ensures.next in
+    let locked = by_trie c.store_key.new.pass.seat.me c.lock-2.new.pass.seat.me _ c.lock-2.ensures.gets refl in
+    let hung = c.hang-step.ensures.loads in
+    let freed = by_trie c.hang-step.new.pass.seat.me c.unlock.new.pass.seat.me _ c.unlock.ensures.frees refl in
+    let gave = by_pools c.unlock.new.pass.seat.me c.give_all.new.pass.seat.me _ c.give_all.ensures.next in
+    omega (arith, took, built, filled, locked, hung, freed, gave)

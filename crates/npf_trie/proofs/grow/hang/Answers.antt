@@ -1,4 +1,5 @@
-use Rattle.std.proofs.Common.{refl}
+use Rattle.std.proofs.Common.{refl, arith}
+use Rattle.npf_trie.proofs.CountLemmas.{by_load, by_store, by_words}
 use Rattle.npf_trie.proofs.HangLemmas.{holds_at, leaf_known, hangs_taken, sees_other, same_leaf, sees_again, sees_protected, still_there, may_hang, hangs_done}
 use Rattle.npf_trie.proofs.grow.hang.Goals as goal
 
@@ -30,3 +31,25 @@ pub returns-in-Other-2-clause-hangs : goal.returns-in-Other-2-clause-hangs
 returns-in-Other-2-clause-hangs g c =
     still_there _ _ c.args.wanted.now.key c.args.point _ _ _ _ _ c.requires.grown.at
     (sees_other g.L.Law.meaning g.H.KeyHash.digest _ _ _ _ _ _ _ _ _ (holds_at _ _ _ _ _ _ _ _ _ _ _ c.aim.ensures c.in-Leaf.ensures.tells) _ _ c.meet.ensures.compares c.in-Other.ensures.met)
+
+pub returns-in-Node-clause-loads : goal.returns-in-Node-clause-loads
+returns-in-Node-clause-loads g c = let load = by_load g.L.Law.meaning g.H.KeyHash.digest c.args.cells.now.table.shared.key c.args.wanted.now c.args.point _ c.aim.ensures _ _ _ c.in-Node.ensures.tells in omega (arith, load)
+
+pub returns-in-Holder-clause-loads : goal.returns-in-Holder-clause-loads
+returns-in-Holder-clause-loads g c =
+    let load = by_load g.L.Law.meaning g.H.KeyHash.digest c.args.cells.now.table.shared.key c.args.wanted.now c.args.point _ c.aim.ensures _ _ _ c.in-Leaf.ensures.tells in
+    let words = by_words _ _ _ c.meet.ensures.compares in
+    omega (arith, load, words)
+
+pub returns-in-Other-clause-loads : goal.returns-in-Other-clause-loads
+returns-in-Other-clause-loads g c =
+    let load = by_load g.L.Law.meaning g.H.KeyHash.digest c.args.cells.now.table.shared.key c.args.wanted.now c.args.point _ c.aim.ensures _ _ _ c.in-Leaf.ensures.tells in
+    let words = by_words _ _ _ c.meet.ensures.compares in
+    let put = by_store g.L.Law.meaning g.H.KeyHash.digest c.args.cells.now.table.shared.key c.args.wanted.now c.args.point _ c.aim-in-Other.ensures _ _ _ c.publish_place.ensures.published in
+    omega (arith, load, words, put)
+
+pub returns-in-Other-2-clause-loads : goal.returns-in-Other-2-clause-loads
+returns-in-Other-2-clause-loads g c =
+    let load = by_load g.L.Law.meaning g.H.KeyHash.digest c.args.cells.now.table.shared.key c.args.wanted.now c.args.point _ c.aim.ensures _ _ _ c.in-Leaf.ensures.tells in
+    let words = by_words _ _ _ c.meet.ensures.compares in
+    omega (arith, load, words)

@@ -1,3 +1,4 @@
+use Rattle.std.specs.Prelude.{◌≤◌}
 use Rattle.npf_cells.specs.Cells.{IsPassIn}
 use Rattle.npf_trie.specs.HoldKey.{HoldsOn, IsAtPlace}
 use Rattle.npf_trie.proofs.holding.hold.Given as goal
@@ -9,5 +10,6 @@ invariant-loop g l = record {
   finite : (goal.iterator-loop g).is_finite l.iterator';
   own : IsPassIn l.cells l.pass;
   on : HoldsOn l.initial.pass.seat.me l.pass.seat.me;
+  loads : l.initial.pass.seat.me.0.trie.places ≤ l.pass.seat.me.0.trie.places;
   at : IsAtPlace g.H.KeyHash.digest l.cells.table.shared.key l.pass.seat.me.0 l.key l.point;
 }
