@@ -29,7 +29,7 @@ use Rattle.npf_cells_rule.specs.Cells.{IsCells}
 use Rattle.npf_cells_rule.specs.Views.{lock_side, pool_side, trie_side}
 use Rattle.npf_cells_rule.proofs.Frames.{alone_still, private_step, turns_apart}
 use Rattle.npf_cells_holds.specs.PublishKinds.{SeesLocked, publishing, StoresAgain}
-use Rattle.npf_cells_holds.proofs.PlaceLemmas.{cell_here, cell_else, key_else, inc_else, turn_else, lock_else, own_else}
+use Rattle.npf_cells_holds.proofs.PlaceLemmas.{cell_here, cell_else, key_else, inc_else, parent_else, turn_else, lock_else, own_else}
 use Rattle.npf_cells_lives.specs.Turns.{Running}
 
 -- what the pass saw stands there still, on a key's path
@@ -76,6 +76,7 @@ module _ {S A R : Type 0} (m : Meaning S A R) (digest : Key → ℕ) (layout : L
               (λ (e : q ≡ p). ap (cell_in layout words) e ∙ (cell_here m digest layout s kept p inside (cell_word cell) ∙ (said cell ∙ (sym there.is ∙ ap t.cell (sym e)))))
               (λ (ne : q ≢ p). cell_else m digest layout s kept p inside (cell_word cell) q ne)
               (same_or_apart q p);
+          parents = λ digits level q node are on is. parent_else m digest layout s kept p inside (cell_word cell) node;
           keys = λ slot way right. key_else m digest layout s kept p inside (cell_word cell) slot way;
           incs = λ slot way right. inc_else m digest layout s kept p inside (cell_word cell) slot;
         }))

@@ -17,10 +17,10 @@ use Rattle.npf_core.specs.Machine.{Machine}
 use Rattle.npf_core.specs.Meaning.{Meaning}
 use Rattle.npf_paths.specs.declared.place.Lock.{Lock}
 use Rattle.npf_cells_words.specs.declared.layout.Layout.{Layout}
-use Rattle.npf_cells_words.specs.declared.layout.Pool.TheVariants.{Slots}
-use Rattle.npf_cells_words.specs.Layout.{inc_field, key_field, field_at}
+use Rattle.npf_cells_words.specs.declared.layout.Pool.TheVariants.{Slots, Nodes}
+use Rattle.npf_cells_words.specs.Layout.{inc_field, parent_field, key_field, field_at}
 use Rattle.npf_cells_words.specs.Places.{lock_at, IsLockOf, place_at}
-use Rattle.npf_cells_words.proofs.WordLemmas.{lock_behind, lock_reach, not_place, not_slot}
+use Rattle.npf_cells_words.proofs.WordLemmas.{lock_behind, lock_reach, not_place, not_slot, parent_unlocked}
 use Rattle.npf_seats.specs.Sums.{others_than, occurs}
 use Rattle.npf_seats.proofs.ListLemmas.{one_where, occurs-cons, left_same, left_others}
 use Rattle.npf_seats.proofs.PrefixLemmas.{none_listed, cons_cases}
@@ -69,6 +69,7 @@ lock_keeps layout k words lock n exists = record {
   holder = λ key. refl;
   claimed = λ identity c. c;
   cells = λ digits are level p on. cell_kept layout words _ p (λ h. other (place_at layout p) (not_place layout p lock h exists));
+  parents = λ digits level p node are on is. other (field_at layout Nodes node parent_field) (parent_unlocked layout lock node exists);
   keys = λ slot way right. λ i. record { 0 = key_same slot way 0 i ∷ key_same slot way 1 i ∷ key_same slot way 2 i ∷ key_same slot way 3 i ∷ key_same slot way 4 i ∷ [] };
   incs = λ slot way right. other (field_at layout Slots slot inc_field) (not_slot layout slot inc_field lock exists);
 }

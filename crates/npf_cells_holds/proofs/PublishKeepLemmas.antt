@@ -36,8 +36,8 @@ use Rattle.npf_paths.proofs.FillingLemmas.{filled_places}
 use Rattle.npf_paths.proofs.GrowingLemmas.{growth_told}
 use Rattle.npf_cells_words.specs.declared.layout.Layout.{Layout}
 use Rattle.npf_cells_words.specs.declared.layout.Pool.{Pool}
-use Rattle.npf_cells_words.specs.declared.layout.Pool.TheVariants.{Slots}
-use Rattle.npf_cells_words.specs.Layout.{root_at, key_field, field_at}
+use Rattle.npf_cells_words.specs.declared.layout.Pool.TheVariants.{Slots, Nodes}
+use Rattle.npf_cells_words.specs.Layout.{root_at, parent_field, key_field, field_at}
 use Rattle.npf_cells_words.specs.Places.{IsInTrie, place_at}
 use Rattle.npf_cells_words.proofs.WordLemmas.{place_lock, place_behind}
 use Rattle.npf_seats.specs.Seats.{FitsSeats, Seats}
@@ -48,10 +48,12 @@ use Rattle.npf_seats.proofs.SeatLemmas.{seats-adds}
 use Rattle.npf_seats.proofs.SumLemmas.{sum-set}
 use Rattle.npf_cells_pins.proofs.EpochLemmas.{within_last}
 use Rattle.npf_cells_leaves.specs.declared.trie.LoadedLeaf.{LoadedLeaf}
+use Rattle.npf_cells_leaves.specs.Parents.{NameParents}
 use Rattle.npf_cells_leaves.specs.Trie.{key_in, digits_of, TrieWords, trie_words, leaf_found, holder_at, StaysLeaf, FitsTrie, Trie, all_grown}
 use Rattle.npf_cells_leaves.proofs.FillLemmas.{FillsFor, fills_place, trie_filled}
 use Rattle.npf_cells_leaves.proofs.GivenLemmas.{GivesKey, fits_still, others-fit}
 use Rattle.npf_cells_leaves.proofs.GrowLemmas.{branch_seen, trie_grown}
+use Rattle.npf_cells_leaves.proofs.ParentLemmas.{names_so}
 use Rattle.npf_cells_leaves.proofs.TrieLemmas.{said, knows_same, are_digits, cell_there}
 use Rattle.npf_cells_lives.specs.Conns.{Conns, entry_seat}
 use Rattle.npf_cells_lives.specs.Locks.{Locks}
@@ -72,11 +74,11 @@ use Rattle.npf_cells_rule.proofs.MetLemmas.{unowned}
 use Rattle.npf_cells_rule.proofs.PassLemmas.{pinned_in}
 use Rattle.npf_cells_holds.specs.HoldKinds.{renewed}
 use Rattle.npf_cells_holds.specs.LookKinds.{level_at}
-use Rattle.npf_cells_holds.specs.PublishKinds.{SeesLocked, stored_cell, cell_stored, GrowsNodes, PutsFor, MayPublishFor, published_for, HasHeld, PublishesFor, publishing}
+use Rattle.npf_cells_holds.specs.PublishKinds.{SeesLocked, stored_cell, cell_stored, IsParentStored, GrowsNodes, PutsFor, MayPublishFor, published_for, HasHeld, PublishesFor, publishing}
 use Rattle.npf_cells_holds.proofs.AgainKeepLemmas.{stands_there}
 use Rattle.npf_cells_holds.proofs.LookKeepLemmas.{word_of, on_path}
 use Rattle.npf_cells_holds.proofs.OwnedLemmas.{owns_there, taken_moved}
-use Rattle.npf_cells_holds.proofs.PlaceLemmas.{cell_here, cell_else, key_else, inc_else, turn_else, lock_else, own_else}
+use Rattle.npf_cells_holds.proofs.PlaceLemmas.{cell_here, cell_else, key_else, inc_else, parent_else, turn_else, lock_else, own_else}
 use Rattle.npf_cells_holds.specs.PublishKinds.PutsFor.{fills, grows}
 use Rattle.npf_cells_lives.specs.Turns.{Running, Turns}
 
@@ -248,6 +250,7 @@ module _ {S A R : Type 0} (m : Meaning S A R) (digest : Key → ℕ) (layout : L
       empty = empty;
       filled = cell_here m digest layout s kept p inside (cell_word cell) ∙ (said cell ∙ put);
       others = cell_else m digest layout s kept p inside (cell_word cell);
+      parents = parent_else m digest layout s kept p inside (cell_word cell);
     }
 
     free_empty : t.cell p ≡ Empty → k.holder key ≡ None
@@ -265,7 +268,7 @@ module _ {S A R : Type 0} (m : Meaning S A R) (digest : Key → ℕ) (layout : L
 
     -- new nodes lead on from the place to the leaf and to that of another key, which stood there
     module _ (leaf : LoadedLeaf) (first : ℕ) (nodes : List ℕ) (put : cell ≡ Node first) (known : me.0.trie.leaf ≡ Some leaf) (other_key : is_key leaf.key key ≡ false) (sees : SeesLocked me.0.trie p (Leaf leaf.slot leaf.way))
-        (news : GrowsNodes digest layout me.0 conn.slot way key leaf level first nodes) where
+        (news : GrowsNodes digest layout me.0 conn.slot way key leaf p level first nodes) where
       abbrev mine : ℕ → ℕ
       mine = digits_of digest key
 
@@ -316,11 +319,16 @@ module _ {S A R : Type 0} (m : Meaning S A R) (digest : Key → ℕ) (layout : L
       grown_paths : PathsAfterGrowth mine theirs t.cell t'.cell (Leaf conn.slot way) (Leaf leaf.slot leaf.way) level p nodes
       grown_paths = growth_told mine theirs t.cell t'.cell (Leaf conn.slot way) (Leaf leaf.slot leaf.way) level p first nodes grows_branch
 
+      -- they name their places as their parents
+      named : NameParents mine (λ node code. t'.parent node ≡ code) (level + 1) p nodes
+      named = names_so mine (IsParentStored layout me.0.pools.stored) (λ node code. t'.parent node ≡ code) (level + 1) p nodes
+          (λ node code has is. parent_else m digest layout s kept p inside (cell_word cell) node ∙ (kept.stored id me.0 at).stands (field_at layout Nodes node parent_field) code is) news.parents
+
       held_by_growing : IsCells m digest layout (stepped s word (cell_word cell) id me.1 (holding nodes) keeps)
       held_by_growing =
           held_so nodes free_other (taken_moved m digest layout s kept id me.0 at k k' (holding nodes) nodes news.apart news.owned refl (λ slot. refl))
           (trie_grown trie_side digest layout kept.published k k' s.words words' s.views (set s.views id (holding nodes)) conn key way leaf p level first nodes kept.trie (gives free_other) leaf_stays other_key stood grows_branch news.apart
-          (λ node has. owns_there m digest layout s kept id me.0 at node (news.owned node has)) may.key_stored.five
+          (λ node has. owns_there m digest layout s kept id me.0 at node (news.owned node has)) may.key_stored.five (parent_else m digest layout s kept p inside (cell_word cell)) named
           (let sums = all_after nodes in omega (arith, sums))
           (all_fit free_other nodes sees.locked grown_paths.old_places (λ digits l q are on' ne. cell_else m digest layout s kept p inside (cell_word cell) q ne)))
 

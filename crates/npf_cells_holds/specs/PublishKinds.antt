@@ -22,12 +22,13 @@ use Rattle.npf_paths.specs.LevelLaw.{AreApart}
 use Rattle.npf_paths.specs.Paths.{IsEnd}
 use Rattle.npf_paths.specs.Places.{lock_of}
 use Rattle.npf_cells_words.specs.declared.layout.Layout.{Layout}
-use Rattle.npf_cells_words.specs.declared.layout.Pool.TheVariants.{Slots}
-use Rattle.npf_cells_words.specs.Layout.{key_field, field_at}
+use Rattle.npf_cells_words.specs.declared.layout.Pool.TheVariants.{Slots, Nodes}
+use Rattle.npf_cells_words.specs.Layout.{parent_field, key_field, field_at}
 use Rattle.npf_cells_words.specs.Places.{place_at}
 use Rattle.npf_cells_leaves.specs.declared.trie.LoadedLeaf.{LoadedLeaf}
 use Rattle.npf_cells_leaves.specs.declared.trie.SeenCell.{SeenCell}
 use Rattle.npf_cells_leaves.specs.declared.trie.TrieSide.{TrieSide}
+use Rattle.npf_cells_leaves.specs.Parents.{NameParents}
 use Rattle.npf_cells_leaves.specs.Trie.{digits_of}
 use Rattle.npf_cells_lives.specs.declared.pools.StoredWord.{StoredWord}
 use Rattle.npf_cells_lives.specs.Stored.{stored_value}
@@ -65,18 +66,23 @@ stored_cell (Some word) = cell_of word
 abbrev pub cell_stored : Layout → List StoredWord → Place → Cell
 cell_stored layout stored p = stored_cell (stored_value layout stored (place_at layout p))
 
+-- what the pass stored as the node's parent
+abbrev pub IsParentStored : Layout → List StoredWord → ℕ → ℕ → Type 0
+IsParentStored layout stored node code = stored_value layout stored (field_at layout Nodes node parent_field) ≡ Some code
+
 -- the nodes that lead on to both leaves, one a level, down to and with the one at which the two keys part: each the pass's own, and none
--- there twice
-pub record GrowsNodes {S A R : Type 0} (digest : Key → ℕ) (layout : Layout) (v : CellView S A R) (slot : ℕ) (way : Way) (key : Key) (leaf : LoadedLeaf) (level first : ℕ) (nodes : List ℕ) : Type 0 where
+-- there twice; and each names the place that is to have it, of which the first is this one
+pub record GrowsNodes {S A R : Type 0} (digest : Key → ℕ) (layout : Layout) (v : CellView S A R) (slot : ℕ) (way : Way) (key : Key) (leaf : LoadedLeaf) (p : Place) (level first : ℕ) (nodes : List ℕ) : Type 0 where
   pub branch : IsBranch (digits_of digest key) (digits_of digest leaf.key) (cell_stored layout v.pools.stored) (Leaf slot way) (Leaf leaf.slot leaf.way) (level + 1) first nodes
   pub owned : (node : ℕ) → Contains nodes node → Contains v.pools.nodes node
   pub apart : AreApart nodes
+  pub parents : NameParents (digits_of digest key) (IsParentStored layout v.pools.stored) (level + 1) p nodes
 
 -- what may be put in the place for a key: the connection's leaf where nothing stood, or new nodes where the leaf of another key did
 pub data PutsFor {S A R : Type 0} (digest : Key → ℕ) (layout : Layout) (v : CellView S A R) (id : ConnId) (key : Key) (way : Way) (p : Place) : Cell → List ℕ → Type 0 where
   fills : SeesLocked v.trie p Empty → PutsFor digest layout v id key way p (Leaf id.slot way) []
   grows : (leaf : LoadedLeaf) (first : ℕ) (nodes : List ℕ) → v.trie.leaf ≡ Some leaf → is_key leaf.key key ≡ false → SeesLocked v.trie p (Leaf leaf.slot leaf.way) →
-      GrowsNodes digest layout v id.slot way key leaf (level_at v.trie p) first nodes → PutsFor digest layout v id key way p (Node first) nodes
+      GrowsNodes digest layout v id.slot way key leaf p (level_at v.trie p) first nodes → PutsFor digest layout v id key way p (Node first) nodes
 
 -- what a store for a key asks: the pass may hold the key, stands at the place of its path, and has stored the key and the incarnation
 pub record MayPublishFor {S A R : Type 0} (m : Meaning S A R) (digest : Key → ℕ) (layout : Layout) (v : CellView S A R) (id : ConnId) (key : Key) (way : Way) (p : Place) (cell : Cell) : Type 0 where

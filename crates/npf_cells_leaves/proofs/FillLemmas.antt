@@ -16,6 +16,7 @@ use Rattle.npf_paths.proofs.LevelLemmas.{filled_levels}
 use Rattle.npf_paths.proofs.PathLemmas.{one_end}
 use Rattle.npf_cells_words.specs.declared.layout.Layout.{Layout}
 use Rattle.npf_cells_leaves.specs.declared.trie.TrieSide.{TrieSide}
+use Rattle.npf_cells_leaves.specs.Parents.{Parents}
 use Rattle.npf_cells_leaves.specs.Trie.{digits_of, TrieWords, trie_words, holder_at, IsRightLeaf, IsRightNode, FitsTrie, IsHung, all_grown, Trie}
 use Rattle.npf_cells_leaves.proofs.GivenLemmas.{key_cases, GivesKey, other_holds, right_still, right_now, said_same, said_now, key_now}
 use Rattle.npf_cells_leaves.proofs.TrieLemmas.{are_digits}
@@ -26,6 +27,7 @@ pub record FillsFor (digest : Key → ℕ) (t t' : TrieWords) (slot : ℕ) (key 
   pub empty : t.cell p ≡ Empty
   pub filled : t'.cell p ≡ Leaf slot way
   pub others : (q : Place) → q ≢ p → t'.cell q ≡ t.cell q
+  pub parents : (node : ℕ) → t'.parent node ≡ t.parent node
 
 pub fills_place : (digest : Key → ℕ) (t t' : TrieWords) (slot : ℕ) (key : Key) (way : Way) (p : Place) (level : ℕ) → FillsFor digest t t' slot key way p level → FillsPlace t.cell t'.cell p
 fills_place digest t t' slot key way p level fills = record { was_end = subst IsEnd (sym fills.empty) tt; ends_now = subst IsEnd (sym fills.filled) tt; others = fills.others }
@@ -94,6 +96,12 @@ module _ {S V : Type 0} (side_of : V → TrieSide) (digest : Key → ℕ) (layou
         subst (λ x. IsOnPath (digits_of digest x) t'.cell l q) (sym (gives.keys slot w)) (filled_places changed home))
         (same_or_apart q p)
 
+    parents : Parents t'.cell t'.parent
+    parents digits l q node are on is = ⊎_elim
+        (λ (e : q ≡ p). let clash : Leaf conn.slot way ≡ Node node = sym fills.filled ∙ (ap t'.cell (sym e) ∙ is) in absurd cc)
+        (λ (ne : q ≢ p). fills.parents node ∙ kept.parents digits l q node are (before digits l q on) (sym (fills.others q ne) ∙ is))
+        (same_or_apart q p)
+
     hang : (node : ℕ) → Contains published node → IsHung t'.cell node
     hang node c =
         let h = kept.hang node c in
@@ -101,4 +109,4 @@ module _ {S V : Type 0} (side_of : V → TrieSide) (digest : Key → ℕ) (layou
         record { digits = h.digits; are = h.are; level = h.level; place = h.place; on_path = filled_places changed h.on_path; there = fills.others h.place ne ∙ h.there }
 
     pub trie_filled : all_grown side_of views' ≡ all_grown side_of views → ((j : ℕ) (v : V) → get_elem? views' j ≡ some v → FitsTrie digest layout.slots k' t' (side_of v)) → Trie side_of digest layout published k' words' views'
-    trie_filled sums each = record { ends = ends; leaves = leaves; nodes = nodes; homes = homes; levels = filled_levels changed kept.levels; hang = hang; counted = kept.counted ∙ sym sums; each = each }
+    trie_filled sums each = record { ends = ends; leaves = leaves; nodes = nodes; homes = homes; levels = filled_levels changed kept.levels; parents = parents; hang = hang; counted = kept.counted ∙ sym sums; each = each }

@@ -16,11 +16,12 @@ use Rattle.npf_paths.specs.declared.cell.Cell.TheVariants.{Empty, Leaf, Node, Ma
 use Rattle.npf_paths.specs.declared.place.Place.{Place}
 use Rattle.npf_paths.specs.declared.place.Place.TheVariants as Places
 use Rattle.npf_paths.specs.Digits.{half_byte_of, digit_of}
-use Rattle.npf_paths.specs.Growing.{IsBranch, GrowsBranch}
+use Rattle.npf_paths.specs.Growing.{IsPlaceOf, IsBranch, GrowsBranch}
 use Rattle.npf_paths.specs.Growing.IsBranch.{parts, goes_on}
-use Rattle.npf_paths.specs.GrowingLaw.{IsEndNow, IsNodeNow, PathsAfterGrowth, LeavesAreHome}
+use Rattle.npf_paths.specs.GrowingLaw.{IsPlaceNow, IsEndNow, IsNodeNow, PathsAfterGrowth, LeavesAreHome}
 use Rattle.npf_paths.specs.GrowingLaw.IsEndNow.{end_stays, end_grew}
 use Rattle.npf_paths.specs.GrowingLaw.IsNodeNow.{node_stays, node_grew}
+use Rattle.npf_paths.specs.GrowingLaw.IsPlaceNow.{place_stays, place_is_there, place_grew}
 use Rattle.npf_paths.specs.LevelLaw.{AreApart}
 use Rattle.npf_paths.specs.Paths.{AreDigits, IsOnPath, IsEnd, EndsAt}
 use Rattle.npf_paths.proofs.BranchLemmas.{branch_parts}
@@ -29,10 +30,13 @@ use Rattle.npf_paths.proofs.HomeLemmas.{mine_along, leaves_home}
 use Rattle.npf_paths.proofs.LevelLemmas.{grown_levels}
 use Rattle.npf_paths.proofs.PathLemmas.{one_end}
 use Rattle.npf_cells_words.specs.declared.layout.Layout.{Layout}
+use Rattle.npf_cells_words.specs.Codes.{place_code}
+use Rattle.npf_cells_leaves.specs.Parents.{Parents, NameParents}
 use Rattle.npf_cells_leaves.specs.declared.trie.LoadedLeaf.{LoadedLeaf}
 use Rattle.npf_cells_leaves.specs.declared.trie.TrieSide.{TrieSide}
 use Rattle.npf_cells_leaves.specs.Trie.{digits_of, TrieWords, trie_words, leaf_found, holder_at, IsRightLeaf, IsRightNode, StaysLeaf, FitsTrie, IsHung, all_grown, Trie}
 use Rattle.npf_cells_leaves.proofs.GivenLemmas.{key_cases, keys_apart, GivesKey, other_holds, key_now, right_still, right_now, said_same, said_now}
+use Rattle.npf_cells_leaves.proofs.ParentLemmas.{first_named, node_named}
 use Rattle.npf_cells_leaves.proofs.StandLemmas.{hung_at}
 use Rattle.npf_cells_leaves.proofs.TrieLemmas.{are_digits}
 
@@ -75,7 +79,8 @@ module _ {S V : Type 0} (side_of : V → TrieSide) (digest : Key → ℕ) (layou
   Grows = GrowsBranch mine theirs t.cell t'.cell (Leaf conn.slot way) (Leaf leaf.slot leaf.way) level p first nodes
 
   module _ (kept : Trie side_of digest layout published k words views) (gives : GivesKey layout.slots k k' t t' conn key way) (stays : StaysLeaf layout.slots k.holder t leaf) (other_key : is_key leaf.key key ≡ false) (stood : t.cell p ≡ Leaf leaf.slot leaf.way)
-      (grows : Grows) (apart : AreApart nodes) (exist : (node : ℕ) → Contains nodes node → node < layout.nodes) (five : length key.0 ≡ 5) where
+      (grows : Grows) (apart : AreApart nodes) (exist : (node : ℕ) → Contains nodes node → node < layout.nodes) (five : length key.0 ≡ 5)
+      (elsewhere : (node : ℕ) → t'.parent node ≡ t.parent node) (named : NameParents mine (λ node code. t'.parent node ≡ code) (level + 1) p nodes) where
     small : AreDigits mine
     small = are_digits digest key
 
@@ -209,6 +214,23 @@ module _ {S V : Type 0} (side_of : V → TrieSide) (digest : Key → ℕ) (layou
             let most = deep in
             record { exists = exist node grown.within; published_once = Contains-append_left nodes published node grown.within; within = omega (arith, low, most) }
 
+    -- old nodes hang where they hung, and new ones where they say
+    parents : Parents t'.cell t'.parent
+    parents digits l q node are on is = by_place (told.places digits l q are on)
+      where
+        by_place : IsPlaceNow digits t.cell t'.cell level p nodes l q → t'.parent node ≡ place_code q
+        by_place (place_stays was ne same) = elsewhere node ∙ kept.parents digits l q node are was (sym same ∙ is)
+        by_place (place_is_there was there e) =
+            let hangs : Node first ≡ Node node = sym grows.hangs ∙ (ap t'.cell (sym e) ∙ is) in
+            let same : first ≡ node = cc in
+            subst (λ (y : ℕ × Place). t'.parent y.0 ≡ place_code y.1) (λ i. (same i, sym e i)) (first_named (λ n code. t'.parent n ≡ code) grows.leaf_ends grows.other_ends grows.branch p named)
+        by_place (place_grew grown) =
+            let below = grown.below in
+            let place_is = grown.is in
+            let within : Contains nodes (slice_index nodes (l - (level + 1))) = subst (IsPlaceOf nodes) place_is grown.within in
+            let so = node_named (λ n code. t'.parent n ≡ code) grows.leaf_ends grows.other_ends grows.branch p named (slice_index nodes (l - (level + 1))) (digits l) node within (are.node l (omega (arith, below))) (ap t'.cell (sym place_is) ∙ is) in
+            so ∙ ap place_code (sym place_is)
+
     -- the key's path goes down through each new node, so it stands in the place before that one
     hang_new : (node : ℕ) → Contains nodes node → IsHung t'.cell node
     hang_new node c =
@@ -242,6 +264,7 @@ module _ {S V : Type 0} (side_of : V → TrieSide) (digest : Key → ℕ) (layou
       nodes = nodes_right;
       homes = homes;
       levels = grown_levels mine theirs t.cell t'.cell (Leaf conn.slot way) (Leaf leaf.slot leaf.way) level p first nodes grows apart kept.levels;
+      parents = parents;
       hang = hang;
       counted = (let more = length-append nodes published in let was = kept.counted in omega (arith, more, was, sums));
       each = each;

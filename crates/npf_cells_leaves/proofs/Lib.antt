@@ -1,5 +1,6 @@
 pub mod FillLemmas
 pub mod GivenLemmas
 pub mod GrowLemmas
+pub mod ParentLemmas
 pub mod StandLemmas
 pub mod TrieLemmas

@@ -19,10 +19,10 @@ use Rattle.npf_paths.specs.Paths.{AreDigits, IsOnPath, IsEnd}
 use Rattle.npf_paths.specs.Places.{lock_of}
 use Rattle.npf_paths.proofs.PathLemmas.{same_places, same_places_back}
 use Rattle.npf_cells_words.specs.declared.layout.Layout.{Layout}
-use Rattle.npf_cells_words.specs.declared.layout.Pool.TheVariants.{Slots}
-use Rattle.npf_cells_words.specs.Layout.{root_at, inc_field, key_field, field_at}
+use Rattle.npf_cells_words.specs.declared.layout.Pool.TheVariants.{Slots, Nodes}
+use Rattle.npf_cells_words.specs.Layout.{root_at, inc_field, parent_field, key_field, field_at}
 use Rattle.npf_cells_words.specs.Places.{IsInTrie, is_in_trie, place_at}
-use Rattle.npf_cells_words.proofs.WordLemmas.{in_trie, is_there, place_behind}
+use Rattle.npf_cells_words.proofs.WordLemmas.{in_trie, is_there, field_behind, place_behind}
 use Rattle.npf_seats.proofs.PrefixLemmas.{none_listed}
 use Rattle.npf_seats.proofs.SumLemmas.{sum-set}
 use Rattle.npf_cells_leaves.specs.declared.trie.LoadedLeaf.{LoadedLeaf}
@@ -55,6 +55,7 @@ pub record KeepsTrie {S : Type 0} (slots : ℕ) (k k' : Machine S) (t t' : TrieW
   pub holder : (key : Key) → k'.holder key ≡ k.holder key
   pub claimed : (id : ConnId) → IsClaimed (stage_of k id) → IsClaimed (stage_of k' id)
   pub cells : (digits : ℕ → ℕ) → AreDigits digits → AgreesOnPath digits t.cell t'.cell
+  pub parents : (digits : ℕ → ℕ) (level : ℕ) (p : Place) (node : ℕ) → AreDigits digits → IsOnPath digits t.cell level p → t.cell p ≡ Node node → t'.parent node ≡ t.parent node
   pub keys : (slot : ℕ) (way : Way) → IsRightLeaf slots k.holder t slot way → t'.key slot way ≡ t.key slot way
   pub incs : (slot : ℕ) (way : Way) → IsRightLeaf slots k.holder t slot way → t'.inc slot ≡ t.inc slot
 
@@ -151,6 +152,11 @@ module _ {S V : Type 0} (side_of : V → TrieSide) (digest : Key → ℕ) (layou
         let home = kept.homes digits level p slot way are before was in
         subst (λ key. IsOnPath (digits_of digest key) t'.cell level p) (sym (same.keys slot way right)) (same_places_back (same.cells (digits_of digest (t.key slot way)) (are_digits digest (t.key slot way))) home);
     levels = λ digits digits' l l' q are are' on on'. kept.levels digits digits' l l' q are are' (same_places (same.cells digits are) on) (same_places (same.cells digits' are') on');
+    parents = λ digits level p node are on e.
+        let agree = same.cells digits are in
+        let before = same_places agree on in
+        let was : t.cell p ≡ Node node = sym (agree level p before) ∙ e in
+        same.parents digits level p node are before was ∙ kept.parents digits level p node are before was;
     hang = λ node c.
         let h = kept.hang node c in
         let agree = same.cells h.digits h.are in
@@ -209,6 +215,7 @@ trie_moved side_of digest layout published k words views i v w kept at same fits
   nodes = kept.nodes;
   homes = kept.homes;
   levels = kept.levels;
+  parents = kept.parents;
   hang = kept.hang;
   counted = kept.counted ∙ sym (grown-set side_of views i v w at same);
   each = fits-set side_of digest layout.slots k (trie_words layout words) views i w fits kept.each;
@@ -221,6 +228,7 @@ keeps_words layout k k' words words' holder claimed same = record {
   holder = holder;
   claimed = claimed;
   cells = λ digits are level p on. cell_same layout words words' p (same (place_at layout p) (place_behind layout p));
+  parents = λ digits level p node are on is. same (field_at layout Nodes node parent_field) (field_behind layout Nodes node parent_field);
   keys = λ slot way right. λ i. record {
     0 = key_same slot way 0 i ∷ key_same slot way 1 i ∷ key_same slot way 2 i ∷ key_same slot way 3 i ∷ key_same slot way 4 i ∷ [];
   };

@@ -1,2 +1,3 @@
 pub mod LeavesLaw
+pub mod Parents
 pub mod Trie

@@ -17,9 +17,10 @@ use Rattle.npf_paths.specs.LevelLaw.{MeetsAtOneLevel}
 use Rattle.npf_paths.specs.Paths.{AreDigits, IsOnPath, EndsAt}
 use Rattle.npf_paths.specs.Places.{lock_of}
 use Rattle.npf_cells_words.specs.declared.layout.Layout.{Layout}
-use Rattle.npf_cells_words.specs.declared.layout.Pool.TheVariants.{Slots}
-use Rattle.npf_cells_words.specs.Layout.{inc_field, key_field, field_at}
+use Rattle.npf_cells_words.specs.declared.layout.Pool.TheVariants.{Slots, Nodes}
+use Rattle.npf_cells_words.specs.Layout.{inc_field, parent_field, key_field, field_at}
 use Rattle.npf_cells_words.specs.Places.{place_at, is_in_trie}
+use Rattle.npf_cells_leaves.specs.Parents.{Parents}
 use Rattle.npf_cells_leaves.specs.declared.trie.LoadedLeaf.{LoadedLeaf}
 use Rattle.npf_cells_leaves.specs.declared.trie.PathPlace.{PathPlace}
 use Rattle.npf_cells_leaves.specs.declared.trie.SeenCell.{SeenCell}
@@ -38,9 +39,10 @@ key_in layout words slot way = record {
   0 = key_word layout words slot way 0 ∷ key_word layout words slot way 1 ∷ key_word layout words slot way 2 ∷ key_word layout words slot way 3 ∷ key_word layout words slot way 4 ∷ [];
 }
 
--- what the trie is made of: what stands in each place, and the keys and the incarnation of each slot
+-- what the trie is made of: what stands in each place, the parent of each node, and the keys and the incarnation of each slot
 pub record TrieWords : Type 0 where
   pub cell : Place → Cell
+  pub parent : ℕ → ℕ
   pub key : ℕ → Way → Key
   pub inc : ℕ → ℕ
 
@@ -48,6 +50,7 @@ pub record TrieWords : Type 0 where
 abbrev pub trie_words : Layout → List ℕ → TrieWords
 trie_words layout words = record {
   cell = cell_in layout words;
+  parent = λ node. slice_index words (field_at layout Nodes node parent_field);
   key = key_in layout words;
   inc = λ slot. slice_index words (field_at layout Slots slot inc_field);
 }
@@ -111,7 +114,8 @@ abbrev pub all_grown : {V : Type 0} → (V → TrieSide) → List V → ℕ
 all_grown side_of views = sum_by (λ v. (side_of v).grown) views
 
 -- over views of which each has a side: the end of each key's path says who holds it; what paths meet is right, a leaf on its own key's
--- path, and each place at one level; each published node hangs on a path, and some seat counts it; and each seat fits
+-- path, a node where its parent says, and each place at one level; each published node hangs on a path, and some seat counts it; and each
+-- seat fits
 pub record Trie {S V : Type 0} (side_of : V → TrieSide) (digest : Key → ℕ) (layout : Layout) (published : List ℕ) (k : Machine S) (words : List ℕ) (views : List V) : Type 0 where
   pub ends : (key : Key) (level : ℕ) (p : Place) → EndsAt (digits_of digest key) (trie_words layout words).cell level p →
       k.holder key ≡ holder_at (trie_words layout words) ((trie_words layout words).cell p) key
@@ -122,6 +126,7 @@ pub record Trie {S V : Type 0} (side_of : V → TrieSide) (digest : Key → ℕ)
   pub homes : (digits : ℕ → ℕ) (level : ℕ) (p : Place) (slot : ℕ) (way : Way) → AreDigits digits → IsOnPath digits (trie_words layout words).cell level p →
       (trie_words layout words).cell p ≡ Leaf slot way → IsOnPath (digits_of digest ((trie_words layout words).key slot way)) (trie_words layout words).cell level p
   pub levels : MeetsAtOneLevel (trie_words layout words).cell
+  pub parents : Parents (trie_words layout words).cell (trie_words layout words).parent
   pub hang : (node : ℕ) → Contains published node → IsHung (trie_words layout words).cell node
   pub counted : length published ≡ all_grown side_of views
   pub each : (j : ℕ) (v : V) → get_elem? views j ≡ some v → FitsTrie digest layout.slots k (trie_words layout words) (side_of v)

@@ -2,9 +2,10 @@
 ghost use Rattle.std.specs.Prelude.{ℕ};
 ghost use Rattle.npf_types.specs.declared.key.Key.{Key};
 ghost use Rattle.npf_cells_words.specs.declared.layout.Layout.{Layout};
-ghost use Rattle.npf_cells_leaves.specs.LeavesLaw.{StandsInPublished};
+ghost use Rattle.npf_cells_leaves.specs.LeavesLaw.{HangsInOnePlace, StandsInPublished};
 
-/// The leaves law: the node in which a pass stands was published.
+/// The leaves law: the node in which a pass stands was published, and no node hangs in two places.
 pub fn leaves_law<S>()
     ensures stands { (digest : Key → ℕ) (layout : Layout) → StandsInPublished S digest layout }
+    ensures hangs { (digest : Key → ℕ) (layout : Layout) → HangsInOnePlace S digest layout }
 {}

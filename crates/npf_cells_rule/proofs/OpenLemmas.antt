@@ -90,6 +90,7 @@ module _ {S A R : Type 0} (layout : Layout) where
       nodes = λ digits level p node are on e. absurd (let no : Empty ≡ Node node = sym (blank p) ∙ e in cc);
       homes = λ digits level p slot way are on e. absurd (let no : Empty ≡ Leaf slot way = sym (blank p) ∙ e in cc);
       levels = bare_has_levels (trie_words layout (opening_words layout)).cell (λ p. rw (blank p) tt);
+      parents = λ digits level p node are on e. absurd (let no : Empty ≡ Node node = sym (blank p) ∙ e in cc);
       hang = λ node c. absurd (none_listed node c);
       counted = sym (sum_by-cons (λ (u : CellView S A R). u.trie.grown) view []);
       each = unread;

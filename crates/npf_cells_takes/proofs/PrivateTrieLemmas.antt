@@ -18,7 +18,7 @@ use Rattle.npf_core.proofs.HolderLemmas.{holders_claimed}
 use Rattle.npf_core.proofs.LifeLemmas.{IsClaimed-last}
 use Rattle.npf_cells_words.specs.declared.layout.Layout.{Layout}
 use Rattle.npf_cells_words.specs.declared.layout.Pool.TheVariants.{Slots, Nodes}
-use Rattle.npf_cells_words.specs.Layout.{inc_field, key_field, field_at}
+use Rattle.npf_cells_words.specs.Layout.{inc_field, parent_field, key_field, field_at}
 use Rattle.npf_cells_words.specs.Places.{place_at}
 use Rattle.npf_cells_words.proofs.WordLemmas.{key_short}
 use Rattle.npf_seats.specs.Seats.{IsNumbered}
@@ -51,6 +51,10 @@ module _ {S A R : Type 0} (m : Meaning S A R) (digest : Key → ℕ) (layout : L
         (λ low. absurd (omega (arith, low, e)))
         (λ x. let same : x.0 ≡ node = (let there = x.2 in let d = x.3 in omega (arith, there, d, short, e)) in unowned m digest layout s kept id v node at within owns (subst (Contains kept.published) same x.5))
         (met_at m digest layout s kept digits level p are on)));
+    parents = λ digits level p other_node are on is. other (field_at layout Nodes other_node parent_field) (λ e.
+        let right = kept.trie.nodes digits level p other_node are on is in
+        let same : other_node ≡ node = omega (arith, short, e) in
+        unowned m digest layout s kept id v node at within owns (subst (Contains kept.published) same right.published_once));
     keys = λ slot way right. λ i. record { 0 = key_same slot way 0 i ∷ key_same slot way 1 i ∷ key_same slot way 2 i ∷ key_same slot way 3 i ∷ key_same slot way 4 i ∷ [] };
     incs = λ slot way right. other (field_at layout Slots slot inc_field) (λ e. absurd (omega (arith, e, within, short)));
   }
@@ -81,6 +85,7 @@ module _ {S A R : Type 0} (m : Meaning S A R) (digest : Key → ℕ) (layout : L
         (λ low. absurd (omega (arith, low, e)))
         (λ x. absurd (let lies = x.2 in let d = x.3 in let n' = x.4 in omega (arith, lies, d, n', e)))
         (met_at m digest layout s kept digits level p are on)));
+    parents = λ digits level p node are on is. other (field_at layout Nodes node parent_field) (λ e. absurd (let in' = (kept.trie.nodes digits level p node are on is).exists in omega (arith, in', e)));
     keys = λ p way right. λ i. record { 0 = key_same p way right 0 (omega arith) i ∷ key_same p way right 1 (omega arith) i ∷ key_same p way right 2 (omega arith) i ∷ key_same p way right 3 (omega arith) i ∷ key_same p way right 4 (omega arith) i ∷ [] };
     incs = inc_same;
   }

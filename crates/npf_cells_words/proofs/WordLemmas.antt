@@ -11,7 +11,7 @@ use Rattle.npf_paths.specs.Places.{lock_of}
 use Rattle.npf_cells_words.specs.declared.layout.Layout.{Layout}
 use Rattle.npf_cells_words.specs.declared.layout.Pool.{Pool}
 use Rattle.npf_cells_words.specs.declared.layout.Pool.TheVariants.{Slots, Nodes}
-use Rattle.npf_cells_words.specs.Layout.{inc_field, field_at, root_at, word_count, pool_places, pool_words, pool_at, field_count, key_field}
+use Rattle.npf_cells_words.specs.Layout.{inc_field, parent_field, field_at, root_at, word_count, pool_places, pool_words, pool_at, field_count, key_field}
 use Rattle.npf_cells_words.specs.WordsLaw.{FieldsAreApart, PlacesAreApart, LocksAreApart}
 use Rattle.npf_cells_words.specs.Places.{IsLockOf, IsInTrie, lock_at, place_at, is_in_trie}
 
@@ -59,6 +59,16 @@ one_word layout (Places.Node node d) (Places.Node other e) h k same =
 pub slot_apart : (layout : Layout) (p : Place) (slot field : ℕ) → IsInTrie layout p → field_at layout Slots slot field ≢ place_at layout p
 slot_apart layout (Places.Root d) slot field h e = absurd (omega (arith, h, e))
 slot_apart layout (Places.Node node d) slot field h e = absurd (let low = h.0 in let short = h.1 in omega (arith, low, short, e))
+
+-- nor is the parent of a node
+pub parent_apart : (layout : Layout) (p : Place) (node : ℕ) → IsInTrie layout p → field_at layout Nodes node parent_field ≢ place_at layout p
+parent_apart layout (Places.Root d) node h e = absurd (omega (arith, h, e))
+parent_apart layout (Places.Node other d) node h e = absurd (let short = h.1 in omega (arith, short, e))
+
+-- or a lock
+pub parent_unlocked : (layout : Layout) (lock : Lock) (node : ℕ) → IsLockOf layout lock → field_at layout Nodes node parent_field ≢ lock_at layout lock
+parent_unlocked layout (Locking.Root digit) node h e = absurd (omega (arith, h, e))
+parent_unlocked layout (Locking.Node other) node h e = absurd (omega (arith, e))
 
 pub lock_apart : (layout : Layout) (p : Place) (lock : Lock) → IsInTrie layout p → IsLockOf layout lock → lock_at layout lock ≢ place_at layout p
 lock_apart layout (Places.Root d) (Locking.Root e) h k same = absurd (omega (arith, h, same))

@@ -45,9 +45,12 @@ nodes_at layout = root_at layout + 128
 abbrev pub connections_at : Layout → ℕ
 connections_at layout = nodes_at layout + 18 * layout.nodes
 
--- a node's state follows its places, a connection's incarnation its turn
+-- a node's state follows its places, and its parent the state; a connection's incarnation follows its turn
 abbrev pub state_field : ℕ
 state_field = 16
+
+abbrev pub parent_field : ℕ
+parent_field = 17
 
 abbrev pub inc_field : ℕ
 inc_field = 1

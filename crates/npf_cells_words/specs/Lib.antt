@@ -1,3 +1,4 @@
+pub mod Codes
 pub mod Layout
 pub mod Opening
 pub mod Places

@@ -1,4 +1,5 @@
 ghost use Rattle.std.specs.Prelude.{◌≡◌, ◌+◌, ◌<◌};
+ghost use Rattle.npf_cells_words.specs.Codes.{place_code};
 ghost use Rattle.npf_cells_words.specs.Places.{IsLockOf, lock_at};
 ghost use Rattle.npf_cells_words.specs.Places.{IsInTrie, place_at};
 ghost use Rattle.npf_cells_words.specs.Layout.{key_field, reader_at, pool_at, pool_places, pool_words, field_at, field_count, word_count};
@@ -33,6 +34,9 @@ pub const IDLE: u64 = 0;
 
 /// The field of a node's state among its words.
 pub const STATE: u32 = 16;
+
+/// The field of a node's parent among its words.
+pub const PARENT: u32 = 17;
 
 /// The field of a connection's turn among its words.
 pub const TURN: u32 = 0;
@@ -133,6 +137,16 @@ fn words_of(places: u32) -> u32
     ensures { result ≡ pool_words places }
 {
     places.div_ceil(64)
+}
+
+/// The number by which words name a place of the trie.
+pub fn place_code(place: Place) -> u64
+    ensures { result ≡ place_code place }
+{
+    match place {
+        Place::Root(digit) => 1 + digit as u64,
+        Place::Node { node, digit } => 65 + 16 * node as u64 + digit as u64,
+    }
 }
 
 /// The place of a reader word among the words.

@@ -9,6 +9,6 @@ mod layout;
 
 pub use laws::words_law;
 pub use layout::{
-    EPOCH, FIRST_EPOCH, IDLE, INCARNATION, LAST_EPOCH, Layout, PHASE, Pool, READERS, STATE, TURN,
-    key_field, reader_place,
+    EPOCH, FIRST_EPOCH, IDLE, INCARNATION, LAST_EPOCH, Layout, PARENT, PHASE, Pool, READERS, STATE,
+    TURN, key_field, place_code, reader_place,
 };

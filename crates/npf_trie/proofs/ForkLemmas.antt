@@ -17,9 +17,13 @@ use Rattle.npf_cells_words.specs.declared.layout.Layout.{Layout}
 use Rattle.npf_cells_words.specs.declared.layout.Pool.TheVariants.{Nodes}
 use Rattle.npf_cells_lives.specs.declared.pools.PoolSide.{PoolSide}
 use Rattle.npf_cells_lives.specs.declared.pools.StoredWord.{StoredWord}
-use Rattle.npf_cells_words.specs.Layout.{field_at}
-use Rattle.npf_cells_holds.specs.PublishKinds.{cell_stored, stored_cell}
+use Rattle.npf_cells_words.specs.Layout.{parent_field, field_at}
+use Rattle.npf_cells_words.specs.Codes.{place_code}
+use Rattle.npf_cells_holds.specs.PublishKinds.{IsParentStored, cell_stored, stored_cell}
+use Rattle.npf_cells_lives.specs.Stored.{stored_value}
+use Rattle.npf_cells_leaves.specs.Parents.{NameParents}
 use Rattle.npf_cells_leaves.specs.Trie.{digits_of}
+use Rattle.npf_cells_leaves.proofs.ParentLemmas.{names_so}
 use Rattle.npf_trie.specs.Stores.{HasNewNodes, LiesOutside, KeepsOutside, forked_cell}
 
 are_digits : (digest : Key → ℕ) (key : Key) → AreDigits (digits_of digest key)
@@ -88,17 +92,51 @@ module _ (layout : Layout) (nodes : List ℕ) (node : ℕ) (rest : List ℕ) (e 
         apart = λ i j low low' same. let one : suc i ≡ suc j = all.apart (suc i) (suc j) (omega (arith, low)) (omega (arith, low')) same in omega (arith, one);
       }
 
-  -- what is outside all of them is outside the first, and outside the others
-  pub first_outside : (word : ℕ) → LiesOutside layout nodes word → LiesOutside layout (node ∷ []) word
-  first_outside word out n digit has low = out n digit (subst (λ m. Contains nodes m) (sym (only_of node n has)) first_in) low
+  -- what is outside all of them is outside the first, its parent too, and outside the others
+  first_outside : (word : ℕ) → LiesOutside layout 18 nodes word → LiesOutside layout 16 (node ∷ []) word
+  first_outside word out n field has low = out n field (subst (λ m. Contains nodes m) (sym (only_of node n has)) first_in) (omega (arith, low))
 
-  pub rest_outside : (word : ℕ) → LiesOutside layout nodes word → LiesOutside layout rest word
-  rest_outside word out n digit has low = out n digit (subst (λ xs. Contains xs n) (sym e) (later_of node rest n has)) low
+  parent_apart : (word : ℕ) → LiesOutside layout 18 nodes word → field_at layout Nodes node parent_field ≢ word
+  parent_apart word out = out node parent_field first_in (omega arith)
 
-  -- the places of the others are outside the first
-  places_outside : AreApart nodes → (n digit : ℕ) → Contains rest n → digit < 16 → LiesOutside layout (node ∷ []) (field_at layout Nodes n digit)
-  places_outside apart n digit has low n' digit' has' low' same =
+  rest_outside : (word : ℕ) → LiesOutside layout 18 nodes word → LiesOutside layout 18 rest word
+  rest_outside word out n field has low = out n field (subst (λ xs. Contains xs n) (sym e) (later_of node rest n has)) low
+
+  -- the words of the others are outside the first, and its own outside the others
+  others_outside : AreApart nodes → (n field : ℕ) → Contains rest n → field < 18 → LiesOutside layout 16 (node ∷ []) (field_at layout Nodes n field)
+  others_outside apart n field has low n' digit' has' low' same =
       others_apart node rest n (subst AreApart e apart) has (let is = only_of node n' has' in omega (arith, same, is, low, low'))
+
+  own_outside : AreApart nodes → LiesOutside layout 18 rest (field_at layout Nodes node parent_field)
+  own_outside apart n field has low same = others_apart node rest n (subst AreApart e apart) has (omega (arith, same, low))
+
+  -- its parent is outside its places
+  parent_outside : LiesOutside layout 16 (node ∷ []) (field_at layout Nodes node parent_field)
+  parent_outside n field has low same = let is = only_of node n has in omega (arith, same, is, low)
+
+  -- what is kept outside all of them: by the store of the first's parent, the stores in the others, and those in its places
+  pub keeps_foot : (old put now : List StoredWord) → ((word : ℕ) → field_at layout Nodes node parent_field ≢ word → stored_value layout put word ≡ stored_value layout old word) → KeepsOutside layout 16 (node ∷ []) put now → KeepsOutside layout 18 nodes old now
+  keeps_foot old put now puts fills word out = fills word (first_outside word out) ∙ puts word (parent_apart word out)
+
+  pub keeps_above : (old put built now : List StoredWord) → ((word : ℕ) → field_at layout Nodes node parent_field ≢ word → stored_value layout put word ≡ stored_value layout old word) → KeepsOutside layout 18 rest put built → KeepsOutside layout 16 (node ∷ []) built now →
+      KeepsOutside layout 18 nodes old now
+  keeps_above old put built now puts builds fills word out = fills word (first_outside word out) ∙ (builds word (rest_outside word out) ∙ puts word (parent_apart word out))
+
+  -- the parents of all of them are stored
+  pub foot_named : (mine : ℕ → ℕ) (level : ℕ) (p : Place) (put now : List StoredWord) → length rest ≡ 0 → IsParentStored layout put node (place_code p) → KeepsOutside layout 16 (node ∷ []) put now → NameParents mine (IsParentStored layout now) level p nodes
+  foot_named mine level p put now none there fills =
+      let one : nodes ≡ node ∷ [] = e ∙ ap (λ xs. node ∷ xs) (none_left rest none) in
+      subst (λ xs. NameParents mine (IsParentStored layout now) level p xs) (sym one) (fills (field_at layout Nodes node parent_field) parent_outside ∙ there, tt)
+
+  pub above_named : (mine : ℕ → ℕ) (level d : ℕ) (p : Place) (put built now : List StoredWord) → AreApart nodes → d ≡ mine level → IsParentStored layout put node (place_code p) → KeepsOutside layout 18 rest put built → KeepsOutside layout 16 (node ∷ []) built now →
+      NameParents mine (IsParentStored layout built) (level + 1) (Node node d) rest → NameParents mine (IsParentStored layout now) level p nodes
+  above_named mine level d p put built now apart is there builds fills below =
+      let still = names_so mine (IsParentStored layout built) (IsParentStored layout now) (level + 1) (Node node d) rest
+      (λ n code has stored. fills (field_at layout Nodes n parent_field) (others_outside apart n parent_field has (omega arith)) ∙ stored) below in
+      subst (λ xs. NameParents mine (IsParentStored layout now) level p xs) (sym e) (
+        fills (field_at layout Nodes node parent_field) parent_outside ∙ (builds (field_at layout Nodes node parent_field) (own_outside apart) ∙ there),
+        subst (λ x. NameParents mine (IsParentStored layout now) (level + 1) (Node node x) rest) is still,
+      )
 
   module _ (digest : Key → ℕ) (key other : Key) (hash hash' level : ℕ) (hashed : hash ≡ digest key) (hashed' : hash' ≡ digest other) (parting : PartsAt hash key hash' other (level + length nodes)) where
     digit_is : (l : ℕ) → digit_of hash key l ≡ digits_of digest key l
@@ -123,14 +161,14 @@ module _ (layout : Layout) (nodes : List ℕ) (node : ℕ) (rest : List ℕ) (e 
     -- and that of a node over another branch
     pub above_built : (built now : List StoredWord) (leaf other_leaf : Cell) (d : ℕ) → d ≡ digit_of hash key (level + 1) → 1 ≤ length rest → AreApart nodes →
         ((digit : ℕ) → digit < 16 → cell_stored layout now (Node node digit) ≡ forked_cell d (Cells.Node (slice_index rest 0)) d (Cells.Node (slice_index rest 0)) digit) →
-        KeepsOutside layout (node ∷ []) built now →
+        KeepsOutside layout 16 (node ∷ []) built now →
         IsBranch (digits_of digest key) (digits_of digest other) (cell_stored layout built) leaf other_leaf (level + 1 + 1) (slice_index rest 0) rest →
         IsBranch (digits_of digest key) (digits_of digest other) (cell_stored layout now) leaf other_leaf (level + 1) (slice_index nodes 0) nodes
     above_built built now leaf other_leaf d is some apart cells keeps below =
         let within : level + 1 < level + length nodes = omega (arith, ap length e, some) in
         let agree = sym (digit_is (level + 1)) ∙ (parting.before (level + 1) within ∙ digit_is' (level + 1)) in
         let still = branch_same below (are_digits digest key) (are_digits digest other) (omega arith)
-        (λ n digit has low. ap stored_cell (keeps (field_at layout Nodes n digit) (places_outside apart n digit has low))) in
+        (λ n digit has low. ap stored_cell (keeps (field_at layout Nodes n digit) (others_outside apart n digit has (omega (arith, low))))) in
         subst (λ xs. IsBranch (digits_of digest key) (digits_of digest other) (cell_stored layout now) leaf other_leaf (level + 1) (slice_index xs 0) xs) (sym e)
         (above (digits_of digest key) (digits_of digest other) (cell_stored layout now) leaf other_leaf (level + 1) node d (is ∙ digit_is (level + 1)) ((are_digits digest key).node (level + 1) (omega arith))
         (slice_index rest 0) rest agree cells still)

@@ -13,7 +13,6 @@ use Rattle.npf_paths.specs.declared.cell.Cell.{Cell}
 use Rattle.npf_paths.specs.declared.cell.Cell.TheVariants as Cells
 use Rattle.npf_paths.specs.declared.place.Lock.{Lock}
 use Rattle.npf_paths.specs.declared.place.Place.{Place}
-use Rattle.npf_paths.specs.declared.place.Place.TheVariants as Places
 use Rattle.npf_paths.specs.Growing.{IsBranch}
 use Rattle.npf_paths.specs.Paths.{AreDigits}
 use Rattle.npf_paths.specs.Places.{lock_of}
@@ -27,8 +26,12 @@ use Rattle.npf_cells_holds.specs.HoldKinds.{MayHoldSo}
 use Rattle.npf_cells_holds.specs.LockKinds.{locking}
 use Rattle.npf_cells_rule.specs.Views.{with_trie, with_pools}
 use Rattle.npf_cells_rule.specs.Passes.{cell_pass}
-use Rattle.npf_cells_holds.specs.PublishKinds.{HasStoredKey, cell_stored}
-use Rattle.npf_cells_words.specs.Places.{IsInTrie}
+use Rattle.npf_cells_holds.specs.PublishKinds.{HasStoredKey, IsParentStored, cell_stored, stored_cell}
+use Rattle.npf_cells_words.specs.declared.layout.Pool.TheVariants.{Nodes}
+use Rattle.npf_cells_words.specs.Layout.{parent_field, field_at}
+use Rattle.npf_cells_leaves.proofs.ParentLemmas.{names_so}
+use Rattle.npf_cells_leaves.specs.Parents.{NameParents}
+use Rattle.npf_trie.specs.Stores.{KeepsNodes}
 use Rattle.npf_cells_leaves.specs.Trie.{digits_of}
 use Rattle.npf_trie.specs.declared.step.OtherLeaf.{OtherLeaf}
 use Rattle.npf_trie.specs.declared.step.Point.{Point}
@@ -56,6 +59,10 @@ nothing_ends (x ∷ init) last e = cc
 all_there : {E : Type 0} (xs : List E) → xs ≡ xs ++ []
 all_there [] = refl
 all_there (x ∷ xs) = ap (λ ys. x ∷ ys) (all_there xs)
+
+-- the parents that were stored, as those of the nodes that were taken
+pub parents_so : (mine : ℕ → ℕ) (says : ℕ → ℕ → Type 0) (level : ℕ) (p : Place) (nodes nodes' : List ℕ) → nodes ≡ nodes' → NameParents mine says level p nodes → NameParents mine says level p nodes'
+parents_so mine says level p nodes nodes' all named = subst (λ xs. NameParents mine says level p xs) all named
 
 -- the branch that was built, as that of the nodes that were taken
 pub branch_so : (mine theirs : ℕ → ℕ) (cell : Place → Cell) (leaf other leaf' other' : Cell) (level : ℕ) (nodes nodes' : List ℕ) → leaf ≡ leaf' → other ≡ other' → nodes ≡ nodes' →
@@ -154,10 +161,11 @@ module _ {S A R F : Type 0} (m : Meaning S A R) (digest : Key → ℕ) (layout :
   -- the nodes are built, and the place is locked
   pub has_grown : (other : OtherLeaf) (count first : ℕ) (nodes : List ℕ) (took locked : Me F (CellView S A R)) (before stored : List StoredWord) → IsAtPlace digest layout old.0 wanted.key point →
       TakesNodes layout count nodes old took → locked ≡ (readied old.0 took.0.pools stored (lock_of point.place), old.1) → HasStoredKey layout stored wanted.id.slot wanted.way wanted.key →
-      ((p : Place) → IsInTrie layout p → cell_stored layout stored p ≡ cell_stored layout before p) →
+      KeepsNodes layout before stored →
       IsBranch (digits_of digest wanted.key) (digits_of digest other.key) (cell_stored layout before) (Cells.Leaf wanted.id.slot wanted.way) (Cells.Leaf other.slot other.way) (point.level + 1) first nodes →
+      NameParents (digits_of digest wanted.key) (IsParentStored layout before) (point.level + 1) point.place nodes →
       HasGrown m digest layout locked.0 wanted point other first
-  has_grown other count first nodes took locked before stored at takes ready key_stored cells branch =
+  has_grown other count first nodes took locked before stored at takes ready key_stored keeps branch parents =
       let made : HasGrown m digest layout (readied old.0 took.0.pools stored (lock_of point.place)) wanted point other first = record {
         may = record { built = can.may.built; bare = can.may.bare };
         exists = can.exists;
@@ -166,9 +174,11 @@ module _ {S A R F : Type 0} (m : Meaning S A R) (digest : Key → ℕ) (layout :
         locked = ap (λ ls. lock_of point.place ∷ ls) can.locks;
         key_stored = key_stored;
         nodes = nodes;
-        branch = branch_same branch (digits_fit digest wanted.key) (digits_fit digest other.key) (omega arith) (λ node digit has low. cells (Places.Node node digit) (takes.within node has, low));
+        branch = branch_same branch (digits_fit digest wanted.key) (digits_fit digest other.key) (omega arith) (λ node digit has low. let within = takes.within node has in ap stored_cell (keeps (field_at layout Nodes node digit) (omega (arith, within, low))));
         owned = takes.owned;
         apart = takes.apart;
+        parents = names_so (digits_of digest wanted.key) (IsParentStored layout before) (IsParentStored layout stored) (point.level + 1) point.place nodes
+            (λ node code has is. let within = takes.within node has in keeps (field_at layout Nodes node parent_field) (omega (arith, within)) ∙ is) parents;
         all = takes.all;
       } in
       subst (λ (y : Me F (CellView S A R)). HasGrown m digest layout y.0 wanted point other first) (sym ready) made

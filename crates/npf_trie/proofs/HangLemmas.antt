@@ -36,8 +36,9 @@ use Rattle.npf_cells_holds.specs.HoldKinds.{meeting, renewed, HasMetHolder, Meet
 use Rattle.npf_cells_holds.specs.LookKinds.{StandsOnPath, level_of, level_at, IsLeafIn, IsLeafOf}
 use Rattle.npf_cells_rule.specs.Views.{with_trie}
 use Rattle.npf_cells_rule.specs.Passes.{IsProtected, cell_pass}
-use Rattle.npf_cells_holds.specs.PublishKinds.{MayPublish, MayPublishFor, GrowsNodes, PutsFor, HasHeld, Published, nodes_but, publishing, published_for, cell_stored}
+use Rattle.npf_cells_holds.specs.PublishKinds.{MayPublish, MayPublishFor, IsParentStored, GrowsNodes, PutsFor, HasHeld, Published, nodes_but, publishing, published_for, cell_stored}
 use Rattle.npf_cells_holds.specs.PublishKinds.PutsFor.{fills, grows}
+use Rattle.npf_cells_leaves.specs.Parents.{NameParents}
 use Rattle.npf_cells_leaves.specs.Trie.{digits_of}
 use Rattle.npf_trie.specs.declared.step.Met.TheVariants.{Holder, Other}
 use Rattle.npf_trie.specs.declared.step.OtherLeaf.{OtherLeaf}
@@ -112,7 +113,7 @@ module _ {S A R : Type 0} where
   -- what is put in a place says which nodes a pass may put there
   data PutsSo (digest : Key → ℕ) (layout : Layout) (v : CellView S A R) (id : ConnId) (key : Key) (way : Way) (p : Place) (cell : Cell) (nodes : List ℕ) : Type 0 where
     puts_leaf : cell ≡ Cells.Leaf id.slot way → nodes ≡ [] → PutsSo digest layout v id key way p cell nodes
-    puts_nodes : (leaf : LoadedLeaf) (first : ℕ) → v.trie.leaf ≡ Some leaf → cell ≡ Cells.Node first → GrowsNodes digest layout v id.slot way key leaf (level_at v.trie p) first nodes →
+    puts_nodes : (leaf : LoadedLeaf) (first : ℕ) → v.trie.leaf ≡ Some leaf → cell ≡ Cells.Node first → GrowsNodes digest layout v id.slot way key leaf p (level_at v.trie p) first nodes →
         PutsSo digest layout v id key way p cell nodes
 
   puts_so : (digest : Key → ℕ) (layout : Layout) (v : CellView S A R) (id : ConnId) (key : Key) (way : Way) (p : Place) (cell : Cell) (nodes : List ℕ) →
@@ -135,9 +136,9 @@ module _ {S A R : Type 0} where
               | PutsSo.puts_nodes leaf' first' known' is' made' ↦
                   let same : leaf' ≡ leaf = cc in
                   let firsts : first' ≡ first = cc in
-                  let made : GrowsNodes digest layout v id.slot way key leaf (level_at v.trie p) first nodes' =
-                  subst (λ l. GrowsNodes digest layout v id.slot way key l (level_at v.trie p) first nodes') same
-                  (subst (λ n. GrowsNodes digest layout v id.slot way key leaf' (level_at v.trie p) n nodes') firsts made') in
+                  let made : GrowsNodes digest layout v id.slot way key leaf p (level_at v.trie p) first nodes' =
+                  subst (λ l. GrowsNodes digest layout v id.slot way key l p (level_at v.trie p) first nodes') same
+                  (subst (λ n. GrowsNodes digest layout v id.slot way key leaf' p (level_at v.trie p) n nodes') firsts made') in
                   branch_one made_first.branch nodes' made.branch
             ]
       ]
@@ -241,7 +242,7 @@ module _ {S A R F : Type 0} (m : Meaning S A R) (digest : Key → ℕ) (layout :
     side = record (meeting wanted.key point.place (Cells.Leaf other.slot other.way) (level_at old.0.trie point.place) sees.leaf old.0.trie) { words = now.0.trie.words }
 
     -- what it grew is for the leaf that it met
-    grown_for : GrowsNodes digest layout (record old.0 { trie = side }) wanted.id.slot wanted.way wanted.key sees.leaf (level_at side point.place) first grown.nodes
+    grown_for : GrowsNodes digest layout (record old.0 { trie = side }) wanted.id.slot wanted.way wanted.key sees.leaf point.place (level_at side point.place) first grown.nodes
     grown_for =
         let level : point.level ≡ level_at side point.place = sym (level_stays point.place old.0.trie side refl ∙ grown.at.level_is) in
         let same : Cells.Leaf other.slot other.way ≡ Cells.Leaf sees.leaf.slot sees.leaf.way = let is_leaf = sees.is_leaf in cc in
@@ -252,6 +253,7 @@ module _ {S A R F : Type 0} (m : Meaning S A R) (digest : Key → ℕ) (layout :
               (subst (λ k. IsBranch (digits_of digest wanted.key) (digits_of digest k) cell (Cells.Leaf wanted.id.slot wanted.way) (Cells.Leaf other.slot other.way) (point.level + 1) first grown.nodes) sees.other_is grown.branch));
           owned = grown.owned;
           apart = grown.apart;
+          parents = subst (λ l. NameParents (digits_of digest wanted.key) (IsParentStored layout old.0.pools.stored) (l + 1) point.place grown.nodes) level grown.parents;
         }
 
     may_put : PutsFor digest layout (record old.0 { trie = side }) wanted.id wanted.key wanted.way point.place (Cells.Node first) grown.nodes

@@ -9,22 +9,20 @@ use Rattle.npf_core.specs.History.{state_of}
 use Rattle.npf_core.specs.Machine.{HoldsNone}
 use Rattle.npf_core.specs.Meaning.{Meaning}
 use Rattle.npf_paths.specs.declared.cell.Cell.{Cell}
-use Rattle.npf_paths.specs.declared.place.Place.{Place}
-use Rattle.npf_paths.specs.declared.place.Place.TheVariants.{Root, Node}
+use Rattle.npf_paths.specs.declared.place.Place.TheVariants.{Node}
 use Rattle.npf_paths.specs.CellLaw.{WordsSayCells}
 use Rattle.npf_paths.specs.CellWords.{cell_of, cell_word}
 use Rattle.npf_cells_words.specs.declared.layout.Layout.{Layout}
 use Rattle.npf_cells_words.specs.declared.layout.Pool.TheVariants.{Slots, Nodes}
 use Rattle.npf_cells_rule.specs.declared.view.CellView.{CellView}
 use Rattle.npf_cells_lives.specs.declared.pools.StoredWord.{StoredWord}
-use Rattle.npf_cells_words.specs.Layout.{key_field, field_at}
+use Rattle.npf_cells_words.specs.Layout.{parent_field, key_field, field_at}
 use Rattle.npf_cells_rule.specs.Views.{with_pools}
 use Rattle.npf_seats.specs.Sums.{others_than}
 use Rattle.npf_cells_takes.specs.PrivateKinds.{MayStoreInSlot, storing, stored_in, with_phase}
-use Rattle.npf_cells_holds.specs.PublishKinds.{cell_stored, stored_cell}
+use Rattle.npf_cells_holds.specs.PublishKinds.{IsParentStored, cell_stored, stored_cell}
 use Rattle.npf_cells_lives.specs.Stored.{stored_value}
-use Rattle.npf_cells_words.specs.Places.{IsInTrie, place_at}
-use Rattle.npf_trie.specs.Stores.{MayStoreKey, LiesOutside, KeepsOutside}
+use Rattle.npf_trie.specs.Stores.{MayStoreKey, LiesOutside, KeepsNodes, KeepsOutside}
 
 -- the last store is what is known of its word, and leaves the others
 pub stored_here : (layout : Layout) (s : StoredWord) (rest : List StoredWord) (word : ℕ) → field_at layout s.pool s.place s.field ≡ word → stored_value layout (s ∷ rest) word ≡ Some s.value
@@ -32,11 +30,6 @@ stored_here layout s rest word there = ap (λ b. cond b (Some s.value) (stored_v
 
 pub stored_before : (layout : Layout) (s : StoredWord) (rest : List StoredWord) (word : ℕ) → field_at layout s.pool s.place s.field ≢ word → stored_value layout (s ∷ rest) word ≡ stored_value layout rest word
 stored_before layout s rest word apart = ap (λ b. cond b (Some s.value) (stored_value layout rest word)) (ne_eqb _ word apart)
-
--- a word of a connection is none of a place of the trie
-pub slot_apart : (layout : Layout) (slot field : ℕ) (p : Place) → IsInTrie layout p → field_at layout Slots slot field ≢ place_at layout p
-slot_apart layout slot field (Root digit) in' e = omega (arith, in', e)
-slot_apart layout slot field (Node node digit) in' e = let low : node < layout.nodes = in'.0 in let small : digit < 16 = in'.1 in omega (arith, e)
 
 -- a field of one way's key is none of another's
 same_way : (way way' : Way) (word : ℕ) → word < 5 → key_field way' ≤ key_field way + word → key_field way + word < key_field way' + 5 → way ≡ way'
@@ -96,12 +89,11 @@ module _ {S A R : Type 0} (m : Meaning S A R) where
   may_store_still {F} me next stored slot way is may =
       subst (λ (y : Me F (CellView S A R)). MayStoreKey m y.0 slot way) (sym is) (record { id = may.id; there = may.there; hold = record { built = may.hold.built; bare = may.hold.bare } })
 
--- the places of the trie are as they were
-cells_same : (layout : Layout) (rest stored : List StoredWord) (slot field value : ℕ) → stored ≡ (record { pool = Slots; place = slot; field = field; value = value }) ∷ rest →
-    (p : Place) → IsInTrie layout p → cell_stored layout stored p ≡ cell_stored layout rest p
-cells_same layout rest stored slot field value is p in' =
+-- what was stored in nodes is as it was
+nodes_same : (layout : Layout) (rest stored : List StoredWord) (slot field value : ℕ) → stored ≡ (record { pool = Slots; place = slot; field = field; value = value }) ∷ rest → KeepsNodes layout rest stored
+nodes_same layout rest stored slot field value is word low =
     let s : StoredWord = record { pool = Slots; place = slot; field = field; value = value } in
-    ap (λ t. cell_stored layout t p) is ∙ ap stored_cell (stored_before layout s rest (place_at layout p) (slot_apart layout slot field p in'))
+    ap (λ t. stored_value layout t word) is ∙ stored_before layout s rest word (λ e. absurd (omega (arith, low, e)))
 
 module _ (layout : Layout) (slot : ℕ) (way : Way) (value : ℕ → ℕ) where
   more_words : (rest stored : List StoredWord) (field word : ℕ) → field ≡ key_field way + word → ((i : ℕ) → i < word → stored_value layout rest (field_at layout Slots slot (key_field way + i)) ≡ Some (value i)) →
@@ -121,7 +113,7 @@ module _ {S A R F : Type 0} (m : Meaning S A R) (layout : Layout) (slot : ℕ) (
     pub may : MayStoreKey m now.0 slot way
     pub next : now ≡ with_stored old now.0.pools.stored
     pub words : (i : ℕ) → i < word → stored_value layout now.0.pools.stored (field_at layout Slots slot (key_field way + i)) ≡ Some (value i)
-    pub cells : (p : Place) → IsInTrie layout p → cell_stored layout now.0.pools.stored p ≡ cell_stored layout old.0.pools.stored p
+    pub keeps : KeepsNodes layout old.0.pools.stored now.0.pools.stored
 
   -- and then one more
   pub one_word_more : (old now next : Me F (CellView S A R)) (field word : ℕ) → field ≡ key_field way + word → KeyStoredBelow old word now →
@@ -133,11 +125,11 @@ module _ {S A R F : Type 0} (m : Meaning S A R) (layout : Layout) (slot : ℕ) (
         may = may_store_still m now next _ slot way on so.may;
         next = stored_more old now next _ so.next on;
         words = more_words layout slot way value now.0.pools.stored next.0.pools.stored field word at so.words stored;
-        cells = λ p in'. cells_same layout now.0.pools.stored next.0.pools.stored slot field (value word) stored p in' ∙ so.cells p in';
+        keeps = λ w low. nodes_same layout now.0.pools.stored next.0.pools.stored slot field (value word) stored w low ∙ so.keeps w low;
       }
 
 -- a word of a node's places, or none
-outside_one : (layout : Layout) (node word digit : ℕ) → LiesOutside layout (node ∷ []) word → digit < 16 → field_at layout Nodes node digit ≢ word
+outside_one : (layout : Layout) (node word digit : ℕ) → LiesOutside layout 16 (node ∷ []) word → digit < 16 → field_at layout Nodes node digit ≢ word
 outside_one layout node word digit outside low = outside node digit (0, omega arith, refl) low
 
 module _ {S A R F : Type 0} (layout : Layout) (node : ℕ) (cell : ℕ → Cell) where
@@ -146,7 +138,7 @@ module _ {S A R F : Type 0} (layout : Layout) (node : ℕ) (cell : ℕ → Cell)
     pub owned : Contains now.0.pools.nodes node
     pub next : now ≡ with_stored old now.0.pools.stored
     pub cells : (d : ℕ) → d < digit → cell_stored layout now.0.pools.stored (Node node d) ≡ cell d
-    pub outside : KeepsOutside layout (node ∷ []) old.0.pools.stored now.0.pools.stored
+    pub outside : KeepsOutside layout 16 (node ∷ []) old.0.pools.stored now.0.pools.stored
 
   -- and then one more
   pub one_place_more : (old now next : Me F (CellView S A R)) (digit word : ℕ) → WordsSayCells → digit < 16 → word ≡ cell_word (cell digit) → NodeFilledBelow old digit now →
@@ -164,3 +156,23 @@ module _ {S A R F : Type 0} (layout : Layout) (node : ℕ) (cell : ℕ → Cell)
             (cases_eq d digit);
         outside = λ w out. ap (λ t. stored_value layout t w) stored ∙ (stored_before layout s now.0.pools.stored w (outside_one layout node w digit out low) ∙ so.outside w out);
       }
+
+-- what was stored as a node's parent, and of the other words of nodes
+module _ {S A R F : Type 0} (layout : Layout) (node code : ℕ) (old now : Me F (CellView S A R)) (puts : now ≡ with_pools old (storing Nodes node parent_field code old.0.pools)) where
+  abbrev put : StoredWord
+  put = record { pool = Nodes; place = node; field = parent_field; value = code }
+
+  puts_more : now.0.pools.stored ≡ put ∷ old.0.pools.stored
+  puts_more = ap (λ (y : Me F (CellView S A R)). y.0.pools.stored) puts
+
+  pub parent_next : now ≡ with_stored old now.0.pools.stored
+  parent_next = puts ∙ ap (λ stored. with_stored old stored) (sym puts_more)
+
+  pub parent_nodes : now.0.pools.nodes ≡ old.0.pools.nodes
+  parent_nodes = ap (λ (y : Me F (CellView S A R)). y.0.pools.nodes) puts
+
+  pub parent_there : IsParentStored layout now.0.pools.stored node code
+  parent_there = ap (λ t. stored_value layout t (field_at layout Nodes node parent_field)) puts_more ∙ stored_here layout put old.0.pools.stored (field_at layout Nodes node parent_field) refl
+
+  pub parent_outside : (word : ℕ) → field_at layout Nodes node parent_field ≢ word → stored_value layout now.0.pools.stored word ≡ stored_value layout old.0.pools.stored word
+  parent_outside word apart = ap (λ t. stored_value layout t word) puts_more ∙ stored_before layout put old.0.pools.stored word apart

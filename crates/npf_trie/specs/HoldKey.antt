@@ -24,8 +24,9 @@ use Rattle.npf_cells_holds.specs.HoldKinds.{MayHoldSo, leaf_holder}
 use Rattle.npf_cells_holds.specs.LookKinds.{StandsOnPath, level_at}
 use Rattle.npf_cells_rule.specs.Views.{with_trie}
 use Rattle.npf_cells_rule.specs.Passes.{cell_pass}
-use Rattle.npf_cells_holds.specs.PublishKinds.{HasStoredKey, cell_stored, nodes_but}
+use Rattle.npf_cells_holds.specs.PublishKinds.{HasStoredKey, IsParentStored, cell_stored, nodes_but}
 use Rattle.npf_cells_words.specs.Places.{IsInTrie}
+use Rattle.npf_cells_leaves.specs.Parents.{NameParents}
 use Rattle.npf_cells_leaves.specs.Trie.{digits_of}
 use Rattle.npf_trie.specs.declared.step.Met.{Met}
 use Rattle.npf_trie.specs.declared.step.Met.TheVariants.{Holder, Other}
@@ -121,6 +122,7 @@ pub record HasGrown {S A R : Type 0} (m : Meaning S A R) (digest : Key → ℕ) 
   pub branch : IsBranch (digits_of digest wanted.key) (digits_of digest other.key) (cell_stored layout v.pools.stored) (Leaf wanted.id.slot wanted.way) (Leaf other.slot other.way) (point.level + 1) first nodes
   pub owned : (node : ℕ) → Contains nodes node → Contains v.pools.nodes node
   pub apart : AreApart nodes
+  pub parents : NameParents (digits_of digest wanted.key) (IsParentStored layout v.pools.stored) (point.level + 1) point.place nodes
   pub all : nodes_but nodes v.pools.nodes ≡ []
 
 -- the pass loaded a place, under its lock, and has its nodes still

@@ -12,7 +12,7 @@ use Rattle.npf_cells_rule.specs.declared.view.CellView.{CellView}
 use Rattle.npf_cells_lives.specs.declared.pools.PoolSide.{PoolSide}
 use Rattle.npf_cells_lives.specs.declared.pools.StoredWord.{StoredWord}
 use Rattle.npf_cells_holds.specs.HoldKinds.{MayHoldSo}
-use Rattle.npf_cells_words.specs.Layout.{field_at}
+use Rattle.npf_cells_words.specs.Layout.{connections_at, field_at}
 use Rattle.npf_cells_lives.specs.Stored.{stored_value}
 
 -- the pass may store a key of that way in the slot: it is building the slot's connection, and has seen it take none
@@ -27,13 +27,17 @@ pub record HasNewNodes (layout : Layout) (side : PoolSide) (nodes : List ℕ) : 
   pub owned : (node : ℕ) → Contains nodes node → Contains side.nodes node
   pub apart : AreApart nodes
 
--- the word is that of no place of these nodes
-abbrev pub LiesOutside : Layout → List ℕ → ℕ → Type 0
-LiesOutside layout nodes word = (node digit : ℕ) → Contains nodes node → digit < 16 → field_at layout Nodes node digit ≢ word
+-- the word is none of the first so many of these nodes
+abbrev pub LiesOutside : Layout → ℕ → List ℕ → ℕ → Type 0
+LiesOutside layout fields nodes word = (node field : ℕ) → Contains nodes node → field < fields → field_at layout Nodes node field ≢ word
 
--- what was stored of any word but those of these nodes' places is what it was
-abbrev pub KeepsOutside : Layout → List ℕ → List StoredWord → List StoredWord → Type 0
-KeepsOutside layout nodes old now = (word : ℕ) → LiesOutside layout nodes word → stored_value layout now word ≡ stored_value layout old word
+-- what was stored of any word but those is what it was
+abbrev pub KeepsOutside : Layout → ℕ → List ℕ → List StoredWord → List StoredWord → Type 0
+KeepsOutside layout fields nodes old now = (word : ℕ) → LiesOutside layout fields nodes word → stored_value layout now word ≡ stored_value layout old word
+
+-- what was stored of any word before those of the connections is what it was
+abbrev pub KeepsNodes : Layout → List StoredWord → List StoredWord → Type 0
+KeepsNodes layout old now = (word : ℕ) → word < connections_at layout → stored_value layout now word ≡ stored_value layout old word
 
 -- the cell of a digit's place in a node that leads on at two digits, or at one that is both
 abbrev pub forked_cell : ℕ → Cell → ℕ → Cell → ℕ → Cell

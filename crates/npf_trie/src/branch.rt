@@ -4,14 +4,19 @@ ghost use Rattle.npf_paths.specs.declared.place.Place.TheVariants.{Node};
 ghost use Rattle.npf_paths.specs.Growing.{IsBranch};
 ghost use Rattle.npf_cells.specs.Cells.{IsPassIn};
 ghost use Rattle.npf_cells_rule.specs.Views.{with_pools};
-ghost use Rattle.npf_cells_holds.specs.PublishKinds.{cell_stored};
+ghost use Rattle.npf_cells_holds.specs.PublishKinds.{IsParentStored, cell_stored};
+ghost use Rattle.npf_cells_leaves.specs.Parents.{NameParents};
 ghost use Rattle.npf_cells_leaves.specs.Trie.{digits_of};
+ghost use Rattle.npf_cells_words.specs.Layout.{field_count};
+ghost use Rattle.npf_cells_words.specs.declared.layout.Pool.TheVariants.{Nodes};
 ghost use Rattle.npf_trie.specs.Stores.{HasNewNodes, KeepsOutside, forked_cell};
 
+use crate::step::Point;
 use npf_cells::{CellPass, Cells, Pool};
+use npf_cells_words::{PARENT, place_code};
 use npf_core::Law;
 use npf_paths::laws::cell_law;
-use npf_paths::{Cell, KeyHash, NODE_DIGITS, digit};
+use npf_paths::{Cell, KeyHash, NODE_DIGITS, Place, digit};
 use npf_types::Key;
 
 /// A leaf at the foot of a branch, and the key that leads there, with its hash.
@@ -22,13 +27,13 @@ pub(crate) struct Tip {
     pub(crate) leaf: Cell,
 }
 
-/// Stores the places of nodes that the pass owns, from the last up, so that they lead two keys on: the first is to hang in a place of
-/// this level, and the last is that of the level at which the keys part, with the leaf of either.
+/// Stores the places of nodes that the pass owns, from the last up, so that they lead two keys on: the first is to hang in this place,
+/// and the last is that of the level at which the keys part, with the leaf of either. Each names the place that is to have it.
 pub(crate) fn build_branch<L: Law, H: KeyHash>(
     cells: &Cells<L, H>,
     pass: &mut CellPass<L>,
     nodes: &[u32],
-    level: u32,
+    point: Point,
     mine: &Tip,
     theirs: &Tip,
 )
@@ -37,19 +42,28 @@ pub(crate) fn build_branch<L: Law, H: KeyHash>(
     requires nodes { HasNewNodes cells.now.table.shared.key pass.old.seat.me.0.pools nodes.now }
     requires mine { mine.now.hash ≡ H.digest mine.now.key }
     requires theirs { theirs.now.hash ≡ H.digest theirs.now.key }
-    requires parts { PartsAt mine.now.hash mine.now.key theirs.now.hash theirs.now.key (level + length nodes.now) }
+    requires parts { PartsAt mine.now.hash mine.now.key theirs.now.hash theirs.now.key (point.level + length nodes.now) }
     ensures own { IsPassIn cells.now pass.new }
     ensures next { pass.new.seat.me ≡ with_pools pass.old.seat.me (record pass.old.seat.me.0.pools { stored = pass.new.seat.me.0.pools.stored }) }
-    ensures branch { IsBranch (digits_of H.digest mine.now.key) (digits_of H.digest theirs.now.key) (cell_stored cells.now.table.shared.key pass.new.seat.me.0.pools.stored) mine.now.leaf theirs.now.leaf (level + 1) (slice_index nodes.now 0) nodes.now }
-    ensures outside { KeepsOutside cells.now.table.shared.key nodes.now pass.old.seat.me.0.pools.stored pass.new.seat.me.0.pools.stored }
+    ensures branch { IsBranch (digits_of H.digest mine.now.key) (digits_of H.digest theirs.now.key) (cell_stored cells.now.table.shared.key pass.new.seat.me.0.pools.stored) mine.now.leaf theirs.now.leaf (point.level + 1) (slice_index nodes.now 0) nodes.now }
+    ensures parents { NameParents (digits_of H.digest mine.now.key) (IsParentStored cells.now.table.shared.key pass.new.seat.me.0.pools.stored) (point.level + 1) point.place nodes.now }
+    ensures outside { KeepsOutside cells.now.table.shared.key (field_count Nodes) nodes.now pass.old.seat.me.0.pools.stored pass.new.seat.me.0.pools.stored }
 {
     if let Some((node, rest)) = nodes.split_first() {
-        let at = digit(mine.hash, &mine.key, level + 1);
+        let at = digit(mine.hash, &mine.key, point.level + 1);
+        cells.store_private(pass, Pool::Nodes, *node, PARENT, place_code(point.place));
         if rest.is_empty() {
-            let other_at = digit(theirs.hash, &theirs.key, level + 1);
+            let other_at = digit(theirs.hash, &theirs.key, point.level + 1);
             fill_node(cells, pass, *node, at, mine.leaf, other_at, theirs.leaf);
         } else {
-            build_branch(cells, pass, rest, level + 1, mine, theirs);
+            let below = Point {
+                place: Place::Node {
+                    node: *node,
+                    digit: at,
+                },
+                level: point.level + 1,
+            };
+            build_branch(cells, pass, rest, below, mine, theirs);
             let next = Cell::Node(rest[0]);
             fill_node(cells, pass, *node, at, next, at, next);
         }
@@ -72,7 +86,7 @@ fn fill_node<L: Law, H: KeyHash>(
     ensures own { IsPassIn cells.now pass.new }
     ensures next { pass.new.seat.me ≡ with_pools pass.old.seat.me (record pass.old.seat.me.0.pools { stored = pass.new.seat.me.0.pools.stored }) }
     ensures cells { (digit : ℕ) → digit < 16 → cell_stored cells.now.table.shared.key pass.new.seat.me.0.pools.stored (Node node digit) ≡ forked_cell mine leaf theirs other digit }
-    ensures outside { KeepsOutside cells.now.table.shared.key (node ∷ []) pass.old.seat.me.0.pools.stored pass.new.seat.me.0.pools.stored }
+    ensures outside { KeepsOutside cells.now.table.shared.key 16 (node ∷ []) pass.old.seat.me.0.pools.stored pass.new.seat.me.0.pools.stored }
 {
     cell_law();
     for digit in 0..NODE_DIGITS {

@@ -53,7 +53,7 @@ pub(crate) fn grow<L: Law, H: KeyHash>(
     let Some(nodes) = take_nodes(rt, cells, pass, parting - point.level) else {
         return Step::Ends(Held::NoNode);
     };
-    build_branch(cells, pass, nodes.as_slice(), point.level, &mine, &theirs);
+    build_branch(cells, pass, nodes.as_slice(), point, &mine, &theirs);
     store_key(cells, pass, wanted.id.slot, wanted.way, &wanted.key);
     lock(rt, cells, pass, point.place.lock());
     let step = hang(cells, pass, wanted, point, other, nodes[0]);

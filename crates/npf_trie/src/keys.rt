@@ -1,11 +1,9 @@
 ghost use Rattle.std.specs.Prelude.{◌≡◌, ◌<◌};
-ghost use Rattle.npf_paths.specs.declared.place.Place.{Place};
 ghost use Rattle.npf_cells_words.specs.Layout.{key_field};
 ghost use Rattle.npf_cells.specs.Cells.{IsPassIn};
 ghost use Rattle.npf_cells_rule.specs.Views.{with_pools};
-ghost use Rattle.npf_cells_holds.specs.PublishKinds.{HasStoredKey, cell_stored};
-ghost use Rattle.npf_cells_words.specs.Places.{IsInTrie};
-ghost use Rattle.npf_trie.specs.Stores.{MayStoreKey};
+ghost use Rattle.npf_cells_holds.specs.PublishKinds.{HasStoredKey};
+ghost use Rattle.npf_trie.specs.Stores.{KeepsNodes, MayStoreKey};
 
 use npf_cells::{CellPass, Cells, Pool};
 use npf_core::Law;
@@ -29,7 +27,7 @@ pub(crate) fn store_key<L: Law, H: KeyHash>(
     ensures own { IsPassIn cells.now pass.new }
     ensures next { pass.new.seat.me ≡ with_pools pass.old.seat.me (record pass.old.seat.me.0.pools { stored = pass.new.seat.me.0.pools.stored }) }
     ensures stores { HasStoredKey cells.now.table.shared.key pass.new.seat.me.0.pools.stored slot way key.now }
-    ensures cells { (p : Place) → IsInTrie cells.now.table.shared.key p → cell_stored cells.now.table.shared.key pass.new.seat.me.0.pools.stored p ≡ cell_stored cells.now.table.shared.key pass.old.seat.me.0.pools.stored p }
+    ensures keeps { KeepsNodes cells.now.table.shared.key pass.old.seat.me.0.pools.stored pass.new.seat.me.0.pools.stored }
 {
     let first = first_key_field(way);
     for word in 0..KEY_WORDS {

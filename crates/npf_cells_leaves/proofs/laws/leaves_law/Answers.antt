@@ -1,5 +1,9 @@
+use Rattle.npf_cells_leaves.proofs.ParentLemmas.{hangs_in_one_place}
 use Rattle.npf_cells_leaves.proofs.StandLemmas.{stands_in_published}
 use Rattle.npf_cells_leaves.proofs.laws.leaves_law.Goals as goal
 
-pub returns : goal.returns
-returns g c = record { stands = stands_in_published }
+pub returns-clause-stands : goal.returns-clause-stands
+returns-clause-stands g c = stands_in_published
+
+pub returns-clause-hangs : goal.returns-clause-hangs
+returns-clause-hangs g c = hangs_in_one_place

@@ -1,3 +1,4 @@
+use Rattle.npf_cells_words.proofs.CodeLemmas.{codes_are_apart, codes_fit}
 use Rattle.npf_cells_words.proofs.WordLemmas.{fields_are_apart, places_are_apart, locks_are_apart}
 use Rattle.npf_cells_words.proofs.laws.words_law.Goals as goal
 
@@ -9,3 +10,9 @@ returns-clause-places c = places_are_apart
 
 pub returns-clause-locks : goal.returns-clause-locks
 returns-clause-locks c = locks_are_apart
+
+pub returns-clause-codes : goal.returns-clause-codes
+returns-clause-codes c = codes_are_apart
+
+pub returns-clause-fit : goal.returns-clause-fit
+returns-clause-fit c = codes_fit

@@ -1,8 +1,10 @@
-use Rattle.std.proofs.Common.{ap, sym, rules, arith, ◌≡◌, length, subst, ◌∙◌, refl, ◌≢◌}
+use Rattle.npf_cells_holds.specs.PublishKinds.{IsParentStored}
+use Rattle.npf_cells_leaves.specs.Trie.{digits_of}
+use Rattle.std.proofs.Common.{◌+◌, ap, sym, rules, arith, ◌≡◌, length, subst, ◌∙◌, refl, ◌≢◌}
 use Rattle.std.specs.Prelude.{Contains, slice_index}
 use Rattle.npf_paths.specs.Places.{lock_of}
 use Rattle.npf_trie.proofs.CountLemmas.{by_pools, by_trie}
-use Rattle.npf_trie.proofs.GrowLemmas.{took_so, took_more, gave_all, parts_below, branch_so, readies, may_still, ends_without, has_grown, owns_still, steps_done, steps_back}
+use Rattle.npf_trie.proofs.GrowLemmas.{took_so, took_more, gave_all, parts_below, branch_so, parents_so, readies, may_still, ends_without, has_grown, owns_still, steps_done, steps_back}
 use Rattle.npf_core.specs.declared.held.Held.{Held}
 use Rattle.npf_trie.specs.declared.step.Step.TheVariants.{Ends}
 use Rattle.npf_trie.specs.HoldKey.{HasGrown}
@@ -33,9 +35,10 @@ pub hang-step-requires-clause-grown : goal.hang-step-requires-clause-grown
 hang-step-requires-clause-grown g c =
     let ready = readies (lock_of c.args.point.place) _ c.args.pass.now.seat.me c.take_nodes.new.pass.seat.me c.build_branch.new.pass.seat.me _ _ c.lock.ensures (took_so c.in-Some-take_nodes.ensures.takes) c.build_branch.ensures.next c.store_key.ensures.next c.lock-2.ensures.gets in
     let branch = branch_so _ _ _ _ _ _ _ _ _ _ c.leaf.ensures c.cell.ensures c.as_slice.ensures.value c.build_branch.ensures.branch in
+    let parents = parents_so (digits_of g.H.KeyHash.digest c.args.wanted.now.key) (IsParentStored c.args.cells.now.table.shared.key c.build_branch.new.pass.seat.me.0.pools.stored) (c.args.point.level + 1) c.args.point.place _ _ c.as_slice.ensures.value c.build_branch.ensures.parents in
     subst (λ n. HasGrown g.L.Law.meaning g.H.KeyHash.digest c.args.cells.now.table.shared.key c.lock-2.new.pass.seat.me.0 c.args.wanted.now c.args.point c.args.other.now n)
     (ap (λ xs. slice_index xs 0) (sym c.deref.ensures.0))
-    (has_grown _ _ _ _ _ _ c.requires.can c.args.other.now _ _ _ _ _ _ _ c.requires.at c.in-Some-take_nodes.ensures.takes ready c.store_key.ensures.stores c.store_key.ensures.cells branch)
+    (has_grown _ _ _ _ _ _ c.requires.can c.args.other.now _ _ _ _ _ _ _ c.requires.at c.in-Some-take_nodes.ensures.takes ready c.store_key.ensures.stores c.store_key.ensures.keeps branch parents)
 
 pub give_all-requires-clause-owned : goal.give_all-requires-clause-owned
 give_all-requires-clause-owned g c =
