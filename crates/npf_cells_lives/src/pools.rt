@@ -26,4 +26,6 @@ pub struct PoolSide {
     pub unstored: LinkedList<u32>,
     /// What it stored in its places since it last gave a node back or published anything for a key, the last first.
     pub stored: LinkedList<StoredWord>,
+    /// The connections that it killed and hasn't let go yet.
+    pub kills: LinkedList<ConnId>,
 }

@@ -16,6 +16,7 @@ use Rattle.npf_connections.specs.Adding.{AddsOwn}
 use Rattle.npf_connections.specs.Answered.{without}
 use Rattle.npf_connections.specs.Entries.{entry_of}
 use Rattle.npf_connections.specs.Pass.{Pass, IsPass, Knows}
+use Rattle.npf_cells_pins.specs.declared.pin.EpochSide.{EpochSide}
 use Rattle.npf_cells_lives.specs.declared.pools.PoolSide.{PoolSide}
 use Rattle.npf_cells_lives.specs.declared.turn.Turn.{Turn}
 use Rattle.npf_cells_lives.specs.Stored.{stored_but}
@@ -79,17 +80,32 @@ act_entries m pass was (Expired id now) = entry_of pass (Acts.Kill id (Reasons.E
 abbrev pub without_build : ConnId → PoolSide → PoolSide
 without_build id side = record side { builds = without id side.builds; stored = stored_but id.slot side.stored }
 
--- a connection that is started or given up isn't built any more
+-- one that the pass killed, and hasn't let go
+abbrev pub with_kill : ConnId → PoolSide → PoolSide
+with_kill id side = record side { kills = id ∷ side.kills }
+
+-- a connection that is started or given up isn't built any more, and one that is given up or has expired is among the pass's kills
 abbrev pub building_after : {S A : Type 0} → TurnAct S A → PoolSide → PoolSide
 building_after Nothing side = side
 building_after (Start id n init) side = without_build id side
 building_after (Steps id n way arg) side = side
-building_after (Abandoned id) side = without_build id side
-building_after (Expired id now) side = side
+building_after (Abandoned id) side = with_kill id (without_build id side)
+building_after (Expired id now) side = with_kill id side
+
+-- who kills forgets the epoch that it loaded: what it lets go later is from before an epoch that it loaded since
+abbrev pub unloaded : EpochSide → EpochSide
+unloaded side = record side { loaded = 0; scanned = []; behind = [] }
+
+abbrev pub epochs_after : {S A : Type 0} → TurnAct S A → EpochSide → EpochSide
+epochs_after Nothing side = side
+epochs_after (Start id n init) side = side
+epochs_after (Steps id n way arg) side = side
+epochs_after (Abandoned id) side = unloaded side
+epochs_after (Expired id now) side = unloaded side
 
 -- the pass after an act: it has seen this history
 abbrev pub acted : {S A R : Type 0} → TurnAct S A → CellView S A R → List (Entry S A R) → CellView S A R
-acted act v history = record v { seats = record v.seats { history = history }; pools = building_after act v.pools; turn = None }
+acted act v history = record v { seats = record v.seats { history = history }; epochs = epochs_after act v.epochs; pools = building_after act v.pools; turn = None }
 
 -- the pass made the act's entry, which ends its history
 pub record HasActed {S A R : Type 0} (m : Meaning S A R) (act : TurnAct S A) (old now : Me (Running S) (CellView S A R)) : Type 0 where

@@ -78,6 +78,7 @@ module _ {S A R F : Type 0} where
     pub nodes : now.0.pools.nodes ≡ old.0.pools.nodes
     pub builds : now.0.pools.builds ≡ old.0.pools.builds
     pub unstored : now.0.pools.unstored ≡ old.0.pools.unstored
+    pub kills : now.0.pools.kills ≡ old.0.pools.kills
     pub turn : now.0.turn ≡ old.0.turn
     pub rest : now.1 ≡ old.1
     pub sweeps : old.0.pools.sweeps ≤ now.0.pools.sweeps
@@ -95,6 +96,7 @@ module _ {S A R F : Type 0} where
     nodes = bc.nodes ∙ ab.nodes;
     builds = bc.builds ∙ ab.builds;
     unstored = bc.unstored ∙ ab.unstored;
+    kills = bc.kills ∙ ab.kills;
     turn = bc.turn ∙ ab.turn;
     rest = bc.rest ∙ ab.rest;
     sweeps = let x = ab.sweeps in let y = bc.sweeps in omega arith;
@@ -106,14 +108,14 @@ module _ {S A R F : Type 0} where
   -- steps that change only what the pass knows of the trie, or what it stored
   pub stays_trie : (old now : Me F (CellView S A R)) (side : TrieSide) → now ≡ with_trie old side → side.published ≡ old.0.trie.published → StaysOn old now
   stays_trie old now side e same = subst (λ (y : Me F (CellView S A R)). StaysOn old y) (sym e) (record {
-    keeps = record { seats = refl; epochs = refl; nodes = refl; builds = refl; unstored = refl; turn = refl; rest = refl; sweeps = omega arith };
+    keeps = record { seats = refl; epochs = refl; nodes = refl; builds = refl; unstored = refl; kills = refl; turn = refl; rest = refl; sweeps = omega arith };
     history = refl;
     published = same;
   })
 
   pub stays_stored : (old now : Me F (CellView S A R)) (words : List StoredWord) → now ≡ with_pools old (record old.0.pools { stored = words }) → StaysOn old now
   stays_stored old now words e = subst (λ (y : Me F (CellView S A R)). StaysOn old y) (sym e) (record {
-    keeps = record { seats = refl; epochs = refl; nodes = refl; builds = refl; unstored = refl; turn = refl; rest = refl; sweeps = omega arith };
+    keeps = record { seats = refl; epochs = refl; nodes = refl; builds = refl; unstored = refl; kills = refl; turn = refl; rest = refl; sweeps = omega arith };
     history = refl;
     published = refl;
   })
@@ -124,7 +126,7 @@ module _ {S A R F : Type 0} where
     record now.0 {
       seats = keeps.seats i;
       epochs = keeps.epochs i;
-      pools = record now.0.pools { nodes = keeps.nodes i; builds = keeps.builds i; unstored = keeps.unstored i };
+      pools = record now.0.pools { nodes = keeps.nodes i; builds = keeps.builds i; unstored = keeps.unstored i; kills = keeps.kills i };
       trie = record now.0.trie { locks = locks i };
       turn = keeps.turn i;
     },
@@ -141,6 +143,7 @@ module _ {S A R F : Type 0} where
     nodes = ap (λ (y : Me F (CellView S A R)). y.0.pools.nodes) is;
     builds = ap (λ (y : Me F (CellView S A R)). y.0.pools.builds) is;
     unstored = ap (λ (y : Me F (CellView S A R)). y.0.pools.unstored) is;
+    kills = ap (λ (y : Me F (CellView S A R)). y.0.pools.kills) is;
     turn = ap (λ (y : Me F (CellView S A R)). y.0.turn) is;
     rest = ap (λ (y : Me F (CellView S A R)). y.1) is;
     sweeps = sweeps;
@@ -210,7 +213,7 @@ module _ {S A R F : Type 0} (m : Meaning S A R) where
     adds = ends.adds;
     legal = subst (λ (ids : List ConnId). IsPass m (record (cell_pass b.0) { answered = ids })) (sym same) ends.legal;
     answered = same ∙ ends.answered;
-    keeps = keeps_after a b (with_trie b side) ends.keeps (record { seats = refl; epochs = refl; nodes = refl; builds = refl; unstored = refl; turn = refl; rest = refl; sweeps = omega arith });
+    keeps = keeps_after a b (with_trie b side) ends.keeps (record { seats = refl; epochs = refl; nodes = refl; builds = refl; unstored = refl; kills = refl; turn = refl; rest = refl; sweeps = omega arith });
   })
 
   answers_so : (layout : Layout) (old now : Me F (CellView S A R)) (id : ConnId) (key : Key) (way : Way) (held : Held) → EndsHold id key way held old now → now.0.trie.locks ≡ old.0.trie.locks → SettlesHold m layout id key way held old now

@@ -150,6 +150,7 @@ module _ {S A R F : Type 0} where
                 nodes = ap (λ (y : Me F (CellView S A R)). y.0.pools.nodes) has.is;
                 builds = ap (λ (y : Me F (CellView S A R)). y.0.pools.builds) has.is;
                 unstored = ap (λ (y : Me F (CellView S A R)). y.0.pools.unstored) has.is;
+                kills = ap (λ (y : Me F (CellView S A R)). y.0.pools.kills) has.is;
                 turn = ap (λ (y : Me F (CellView S A R)). y.0.turn) has.is;
                 rest = ap (λ (y : Me F (CellView S A R)). y.1) has.is;
                 sweeps = let e : b.0.pools.sweeps ≡ a.0.pools.sweeps = ap (λ (y : Me F (CellView S A R)). y.0.pools.sweeps) has.is in omega arith;
@@ -212,6 +213,7 @@ module _ {S A R F : Type 0} where
           nodes = ap (λ (y : Me F (CellView S A R)). y.0.pools.nodes) held.is ∙ (ap (nodes_but held.nodes) none ∙ sym none);
           builds = ap (λ (y : Me F (CellView S A R)). y.0.pools.builds) held.is;
           unstored = ap (λ (y : Me F (CellView S A R)). y.0.pools.unstored) held.is;
+          kills = ap (λ (y : Me F (CellView S A R)). y.0.pools.kills) held.is;
           turn = ap (λ (y : Me F (CellView S A R)). y.0.turn) held.is;
           rest = ap (λ (y : Me F (CellView S A R)). y.1) held.is;
           sweeps = let e : b.0.pools.sweeps ≡ a.0.pools.sweeps = ap (λ (y : Me F (CellView S A R)). y.0.pools.sweeps) held.is in omega arith;
