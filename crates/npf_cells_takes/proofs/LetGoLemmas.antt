@@ -19,7 +19,7 @@ use Rattle.npf_core.proofs.EqualityLemmas.{same_conn_id}
 use Rattle.npf_cells_words.specs.declared.layout.Layout.{Layout}
 use Rattle.npf_cells_words.specs.declared.layout.Pool.{Pool}
 use Rattle.npf_cells_words.specs.declared.layout.Pool.TheVariants.{Slots, Nodes}
-use Rattle.npf_cells_words.specs.Layout.{turn_field, phase_field, inc_field, notes_field, key_field, field_at, field_count, pool_places, epoch_word}
+use Rattle.npf_cells_words.specs.Layout.{turn_field, phase_field, inc_field, parent_field, notes_field, key_field, field_at, field_count, pool_places, epoch_word}
 use Rattle.npf_cells_words.specs.Places.{lock_at, place_at}
 use Rattle.npf_cells_words.proofs.WordLemmas.{field_behind, field_reach, key_short, not_slot, slot_apart}
 use Rattle.npf_seats.specs.Sums.{occurs, others_than}
@@ -187,6 +187,7 @@ module _ {S A R : Type 0} (m : Meaning S A R) (digest : Key → ℕ) (layout : L
       holder = λ key. refl;
       claimed = λ i c. c;
       cells = λ digits are level p on. cell_kept layout s.words ws p (λ inside. else' (place_at layout p) (λ e. slot_apart layout p slot notes_field inside (sym e)));
+      parents = λ digits level p node are on is. else' (field_at layout Nodes node parent_field) (λ e. absurd (let in' = (kept.trie.nodes digits level p node are on is).exists in omega (arith, in', e)));
       keys = λ p way right. λ i. record { 0 = key_same p way 0 (omega arith) i ∷ key_same p way 1 (omega arith) i ∷ key_same p way 2 (omega arith) i ∷ key_same p way 3 (omega arith) i ∷ key_same p way 4 (omega arith) i ∷ [] };
       incs = λ p way right. else' (field_at layout Slots p inc_field) (λ e. absurd (omega (arith, e)));
     }
