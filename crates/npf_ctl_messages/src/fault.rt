@@ -27,6 +27,11 @@ pub enum CommandFault {
         file: Text,
         most: u64,
     },
+    /// The saved connections of the file aren't loaded.
+    Saved {
+        file: Text,
+        fault: SavedRefusal,
+    },
     /// The file is no capture.
     Capture {
         file: Text,
@@ -100,6 +105,19 @@ impl LineFault {
     }
 }
 
+/// Why the saved connections of a file aren't loaded. Lines are counted from 1.
+#[derive(Clone, Copy, Debug, PartialEq, Eq)]
+pub enum SavedRefusal {
+    /// The first line that is bad: it isn't one of such a file, or may not stand where it does.
+    BadSaved(u32),
+    /// The first line that has another interface than the run, or where one is missing.
+    OtherInterfaces(u32),
+    /// So many connections are listed, more than the table has slots.
+    TooManySaved(u64),
+    /// The table had no node for a key.
+    SavedNoNode,
+}
+
 /// What a run may have only so many of.
 #[derive(Clone, Copy, Debug, PartialEq, Eq)]
 pub enum Quantity {
@@ -124,6 +142,7 @@ impl CommandFault {
             CommandFault::Configuration { .. } => 3,
             CommandFault::Unread { .. } => 4,
             CommandFault::Unwritten { .. } | CommandFault::OutputUnwritten => 5,
+            CommandFault::Saved { .. } => 6,
             CommandFault::Capture { .. } => 7,
             CommandFault::Line { .. } => 8,
             CommandFault::Long { .. } | CommandFault::Many { .. } => 9,
