@@ -9,9 +9,6 @@ use std::alloc::Global;
 pub fn interface_names(alloc: Global, ifaces: &Ifaces) -> Result<Vec<Name>, NoMemory>
     ensures { IfOk result (λ names. names.items ≡ interface_names ifaces.now.list) }
 {
-    let mut names = Vec::new(alloc);
-    for iface in ifaces.list.as_slice() {
-        names.push(iface.name)?;
-    }
-    Ok(names)
+    let ifaces = ifaces.list.as_slice();
+    Ok(ifaces.iter().map(|iface| iface.name).collect(alloc)?)
 }
