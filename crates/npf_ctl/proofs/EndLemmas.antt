@@ -14,7 +14,7 @@ use Rattle.npf_ctl_output.specs.Report.{report_text}
 use Rattle.npf_connections.specs.Pass.{Pass}
 use Rattle.npf_connsave.specs.Loading.{StaysSole}
 use Rattle.npf_ctl_prepare.specs.Prepares.{RunPlan, PreparesRun}
-use Rattle.npf_ctl_saved.specs.Loading.{BeginsWith, interface_names}
+use Rattle.npf_ctl_saved.specs.Loading.{BeginsLoaded, interface_names}
 use Rattle.npf_traffic.specs.declared.packet.Packet.{Packet}
 use Rattle.npf_ctl_words.specs.declared.command.Command.{Command}
 use Rattle.npf_ctl_words.specs.declared.command.Command.TheVariants.{Run}
@@ -63,7 +63,7 @@ module _ (words : List (List ℕ)) (before after : Moment) where
   pub record Starts (run : RunWords) (plan : RunPlan) (begun : Pass FlowEntry) : Type 0 where
     pub prepared : PreparesRun before.files after.files (names_of_run run) (Ok plan)
     pub same : StaysSole before.pass begun
-    pub begins : BeginsWith before.files after.files (given_text run.load) (interface_names plan.ifaces) before.pass begun
+    pub begins : BeginsLoaded before.files after.files (given_text run.load) (interface_names plan.ifaces) before.pass begun
 
   module _ (run : RunWords) (plan : RunPlan) (said : SaysCommand words (Run run)) where
     -- a plan wasn't reported

@@ -8,7 +8,7 @@ use Rattle.npf_packet.specs.declared.extent.IpExtent.{IpExtent}
 use Rattle.npf_ctl_output.specs.Extents.{AreExtentsOf}
 use Rattle.npf_traffic.specs.declared.packet.Packet.{Packet}
 use Rattle.npf_outside.proofs.SinkLemmas.{Appends-nothing, IsPutTo-stops}
-use Rattle.npf_ctl_output.specs.Writing.{HasReadOn, KeepsOthers}
+use Rattle.npf_ctl_output.specs.Writing.{HasReadOn, KeepsUnnamed}
 use Rattle.npf_ctl.specs.Faults.{IsUntouched}
 use Rattle.npf_ctl.specs.Running.{Moment}
 use Rattle.npf_ctl.specs.Top.{KeepsOtherFiles, NamesOutput}
@@ -49,7 +49,7 @@ module _ (words : List (List ℕ)) where
   same_keeps (Some old) None same = absurd same
 
   -- files of which the one that is written, if any is, was named
-  pub keeps_by : (given : Option (List ℕ)) → ((name : List ℕ) → given ≡ Some name → NamesOutput words name) → (old new : Option Tree) → KeepsOthers given old new →
+  pub keeps_by : (given : Option (List ℕ)) → ((name : List ℕ) → given ≡ Some name → NamesOutput words name) → (old new : Option Tree) → KeepsUnnamed given old new →
       KeepsOtherFiles words old new
   keeps_by None names old new same = same_keeps old new same
   keeps_by (Some file) names None None others = tt
@@ -74,13 +74,13 @@ same_through None (Some now) new one two = absurd one
 same_through (Some old) None new one two = absurd one
 same_through (Some old) (Some now) None one two = absurd two
 
-pub keeps_itself : (given : Option (List ℕ)) (contents : Option Tree) → KeepsOthers given contents contents
+pub keeps_itself : (given : Option (List ℕ)) (contents : Option Tree) → KeepsUnnamed given contents contents
 keeps_itself None contents = same_as_itself contents
 keeps_itself (Some file) None = tt
 keeps_itself (Some file) (Some tree) = λ other not. refl
 
 -- a file has its bytes while another is written
-pub has_on : (given : Option (List ℕ)) (now new : Option Tree) (name bytes : List ℕ) → KeepsOthers given now new → given ≢ Some name → Has now name bytes → Has new name bytes
+pub has_on : (given : Option (List ℕ)) (now new : Option Tree) (name bytes : List ℕ) → KeepsUnnamed given now new → given ≢ Some name → Has now name bytes → Has new name bytes
 has_on given now None name bytes others not has = tt
 has_on None (Some now) (Some new) name bytes others not has = others name ∙ has
 has_on (Some file) (Some now) (Some new) name bytes others not has = others name (λ e. not (ap Some (sym e))) ∙ has

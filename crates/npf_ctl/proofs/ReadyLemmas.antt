@@ -17,8 +17,8 @@ use Rattle.npf_engine.specs.Histories.{FlowEntry, carries}
 use Rattle.npf_outside.specs.Files.{FilesMoment}
 use Rattle.npf_runner.specs.Plays.{IsUnnumbered}
 use Rattle.npf_saved.specs.declared.saved.Saved.{Saved}
-use Rattle.npf_ctl_saved.specs.Loading.{BeginsWith}
-use Rattle.npf_ctl.specs.Ends.{IsFresh, IsReady}
+use Rattle.npf_ctl_saved.specs.Loading.{BeginsLoaded}
+use Rattle.npf_ctl.specs.Ends.{IsFresh, MayBegin}
 use Rattle.npf_ctl.proofs.EndLemmas.{unnumbered_first}
 
 -- the entry carries the number of no packet
@@ -44,7 +44,7 @@ all_of_none seat (one ∷ made) = All-append IsOfNone (load_entries seat one.0 o
 
 module _ (old begun : Pass FlowEntry) (fresh : IsFresh old) (same : StaysSole old begun) where
   -- a new table with the connections of a file, or without any, has entries of no packet
-  pub ready : (before after : FilesMoment) (load : Option (List ℕ)) (names : List Name) → BeginsWith before after load names old begun → IsReady begun
+  pub ready : (before after : FilesMoment) (load : Option (List ℕ)) (names : List Name) → BeginsLoaded before after load names old begun → MayBegin begun
   ready before after None names begins = record {
     places = same.places ∙ fresh.places;
     unnumbered = λ last. unnumbered_first last begun.history (subst (λ (pass : Pass FlowEntry). pass.history ≡ []) (sym begins) fresh.first);

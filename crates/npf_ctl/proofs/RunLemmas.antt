@@ -11,7 +11,7 @@ use Rattle.npf_outside.specs.Sink.{SinkMoment}
 use Rattle.npf_ctl_messages.specs.declared.fault.CommandFault.{CommandFault}
 use Rattle.npf_ctl_messages.specs.declared.fault.CommandFault.TheVariants.{NoMemory, Unwritten}
 use Rattle.npf_ctl_input.specs.Unless.{IfTold}
-use Rattle.npf_ctl_output.specs.Writing.{IsUnwritten, KeepsOthers}
+use Rattle.npf_ctl_output.specs.Writing.{IsUnwritten, KeepsUnnamed}
 use Rattle.npf_ctl_prepare.specs.Prepares.{PreparesRun, RunPlan}
 use Rattle.npf_ctl_saved.specs.Loading.{FailsLoad, interface_names}
 use Rattle.npf_traffic.specs.declared.packet.Packet.{Packet}
@@ -63,13 +63,13 @@ module _ (words : List (List ℕ)) (before after : Moment) (run : RunWords) (sai
           (unwritten_since before.files read after.files name reads.write_faults reads.contents fault why)
 
       module _ (read mid : FilesMoment) (reads : OnlyReads before.files read) (faultless : mid.write_faults ≡ read.write_faults)
-          (wrote : KeepsOthers (given_text run.output) read.contents mid.contents)
+          (wrote : KeepsUnnamed (given_text run.output) read.contents mid.contents)
           (follows : FollowsPlan run plan begun after.pass before.out after.out mid) where
         reports : IsReported run before after plan follows.outputs follows.outcomes
         reports = reports_of follows.outputs follows.outcomes follows.reports
 
         -- what was written stays while the connections are saved to another file
-        passed_on : KeepsOthers (given_text run.save) mid.contents after.files.contents → WritesPassed run after.files plan follows.outputs follows.outcomes
+        passed_on : KeepsUnnamed (given_text run.save) mid.contents after.files.contents → WritesPassed run after.files plan follows.outputs follows.outcomes
         passed_on others = by (given_text run.output) follows.written where
           by : (given : Option (List ℕ)) → IfSome given (IsWrittenTo mid plan.packets follows.outputs follows.outcomes) →
               IfSome given (λ name. given_text run.save ≢ Some name → IsWrittenTo after.files plan.packets follows.outputs follows.outcomes name)
@@ -84,7 +84,7 @@ module _ (words : List (List ℕ)) (before after : Moment) (run : RunWords) (sai
         rose_since = subst (λ (faults : ℕ). Rose faults after.files.write_faults) (faultless ∙ reads.write_faults)
 
         -- the connections weren't saved
-        unsaved : KeepsOthers (given_text run.save) mid.contents after.files.contents → (name : List ℕ) → given_text run.save ≡ Some name → (fault : CommandFault) →
+        unsaved : KeepsUnnamed (given_text run.save) mid.contents after.files.contents → (name : List ℕ) → given_text run.save ≡ Some name → (fault : CommandFault) →
             IsUnwritten mid after.files name fault → MeetsFault words before after fault
         unsaved others name named (Unwritten file) why =
             subst (λ (n : List ℕ). MeetsFault words before after (Unwritten n)) (sym why.0)
@@ -94,7 +94,7 @@ module _ (words : List (List ℕ)) (before after : Moment) (run : RunWords) (sai
 
           kept : (given : Option (List ℕ)) → given_text run.output ≡ given → SameFiles mid.contents after.files.contents → MeetsFault words before after NoMemory
           kept None is same =
-              let first = subst (λ (o : Option (List ℕ)). KeepsOthers o read.contents mid.contents) is wrote in
+              let first = subst (λ (o : Option (List ℕ)). KeepsUnnamed o read.contents mid.contents) is wrote in
               MeetsFault.in_memory (inr front) (inl (inl (same_through before.files.contents mid.contents after.files.contents
               (subst (λ contents. SameFiles contents mid.contents) reads.contents first) same)))
           kept (Some output) is same = MeetsFault.in_memory (inr front) (inr (record {
@@ -113,7 +113,7 @@ module _ (words : List (List ℕ)) (before after : Moment) (run : RunWords) (sai
         unsaved others name named _ why = absurd why
 
         -- the connections were saved, where a file is named for them, or weren't
-        pub saving_ends : KeepsOthers (given_text run.save) mid.contents after.files.contents → (result : Result (Unit {0}) CommandFault) →
+        pub saving_ends : KeepsUnnamed (given_text run.save) mid.contents after.files.contents → (result : Result (Unit {0}) CommandFault) →
             OnOk result (IfSome (given_text run.save) (IsSavedTo after.files after.pass (interface_names plan.ifaces))) →
             IfErr result (FailsSave (given_text run.save) mid after.files) → EndsIn words before after result
         saving_ends others (Ok u) saved fails = (record {

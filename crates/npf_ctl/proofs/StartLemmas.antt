@@ -16,7 +16,7 @@ use Rattle.npf_ctl_input.specs.Laws.{FilesAreOfContents, IsOfContents}
 use Rattle.npf_ctl_messages.specs.declared.fault.CommandFault.{CommandFault}
 use Rattle.npf_ctl_prepare.specs.Laws.{RunsAreOfContents}
 use Rattle.npf_ctl_prepare.specs.Prepares.{PreparesRun, RunNames, RunPlan}
-use Rattle.npf_ctl_saved.specs.Loading.{BeginsWith, LacksNode, ListsConnections, ReadsConnections, interface_names}
+use Rattle.npf_ctl_saved.specs.Loading.{BeginsLoaded, LacksNode, ListsConnections, ReadsConnections, interface_names}
 use Rattle.npf_ctl.specs.Running.{PlaysRun}
 use Rattle.npf_ctl.specs.Starting.{StartsRun}
 
@@ -25,7 +25,7 @@ pub started : (names : RunNames) (load : Option (List ℕ)) (workers : ℕ) (spr
     (outputs : List Packet) (outcomes : List Outcome) → PlaysRun names load workers spread before after old new plan outputs outcomes →
     StartsRun before after names load old.slots (Ok plan)
 started names load workers spread before after old new plan outputs outcomes plays = goes_on plays.prepared (by load plays.begins) where
-  by : (given : Option (List ℕ)) → BeginsWith before after given (interface_names plan.ifaces) old plays.begun →
+  by : (given : Option (List ℕ)) → BeginsLoaded before after given (interface_names plan.ifaces) old plays.begun →
       (ReadsConnections before after given (interface_names plan.ifaces) old.slots andthen (λ conns. gives plan)) (Ok plan)
   by None begins = goes_on refl refl
   by (Some file) begins = goes_on (goes_on begins.reads (ListsConnections.listed begins.loads.may)) refl

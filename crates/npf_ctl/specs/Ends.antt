@@ -33,7 +33,7 @@ pub record IsFresh (pass : Pass FlowEntry) : Type 0 where
   pub first : pass.history ≡ []
 
 -- a pass that owns all of its table, whose history has entries of no packet
-pub record IsReady (pass : Pass FlowEntry) : Type 0 where
+pub record MayBegin (pass : Pass FlowEntry) : Type 0 where
   pub places : pass.places ≡ all_places
   pub unnumbered : (last : ℕ) → IsUnnumbered last pass.history
 

@@ -18,7 +18,7 @@ use Rattle.npf_connsave.specs.Saving.{IsSavedText}
 use Rattle.npf_ctl_prepare.specs.Prepares.{RunPlan, PreparesRun, RunNames}
 use Rattle.npf_ctl_output.specs.Report.{report_text}
 use Rattle.npf_ctl_output.specs.Written.{AreWritten}
-use Rattle.npf_ctl_saved.specs.Loading.{BeginsWith, interface_names}
+use Rattle.npf_ctl_saved.specs.Loading.{BeginsLoaded, interface_names}
 use Rattle.npf_ctl_words.specs.declared.command.Run.{Run}
 use Rattle.npf_ctl_words.specs.CommandLine.{given_text}
 use Rattle.npf_ctl.specs.Commands.{names_of_run, spread_said}
@@ -39,7 +39,7 @@ pub record PlaysRun (names : RunNames) (load : Option (List ℕ)) (workers : ℕ
   pub prepared : PreparesRun before after names (Ok plan)
   pub begun : Pass FlowEntry
   pub same : StaysSole old begun
-  pub begins : BeginsWith before after load (interface_names plan.ifaces) old begun
+  pub begins : BeginsLoaded before after load (interface_names plan.ifaces) old begun
   pub played : PlaysPhases plan.configs workers spread begun new plan.phases plan.packets outputs outcomes
 
 -- a run's words were followed so

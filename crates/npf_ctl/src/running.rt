@@ -9,7 +9,7 @@ ghost use Rattle.npf_runner.specs.Plays.{PlaysPhases};
 ghost use Rattle.npf_ctl_output.specs.Extents.{AreExtentsOf, EndsInPacket};
 ghost use Rattle.npf_ctl_output.specs.Outputs.{AreOutputsOf};
 ghost use Rattle.npf_ctl_output.specs.Report.{report_text};
-ghost use Rattle.npf_ctl_output.specs.Writing.{HasReadOn, IsUnwritten, KeepsOthers};
+ghost use Rattle.npf_ctl_output.specs.Writing.{HasReadOn, IsUnwritten, KeepsUnnamed};
 ghost use Rattle.npf_ctl_prepare.specs.Playable.{IsPlayable};
 ghost use Rattle.npf_ctl_prepare.specs.View.{run_plan_of};
 ghost use Rattle.npf_ctl_words.specs.declared.command.Command.{Command as CommandType};
@@ -18,7 +18,7 @@ ghost use Rattle.npf_ctl_messages.specs.declared.fault.CommandFault.{CommandFaul
 ghost use Rattle.npf_ctl.specs.Commands.{spread_said};
 ghost use Rattle.npf_connections.specs.Stay.{IsLater, IsOut};
 ghost use Rattle.npf_flow.specs.Flows.{flow_law};
-ghost use Rattle.npf_ctl.specs.Ends.{EndsIn, FailsPlan, FailsReport, FollowsPlan, IsFresh, IsReady};
+ghost use Rattle.npf_ctl.specs.Ends.{EndsIn, FailsPlan, FailsReport, FollowsPlan, IsFresh, MayBegin};
 ghost use Rattle.npf_ctl.specs.Running.{IsWrittenTo, moment};
 ghost use Rattle.npf_ctl.specs.Top.{KeepsOtherFiles};
 
@@ -88,13 +88,13 @@ fn run_prepared<R: Threads + Wait + Sync, F: Files, O: Sink, C: Connections<Flow
     gate: &G,
 ) -> Result<(), CommandFault>
     requires out { IsOut flow_law (C.fits conns.now) C.view pass.old }
-    requires ready { IsReady (C.view pass.old) }
+    requires ready { MayBegin (C.view pass.old) }
     requires workers { (1 ≤ words.workers) × (words.workers ≤ 64) }
     requires playable { IsPlayable prepared }
     ensures done { OnOk result (FollowsPlan words.entry (run_plan_of prepared.entry) (C.view pass.old) (C.view pass.new) (O.moment out.old) (O.moment out.new) (F.moment files.new)) }
     ensures fails { IfErr result (FailsPlan words.entry (run_plan_of prepared.entry) (C.view pass.old) (C.view pass.new) (O.moment out.old) (O.moment out.new)
         (F.moment files.old) (F.moment files.new)) }
-    ensures others { KeepsOthers (given_text words.output) (F.moment files.old).contents (F.moment files.new).contents }
+    ensures others { KeepsUnnamed (given_text words.output) (F.moment files.old).contents (F.moment files.new).contents }
     ensures reads { HasReadOn (F.moment files.old) (F.moment files.new) }
     ensures faultless { OnOk result ((F.moment files.new).write_faults ≡ (F.moment files.old).write_faults) }
     ensures out { IsOut flow_law (C.fits conns.now) C.view pass.new }
@@ -125,7 +125,7 @@ fn report_run<'a, R: Threads + Wait + Sync, O: Sink, C: Connections<FlowLaw>, G:
     gate: &G,
 ) -> Result<Played<'a>, CommandFault>
     requires out { IsOut flow_law (C.fits conns.now) C.view pass.old }
-    requires ready { IsReady (C.view pass.old) }
+    requires ready { MayBegin (C.view pass.old) }
     requires workers { (1 ≤ words.workers) × (words.workers ≤ 64) }
     requires playable { IsPlayable prepared }
     ensures played { IfOk result (λ played. PlaysPhases (run_plan_of prepared.entry).configs words.entry.workers (spread_said words.entry.spread)

@@ -4,7 +4,7 @@ ghost use Rattle.npf_connections.specs.Pass.{all_places};
 ghost use Rattle.npf_connections.specs.Stay.{IsOut};
 ghost use Rattle.npf_ctl.specs.Ends.{FailsSave};
 ghost use Rattle.npf_ctl.specs.Running.{IsSavedTo};
-ghost use Rattle.npf_ctl_output.specs.Writing.{HasReadOn, IsUnwritten, KeepsOthers};
+ghost use Rattle.npf_ctl_output.specs.Writing.{HasReadOn, IsUnwritten, KeepsUnnamed};
 ghost use Rattle.npf_flow.specs.Flows.{flow_law};
 ghost use Rattle.npf_outside.specs.Files.{SameOthers};
 
@@ -33,7 +33,7 @@ pub(crate) fn save_connections<R: Wait, F: Files, C: Connections<FlowLaw>>(
     requires sole { (C.view pass.old).places ≡ all_places }
     ensures saved { OnOk result (IfSome (option_map (λ name. name.now) file) (IsSavedTo (F.moment files.new) (C.view pass.old) names.now)) }
     ensures fails { IfErr result (FailsSave (option_map (λ name. name.now) file) (F.moment files.old) (F.moment files.new)) }
-    ensures others { KeepsOthers (option_map (λ name. name.now) file) (F.moment files.old).contents (F.moment files.new).contents }
+    ensures others { KeepsUnnamed (option_map (λ name. name.now) file) (F.moment files.old).contents (F.moment files.new).contents }
     ensures reads { HasReadOn (F.moment files.old) (F.moment files.new) }
     ensures out { IsOut flow_law (C.fits conns.now) C.view pass.new }
     ensures same { C.view pass.new ≡ C.view pass.old }

@@ -17,6 +17,6 @@ IsUnwritten before after name NoMemory = SameFiles before.contents after.content
 IsUnwritten before after name _ = ⊥
 
 -- every file is as before but the one of this name, if there is one
-abbrev pub KeepsOthers : Option (List ℕ) → Option Tree → Option Tree → Type 0
-KeepsOthers None old new = SameFiles old new
-KeepsOthers (Some name) old new = SameOthers old new name
+abbrev pub KeepsUnnamed : Option (List ℕ) → Option Tree → Option Tree → Type 0
+KeepsUnnamed None old new = SameFiles old new
+KeepsUnnamed (Some name) old new = SameOthers old new name

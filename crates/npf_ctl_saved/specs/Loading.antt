@@ -42,15 +42,15 @@ module _ (before after : FilesMoment) where
   ReadsConnections (Some file) names slots = ReadsFile before after file MAX_SAVED_BYTES andthen ListsConnections names slots file
 
   -- the connections of the file were put into the new table, and nothing else
-  pub record LoadsFile (file : List ℕ) (names : List Name) (old new : View) : Type 0 where
+  pub record LoadsConnections (file : List ℕ) (names : List Name) (old new : View) : Type 0 where
     pub text : List ℕ
     pub reads : ReadsFile before after file MAX_SAVED_BYTES (Ok text)
     pub loads : LoadsSaved names text old new
 
   -- the table begins with the connections of the file, or is as it was where there is none
-  abbrev pub BeginsWith : Option (List ℕ) → List Name → View → View → Type 0
-  BeginsWith None names old new = new ≡ old
-  BeginsWith (Some file) names old new = LoadsFile file names old new
+  abbrev pub BeginsLoaded : Option (List ℕ) → List Name → View → View → Type 0
+  BeginsLoaded None names old new = new ≡ old
+  BeginsLoaded (Some file) names old new = LoadsConnections file names old new
 
   -- the text of this file may be loaded, but the table had no node for a key of one of its connections
   pub record LacksNode (file : List ℕ) (names : List Name) (old new : View) : Type 0 where

@@ -6,7 +6,7 @@ ghost use Rattle.npf_connsave.specs.Loading.{StaysSole};
 ghost use Rattle.npf_config.specs.Reading.{OnlyReads};
 ghost use Rattle.npf_ctl_input.specs.Around.{Around};
 ghost use Rattle.npf_ctl_input.specs.Unless.{IfTold};
-ghost use Rattle.npf_ctl_saved.specs.Loading.{BeginsWith, FailsLoad, LoadsFile, told_saved};
+ghost use Rattle.npf_ctl_saved.specs.Loading.{BeginsLoaded, FailsLoad, LoadsConnections, told_saved};
 ghost use Rattle.npf_flow.specs.Flows.{flow_law};
 ghost use Rattle.npf_outside.specs.Files.{FilesMoment};
 
@@ -39,7 +39,7 @@ pub fn load_connections<R: Wait, F: Files, C: Connections<FlowLaw>>(
     requires sole { (C.view pass.old).places ≡ all_places }
     requires new { (C.view pass.old).history ≡ [] }
     ensures begins { (before after : FilesMoment) → Around before (F.moment files.old) (F.moment files.new) after
-        → OnOk result (BeginsWith before after (option_map (λ name. name.now) file) names.now (C.view pass.old) (C.view pass.new)) }
+        → OnOk result (BeginsLoaded before after (option_map (λ name. name.now) file) names.now (C.view pass.old) (C.view pass.new)) }
     ensures fails { (before after : FilesMoment) → Around before (F.moment files.old) (F.moment files.new) after
         → IfErr result (IfTold (FailsLoad before after (option_map (λ name. name.now) file) names.now (C.view pass.old) (C.view pass.new))) }
     ensures reads { OnlyReads (F.moment files.old) (F.moment files.new) }
@@ -65,7 +65,7 @@ fn load_file<R: Wait, F: Files, C: Connections<FlowLaw>>(
     requires sole { (C.view pass.old).places ≡ all_places }
     requires new { (C.view pass.old).history ≡ [] }
     ensures begins { (before after : FilesMoment) → Around before (F.moment files.old) (F.moment files.new) after
-        → OnOk result (LoadsFile before after file.now names.now (C.view pass.old) (C.view pass.new)) }
+        → OnOk result (LoadsConnections before after file.now names.now (C.view pass.old) (C.view pass.new)) }
     ensures fails { (before after : FilesMoment) → Around before (F.moment files.old) (F.moment files.new) after
         → IfErr result (IfTold (FailsLoad before after (Some file.now) names.now (C.view pass.old) (C.view pass.new))) }
     ensures reads { OnlyReads (F.moment files.old) (F.moment files.new) }

@@ -5,7 +5,7 @@ use Rattle.npf_connections.proofs.SaidLemmas.{later_more}
 use Rattle.npf_ctl_input.proofs.AroundLemmas.{around_first, around_next}
 use Rattle.npf_ctl_messages.specs.declared.fault.CommandFault.TheVariants.{NoMemory}
 use Rattle.npf_ctl_prepare.specs.View.{run_plan_of}
-use Rattle.npf_ctl_saved.specs.Loading.{BeginsWith, FailsLoad, interface_names}
+use Rattle.npf_ctl_saved.specs.Loading.{BeginsLoaded, FailsLoad, interface_names}
 use Rattle.npf_ctl_input.specs.Unless.{IfTold}
 use Rattle.npf_ctl_words.specs.CommandLine.{given_text}
 use Rattle.npf_ctl.specs.Faults.{MeetsFault}
@@ -81,7 +81,7 @@ returns-in_err-run_prepared-clause-ends g c =
     rw same (λ texts said. run_unfollowed texts before after c.args.words said plan begun (record {
       prepared = c.in_ok-prepared.ensures.comes first last (around_first first first read loaded last whole c.load_connections.ensures.reads);
       same = c.load_connections.ensures.same;
-      begins = subst (λ (n : List Name). BeginsWith first last (given_text c.args.words.load) n old begun) names
+      begins = subst (λ (n : List Name). BeginsLoaded first last (given_text c.args.words.load) n old begun) names
           (c.in_ok-load_connections.ensures.begins first last (around_next first first read loaded last whole c.prepare_run.ensures.reads));
     }) loaded reads fault c.in_err-run_prepared.ensures.fails)
 
@@ -123,7 +123,7 @@ returns-clause-ends g c = λ texts said.
     (saving_ends texts before after c.args.words said plan begun (record {
       prepared = c.in_ok-prepared.ensures.comes first last (around_first first first read loaded last whole c.load_connections.ensures.reads);
       same = c.load_connections.ensures.same;
-      begins = subst (λ (n : List Name). BeginsWith first last (given_text c.args.words.load) n old begun) names
+      begins = subst (λ (n : List Name). BeginsLoaded first last (given_text c.args.words.load) n old begun) names
           (c.in_ok-load_connections.ensures.begins first last (around_next first first read loaded last whole c.prepare_run.ensures.reads));
     }) loaded mid reads c.in_ok-run_prepared.ensures.faultless c.run_prepared.ensures.others c.in_ok-run_prepared.ensures.done
     c.save_connections.ensures.others c.save_connections.result (rw (sym again) c.save_connections.ensures.saved) c.save_connections.ensures.fails)

@@ -3,7 +3,7 @@ use Rattle.std.proofs.lemmas.Slice.Zip.{AllZip-long}
 use Rattle.npf_outside.specs.Files.{SameOthers}
 use Rattle.npf_ctl_messages.specs.declared.fault.CommandFault.TheVariants.{NoMemory}
 use Rattle.npf_ctl_output.specs.Extents.{IsExtentOf}
-use Rattle.npf_ctl_output.specs.Writing.{KeepsOthers}
+use Rattle.npf_ctl_output.specs.Writing.{KeepsUnnamed}
 use Rattle.npf_ctl_output.proofs.OutputLemmas.{counts_of_outputs, outputs_have_time}
 use Rattle.npf_ctl_prepare.specs.View.{run_plan_of}
 use Rattle.npf_ctl_words.specs.CommandLine.{given_text}
@@ -74,4 +74,4 @@ returns-clause-fails g c =
 pub returns-clause-others : goal.returns-clause-others
 returns-clause-others g c =
     let named : given_text c.args.words.output ≡ Some c.in-Some.name.now = search rules in
-    subst (λ (o : Option (List ℕ)). KeepsOthers o (g.F.Files.moment c.args.files.now).contents (g.F.Files.moment c.write_passed.new.files).contents) (sym named) c.write_passed.ensures.others
+    subst (λ (o : Option (List ℕ)). KeepsUnnamed o (g.F.Files.moment c.args.files.now).contents (g.F.Files.moment c.write_passed.new.files).contents) (sym named) c.write_passed.ensures.others
