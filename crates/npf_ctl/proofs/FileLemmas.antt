@@ -2,7 +2,7 @@
 use Rattle.std.proofs.Common.{◌≡◌, ◌≢◌, ◌∙◌, ℕ, List, [], Option, Some, None, refl, sym, ap, subst, arith, append-nil}
 use Rattle.npf_config.specs.Reading.{OnlyReads}
 use Rattle.npf_ctl_input.specs.Around.{Around}
-use Rattle.npf_outside.specs.Files.{FilesMoment, Has, SameFiles, Tree}
+use Rattle.npf_outside.specs.Files.{FilesMoment, Has, SameFiles, SameOthers, Tree}
 use Rattle.npf_outside.specs.Sink.{Appends, AppendsFront, SinkMoment}
 use Rattle.npf_packet.specs.declared.extent.IpExtent.{IpExtent}
 use Rattle.npf_ctl_output.specs.Extents.{AreExtentsOf}
@@ -74,10 +74,13 @@ same_through None (Some now) new one two = absurd one
 same_through (Some old) None new one two = absurd one
 same_through (Some old) (Some now) None one two = absurd two
 
+pub others_itself : (contents : Option Tree) (file : List ℕ) → SameOthers contents contents file
+others_itself None file = tt
+others_itself (Some tree) file = λ other not. refl
+
 pub keeps_itself : (given : Option (List ℕ)) (contents : Option Tree) → KeepsUnnamed given contents contents
 keeps_itself None contents = same_as_itself contents
-keeps_itself (Some file) None = tt
-keeps_itself (Some file) (Some tree) = λ other not. refl
+keeps_itself (Some file) contents = others_itself contents file
 
 -- a file has its bytes while another is written
 pub has_on : (given : Option (List ℕ)) (now new : Option Tree) (name bytes : List ℕ) → KeepsUnnamed given now new → given ≢ Some name → Has now name bytes → Has new name bytes

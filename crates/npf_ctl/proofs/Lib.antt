@@ -7,4 +7,5 @@ pub mod ListingLemmas
 pub mod LookLemmas
 pub mod ReadyLemmas
 pub mod RunLemmas
+pub mod SaveLemmas
 pub mod StartLemmas

@@ -20,7 +20,7 @@ use Rattle.npf_ctl_words.specs.declared.command.Run.{Run as RunWords}
 use Rattle.npf_ctl_words.specs.CommandLine.{SaysCommand, given_text}
 use Rattle.npf_ctl.specs.Commands.{names_of_run}
 use Rattle.npf_ctl.specs.Ends.{EndsIn, FailsPlan, FailsSave, FollowsPlan, IsPutOut}
-use Rattle.npf_ctl.specs.Faults.{ChangesNoFile, IsUntouched, MeetsFault, PutsNothing}
+use Rattle.npf_ctl.specs.Faults.{ChangesNoFile, IsUntouched, MeetsFault, PutsFront, PutsNothing}
 use Rattle.npf_ctl.specs.Running.{IsReported, IsSavedTo, IsWrittenTo, Moment, WritesPassed}
 use Rattle.npf_ctl.proofs.EndLemmas.{Starts, early, reported_front, unreported, unwritten, unwritten_since}
 use Rattle.npf_ctl.proofs.FileLemmas.{has_on, only_read, same_through}
@@ -90,6 +90,7 @@ module _ (words : List (List ℕ)) (before after : Moment) (run : RunWords) (sai
             subst (λ (n : List ℕ). MeetsFault words before after (Unwritten n)) (sym why.0)
             (MeetsFault.in_saving said named (rose_since why.1) reports (passed_on others) follows.reports.flushed)
         unsaved others name named NoMemory why = ⊎_elim (λ same. kept (given_text run.output) refl same) (λ rose. MeetsFault.in_memory (inr front) (inl (inr (rose_since rose)))) why where
+          front : PutsFront words before after
           front = reported_front words before after run plan said follows.outputs follows.outcomes reports
 
           kept : (given : Option (List ℕ)) → given_text run.output ≡ given → SameFiles mid.contents after.files.contents → MeetsFault words before after NoMemory

@@ -76,6 +76,7 @@ pub(crate) fn run<R: Threads + Wait + Sync, F: Files, O: Sink, C: Connections<Fl
 }
 
 // Plays what is prepared, puts the report, and writes what passed where the words name a file for it.
+#[tactic(auto, using(crate::proofs::FileLemmas::keeps_itself, crate::proofs::FileLemmas::read_on))]
 fn run_prepared<R: Threads + Wait + Sync, F: Files, O: Sink, C: Connections<FlowLaw>, G: Gate>(
     rt: &R,
     alloc: Global,

@@ -20,6 +20,7 @@ use std::sync::Wait;
 
 /// Saves the connections of the table to the file of this name, if there is one, for a run of these
 /// interfaces. The pass owns all reader places, and stays as it is.
+#[tactic(auto, using(crate::proofs::FileLemmas::keeps_itself, crate::proofs::FileLemmas::read_on))]
 pub(crate) fn save_connections<R: Wait, F: Files, C: Connections<FlowLaw>>(
     rt: &R,
     alloc: Global,
@@ -44,6 +45,7 @@ pub(crate) fn save_connections<R: Wait, F: Files, C: Connections<FlowLaw>>(
     }
 }
 
+#[tactic(auto, using(crate::proofs::FileLemmas::others_itself, crate::proofs::FileLemmas::read_on))]
 fn save_file<R: Wait, F: Files, C: Connections<FlowLaw>>(
     rt: &R,
     alloc: Global,

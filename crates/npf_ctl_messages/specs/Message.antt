@@ -103,19 +103,35 @@ line_detail_text _ = []
 abbrev pub line_fault_text : LineFault → List ℕ
 line_fault_text fault = numbered_text (line_fault_number fault) (line_fault_name fault) ++ line_detail_text fault
 
--- why a file of saved connections isn't loaded, behind the file: a line, from 1, for the first two, and how many connections there are for the third
-abbrev pub saved_fault_text : SavedRefusal → List ℕ
-saved_fault_text (BadSaved line) = numbered_text 80 (codes "BadSaved") ++ (codes " " ++ decimal line)
-saved_fault_text (OtherInterfaces line) = numbered_text 81 (codes "OtherInterfaces") ++ (codes " " ++ decimal line)
-saved_fault_text (TooManySaved count) = numbered_text 82 (codes "TooManySaved") ++ (codes " " ++ decimal count)
-saved_fault_text SavedNoNode = numbered_text 83 (codes "SavedNoNode")
+-- a number behind a name, where there is one
+abbrev pub number_behind : Option ℕ → List ℕ
+number_behind None = []
+number_behind (Some n) = codes " " ++ decimal n
 
-abbrev pub record_of_text : Option ℕ → List ℕ
-record_of_text None = []
-record_of_text (Some n) = codes " " ++ decimal n
+-- why a file of saved connections isn't loaded: its number, its name, and behind them the line, from 1, or how many connections there are
+abbrev pub saved_number : SavedRefusal → ℕ
+saved_number (BadSaved line) = 80
+saved_number (OtherInterfaces line) = 81
+saved_number (TooManySaved count) = 82
+saved_number SavedNoNode = 83
+
+abbrev pub saved_name : SavedRefusal → List ℕ
+saved_name (BadSaved line) = codes "BadSaved"
+saved_name (OtherInterfaces line) = codes "OtherInterfaces"
+saved_name (TooManySaved count) = codes "TooManySaved"
+saved_name SavedNoNode = codes "SavedNoNode"
+
+abbrev pub saved_count : SavedRefusal → Option ℕ
+saved_count (BadSaved line) = Some line
+saved_count (OtherInterfaces line) = Some line
+saved_count (TooManySaved count) = Some count
+saved_count SavedNoNode = None
+
+abbrev pub saved_fault_text : SavedRefusal → List ℕ
+saved_fault_text fault = numbered_text (saved_number fault) (saved_name fault) ++ number_behind (saved_count fault)
 
 abbrev pub capture_fault_text : CaptureFault → List ℕ
-capture_fault_text fault = numbered_text (number_of fault) (name_of fault) ++ record_of_text (record_of fault)
+capture_fault_text fault = numbered_text (number_of fault) (name_of fault) ++ number_behind (record_of fault)
 
 -- what a fault's line says behind the program's name
 abbrev pub said_of : CommandFault → List ℕ

@@ -1,6 +1,5 @@
 ghost use Rattle.std.specs.Prelude.{◌≡◌, ◌++◌, IfOk, OnOk, codes};
-ghost use Rattle.std.specs.Fmt.{decimal};
-ghost use Rattle.npf_ctl_messages.specs.Message.{message_line, numbered_text, said_of, conf_fault_text, detail_text, line_fault_text, capture_fault_text, saved_fault_text};
+ghost use Rattle.npf_ctl_messages.specs.Message.{message_line, said_of, conf_fault_text, detail_text, line_fault_text, capture_fault_text, saved_fault_text};
 
 use crate::fault::{CommandFault, LineFault, SavedRefusal};
 use crate::limit::{most_excess, most_of, quantity_name};
@@ -34,7 +33,7 @@ fn write_said(into: &mut Vec<u8>, fault: &CommandFault) -> Result<(), NoMemory>
         CommandFault::Long { file, most } => write_long(into, file.as_slice(), *most),
         CommandFault::Saved { file, fault } => {
             write_bytes(into, file.as_slice())?;
-            write_saved_fault(into, *fault)
+            write_saved_fault(into, fault)
         }
         CommandFault::Capture { file, fault } => {
             write_bytes(into, file.as_slice())?;
@@ -104,26 +103,15 @@ fn write_detail(into: &mut Vec<u8>, fault: &Fault) -> Result<(), NoMemory>
     }
 }
 
-fn write_saved_fault(into: &mut Vec<u8>, fault: SavedRefusal) -> Result<(), NoMemory>
-    ensures { OnOk result (into.new.items ≡ into.old.items ++ (codes ": " ++ saved_fault_text fault)) }
+fn write_saved_fault(into: &mut Vec<u8>, fault: &SavedRefusal) -> Result<(), NoMemory>
+    ensures { OnOk result (into.new.items ≡ into.old.items ++ (codes ": " ++ saved_fault_text fault.now)) }
 {
     write_text(into, ": ")?;
-    match fault {
-        SavedRefusal::BadSaved(line) => write_with(into, 80, "BadSaved", u64::from(line)),
-        SavedRefusal::OtherInterfaces(line) => {
-            write_with(into, 81, "OtherInterfaces", u64::from(line))
-        }
-        SavedRefusal::TooManySaved(count) => write_with(into, 82, "TooManySaved", count),
-        SavedRefusal::SavedNoNode => write_numbered(into, 83, "SavedNoNode"),
+    write_numbered(into, fault.number(), fault.name())?;
+    match fault.count() {
+        Some(count) => write_counted(into, " ", count),
+        None => Ok(()),
     }
-}
-
-// Appends a fault's number and its name, and a count of it.
-fn write_with(into: &mut Vec<u8>, number: u8, name: &str, count: u64) -> Result<(), NoMemory>
-    ensures { OnOk result (into.new.items ≡ into.old.items ++ (numbered_text number name.now ++ (codes " " ++ decimal count))) }
-{
-    write_numbered(into, number, name)?;
-    write_counted(into, " ", count)
 }
 
 fn write_capture_fault(into: &mut Vec<u8>, fault: &CaptureFault) -> Result<(), NoMemory>
