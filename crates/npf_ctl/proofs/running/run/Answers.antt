@@ -1,4 +1,4 @@
-use Rattle.std.proofs.Common.{rules, ◌≡◌, ◌∙◌, ℕ, List, Ok, Err, inl, inr, refl, sym, ap, subst}
+use Rattle.std.proofs.Common.{rules, ◌≡◌, ◌∙◌, ℕ, List, Err, IfSome, OnOk, inl, inr, refl, subst}
 use Rattle.npf_types.specs.declared.name.Name.{Name}
 use Rattle.npf_config.proofs.TableLemmas.{reads_after}
 use Rattle.npf_connections.proofs.SaidLemmas.{later_more}
@@ -51,6 +51,19 @@ returns-in_err-load_connections-clause-ends g c =
     rw same (λ texts said. run_unloaded texts (moment first out old) (moment last out new) c.args.words said plan
     (c.in_ok-prepared.ensures.comes first last (around_first first first read last last whole c.load_connections.ensures.reads))
     (nothing_put out) (only_read first last reads) fault fails)
+
+pub returns-in_err-interfaces-clause-files : goal.returns-in_err-interfaces-clause-files
+returns-in_err-interfaces-clause-files g c = λ texts said.
+    let first = g.F.Files.moment c.args.files.now in
+    let read = g.F.Files.moment c.prepare_run.new.files in
+    same_keeps texts first.contents read.contents (only_read first read c.prepare_run.ensures.reads)
+
+pub returns-in_err-load_connections-clause-files : goal.returns-in_err-load_connections-clause-files
+returns-in_err-load_connections-clause-files g c = λ texts said.
+    let first = g.F.Files.moment c.args.files.now in
+    let read = g.F.Files.moment c.prepare_run.new.files in
+    let last = g.F.Files.moment c.load_connections.new.files in
+    same_keeps texts first.contents last.contents (only_read first last (reads_after first read last c.prepare_run.ensures.reads c.load_connections.ensures.reads))
 
 pub returns-in_err-load_connections-clause-later : goal.returns-in_err-load_connections-clause-later
 returns-in_err-load_connections-clause-later g c = later_than_new (g.C.Connections.view c.args.pass.now) (g.C.Connections.view c.load_connections.new.pass) c.requires.fresh c.load_connections.ensures.same
@@ -119,6 +132,8 @@ returns-clause-ends g c = λ texts said.
     let plan = run_plan_of c.in_ok-prepared.prepared in
     let names : c.deref.result.now ≡ interface_names plan.ifaces = c.deref.ensures.value ∙ c.in_ok-interfaces.ensures in
     let again : c.deref-2.result.now ≡ interface_names plan.ifaces = c.deref-2.ensures.value ∙ c.in_ok-interfaces.ensures in
+    let saved = subst (λ (n : List Name). OnOk c.save_connections.result (IfSome (given_text c.args.words.save) (IsSavedTo last (g.C.Connections.view c.run_prepared.new.pass) n))) again
+        c.save_connections.ensures.saved in
     rw c.save_connections.ensures.same
     (saving_ends texts before after c.args.words said plan begun (record {
       prepared = c.in_ok-prepared.ensures.comes first last (around_first first first read loaded last whole c.load_connections.ensures.reads);
@@ -126,7 +141,7 @@ returns-clause-ends g c = λ texts said.
       begins = subst (λ (n : List Name). BeginsLoaded first last (given_text c.args.words.load) n old begun) names
           (c.in_ok-load_connections.ensures.begins first last (around_next first first read loaded last whole c.prepare_run.ensures.reads));
     }) loaded mid reads c.in_ok-run_prepared.ensures.faultless c.run_prepared.ensures.others c.in_ok-run_prepared.ensures.done
-    c.save_connections.ensures.others c.save_connections.result (rw (sym again) c.save_connections.ensures.saved) c.save_connections.ensures.fails)
+    c.save_connections.ensures.others c.save_connections.result saved c.save_connections.ensures.fails)
 
 pub returns-clause-files : goal.returns-clause-files
 returns-clause-files g c = λ texts said.

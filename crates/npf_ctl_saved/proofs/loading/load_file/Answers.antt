@@ -1,5 +1,6 @@
 use Rattle.std.proofs.Common.{◌≡◌, ℕ, List, Ok, Err, refl, rules, subst, sym}
 use Rattle.npf_saved_file.specs.declared.reading.TheConstants.{MAX_SAVED_BYTES}
+use Rattle.npf_connsave.proofs.KeysLemmas.{sole_self}
 use Rattle.npf_ctl_input.specs.File.{ReadsFile}
 use Rattle.npf_ctl_saved.proofs.LoadingLemmas.{unloaded, unread}
 use Rattle.npf_ctl_saved.proofs.loading.load_file.Goals as goal
@@ -26,3 +27,6 @@ returns-in_ok-told_saved-in-Err-clause-fails g c = λ before after around.
     rw c.in_ok-told_saved-in-Err.ensures
     (unloaded before after c.args.file.now c.args.names.now (g.C.Connections.view c.args.pass.now) (g.C.Connections.view c.load.new.pass) c.as_slice.result.now
     (subst (λ (bytes : List ℕ). ReadsFile before after c.args.file.now MAX_SAVED_BYTES (Ok bytes)) (sym c.as_slice.ensures.value) read) c.in-Err.fault c.in-Err.ensures.refused)
+
+pub returns-in_err-text-clause-same : goal.returns-in_err-text-clause-same
+returns-in_err-text-clause-same g c = sole_self (g.C.Connections.view c.args.pass.now)
