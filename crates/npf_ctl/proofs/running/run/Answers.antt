@@ -1,6 +1,6 @@
 use Rattle.std.proofs.Common.{rules, ◌≡◌, ◌∙◌, ℕ, List, Err, IfSome, OnOk, inl, inr, refl, subst}
 use Rattle.npf_types.specs.declared.name.Name.{Name}
-use Rattle.npf_config.proofs.TableLemmas.{reads_after}
+use Rattle.npf_ctl_saved.proofs.ReadLemmas.{reads_after}
 use Rattle.npf_connections.proofs.SaidLemmas.{later_more}
 use Rattle.npf_ctl_input.proofs.AroundLemmas.{around_first, around_next}
 use Rattle.npf_ctl_messages.specs.declared.fault.CommandFault.TheVariants.{NoMemory}

@@ -1,6 +1,6 @@
 use Rattle.std.proofs.Common.{rules, ◌≡◌, ℕ, List, Option, Some, None, IfErr, OnOk, refl, subst, sym}
 use Rattle.std.specs.Prelude.{option_map}
-use Rattle.npf_config.proofs.TableLemmas.{no_reads}
+use Rattle.npf_ctl_saved.proofs.ReadLemmas.{no_reads}
 use Rattle.npf_connsave.proofs.KeysLemmas.{sole_self}
 use Rattle.npf_ctl_input.specs.Unless.{IfTold}
 use Rattle.npf_ctl_saved.specs.Loading.{BeginsLoaded, FailsLoad}
