@@ -95,7 +95,7 @@ fn run_prepared<R: Threads + Wait + Sync, F: Files, O: Sink, C: Connections<Flow
     ensures done { OnOk result (FollowsPlan words.entry (run_plan_of prepared.entry) (C.view pass.old) (C.view pass.new) (O.moment out.old) (O.moment out.new) (F.moment files.new)) }
     ensures fails { IfErr result (FailsPlan words.entry (run_plan_of prepared.entry) (C.view pass.old) (C.view pass.new) (O.moment out.old) (O.moment out.new)
         (F.moment files.old) (F.moment files.new)) }
-    ensures others { KeepsUnnamed (given_text words.output) (F.moment files.old).contents (F.moment files.new).contents }
+    ensures others { KeepsUnnamed (given_text words.entry.output) (F.moment files.old).contents (F.moment files.new).contents }
     ensures reads { HasReadOn (F.moment files.old) (F.moment files.new) }
     ensures faultless { OnOk result ((F.moment files.new).write_faults ≡ (F.moment files.old).write_faults) }
     ensures out { IsOut flow_law (C.fits conns.now) C.view pass.new }

@@ -32,9 +32,9 @@ pub(crate) fn save_connections<R: Wait, F: Files, C: Connections<FlowLaw>>(
 ) -> Result<(), CommandFault>
     requires out { IsOut flow_law (C.fits conns.now) C.view pass.old }
     requires sole { (C.view pass.old).places ≡ all_places }
-    ensures saved { OnOk result (IfSome (option_map (λ name. name.now) file) (IsSavedTo (F.moment files.new) (C.view pass.old) names.now)) }
-    ensures fails { IfErr result (FailsSave (option_map (λ name. name.now) file) (F.moment files.old) (F.moment files.new)) }
-    ensures others { KeepsUnnamed (option_map (λ name. name.now) file) (F.moment files.old).contents (F.moment files.new).contents }
+    ensures saved { OnOk result (IfSome (option_map (λ name. name.now) file.entry) (IsSavedTo (F.moment files.new) (C.view pass.old) names.now)) }
+    ensures fails { IfErr result (FailsSave (option_map (λ name. name.now) file.entry) (F.moment files.old) (F.moment files.new)) }
+    ensures others { KeepsUnnamed (option_map (λ name. name.now) file.entry) (F.moment files.old).contents (F.moment files.new).contents }
     ensures reads { HasReadOn (F.moment files.old) (F.moment files.new) }
     ensures out { IsOut flow_law (C.fits conns.now) C.view pass.new }
     ensures same { C.view pass.new ≡ C.view pass.old }

@@ -39,9 +39,9 @@ pub fn load_connections<R: Wait, F: Files, C: Connections<FlowLaw>>(
     requires sole { (C.view pass.old).places ≡ all_places }
     requires new { (C.view pass.old).history ≡ [] }
     ensures begins { (before after : FilesMoment) → Around before (F.moment files.old) (F.moment files.new) after
-        → OnOk result (BeginsLoaded before after (option_map (λ name. name.now) file) names.now (C.view pass.old) (C.view pass.new)) }
+        → OnOk result (BeginsLoaded before after (option_map (λ name. name.now) file.entry) names.now (C.view pass.old) (C.view pass.new)) }
     ensures fails { (before after : FilesMoment) → Around before (F.moment files.old) (F.moment files.new) after
-        → IfErr result (IfTold (FailsLoad before after (option_map (λ name. name.now) file) names.now (C.view pass.old) (C.view pass.new))) }
+        → IfErr result (IfTold (FailsLoad before after (option_map (λ name. name.now) file.entry) names.now (C.view pass.old) (C.view pass.new))) }
     ensures reads { OnlyReads (F.moment files.old) (F.moment files.new) }
     ensures out { IsOut flow_law (C.fits conns.now) C.view pass.new }
     ensures same { StaysSole (C.view pass.old) (C.view pass.new) }
