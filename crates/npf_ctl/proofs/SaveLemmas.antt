@@ -1,5 +1,5 @@
 -- Connections that are saved.
-use Rattle.std.proofs.Common.{◌≡◌, ℕ, List, Option, Some, Ok, Err, Result, IfSome, IfErr, OnOk, sym, subst}
+use Rattle.std.proofs.Common.{◌≡◌, ℕ, List, Option, Some, Ok, Err, Result, IfErr, OnOk}
 use Rattle.npf_types.specs.declared.name.Name.{Name}
 use Rattle.npf_core.specs.History.{state_of}
 use Rattle.npf_connections.specs.Pass.{Pass}
@@ -19,11 +19,6 @@ saved_to files pass names name text saved (Ok u) holds = record { text = text; s
 saved_to files pass names name text saved (Err fault) holds = tt
 
 module _ (given : Option (List ℕ)) (name : List ℕ) (is : given ≡ Some name) where
-  pub saved_named : (files : FilesMoment) (pass : Pass FlowEntry) (names : List Name) (result : Result (Unit {0}) CommandFault) →
-      OnOk result (IsSavedTo files pass names name) → OnOk result (IfSome given (IsSavedTo files pass names))
-  saved_named files pass names (Ok u) saved = subst (λ (o : Option (List ℕ)). IfSome o (IsSavedTo files pass names)) (sym is) saved
-  saved_named files pass names (Err fault) saved = tt
-
   pub unsaved_named : (first last : FilesMoment) (result : Result (Unit {0}) CommandFault) → IfErr result (IsUnwritten first last name) → IfErr result (FailsSave given first last)
   unsaved_named first last (Ok u) fails = tt
   unsaved_named first last (Err fault) fails = record { name = name; is = is; unwritten = fails }

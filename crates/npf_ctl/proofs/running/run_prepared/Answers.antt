@@ -1,12 +1,9 @@
-use Rattle.std.proofs.Common.{rules, ◌≡◌, ◌∙◌, ℕ, List, Option, Some, Err, refl, sym, subst}
+use Rattle.std.proofs.Common.{rules, ◌≡◌, ◌∙◌, Err, sym}
 use Rattle.std.proofs.lemmas.Slice.Zip.{AllZip-long}
-use Rattle.npf_outside.specs.Files.{SameOthers}
 use Rattle.npf_ctl_messages.specs.declared.fault.CommandFault.TheVariants.{NoMemory}
 use Rattle.npf_ctl_output.specs.Extents.{IsExtentOf}
-use Rattle.npf_ctl_output.specs.Writing.{KeepsUnnamed}
 use Rattle.npf_ctl_output.proofs.OutputLemmas.{counts_of_outputs, outputs_have_time}
 use Rattle.npf_ctl_prepare.specs.View.{run_plan_of}
-use Rattle.npf_ctl_words.specs.CommandLine.{given_text}
 use Rattle.npf_ctl.specs.Ends.{FailsPlan, FailsReport}
 use Rattle.npf_ctl.proofs.FileLemmas.{extents_named, nothing_put, same_as_itself}
 use Rattle.npf_ctl.proofs.RunLemmas.{fails_named, follows_named, follows_unnamed}
@@ -72,6 +69,4 @@ returns-clause-fails g c =
     (g.F.Files.moment c.args.files.now) (g.F.Files.moment c.write_passed.new.files) c.write_passed.result c.write_passed.ensures.fails
 
 pub returns-clause-others : goal.returns-clause-others
-returns-clause-others g c =
-    let named : given_text c.args.words.output ≡ Some c.in-Some.name.now = search rules in
-    subst (λ (o : Option (List ℕ)). KeepsUnnamed o (g.F.Files.moment c.args.files.now).contents (g.F.Files.moment c.write_passed.new.files).contents) (sym named) c.write_passed.ensures.others
+returns-clause-others g c = rw c.in-Some.is c.write_passed.ensures.others

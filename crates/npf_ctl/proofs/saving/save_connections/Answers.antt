@@ -1,21 +1,15 @@
-use Rattle.std.proofs.Common.{rules, ◌≡◌, ℕ, List, Option, Some, sym, subst}
-use Rattle.npf_ctl_output.specs.Writing.{KeepsUnnamed}
+use Rattle.npf_ctl.proofs.SaveLemmas.{unsaved_named}
 use Rattle.npf_ctl_words.specs.CommandLine.{given_text}
-use Rattle.npf_ctl.proofs.SaveLemmas.{saved_named, unsaved_named}
+use Rattle.std.proofs.Common.{◌≡◌, Some, ap}
 use Rattle.npf_ctl.proofs.saving.save_connections.Goals as goal
 
 pub returns-in-Some-clause-saved : goal.returns-in-Some-clause-saved
-returns-in-Some-clause-saved g c =
-    let named : given_text c.args.file ≡ Some c.in-Some.file.now = search rules in
-    saved_named (given_text c.args.file) c.in-Some.file.now named (g.F.Files.moment c.save_file.new.files) (g.C.Connections.view c.args.pass.now) c.args.names.now
-    c.save_file.result c.save_file.ensures.saved
+returns-in-Some-clause-saved g c = rw c.in-Some.is c.save_file.ensures.saved
 
 pub returns-in-Some-clause-fails : goal.returns-in-Some-clause-fails
 returns-in-Some-clause-fails g c =
-    let named : given_text c.args.file ≡ Some c.in-Some.file.now = search rules in
+    let named : given_text c.args.file ≡ Some c.in-Some.file.now = ap given_text c.in-Some.is in
     unsaved_named (given_text c.args.file) c.in-Some.file.now named (g.F.Files.moment c.args.files.now) (g.F.Files.moment c.save_file.new.files) c.save_file.result c.save_file.ensures.fails
 
 pub returns-in-Some-clause-others : goal.returns-in-Some-clause-others
-returns-in-Some-clause-others g c =
-    let named : given_text c.args.file ≡ Some c.in-Some.file.now = search rules in
-    subst (λ (o : Option (List ℕ)). KeepsUnnamed o (g.F.Files.moment c.args.files.now).contents (g.F.Files.moment c.save_file.new.files).contents) (sym named) c.save_file.ensures.others
+returns-in-Some-clause-others g c = rw c.in-Some.is c.save_file.ensures.others
