@@ -21,8 +21,8 @@ returns-in-Ok-clause-begins g c = λ before after around.
       loads = c.in-Ok.ensures.loads;
     }
 
-pub returns-in_ok-told_saved-in-Err-clause-fails : goal.returns-in_ok-told_saved-in-Err-clause-fails
-returns-in_ok-told_saved-in-Err-clause-fails g c = λ before after around.
+pub returns-clause-fails : goal.returns-clause-fails
+returns-clause-fails g c = λ before after around.
     let read = c.in_ok-text.ensures.comes before after around in
     rw c.in_ok-told_saved-in-Err.ensures
     (unloaded before after c.args.file.now c.args.names.now (g.C.Connections.view c.args.pass.now) (g.C.Connections.view c.load.new.pass) c.as_slice.result.now
