@@ -32,9 +32,9 @@ module _ (seat : ℕ) (id : ConnId) where
 
   load_of_none : (saved : Saved) → All IsOfNone (load_entries seat id saved)
   load_of_none saved =
-      All-cons IsOfNone (entry seat (Claim 0 id.slot) (ToClaim id)) _ (λ n some. ne_eqb 0 n (λ same. omega arith))
+      All-cons IsOfNone (entry seat (Claim 0 id.slot) (ToClaim id)) (key_entries seat id saved ++ entry seat (Start id 0 saved.flow) Nothing ∷ []) (λ n some. ne_eqb 0 n (λ same. omega arith))
       (All-append IsOfNone (key_entries seat id saved) (entry seat (Start id 0 saved.flow) Nothing ∷ [])
-      (All-append IsOfNone (hold_entries_of seat id Forward (Some saved.forward)) _ (holds_of_none Forward (Some saved.forward))
+      (All-append IsOfNone (hold_entries_of seat id Forward (Some saved.forward)) (hold_entries_of seat id Port saved.port ++ hold_entries_of seat id Backward saved.backward) (holds_of_none Forward (Some saved.forward))
       (All-append IsOfNone (hold_entries_of seat id Port saved.port) (hold_entries_of seat id Backward saved.backward) (holds_of_none Port saved.port) (holds_of_none Backward saved.backward)))
       (All-cons IsOfNone (entry seat (Start id 0 saved.flow) Nothing) [] (λ n some. ne_eqb 0 n (λ same. omega arith)) (All-nil IsOfNone)))
 

@@ -40,10 +40,10 @@ started_without names load file before after old new plan named prepared lacks =
 
 reads_of_contents : FilesAreOfContents → (load : Option (List ℕ)) (names : List Name) (slots : ℕ) → IsOfContents (λ before after. ReadsConnections before after load names slots)
 reads_of_contents files None names slots tree before after result told well is = is
-reads_of_contents files (Some file) names slots tree before after result told well =
+reads_of_contents files (Some file) names slots tree before after result told well is =
     andthen_lasts (ReadsFile before after file MAX_SAVED_BYTES) (ReadsFile (told_files tree) (told_files tree) file MAX_SAVED_BYTES)
     (ListsConnections names slots file) (ListsConnections names slots file)
-    (λ read. files file MAX_SAVED_BYTES tree before after read told well) (λ text lists is. is) result
+    (λ read. files file MAX_SAVED_BYTES tree before after read told well) (λ text lists listed. listed) result is
 
 -- where contents are told and no read fails, what a run is started from doesn't hang on the moments
 pub starts_of_contents : RunsAreOfContents → FilesAreOfContents → (names : RunNames) (load : Option (List ℕ)) (slots : ℕ) →

@@ -1,5 +1,5 @@
 // The connections of the table, saved behind a run.
-ghost use Rattle.std.specs.Prelude.{◌≡◌, ◌×◌, IfErr, IfSome, OnOk, Some, option_map};
+ghost use Rattle.std.specs.Prelude.{◌≡◌, IfErr, IfSome, OnOk, option_map};
 ghost use Rattle.npf_connections.specs.Pass.{all_places};
 ghost use Rattle.npf_connections.specs.Stay.{IsOut};
 ghost use Rattle.npf_ctl.specs.Ends.{FailsSave};

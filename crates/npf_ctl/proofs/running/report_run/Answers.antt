@@ -53,4 +53,4 @@ returns-clause-whole g c =
     subst (λ (t : List ℕ). Appends old new t) text c.in_ok-put_report.ensures.whole
 
 pub play-requires-clause-unnumbered : goal.play-requires-clause-unnumbered
-play-requires-clause-unnumbered g c = c.requires.ready.unnumbered _
+play-requires-clause-unnumbered g c κs within = c.requires.ready.unnumbered _

@@ -69,7 +69,7 @@ pub returns-in_err-load_connections-clause-later : goal.returns-in_err-load_conn
 returns-in_err-load_connections-clause-later g c = later_than_new (g.C.Connections.view c.args.pass.now) (g.C.Connections.view c.load_connections.new.pass) c.requires.fresh c.load_connections.ensures.same
 
 pub run_prepared-requires-clause-ready : goal.run_prepared-requires-clause-ready
-run_prepared-requires-clause-ready g c =
+run_prepared-requires-clause-ready g c κs within =
     let read = g.F.Files.moment c.prepare_run.new.files in
     let last = g.F.Files.moment c.load_connections.new.files in
     ready (g.C.Connections.view c.args.pass.now) (g.C.Connections.view c.load_connections.new.pass) c.requires.fresh c.load_connections.ensures.same
@@ -114,7 +114,7 @@ returns-in_err-run_prepared-clause-later g c =
     (later_than_new (g.C.Connections.view c.args.pass.now) (g.C.Connections.view c.load_connections.new.pass) c.requires.fresh c.load_connections.ensures.same) c.run_prepared.ensures.later
 
 pub save_connections-requires-clause-sole : goal.save_connections-requires-clause-sole
-save_connections-requires-clause-sole g c = c.run_prepared.ensures.later.places ∙ c.load_connections.ensures.same.places ∙ c.requires.fresh.places
+save_connections-requires-clause-sole g c κs within = c.run_prepared.ensures.later.places ∙ c.load_connections.ensures.same.places ∙ c.requires.fresh.places
 
 pub returns-clause-ends : goal.returns-clause-ends
 returns-clause-ends g c = λ texts said.

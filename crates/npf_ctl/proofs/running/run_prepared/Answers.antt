@@ -40,16 +40,16 @@ write_passed-requires-clause-outcomes g c =
 pub write_passed-requires-clause-timely : goal.write_passed-requires-clause-timely
 write_passed-requires-clause-timely g c = outputs_have_time _ _ _ c.in_ok-played-in-Some.ensures.outputs c.requires.playable.timed
 
-pub returns-in-None-clause-done : goal.returns-in-None-clause-done
-returns-in-None-clause-done g c =
+pub returns-in_ok-report_run-in-None-clause-done : goal.returns-in_ok-report_run-in-None-clause-done
+returns-in_ok-report_run-in-None-clause-done g c =
     let told = c.in_ok-report_run-in-None.ensures in
     let played = c.in_ok-report_run-in-None.field-0 in
     follows_unnamed c.args.words (run_plan_of c.args.prepared) (g.C.Connections.view c.args.pass.now) (g.C.Connections.view c.report_run.new.pass)
     (g.O.Sink.moment c.args.out.now) (g.O.Sink.moment c.report_run.new.out) played.packets played.outcomes
     (record { played = told.played; reported = told.whole; flushed = told.flushed }) (g.F.Files.moment c.args.files.now) (search rules)
 
-pub returns-clause-done : goal.returns-clause-done
-returns-clause-done g c =
+pub returns-in_ok-played-in-Some-clause-done : goal.returns-in_ok-played-in-Some-clause-done
+returns-in_ok-played-in-Some-clause-done g c =
     let told = c.in_ok-played-in-Some.ensures in
     let played = c.in_ok-played-in-Some.played in
     let same_packets : c.as_slice.result.now ≡ c.args.prepared.packets.items = search rules in
@@ -59,8 +59,8 @@ returns-clause-done g c =
     (record { played = told.played; reported = told.whole; flushed = told.flushed }) c.in-Some.name.now (search rules) (g.F.Files.moment c.write_passed.new.files) c.write_passed.result
     (c.write_passed.ensures.written _ (extents_named _ _ _ _ same_packets same_extents c.in_ok-extents-in-Some.ensures.extents) told.outputs)
 
-pub returns-clause-fails : goal.returns-clause-fails
-returns-clause-fails g c =
+pub returns-in_ok-played-in-Some-clause-fails : goal.returns-in_ok-played-in-Some-clause-fails
+returns-in_ok-played-in-Some-clause-fails g c =
     let told = c.in_ok-played-in-Some.ensures in
     let played = c.in_ok-played-in-Some.played in
     fails_named c.args.words (run_plan_of c.args.prepared) (g.C.Connections.view c.args.pass.now) (g.C.Connections.view c.report_run-in-Some.new.pass)
@@ -68,5 +68,5 @@ returns-clause-fails g c =
     (record { played = told.played; reported = told.whole; flushed = told.flushed }) c.in-Some.name.now (search rules)
     (g.F.Files.moment c.args.files.now) (g.F.Files.moment c.write_passed.new.files) c.write_passed.result c.write_passed.ensures.fails
 
-pub returns-clause-others : goal.returns-clause-others
-returns-clause-others g c = rw c.in-Some.is c.write_passed.ensures.others
+pub returns-in_ok-played-in-Some-clause-others : goal.returns-in_ok-played-in-Some-clause-others
+returns-in_ok-played-in-Some-clause-others g c = rw c.in-Some.is c.write_passed.ensures.others
