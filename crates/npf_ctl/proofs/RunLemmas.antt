@@ -117,11 +117,14 @@ module _ (words : List (List ℕ)) (before after : Moment) (run : RunWords) (sai
         pub saving_ends : KeepsUnnamed (given_text run.save) mid.contents after.files.contents → (result : Result (Unit {0}) CommandFault) →
             OnOk result (IfSome (given_text run.save) (IsSavedTo after.files after.pass (interface_names plan.ifaces))) →
             IfErr result (FailsSave (given_text run.save) mid after.files) → EndsIn words before after result
-        saving_ends others (Ok u) saved fails = (record {
-          command = Run run;
-          said = said;
-          does = record { plan = plan; outputs = follows.outputs; outcomes = follows.outcomes; reports = reports; written = passed_on others; saved = saved };
-        }, follows.reports.flushed)
+        saving_ends others (Ok u) saved fails = (
+          record {
+            command = Run run;
+            said = said;
+            does = record { plan = plan; outputs = follows.outputs; outcomes = follows.outcomes; reports = reports; written = passed_on others; saved = saved };
+          },
+          follows.reports.flushed,
+        )
         saving_ends others (Err fault) saved fails = unsaved others fails.name fails.is fault fails.unwritten
 
 module _ (run : RunWords) (plan : RunPlan) (old new : Pass FlowEntry) (before after : SinkMoment) (outputs : List Packet) (outcomes : List Outcome)

@@ -69,9 +69,7 @@ pub(crate) fn run<R: Threads + Wait + Sync, F: Files, O: Sink, C: Connections<Fl
     let prepared = prepare_run(alloc, names, files, &mut captures)?;
     let interfaces = interface_names(alloc, &prepared.ifaces)?;
     load_connections(rt, alloc, words.load, &interfaces, files, conns, pass)?;
-    run_prepared(
-        rt, alloc, prepared, words, files, out, conns, pass, gate,
-    )?;
+    run_prepared(rt, alloc, prepared, words, files, out, conns, pass, gate)?;
     save_connections(rt, alloc, words.save, &interfaces, files, conns, pass)
 }
 

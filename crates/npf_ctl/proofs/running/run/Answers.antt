@@ -47,7 +47,7 @@ returns-in_err-load_connections-clause-ends g c =
     let plan = run_plan_of c.in_ok-prepared.prepared in
     let names : c.deref.result.now ≡ interface_names plan.ifaces = c.deref.ensures.value ∙ c.in_ok-interfaces.ensures in
     let fails = subst (λ (n : List Name). IfTold (FailsLoad first last (given_text c.args.words.load) n old new) fault) names
-        (c.in_err-load_connections.ensures.fails first last (around_next first first read last last whole c.prepare_run.ensures.reads)) in
+    (c.in_err-load_connections.ensures.fails first last (around_next first first read last last whole c.prepare_run.ensures.reads)) in
     rw same (λ texts said. run_unloaded texts (moment first out old) (moment last out new) c.args.words said plan
     (c.in_ok-prepared.ensures.comes first last (around_first first first read last last whole c.load_connections.ensures.reads))
     (nothing_put out) (only_read first last reads) fault fails)
@@ -133,7 +133,7 @@ returns-clause-ends g c = λ texts said.
     let names : c.deref.result.now ≡ interface_names plan.ifaces = c.deref.ensures.value ∙ c.in_ok-interfaces.ensures in
     let again : c.deref-2.result.now ≡ interface_names plan.ifaces = c.deref-2.ensures.value ∙ c.in_ok-interfaces.ensures in
     let saved = subst (λ (n : List Name). OnOk c.save_connections.result (IfSome (given_text c.args.words.save) (IsSavedTo last (g.C.Connections.view c.run_prepared.new.pass) n))) again
-        c.save_connections.ensures.saved in
+    c.save_connections.ensures.saved in
     rw c.save_connections.ensures.same
     (saving_ends texts before after c.args.words said plan begun (record {
       prepared = c.in_ok-prepared.ensures.comes first last (around_first first first read loaded last whole c.load_connections.ensures.reads);
