@@ -1,7 +1,7 @@
 -- What loading the text of a file comes to.
 use Rattle.std.proofs.Common.{◌≡◌, ℕ, List, Some, Ok, Err, refl}
 use Rattle.npf_types.specs.declared.name.Name.{Name}
-use Rattle.npf_types.specs.Stages.{◌andthen◌, stops, goes_on}
+use Rattle.npf_types.specs.Stages.{stops, goes_on}
 use Rattle.npf_outside.specs.Files.{FilesMoment}
 use Rattle.npf_saved_file.specs.declared.fault.SavedFault.{SavedFault}
 use Rattle.npf_saved_file.specs.declared.fault.SavedFault.TheVariants.{BadSaved, OtherInterfaces, TooManySaved, SavedNoNode, NoMemory}
