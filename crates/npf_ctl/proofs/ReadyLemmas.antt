@@ -1,5 +1,5 @@
 -- The pass with which a run's first phase begins.
-use Rattle.std.proofs.Common.{◌≡◌, ◌≤◌, ◌∙◌, ℕ, false, List, [], ◌∷◌, ◌++◌, Option, Some, None, All, Contains, refl, sym, subst, arith}
+use Rattle.std.proofs.Common.{◌≡◌, ◌≤◌, ◌∙◌, ℕ, false, List, [], ◌∷◌, ◌++◌, Option, Some, None, All, refl, sym, subst, arith}
 use Rattle.std.proofs.lemmas.List.Elements.{All-append, All-cons, All-contains, All-nil}
 use Rattle.std.proofs.lemmas.Bool.{ne_eqb}
 use Rattle.npf_types.specs.declared.key.Key.{Key}

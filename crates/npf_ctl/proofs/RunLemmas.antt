@@ -6,7 +6,7 @@ use Rattle.npf_connections.specs.Pass.{Pass}
 use Rattle.npf_engine.specs.declared.outcome.Outcome.{Outcome}
 use Rattle.npf_engine.specs.Histories.{FlowEntry}
 use Rattle.npf_outside.specs.Counts.{Rose}
-use Rattle.npf_outside.specs.Files.{FilesMoment, SameFiles, Tree}
+use Rattle.npf_outside.specs.Files.{FilesMoment, SameFiles}
 use Rattle.npf_outside.specs.Sink.{SinkMoment}
 use Rattle.npf_ctl_messages.specs.declared.fault.CommandFault.{CommandFault}
 use Rattle.npf_ctl_messages.specs.declared.fault.CommandFault.TheVariants.{NoMemory, Unwritten}
@@ -23,7 +23,7 @@ use Rattle.npf_ctl.specs.Ends.{EndsIn, FailsPlan, FailsSave, FollowsPlan, IsPutO
 use Rattle.npf_ctl.specs.Faults.{ChangesNoFile, IsUntouched, MeetsFault, PutsFront, PutsNothing}
 use Rattle.npf_ctl.specs.Running.{IsReported, IsSavedTo, IsWrittenTo, Moment, WritesPassed}
 use Rattle.npf_ctl.proofs.EndLemmas.{Starts, early, reported_front, unreported, unwritten, unwritten_since}
-use Rattle.npf_ctl.proofs.FileLemmas.{has_on, only_read, same_through}
+use Rattle.npf_ctl.proofs.FileLemmas.{has_on, same_through}
 
 module _ (words : List (List ℕ)) (before after : Moment) (run : RunWords) (said : SaysCommand words (Run run)) where
   pub run_unprepared : IsUntouched before after → (fault : CommandFault) → IfTold (λ why. PreparesRun before.files after.files (names_of_run run) (Err why)) fault →

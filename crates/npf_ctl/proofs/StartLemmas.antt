@@ -1,7 +1,7 @@
 -- What a run is started from.
-use Rattle.std.proofs.Common.{◌≡◌, ℕ, Option, Some, None, List, Ok, Err, Result, refl, sym, ap, subst}
+use Rattle.std.proofs.Common.{◌≡◌, ℕ, Option, Some, None, List, Ok, refl, sym, subst}
 use Rattle.npf_types.specs.declared.name.Name.{Name}
-use Rattle.npf_types.specs.Stages.{◌andthen◌, gives, goes_on, stops}
+use Rattle.npf_types.specs.Stages.{◌andthen◌, gives, goes_on}
 use Rattle.npf_types.proofs.StageLemmas.{andthen_lasts}
 use Rattle.npf_connections.specs.Pass.{Pass}
 use Rattle.npf_engine.specs.declared.outcome.Outcome.{Outcome}
@@ -13,7 +13,6 @@ use Rattle.npf_saved.specs.declared.saved.Saved.{Saved}
 use Rattle.npf_saved_file.specs.declared.reading.TheConstants.{MAX_SAVED_BYTES}
 use Rattle.npf_ctl_input.specs.File.{ReadsFile, told_files}
 use Rattle.npf_ctl_input.specs.Laws.{FilesAreOfContents, IsOfContents}
-use Rattle.npf_ctl_messages.specs.declared.fault.CommandFault.{CommandFault}
 use Rattle.npf_ctl_prepare.specs.Laws.{RunsAreOfContents}
 use Rattle.npf_ctl_prepare.specs.Prepares.{PreparesRun, RunNames, RunPlan}
 use Rattle.npf_ctl_saved.specs.Loading.{BeginsLoaded, LacksNode, ListsConnections, ReadsConnections, interface_names}

@@ -1,4 +1,4 @@
-use Rattle.std.proofs.Common.{rules, ◌≡◌, ◌∙◌, ℕ, List, Err, IfSome, OnOk, inl, inr, refl, subst}
+use Rattle.std.proofs.Common.{rules, ◌≡◌, ◌∙◌, List, Err, IfSome, OnOk, inl, inr, refl, subst}
 use Rattle.npf_types.specs.declared.name.Name.{Name}
 use Rattle.npf_ctl_saved.proofs.ReadLemmas.{reads_after}
 use Rattle.npf_connections.proofs.SaidLemmas.{later_more}
