@@ -48,7 +48,7 @@ two_behind : (h one two a b : List FlowEntry) → one ≡ h ++ a → two ≡ one
 two_behind h one two a b first second = second ∙ ap (λ front. front ++ b) first ∙ append_assoc h a b
 
 pub sole_self : (pass : View) → StaysSole pass pass
-sole_self pass = record { slots = refl; number = refl; entered = refl; places = refl; joined = refl; sweeps = omega arith }
+sole_self pass = record { slots = refl; number = refl; entered = refl; places = refl; joined = refl; sweeps = omega arith; epoch = omega arith }
 
 pub sole_trans : (old mid new : View) → StaysSole old mid → StaysSole mid new → StaysSole old new
 sole_trans old mid new one two = record {
@@ -58,6 +58,7 @@ sole_trans old mid new one two = record {
   places = two.places ∙ one.places;
   joined = two.joined ∙ one.joined;
   sweeps = let a = one.sweeps in let b = two.sweeps in omega (arith, a, b);
+  epoch = let a = one.epoch in let b = two.epoch in omega (arith, a, b);
 }
 
 -- where there was no node for a key, those before it are held

@@ -39,6 +39,7 @@ sole_after old new answered builds on sweeps = record {
   places = ap (λ (v : View). v.places) on.view;
   joined = ap (λ (v : View). v.joined) on.view;
   sweeps = sweeps;
+  epoch = on.epoch;
 }
 
 -- a key without a holder isn't Taken

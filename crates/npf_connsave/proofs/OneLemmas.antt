@@ -31,6 +31,7 @@ kept_after old new answered builds on = record {
   places = ap (λ (v : View). v.places) on.view;
   joined = ap (λ (v : View). v.joined) on.view;
   sweeps = let same = ap (λ (v : View). v.sweeps) on.view in omega (arith, same);
+  epoch = on.epoch;
 }
 
 -- between a history and itself there is that history alone

@@ -10,7 +10,6 @@ use Rattle.npf_flow.specs.Flows.{flow_law}
 use Rattle.npf_saved.specs.declared.saved.Saved.{Saved}
 use Rattle.npf_saved_file.specs.declared.fault.SavedFault.{SavedFault}
 use Rattle.npf_saved_file.specs.declared.fault.SavedFault.TheVariants.{BadSaved, OtherInterfaces, TooManySaved, SavedNoNode, NoMemory}
-use Rattle.npf_saved_file.specs.File.{IsSavedFile}
 use Rattle.npf_saved_file.specs.Refusal.{MayLoad, RefusesSaved}
 use Rattle.npf_connsave.specs.Loading.{FlowEntry, LeavesFront, LoadsSaved, RefusesLoaded, StartsAll, StaysSole, View, key_entries, left_entries, loaded_entries}
 use Rattle.npf_connsave.specs.Saving.{AreSavedOf}
@@ -59,6 +58,7 @@ module _ (old begun done new : View) (sole : old.places ≡ all_places) (enters 
     places = ap (λ (v : View). v.places) leaves.view ∙ stays.places ∙ ap (λ (v : View). v.places) enters.view;
     joined = ap (λ (v : View). v.joined) leaves.view ∙ stays.joined ∙ ap (λ (v : View). v.joined) enters.view;
     sweeps = let a = begun_sweeps in let b = stays.sweeps in let c = new_sweeps in omega (arith, a, b, c);
+    epoch = let a = enters.epoch in let b = stays.epoch in let c = leaves.epoch in omega (arith, a, b, c);
   }
 
   pub all_loaded : (names : List Name) (text : List ℕ) (all : List Saved) → MayLoad text names old.slots all → IsPass flow_law new → Adds done new.history [] → StartsAll begun done all
@@ -67,7 +67,7 @@ module _ (old begun done new : View) (sole : old.places ≡ all_places) (enters 
       let same = new_history pass adds in
       record {
         made = starts.made;
-        file = subst (IsSavedFile text names) (sym starts.conns) may.file.file;
+        may = subst (MayLoad text names old.slots) (sym starts.conns) may;
         entries = same ∙ subst (λ (n : ℕ). done.history ≡ loaded_entries n starts.made) begun_number starts.entries;
         same = record {
           conns = all;

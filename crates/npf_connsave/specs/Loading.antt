@@ -24,7 +24,6 @@ use Rattle.npf_flow.specs.Flows.{flow_law}
 use Rattle.npf_saved.specs.declared.saved.Saved.{Saved}
 use Rattle.npf_saved_file.specs.declared.fault.SavedFault.{SavedFault}
 use Rattle.npf_saved_file.specs.declared.fault.SavedFault.TheVariants.{BadSaved, OtherInterfaces, TooManySaved, SavedNoNode, NoMemory}
-use Rattle.npf_saved_file.specs.File.{IsSavedFile}
 use Rattle.npf_saved_file.specs.Refusal.{MayLoad, RefusesSaved}
 use Rattle.npf_connsave.specs.Saving.{AreSavedOf, IsSavedText}
 
@@ -67,7 +66,7 @@ loaded_conns made = map (λ one. one.1) made
 -- the text's connections were loaded, one behind the other, and by nothing else; so the table's text is that text
 pub record LoadsSaved (names : List Name) (text : List ℕ) (old new : View) : Type 0 where
   pub made : List (ConnId × Saved)
-  pub file : IsSavedFile text names (loaded_conns made)
+  pub may : MayLoad text names old.slots (loaded_conns made)
   pub entries : new.history ≡ loaded_entries old.number made
   pub same : IsSavedText (state_of flow_law new.history) names text
 
@@ -75,7 +74,7 @@ pub record LoadsSaved (names : List Name) (text : List ℕ) (old new : View) : T
 abbrev pub AreFree : Machine Flow → List Key → Type 0
 AreFree k keys = (key : Key) → Contains keys key → k.holder key ≡ None
 
--- the pass is the same one of its table, in or out as it was, and its count of full sweeps didn't fall
+-- the pass is the same one of its table, in or out as it was, and neither its count of full sweeps nor its epoch fell
 pub record StaysSole (old new : View) : Type 0 where
   pub slots : new.slots ≡ old.slots
   pub number : new.number ≡ old.number
@@ -83,6 +82,7 @@ pub record StaysSole (old new : View) : Type 0 where
   pub places : new.places ≡ old.places
   pub joined : new.joined ≡ old.joined
   pub sweeps : old.sweeps ≤ new.sweeps
+  pub epoch : old.epoch ≤ new.epoch
 
 -- these were loaded into the new table, and nothing else
 pub record StartsAll (old new : View) (all : List Saved) : Type 0 where

@@ -1,24 +1,28 @@
 -- How the work on a command ends before it is done.
 use Rattle.std.proofs.Common.{◌≡◌, Contains, inl, inr, ⊎_elim, ℕ, List, [], Some, Ok, Err, Result, OnOk, IfErr, sym, subst, arith}
-use Rattle.npf_engine.specs.Histories.{History}
+use Rattle.npf_engine.specs.Histories.{FlowEntry, History}
 use Rattle.npf_runner.specs.Plays.{IsUnnumbered}
 use Rattle.npf_outside.specs.Counts.{Rose}
 use Rattle.npf_outside.specs.Files.{FilesMoment, SameFiles}
 use Rattle.npf_outside.specs.Sink.{Appends, AppendsFront}
 use Rattle.npf_engine.specs.declared.outcome.Outcome.{Outcome}
 use Rattle.npf_ctl_messages.specs.declared.fault.CommandFault.{CommandFault}
-use Rattle.npf_ctl_messages.specs.declared.fault.CommandFault.TheVariants.{Usage, Configuration, Unread, Long, Capture, Line, Many, Unwritten, OutputUnwritten, NoMemory}
+use Rattle.npf_ctl_messages.specs.declared.fault.CommandFault.TheVariants.{Unwritten, OutputUnwritten, NoMemory}
 use Rattle.npf_ctl_input.specs.Unless.{IfTold}
 use Rattle.npf_ctl_output.specs.Putting.{HasPutFault}
 use Rattle.npf_ctl_output.specs.Report.{report_text}
+use Rattle.npf_connections.specs.Pass.{Pass}
+use Rattle.npf_connsave.specs.Loading.{StaysSole}
 use Rattle.npf_ctl_prepare.specs.Prepares.{RunPlan, PreparesRun}
+use Rattle.npf_ctl_saved.specs.Loading.{BeginsLoaded, interface_names}
 use Rattle.npf_traffic.specs.declared.packet.Packet.{Packet}
 use Rattle.npf_ctl_words.specs.declared.command.Command.{Command}
 use Rattle.npf_ctl_words.specs.declared.command.Command.TheVariants.{Run}
 use Rattle.npf_ctl_words.specs.declared.command.Run.{Run as RunWords}
 use Rattle.npf_ctl_words.specs.CommandLine.{SaysCommand, given_text}
 use Rattle.npf_ctl.specs.Commands.{names_of_run, spread_said}
-use Rattle.npf_ctl.specs.Ends.{EndsIn, FailsReport, IsUnwritten}
+use Rattle.npf_ctl_output.specs.Writing.{IsUnwritten}
+use Rattle.npf_ctl.specs.Ends.{EndsIn, FailsReport}
 use Rattle.npf_ctl.specs.Faults.{ChangesNoFile, MeetsFault, PutsFront, PutsNothing}
 use Rattle.npf_ctl.specs.Running.{Moment, IsReported}
 use Rattle.npf_ctl.specs.Texts.{TextOf}
@@ -31,14 +35,7 @@ pub unwritten_since : (first before after : FilesMoment) (name : List ℕ) → b
 unwritten_since first before after name same read (Unwritten file) (is, rose) = (is, subst (λ faults. Rose faults after.write_faults) same rose)
 unwritten_since first before after name same read NoMemory why =
     ⊎_elim (λ kept. inl (subst (λ contents. SameFiles contents after.contents) read kept)) (λ rose. inr (subst (λ faults. Rose faults after.write_faults) same rose)) why
-unwritten_since first before after name same read Usage why = why
-unwritten_since first before after name same read (Configuration file fault) why = why
-unwritten_since first before after name same read (Unread file) why = why
-unwritten_since first before after name same read (Long file most) why = why
-unwritten_since first before after name same read (Capture file fault) why = why
-unwritten_since first before after name same read (Line file line fault) why = why
-unwritten_since first before after name same read (Many what count) why = why
-unwritten_since first before after name same read OutputUnwritten why = why
+unwritten_since first before after name same read _ why = absurd why
 
 pub each_unwritten_since : (first before after : FilesMoment) (name : List ℕ) → before.write_faults ≡ first.write_faults → before.contents ≡ first.contents → (result : Result (Unit {0}) CommandFault) →
     IfErr result (IsUnwritten before after name) → IfErr result (IsUnwritten first after name)
@@ -49,16 +46,8 @@ module _ (words : List (List ℕ)) (before after : Moment) where
   -- what is said of a fault is its cause, and where memory runs out nothing was put, and no file changed
   pub early : (Says : CommandFault → Type 0) → ((fault : CommandFault) → Says fault → MeetsFault words before after fault) → PutsNothing before after → ChangesNoFile before after →
       (fault : CommandFault) → IfTold Says fault → MeetsFault words before after fault
-  early Says meets nothing same NoMemory told = MeetsFault.in_memory (inl nothing) (inl same)
-  early Says meets nothing same Usage told = meets Usage told
-  early Says meets nothing same (Configuration file why) told = meets (Configuration file why) told
-  early Says meets nothing same (Unread file) told = meets (Unread file) told
-  early Says meets nothing same (Long file most) told = meets (Long file most) told
-  early Says meets nothing same (Capture file why) told = meets (Capture file why) told
-  early Says meets nothing same (Line file line why) told = meets (Line file line why) told
-  early Says meets nothing same (Many what count) told = meets (Many what count) told
-  early Says meets nothing same (Unwritten file) told = meets (Unwritten file) told
-  early Says meets nothing same OutputUnwritten told = meets OutputUnwritten told
+  early Says meets nothing same NoMemory told = MeetsFault.in_memory (inl nothing) (inl (inl same))
+  early Says meets nothing same fault told = meets fault told
 
   module _ (command : Command) (text : List ℕ) (said : SaysCommand words command) (of : TextOf before after command text) (front : AppendsFront before.out.held after.out.held text) where
     puts_front : PutsFront words before after
@@ -67,16 +56,22 @@ module _ (words : List (List ℕ)) (before after : Moment) where
     -- the text wasn't put whole
     pub unput : ChangesNoFile before after → (fault : CommandFault) → HasPutFault before.out.faults after.out.faults fault → MeetsFault words before after fault
     unput same OutputUnwritten rose = MeetsFault.in_output rose same puts_front
-    unput same NoMemory why = MeetsFault.in_memory (inr puts_front) (inl same)
+    unput same NoMemory why = MeetsFault.in_memory (inr puts_front) (inl (inl same))
     unput same _ why = absurd why
+
+  -- a run's plan was prepared, and its connections were loaded
+  pub record Starts (run : RunWords) (plan : RunPlan) (begun : Pass FlowEntry) : Type 0 where
+    pub prepared : PreparesRun before.files after.files (names_of_run run) (Ok plan)
+    pub same : StaysSole before.pass begun
+    pub begins : BeginsLoaded before.files after.files (given_text run.load) (interface_names plan.ifaces) before.pass begun
 
   module _ (run : RunWords) (plan : RunPlan) (said : SaysCommand words (Run run)) where
     -- a plan wasn't reported
-    pub unreported : ChangesNoFile before after → PreparesRun before.files after.files (names_of_run run) (Ok plan) → (fault : CommandFault) →
-        FailsReport plan run.workers (spread_said run.spread) before.pass after.pass before.out after.out fault → MeetsFault words before after fault
-    unreported same prepared _ (FailsReport.unplayed nothing) = MeetsFault.in_memory (inl nothing) (inl same)
-    unreported same prepared fault (FailsReport.unput plays why front) =
-        unput (Run run) _ said (TextOf.report (record { prepared = prepared; played = plays })) front same fault why
+    pub unreported : ChangesNoFile before after → (begun : Pass FlowEntry) → Starts run plan begun → (fault : CommandFault) →
+        FailsReport plan run.workers (spread_said run.spread) begun after.pass before.out after.out fault → MeetsFault words before after fault
+    unreported same begun starts _ (FailsReport.unplayed nothing) = MeetsFault.in_memory (inl nothing) (inl (inl same))
+    unreported same begun starts fault (FailsReport.unput plays why front) =
+        unput (Run run) _ said (TextOf.report (record { prepared = starts.prepared; begun = begun; same = starts.same; begins = starts.begins; played = plays })) front same fault why
 
     module _ (outputs : List Packet) (outcomes : List Outcome) (reports : IsReported run before after plan outputs outcomes) where
       -- the report that was put is a front of itself
@@ -89,7 +84,7 @@ module _ (words : List (List ℕ)) (before after : Moment) where
           MeetsFault words before after fault
       unwritten passed name named (Unwritten file) why =
           subst (λ (n : List ℕ). MeetsFault words before after (Unwritten n)) (sym why.0) (MeetsFault.in_writing said named why.1 reports passed)
-      unwritten passed name named NoMemory why = MeetsFault.in_memory (inr reported_front) why
+      unwritten passed name named NoMemory why = MeetsFault.in_memory (inr reported_front) (inl why)
       unwritten passed name named _ why = absurd why
 
 -- a history without entries carries no number

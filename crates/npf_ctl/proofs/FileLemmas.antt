@@ -1,14 +1,14 @@
 -- Files that were only read, or of which one was written.
-use Rattle.std.proofs.Common.{◌≡◌, ◌∙◌, ℕ, List, [], Option, Some, None, refl, sym, subst, arith, append-nil}
+use Rattle.std.proofs.Common.{◌≡◌, ◌≢◌, ◌∙◌, ℕ, List, [], Option, Some, None, refl, sym, ap, subst, arith, append-nil}
 use Rattle.npf_config.specs.Reading.{OnlyReads}
 use Rattle.npf_ctl_input.specs.Around.{Around}
-use Rattle.npf_outside.specs.Files.{FilesMoment, SameFiles, SameOthers, Tree}
+use Rattle.npf_outside.specs.Files.{FilesMoment, Has, SameFiles, SameOthers, Tree}
 use Rattle.npf_outside.specs.Sink.{Appends, AppendsFront, SinkMoment}
 use Rattle.npf_packet.specs.declared.extent.IpExtent.{IpExtent}
 use Rattle.npf_ctl_output.specs.Extents.{AreExtentsOf}
 use Rattle.npf_traffic.specs.declared.packet.Packet.{Packet}
 use Rattle.npf_outside.proofs.SinkLemmas.{Appends-nothing, IsPutTo-stops}
-use Rattle.npf_ctl.specs.Ends.{HasReadOn}
+use Rattle.npf_ctl_output.specs.Writing.{HasReadOn, KeepsUnnamed}
 use Rattle.npf_ctl.specs.Faults.{IsUntouched}
 use Rattle.npf_ctl.specs.Running.{Moment}
 use Rattle.npf_ctl.specs.Top.{KeepsOtherFiles, NamesOutput}
@@ -22,6 +22,12 @@ only_read before now reads = subst (λ contents. SameFiles before.contents conte
 
 pub read_on : (now : FilesMoment) → HasReadOn now now
 read_on now = record { faults = record { all = refl; each = λ name. refl }; taken = refl }
+
+pub read_on_through : (one two three : FilesMoment) → HasReadOn one two → HasReadOn two three → HasReadOn one three
+read_on_through one two three first next = record {
+  faults = record { all = next.faults.all ∙ first.faults.all; each = λ name. next.faults.each name ∙ first.faults.each name };
+  taken = next.taken ∙ first.taken;
+}
 
 -- a call at the front of a work, behind which no read is made
 pub around_work : (before now after : FilesMoment) → HasReadOn now after → Around before before now after
@@ -42,15 +48,47 @@ module _ (words : List (List ℕ)) where
   same_keeps None (Some new) same = absurd same
   same_keeps (Some old) None same = absurd same
 
-  -- files that were read, and of which then the named one was written
-  pub others_keep : (name : List ℕ) → NamesOutput words name → (old now new : Option Tree) → SameFiles old now → SameOthers now new name → KeepsOtherFiles words old new
-  others_keep name named None None None same others = tt
-  others_keep name named (Some old) (Some now) (Some new) same others =
-      λ other not. others other (λ e. not (subst (NamesOutput words) (sym e) named)) ∙ same other
-  others_keep name named None None (Some new) same others = absurd others
-  others_keep name named None (Some now) new same others = absurd same
-  others_keep name named (Some old) None new same others = absurd same
-  others_keep name named (Some old) (Some now) None same others = absurd others
+  -- files of which the one that is written, if any is, was named
+  pub keeps_by : (given : Option (List ℕ)) → ((name : List ℕ) → given ≡ Some name → NamesOutput words name) → (old new : Option Tree) → KeepsUnnamed given old new →
+      KeepsOtherFiles words old new
+  keeps_by None names old new same = same_keeps old new same
+  keeps_by (Some file) names None None others = tt
+  keeps_by (Some file) names (Some old) (Some new) others = λ name not. others name (λ e. not (names name (ap Some (sym e))))
+  keeps_by (Some file) names None (Some new) others = absurd others
+  keeps_by (Some file) names (Some old) None others = absurd others
+
+  pub keeps_on : (old now new : Option Tree) → KeepsOtherFiles words old now → KeepsOtherFiles words now new → KeepsOtherFiles words old new
+  keeps_on None None None one two = tt
+  keeps_on (Some old) (Some now) (Some new) one two = λ name not. two name not ∙ one name not
+  keeps_on None None (Some new) one two = absurd two
+  keeps_on None (Some now) new one two = absurd one
+  keeps_on (Some old) None new one two = absurd one
+  keeps_on (Some old) (Some now) None one two = absurd two
+
+-- files of which none was written stay as they are while another is written
+pub same_through : (old now new : Option Tree) → SameFiles old now → SameFiles now new → SameFiles old new
+same_through None None None one two = tt
+same_through (Some old) (Some now) (Some new) one two = λ name. two name ∙ one name
+same_through None None (Some new) one two = absurd two
+same_through None (Some now) new one two = absurd one
+same_through (Some old) None new one two = absurd one
+same_through (Some old) (Some now) None one two = absurd two
+
+pub others_itself : (contents : Option Tree) (file : List ℕ) → SameOthers contents contents file
+others_itself None file = tt
+others_itself (Some tree) file = λ other not. refl
+
+pub keeps_itself : (given : Option (List ℕ)) (contents : Option Tree) → KeepsUnnamed given contents contents
+keeps_itself None contents = same_as_itself contents
+keeps_itself (Some file) contents = others_itself contents file
+
+-- a file has its bytes while another is written
+pub has_on : (given : Option (List ℕ)) (now new : Option Tree) (name bytes : List ℕ) → KeepsUnnamed given now new → given ≢ Some name → Has now name bytes → Has new name bytes
+has_on given now None name bytes others not has = tt
+has_on None (Some now) (Some new) name bytes others not has = others name ∙ has
+has_on (Some file) (Some now) (Some new) name bytes others not has = others name (λ e. not (ap Some (sym e))) ∙ has
+has_on None None (Some new) name bytes others not has = absurd others
+has_on (Some file) None (Some new) name bytes others not has = absurd others
 
 -- nothing is put where nothing changed
 pub nothing_put : (sink : SinkMoment) → Appends sink.held sink.held []

@@ -1,9 +1,10 @@
 -- The run of a generated input.
-use Rattle.std.proofs.Common.{◌≡◌, inl, ℕ, List, Ok, Err, Result, OnOk, IfErr}
+use Rattle.std.proofs.Common.{◌≡◌, inl, refl, ℕ, List, Ok, Err, Result, OnOk, IfErr}
 use Rattle.npf_engine.specs.declared.outcome.Outcome.{Outcome}
 use Rattle.npf_ctl_messages.specs.declared.fault.CommandFault.{CommandFault}
 use Rattle.npf_outside.specs.Files.{SameFiles}
 use Rattle.npf_outside.specs.Sink.{Appends, AppendsFront}
+use Rattle.npf_connsave.proofs.KeysLemmas.{sole_self}
 use Rattle.npf_ctl_output.specs.Putting.{HasPutFault}
 use Rattle.npf_ctl_prepare.specs.declared.prepare.Prepared.{Prepared}
 use Rattle.npf_ctl_prepare.specs.View.{run_plan_of}
@@ -22,7 +23,7 @@ use Rattle.npf_ctl.proofs.EndLemmas.{early, text_ends}
 
 module _ (words : List (List ℕ)) (before after : Moment) (number : ℕ) (said : SaysCommand words (Gen number)) where
   pub unprepared : IsUntouched before after → (fault : CommandFault) → PreparesGenerated number (Err fault) → MeetsFault words before after fault
-  unprepared untouched _ PreparesGenerated.unmade = MeetsFault.in_memory (inl untouched.put) (inl untouched.files)
+  unprepared untouched _ PreparesGenerated.unmade = MeetsFault.in_memory (inl untouched.put) (inl (inl untouched.files))
   unprepared untouched fault (PreparesGenerated.made {tree = tree} holds comes) =
       early words before after (λ why. PreparesOf tree (Err why)) (λ why says. MeetsFault.in_workload said holds says untouched) untouched.put untouched.files fault comes
 
@@ -33,4 +34,5 @@ module _ (words : List (List ℕ)) (before after : Moment) (number : ℕ) (said 
         AppendsFront before.out.held after.out.held (total_text outcomes) → IfErr result (HasPutFault before.out.faults after.out.faults) → EndsIn words before after result
     generated_ends same (PreparesGenerated.made {tree = tree} holds comes) plays =
         text_ends words before after (Gen number) (total_text outcomes) said
-        (TextOf.total {tree = tree} {plan = run_plan_of prepared} {outputs = outputs} holds (record { prepared = comes; played = plays })) same (λ puts. puts)
+        (TextOf.total {tree = tree} {plan = run_plan_of prepared} {outputs = outputs} holds
+        (record { prepared = comes; begun = before.pass; same = sole_self before.pass; begins = refl; played = plays })) same (λ puts. puts)

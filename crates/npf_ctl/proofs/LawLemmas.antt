@@ -1,31 +1,35 @@
 -- What must be refused is, and what can be done is done, where contents are told and no read fails.
-use Rattle.std.proofs.Common.{◌≡◌, ◌∙◌, inl, inr, ℕ, true, List, Some, None, Ok, Err, Result, refl, sym, ap, subst, arith}
+use Rattle.std.proofs.Common.{◌≡◌, ◌∙◌, ◌⊎◌, ⊎_elim, inl, inr, ℕ, true, List, Some, None, Ok, Err, Result, refl, sym, ap, subst, arith}
 use Rattle.std.proofs.lemmas.Bool.{false≢true}
 use Rattle.npf_outside.specs.Counts.{StoodStill}
 use Rattle.npf_outside.specs.Files.{Tree}
 use Rattle.npf_outside.specs.Sink.{SinkMoment}
 use Rattle.npf_ctl_input.specs.File.{ReadsWell, told_files}
-use Rattle.npf_ctl_input.specs.Laws.{LoadsAreOfContents}
+use Rattle.npf_engine.specs.declared.outcome.Outcome.{Outcome}
+use Rattle.npf_traffic.specs.declared.packet.Packet.{Packet}
+use Rattle.npf_ctl_input.specs.Laws.{FilesAreOfContents, LoadsAreOfContents}
 use Rattle.npf_ctl_input.specs.Loading.{LoadsAlone}
 use Rattle.npf_ctl_messages.specs.declared.fault.CommandFault.{CommandFault}
 use Rattle.npf_ctl_messages.specs.Message.{status_of_fault}
 use Rattle.npf_model.specs.Configuration.{Configuration}
 use Rattle.npf_ctl_prepare.specs.Laws.{RunsAreOfContents}
-use Rattle.npf_ctl_prepare.specs.Prepares.{RunPlan, PreparesRun}
+use Rattle.npf_ctl_prepare.specs.Prepares.{RunPlan}
 use Rattle.npf_ctl_words.specs.declared.command.Command.{Command}
 use Rattle.npf_ctl_words.specs.declared.command.Command.TheVariants as Words
 use Rattle.npf_ctl_words.specs.declared.command.Load.{Load}
 use Rattle.npf_ctl_words.specs.declared.command.Run.{Run}
 use Rattle.npf_ctl_words.specs.CommandLine.{SaysCommand, given_text, is_command_line}
 use Rattle.npf_ctl_words.specs.Laws.{IsSameCommand, IsSameLoad, IsSameRun, OneCommand}
-use Rattle.npf_ctl.specs.Commands.{loaded_by, names_of_run}
+use Rattle.npf_ctl.specs.Commands.{loaded_by, names_of_run, spread_said}
 use Rattle.npf_ctl.specs.Generated.{HoldsWorkload, PreparesOf}
 use Rattle.npf_ctl.specs.Ends.{AnswersWords}
 use Rattle.npf_ctl.specs.Faults.{MeetsFault, PutsFront}
-use Rattle.npf_ctl.specs.Running.{Moment}
+use Rattle.npf_ctl.specs.Running.{Moment, PlaysWords}
+use Rattle.npf_ctl.specs.Starting.{StartsRun}
 use Rattle.npf_ctl.specs.Texts.{TextOf}
-use Rattle.npf_ctl.specs.Top.{HasStatus, CanDo, DoesCommand, DoesWords, IsOk, MustRefuse}
+use Rattle.npf_ctl.specs.Top.{HasStatus, CanDo, DoesCommand, DoesWords, IsOk, MustRefuse, RanOutOfNodes}
 use Rattle.npf_ctl.proofs.EndLemmas.{reported_front}
+use Rattle.npf_ctl.proofs.StartLemmas.{started, started_without, starts_of_contents}
 
 -- a fault of files is told by what they come to
 module _ (words : List (List ℕ)) (before after : Moment) (A : Type 0) (ComesTo : Result A CommandFault → Type 0) where
@@ -33,7 +37,10 @@ module _ (words : List (List ℕ)) (before after : Moment) (A : Type 0) (ComesTo
     taken : is_command_line words ≡ true
     does : DoesWords words before after → (a : A) × ComesTo (Ok a)
     front : PutsFront words before after → (a : A) × ComesTo (Ok a)
-    runs : {run : Run} {fault : CommandFault} → SaysCommand words (Words.Run run) → PreparesRun before.files after.files (names_of_run run) (Err fault) → ComesTo (Err fault)
+    runs : {run : Run} {fault : CommandFault} → SaysCommand words (Words.Run run) →
+        StartsRun before.files after.files (names_of_run run) (given_text run.load) before.pass.slots (Err fault) → ComesTo (Err fault)
+    nodes : {run : Run} {plan : RunPlan} → SaysCommand words (Words.Run run) →
+        StartsRun before.files after.files (names_of_run run) (given_text run.load) before.pass.slots (Ok plan) → (a : A) × ComesTo (Ok a)
     loads : {command : Command} {load : Load} {fault : CommandFault} → SaysCommand words command → loaded_by command ≡ Some load →
         LoadsAlone before.files after.files (given_text load.ifaces) load.conf.now (Err fault) → ComesTo (Err fault)
     generated : {number : ℕ} {tree : Tree} {fault : CommandFault} → SaysCommand words (Words.Gen number) → HoldsWorkload number tree → PreparesOf tree (Err fault) →
@@ -54,49 +61,65 @@ module _ (words : List (List ℕ)) (before after : Moment) (A : Type 0) (ComesTo
       by : (other : CommandFault) → MeetsFault words before after other → status ≡ status_of_fault other → HasStatus (status_of_fault fault) status
       by _ (MeetsFault.in_words not untouched) at = absurd (false≢true (sym not ∙ is.taken))
       by other (MeetsFault.in_run said comes untouched) at = same other (is.runs said comes) at
+      by _ (MeetsFault.in_nodes {run = run} {file = file} {plan = plan} said named prepared lacks put unchanged) at =
+          never (is.nodes said (started_without (names_of_run run) (given_text run.load) file before.files after.files before.pass after.pass plan named prepared lacks))
       by other (MeetsFault.in_loading said loaded comes untouched) at = same other (is.loads said loaded comes) at
       by other (MeetsFault.in_workload said holds comes untouched) at = same other (is.generated said holds comes) at
       by _ (MeetsFault.in_output rose unchanged front) at = never (is.front front)
       by _ (MeetsFault.in_writing {run = run} {plan = plan} {outputs = outputs} {outcomes = outcomes} said named rose reports passed) at =
           never (is.front (reported_front words before after run plan said outputs outcomes reports))
+      by _ (MeetsFault.in_saving {run = run} {plan = plan} {outputs = outputs} {outcomes = outcomes} said named rose reports written passed) at =
+          never (is.front (reported_front words before after run plan said outputs outcomes reports))
       by _ (MeetsFault.in_memory put kept) at = inr at
 
-    -- no fault can be told
-    none : ((result : Result A CommandFault) → ComesTo result → IsOk result) → StoodStill before.out.faults after.out.faults →
-        ((run : Run) → SaysCommand words (Words.Run run) → StoodStill before.files.write_faults after.files.write_faults) → AnswersWords words before after old new status → HasStatus 0 status
-    none can puts writes (AnswersWords.done zero does flushed silent) = inl zero
-    none can puts writes (AnswersWords.refused faulted) = by faulted.fault faulted.cause faulted.status_is where
-      by : (other : CommandFault) → MeetsFault words before after other → status ≡ status_of_fault other → HasStatus 0 status
+    -- no fault can be told, unless the table has no node for a connection that a run loads
+    none : (Lacks : Type 0) → ((run : Run) → SaysCommand words (Words.Run run) → RanOutOfNodes before.pass after.pass status → Lacks) →
+        ((result : Result A CommandFault) → ComesTo result → IsOk result) → StoodStill before.out.faults after.out.faults →
+        ((run : Run) → SaysCommand words (Words.Run run) → StoodStill before.files.write_faults after.files.write_faults) → AnswersWords words before after old new status →
+        HasStatus 0 status ⊎ Lacks
+    none Lacks lacking can puts writes (AnswersWords.done zero does flushed silent) = inl (inl zero)
+    none Lacks lacking can puts writes (AnswersWords.refused faulted) = by faulted.fault faulted.cause faulted.status_is where
+      by : (other : CommandFault) → MeetsFault words before after other → status ≡ status_of_fault other → HasStatus 0 status ⊎ Lacks
       by _ (MeetsFault.in_words not untouched) at = absurd (false≢true (sym not ∙ is.taken))
       by other (MeetsFault.in_run said comes untouched) at = absurd (can (Err other) (is.runs said comes))
+      by _ (MeetsFault.in_nodes {run = run} said named prepared lacks put unchanged) at = inr (lacking run said (record { status_is = at; sweeps = lacks.lacks.2.sweeps }))
       by other (MeetsFault.in_loading said loaded comes untouched) at = absurd (can (Err other) (is.loads said loaded comes))
       by other (MeetsFault.in_workload said holds comes untouched) at = absurd (can (Err other) (is.generated said holds comes))
       by _ (MeetsFault.in_output rose same front) at = absurd (omega (arith, rose, puts.0, puts.1))
       by _ (MeetsFault.in_writing {run = run} said named rose reports passed) at = absurd (let still = writes run said in omega (arith, rose, still.0, still.1))
-      by _ (MeetsFault.in_memory put kept) at = inr at
+      by _ (MeetsFault.in_saving {run = run} said named rose reports written passed) at = absurd (let still = writes run said in omega (arith, rose, still.0, still.1))
+      by _ (MeetsFault.in_memory put kept) at = inl (inr at)
 
 module _ (words : List (List ℕ)) (before after : Moment) (tree : Tree) (told : before.files.contents ≡ Some tree) (well : ReadsWell before.files after.files) (one : OneCommand) where
-  module _ (of_runs : RunsAreOfContents) (run : Run) (said : SaysCommand words (Words.Run run)) where
+  module _ (of_runs : RunsAreOfContents) (of_files : FilesAreOfContents) (run : Run) (said : SaysCommand words (Words.Run run)) where
     abbrev OfRun : Result RunPlan CommandFault → Type 0
-    OfRun = PreparesRun (told_files tree) (told_files tree) (names_of_run run)
+    OfRun = StartsRun (told_files tree) (told_files tree) (names_of_run run) (given_text run.load) before.pass.slots
 
     same_names : (b : Run) → IsSameRun run b → names_of_run b ≡ names_of_run run
     same_names b same = rw (same.conf, same.script, same.ifaces) refl
 
-    prepared : (b : Run) → SaysCommand words (Words.Run b) → (result : Result RunPlan CommandFault) → PreparesRun before.files after.files (names_of_run b) result → OfRun result
-    prepared b said_b result comes =
-        of_runs (names_of_run run) tree before.files after.files result told well
-        (subst (λ names. PreparesRun before.files after.files names result) (same_names b (one words (Words.Run run) (Words.Run b) said said_b)) comes)
+    starts : (b : Run) → SaysCommand words (Words.Run b) → (result : Result RunPlan CommandFault) →
+        StartsRun before.files after.files (names_of_run b) (given_text b.load) before.pass.slots result → OfRun result
+    starts b said_b result comes =
+        let same = one words (Words.Run run) (Words.Run b) said said_b in
+        starts_of_contents of_runs of_files (names_of_run run) (given_text run.load) before.pass.slots tree before.files after.files result told well
+        (subst (λ load. StartsRun before.files after.files (names_of_run run) load before.pass.slots result) (sym same.load)
+        (subst (λ names. StartsRun before.files after.files names (given_text b.load) before.pass.slots result) (same_names b same) comes))
+
+    plays_so : (b : Run) → SaysCommand words (Words.Run b) → (plan : RunPlan) (outputs : List Packet) (outcomes : List Outcome) → PlaysWords b before after plan outputs outcomes →
+        (plan : RunPlan) × OfRun (Ok plan)
+    plays_so b said_b plan outputs outcomes plays =
+        (plan, starts b said_b (Ok plan) (started (names_of_run b) (given_text b.load) b.workers (spread_said b.spread) before.files after.files before.pass after.pass plan outputs outcomes plays))
 
     run_text : (command : Command) (text : List ℕ) → SaysCommand words command → TextOf before after command text → (plan : RunPlan) × OfRun (Ok plan)
-    run_text _ _ said_b (TextOf.report {run = b} {plan = plan} plays) = (plan, prepared b said_b (Ok plan) plays.prepared)
+    run_text _ _ said_b (TextOf.report {run = b} {plan = plan} {outputs = outputs} {outcomes = outcomes} plays) = plays_so b said_b plan outputs outcomes plays
     run_text _ _ said_b (TextOf.count {load = load} loads) = absurd (one words (Words.Run run) (Words.Validate load) said said_b)
     run_text _ _ said_b (TextOf.model {load = load} loads) = absurd (one words (Words.Run run) (Words.Show load) said said_b)
     run_text _ _ said_b (TextOf.programs {load = load} loads within) = absurd (one words (Words.Run run) (Words.Debug load) said said_b)
     run_text _ _ said_b (TextOf.total {number = number} holds plays) = absurd (one words (Words.Run run) (Words.Gen number) said said_b)
 
     run_does : (command : Command) → SaysCommand words command → DoesCommand command before after → (plan : RunPlan) × OfRun (Ok plan)
-    run_does (Words.Run b) said_b does = (does.plan, prepared b said_b (Ok does.plan) does.reports.played.prepared)
+    run_does (Words.Run b) said_b does = plays_so b said_b does.plan does.outputs does.outcomes does.reports.played
     run_does (Words.Validate load) said_b does = run_text _ _ said_b does.of
     run_does (Words.Show load) said_b does = run_text _ _ said_b does.of
     run_does (Words.Debug load) said_b does = run_text _ _ said_b does.of
@@ -114,7 +137,8 @@ module _ (words : List (List ℕ)) (before after : Moment) (tree : Tree) (told :
       taken = said.taken;
       does = λ does. run_does does.command does.said does.does;
       front = λ front. run_text front.command front.text front.said front.of;
-      runs = λ {run = b} {fault} said_b comes. prepared b said_b (Err fault) comes;
+      runs = λ {run = b} {fault} said_b comes. starts b said_b (Err fault) comes;
+      nodes = λ {run = b} {plan} said_b comes. (plan, starts b said_b (Ok plan) comes);
       loads = λ {command} {load} {fault} said_b loaded comes. no_loads command load said_b loaded;
       generated = λ {number} {tree} {fault} said_b holds comes. absurd (one words (Words.Run run) (Words.Gen number) said said_b);
     }
@@ -170,23 +194,24 @@ module _ (words : List (List ℕ)) (before after : Moment) (tree : Tree) (told :
       does = λ does. load_does does.command does.said does.does;
       front = λ front. load_text front.command front.text front.said front.of;
       runs = λ {run = b} {fault} said_b comes. not_other (Words.Run b) said_b refl;
+      nodes = λ {run = b} {plan} said_b comes. not_other (Words.Run b) said_b refl;
       loads = λ {command = b} {load = other} {fault} said_b loaded_b comes. loads_so b other said_b loaded_b (Err fault) comes;
       generated = λ {number} {tree} {fault} said_b holds comes. not_other (Words.Gen number) said_b refl;
     }
 
-  module _ (of_runs : RunsAreOfContents) (of_loads : LoadsAreOfContents) (old new : SinkMoment) (status : ℕ) where
-    pub refuses_fault : (fault : CommandFault) → MustRefuse words tree fault → AnswersWords words before after old new status → HasStatus (status_of_fault fault) status
+  module _ (of_runs : RunsAreOfContents) (of_files : FilesAreOfContents) (of_loads : LoadsAreOfContents) (old new : SinkMoment) (status : ℕ) where
+    pub refuses_fault : (fault : CommandFault) → MustRefuse words tree before.pass.slots fault → AnswersWords words before after old new status → HasStatus (status_of_fault fault) status
     refuses_fault fault (MustRefuse.run {words_of = run} said must) =
-        only words before after RunPlan (OfRun of_runs run said) (run_told of_runs run said) old new status fault must
+        only words before after RunPlan (OfRun of_runs of_files run said) (run_told of_runs of_files run said) old new status fault must
     refuses_fault fault (MustRefuse.load {command = command} {load_of = load} said loaded must) =
         only words before after Configuration (OfLoad of_loads command load said loaded) (load_told of_loads command load said loaded) old new status fault must
 
-    pub does_all : CanDo words tree → StoodStill before.out.faults after.out.faults → StoodStill before.files.write_faults after.files.write_faults →
-        AnswersWords words before after old new status → HasStatus 0 status
+    pub does_all : CanDo words tree before.pass.slots → StoodStill before.out.faults after.out.faults → StoodStill before.files.write_faults after.files.write_faults →
+        AnswersWords words before after old new status → HasStatus 0 status ⊎ RanOutOfNodes before.pass after.pass status
     does_all (CanDo.run {words_of = run} said can) puts writes =
-        none words before after RunPlan (OfRun of_runs run said) (run_told of_runs run said) old new status can puts (λ b said_b. writes)
+        none words before after RunPlan (OfRun of_runs of_files run said) (run_told of_runs of_files run said) old new status (RanOutOfNodes before.pass after.pass status) (λ b said_b lacks. lacks) can puts (λ b said_b. writes)
     does_all (CanDo.load {command = command} {load_of = load} said loaded can) puts writes =
-        none words before after Configuration (OfLoad of_loads command load said loaded) (load_told of_loads command load said loaded) old new status can puts (λ b said_b. writes)
+        none words before after Configuration (OfLoad of_loads command load said loaded) (load_told of_loads command load said loaded) old new status (RanOutOfNodes before.pass after.pass status) (λ b said_b lacks. lacks) can puts (λ b said_b. writes)
 
 module _ (words : List (List ℕ)) (before after : Moment) (one : OneCommand) (number : ℕ) (said : SaysCommand words (Words.Gen number)) where
   abbrev OfGenerated : Result RunPlan CommandFault → Type 0
@@ -229,12 +254,14 @@ module _ (words : List (List ℕ)) (before after : Moment) (one : OneCommand) (n
     does = λ does. generated_does does.command does.said does.does;
     front = λ front. generated_text front.command front.text front.said front.of;
     runs = λ {run = b} {fault} said_b comes. no_other (Words.Run b) said_b (λ other e. cc);
+    nodes = λ {run = b} {plan} said_b comes. no_other (Words.Run b) said_b (λ other e. cc);
     loads = λ {command} {load} {fault} said_b loaded comes. not_loading command load said_b loaded;
     generated = λ {number = other} {tree = held} {fault} said_b holds comes. (held, holds_so other said_b held holds, comes);
   }
 
   pub generates_all : ((held : Tree) (result : Result RunPlan CommandFault) → HoldsWorkload number held → PreparesOf held result → IsOk result) →
       (old new : SinkMoment) (status : ℕ) → StoodStill before.out.faults after.out.faults → AnswersWords words before after old new status → HasStatus 0 status
-  generates_all can old new status puts =
-      none words before after RunPlan OfGenerated generated_told old new status (λ result comes. can comes.0 result comes.1 comes.2) puts
-      (λ run said_b. no_other (Words.Run run) said_b (λ other e. cc))
+  generates_all can old new status puts answers =
+      ⊎_elim (λ is. is) (λ lacks. absurd lacks)
+      (none words before after RunPlan OfGenerated generated_told old new status ⊥ (λ run said_b lacks. no_other (Words.Run run) said_b (λ other e. cc))
+      (λ result comes. can comes.0 result comes.1 comes.2) puts (λ run said_b. no_other (Words.Run run) said_b (λ other e. cc)) answers)

@@ -5,4 +5,7 @@ pub mod GenerateLemmas
 pub mod LawLemmas
 pub mod ListingLemmas
 pub mod LookLemmas
+pub mod ReadyLemmas
 pub mod RunLemmas
+pub mod SaveLemmas
+pub mod StartLemmas

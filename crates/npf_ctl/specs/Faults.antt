@@ -1,14 +1,16 @@
 -- The first fault that a command met: its cause, what was put before it, and its line.
-use Rattle.std.specs.Prelude.{◌≡◌, ◌≢◌, ◌⊎◌, ℕ, false, Err, Some, List, []}
+use Rattle.std.specs.Prelude.{◌≡◌, ◌≢◌, ◌⊎◌, ℕ, false, Ok, Err, Some, List, []}
 use Rattle.npf_outside.specs.Counts.{Rose}
 use Rattle.npf_outside.specs.Files.{SameFiles, Tree}
 use Rattle.npf_outside.specs.Sink.{SinkMoment, Appends, AppendsFront}
 use Rattle.npf_engine.specs.declared.outcome.Outcome.{Outcome}
 use Rattle.npf_ctl_input.specs.Loading.{LoadsAlone}
 use Rattle.npf_ctl_prepare.specs.Prepares.{RunPlan, PreparesRun}
+use Rattle.npf_ctl_saved.specs.Loading.{LacksNode, interface_names}
 use Rattle.npf_traffic.specs.declared.packet.Packet.{Packet}
 use Rattle.npf_ctl_messages.specs.declared.fault.CommandFault.{CommandFault}
-use Rattle.npf_ctl_messages.specs.declared.fault.CommandFault.TheVariants.{Usage, Unwritten, OutputUnwritten, NoMemory}
+use Rattle.npf_ctl_messages.specs.declared.fault.CommandFault.TheVariants.{Usage, Saved, Unwritten, OutputUnwritten, NoMemory}
+use Rattle.npf_ctl_messages.specs.declared.fault.SavedRefusal.TheVariants.{SavedNoNode}
 use Rattle.npf_ctl_messages.specs.Message.{message_line, status_of_fault}
 use Rattle.npf_ctl_words.specs.declared.command.Command.{Command}
 use Rattle.npf_ctl_words.specs.declared.command.Command.TheVariants.{Run, Gen}
@@ -17,7 +19,8 @@ use Rattle.npf_ctl_words.specs.declared.command.Run.{Run as RunWords}
 use Rattle.npf_ctl_words.specs.CommandLine.{SaysCommand, given_text, is_command_line}
 use Rattle.npf_ctl.specs.Commands.{loaded_by, names_of_run}
 use Rattle.npf_ctl.specs.Generated.{HoldsWorkload, PreparesOf}
-use Rattle.npf_ctl.specs.Running.{Moment, IsReported}
+use Rattle.npf_ctl.specs.Running.{Moment, IsReported, WritesPassed}
+use Rattle.npf_ctl.specs.Starting.{StartsRun}
 use Rattle.npf_ctl.specs.Texts.{TextOf}
 
 -- The line was put on the error sink; or a front of it, where the sink's own count rose.
@@ -52,11 +55,34 @@ module _ (words : List (List ℕ)) (before after : Moment) where
     pub of : TextOf before after command text
     pub front : AppendsFront before.out.held after.out.held text
 
+  -- a run's report was put, what passed was written, and memory ran out at the second file, to which the connections were to be saved
+  pub record IsBetweenFiles : Type 0 where
+    pub run : RunWords
+    pub said : SaysCommand words (Run run)
+    pub output : List ℕ
+    pub first : given_text run.output ≡ Some output
+    pub save : List ℕ
+    pub second : given_text run.save ≡ Some save
+    pub plan : RunPlan
+    pub outputs : List Packet
+    pub outcomes : List Outcome
+    pub reports : IsReported run before after plan outputs outcomes
+    pub written : WritesPassed run after.files plan outputs outcomes
+
+  -- no file changed, or a write of one failed; or memory ran out between the two files of a run
+  abbrev pub LeavesFiles : ℕ → Type 0
+  LeavesFiles status = KeepsFiles before after ⊎ ((status ≡ 1) × IsBetweenFiles)
+
   -- why this is the first fault, and what was done before it; want of memory says nothing of the words and the files
   pub data MeetsFault : CommandFault → Type 0 where
     in_words : is_command_line words ≡ false → IsUntouched before after → MeetsFault Usage
     in_run : {run : RunWords} {fault : CommandFault} → SaysCommand words (Run run) →
-        PreparesRun before.files after.files (names_of_run run) (Err fault) → IsUntouched before after → MeetsFault fault
+        StartsRun before.files after.files (names_of_run run) (given_text run.load) before.pass.slots (Err fault) → IsUntouched before after →
+        MeetsFault fault
+    in_nodes : {run : RunWords} {file : List ℕ} {plan : RunPlan} → SaysCommand words (Run run) → given_text run.load ≡ Some file →
+        PreparesRun before.files after.files (names_of_run run) (Ok plan) →
+        LacksNode before.files after.files file (interface_names plan.ifaces) before.pass after.pass → PutsNothing before after →
+        ChangesNoFile before after → MeetsFault (Saved file SavedNoNode)
     in_loading : {command : Command} {load : Load} {fault : CommandFault} → SaysCommand words command → loaded_by command ≡ Some load →
         LoadsAlone before.files after.files (given_text load.ifaces) load.conf.now (Err fault) → IsUntouched before after → MeetsFault fault
     in_workload : {number : ℕ} {tree : Tree} {fault : CommandFault} → SaysCommand words (Gen number) → HoldsWorkload number tree →
@@ -65,7 +91,11 @@ module _ (words : List (List ℕ)) (before after : Moment) where
     in_writing : {run : RunWords} {name : List ℕ} {plan : RunPlan} {outputs : List Packet} {outcomes : List Outcome} → SaysCommand words (Run run) →
         given_text run.output ≡ Some name → Rose before.files.write_faults after.files.write_faults →
         IsReported run before after plan outputs outcomes → after.out.waiting ≡ 0 → MeetsFault (Unwritten name)
-    in_memory : PutsNothing before after ⊎ PutsFront → KeepsFiles before after → MeetsFault NoMemory
+    in_saving : {run : RunWords} {name : List ℕ} {plan : RunPlan} {outputs : List Packet} {outcomes : List Outcome} → SaysCommand words (Run run) →
+        given_text run.save ≡ Some name → Rose before.files.write_faults after.files.write_faults →
+        IsReported run before after plan outputs outcomes → WritesPassed run after.files plan outputs outcomes → after.out.waiting ≡ 0 →
+        MeetsFault (Unwritten name)
+    in_memory : PutsNothing before after ⊎ PutsFront → KeepsFiles before after ⊎ IsBetweenFiles → MeetsFault NoMemory
 
   -- with status 1 alone: nothing was put, or the line of a fault that was met before memory ran out
   pub record PutsNoLine (old new : SinkMoment) (status : ℕ) : Type 0 where

@@ -5,5 +5,6 @@ pub mod Generated
 pub mod Limits
 pub mod Looking
 pub mod Running
+pub mod Starting
 pub mod Texts
 pub mod Top

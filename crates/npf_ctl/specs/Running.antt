@@ -1,5 +1,7 @@
 -- What a run does, from its files to the bytes that it puts and writes.
-use Rattle.std.specs.Prelude.{ℕ, Ok, List, IfSome}
+use Rattle.std.specs.Prelude.{◌≢◌, ℕ, Ok, Option, Some, List, IfSome}
+use Rattle.npf_types.specs.declared.name.Name.{Name}
+use Rattle.npf_core.specs.History.{state_of}
 use Rattle.npf_connections.specs.Pass.{Pass}
 use Rattle.npf_engine.specs.declared.outcome.Outcome.{Outcome}
 use Rattle.npf_engine.specs.Histories.{FlowEntry}
@@ -9,10 +11,14 @@ use Rattle.npf_pcap.specs.declared.capture.Record.{Record}
 use Rattle.npf_pcap.specs.Spelling.{capture_bytes}
 use Rattle.npf_traffic.specs.declared.packet.Packet.{Packet}
 use Rattle.npf_runner.specs.declared.phase.Spread.{Spread}
+use Rattle.npf_flow.specs.Flows.{flow_law}
 use Rattle.npf_runner.specs.Plays.{PlaysPhases}
+use Rattle.npf_connsave.specs.Loading.{StaysSole}
+use Rattle.npf_connsave.specs.Saving.{IsSavedText}
 use Rattle.npf_ctl_prepare.specs.Prepares.{RunPlan, PreparesRun, RunNames}
 use Rattle.npf_ctl_output.specs.Report.{report_text}
 use Rattle.npf_ctl_output.specs.Written.{AreWritten}
+use Rattle.npf_ctl_saved.specs.Loading.{BeginsLoaded, interface_names}
 use Rattle.npf_ctl_words.specs.declared.command.Run.{Run}
 use Rattle.npf_ctl_words.specs.CommandLine.{given_text}
 use Rattle.npf_ctl.specs.Commands.{names_of_run, spread_said}
@@ -27,14 +33,18 @@ abbrev pub moment : FilesMoment → SinkMoment → Pass FlowEntry → Moment
 moment files out pass = record { files = files; out = out; pass = pass }
 
 -- The plan of these names, as the files say it from the one moment to the other, was played: each packet has an outcome that the pass's
--- history explains.
-pub record PlaysRun (names : RunNames) (workers : ℕ) (spread : Spread) (before after : FilesMoment) (old new : Pass FlowEntry) (plan : RunPlan) (outputs : List Packet) (outcomes : List Outcome) : Type 0 where
+-- history explains. That history begins with the entries of the connections that were loaded, where a file of them is named, and they stand
+-- before the first phase.
+pub record PlaysRun (names : RunNames) (load : Option (List ℕ)) (workers : ℕ) (spread : Spread) (before after : FilesMoment) (old new : Pass FlowEntry) (plan : RunPlan) (outputs : List Packet) (outcomes : List Outcome) : Type 0 where
   pub prepared : PreparesRun before after names (Ok plan)
-  pub played : PlaysPhases plan.configs workers spread old new plan.phases plan.packets outputs outcomes
+  pub begun : Pass FlowEntry
+  pub same : StaysSole old begun
+  pub begins : BeginsLoaded before after load (interface_names plan.ifaces) old begun
+  pub played : PlaysPhases plan.configs workers spread begun new plan.phases plan.packets outputs outcomes
 
 -- a run's words were followed so
 abbrev pub PlaysWords : Run → Moment → Moment → RunPlan → List Packet → List Outcome → Type 0
-PlaysWords run before after = PlaysRun (names_of_run run) run.workers (spread_said run.spread) before.files after.files before.pass after.pass
+PlaysWords run before after = PlaysRun (names_of_run run) (given_text run.load) run.workers (spread_said run.spread) before.files after.files before.pass after.pass
 
 -- a run was played, and its report was put on the output
 pub record IsReported (run : Run) (before after : Moment) (plan : RunPlan) (outputs : List Packet) (outcomes : List Outcome) : Type 0 where
@@ -47,10 +57,22 @@ pub record IsWrittenTo (files : FilesMoment) (packets outputs : List Packet) (ou
   pub written : AreWritten packets outputs outcomes records
   pub holds : Has files.contents name (capture_bytes records)
 
--- a run was done: it was reported, and what passed was written where a file is named for it
+-- what passed was written where a file is named for it, unless the connections are saved to that file
+abbrev pub WritesPassed : Run → FilesMoment → RunPlan → List Packet → List Outcome → Type 0
+WritesPassed run files plan outputs outcomes =
+    IfSome (given_text run.output) (λ name. given_text run.save ≢ Some name → IsWrittenTo files plan.packets outputs outcomes name)
+
+-- the file of this name holds the text of the connections that the pass's table has
+pub record IsSavedTo (files : FilesMoment) (pass : Pass FlowEntry) (names : List Name) (name : List ℕ) : Type 0 where
+  pub text : List ℕ
+  pub saved : IsSavedText (state_of flow_law pass.history) names text
+  pub holds : Has files.contents name text
+
+-- a run was done: it was reported, what passed was written, and the connections were saved, where files are named for them
 pub record IsRun (run : Run) (before after : Moment) : Type 0 where
   pub plan : RunPlan
   pub outputs : List Packet
   pub outcomes : List Outcome
   pub reports : IsReported run before after plan outputs outcomes
-  pub written : IfSome (given_text run.output) (IsWrittenTo after.files plan.packets outputs outcomes)
+  pub written : WritesPassed run after.files plan outputs outcomes
+  pub saved : IfSome (given_text run.save) (IsSavedTo after.files after.pass (interface_names plan.ifaces))

@@ -1,5 +1,5 @@
 -- The text that each command puts on the output.
-use Rattle.std.specs.Prelude.{◌≡◌, ℕ, ◌+◌, Ok, List, [], ◌∷◌, ◌++◌, codes, length}
+use Rattle.std.specs.Prelude.{◌≡◌, ℕ, ◌+◌, None, Ok, List, [], ◌∷◌, ◌++◌, codes, length}
 use Rattle.std.specs.Fmt.{decimal}
 use Rattle.std.specs.List.{flat_map}
 use Rattle.npf_bpf.specs.declared.insn.Insn.{Insn}
@@ -58,5 +58,5 @@ pub data TextOf (before after : Moment) : Command → List ℕ → Type 0 where
   programs : {load : Load} {config : Configuration} {programs : List (List Insn)} → IsLoadedFor before after load config →
       IsWithinLimits config.model programs → TextOf before after (Words.Debug load) (programs_text 1 programs)
   total : {number : ℕ} {tree : Tree} {plan : RunPlan} {outputs : List Packet} {outcomes : List Outcome} → HoldsWorkload number tree →
-      PlaysRun generated_names 1 Rr (told_files tree) (told_files tree) before.pass after.pass plan outputs outcomes →
+      PlaysRun generated_names None 1 Rr (told_files tree) (told_files tree) before.pass after.pass plan outputs outcomes →
       TextOf before after (Words.Gen number) (total_text outcomes)

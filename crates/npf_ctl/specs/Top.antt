@@ -1,11 +1,13 @@
 -- What the program answers to its words.
-use Rattle.std.specs.Prelude.{◌≡◌, ◌≢◌, ◌⊎◌, ℕ, ⊤, Ok, Err, Result, Option, Some, None, List}
+use Rattle.std.specs.Prelude.{◌≡◌, ◌≢◌, ◌⊎◌, ◌+◌, ◌≤◌, ℕ, ⊤, Ok, Err, Result, Option, Some, None, List}
 use Rattle.npf_outside.specs.Files.{Tree}
 use Rattle.npf_outside.specs.Sink.{Appends}
 use Rattle.npf_model.specs.Configuration.{Configuration}
 use Rattle.npf_ctl_input.specs.File.{told_files}
 use Rattle.npf_ctl_input.specs.Loading.{LoadsAlone}
-use Rattle.npf_ctl_prepare.specs.Prepares.{RunPlan, PreparesRun}
+use Rattle.npf_connections.specs.Pass.{Pass}
+use Rattle.npf_engine.specs.Histories.{FlowEntry}
+use Rattle.npf_ctl_prepare.specs.Prepares.{RunPlan}
 use Rattle.npf_ctl_messages.specs.declared.fault.CommandFault.{CommandFault}
 use Rattle.npf_ctl_words.specs.declared.command.Command.{Command}
 use Rattle.npf_ctl_words.specs.declared.command.Command.TheVariants as Words
@@ -15,6 +17,7 @@ use Rattle.npf_ctl_words.specs.CommandLine.{SaysCommand, given_text}
 use Rattle.npf_ctl.specs.Commands.{loaded_by, names_of_run}
 use Rattle.npf_ctl.specs.Generated.{HoldsWorkload, PreparesOf}
 use Rattle.npf_ctl.specs.Running.{Moment, IsRun}
+use Rattle.npf_ctl.specs.Starting.{StartsRun}
 use Rattle.npf_ctl.specs.Texts.{TextOf}
 
 -- the command's whole text was put on the output
@@ -34,13 +37,13 @@ pub record DoesWords (words : List (List ℕ)) (before after : Moment) : Type 0 
   pub said : SaysCommand words command
   pub does : DoesCommand command before after
 
--- the words name this file to be written
+-- the words name this file to be written: that of the packets that pass, or of the connections that are saved
 pub record NamesOutput (words : List (List ℕ)) (name : List ℕ) : Type 0 where
   pub run : Run
   pub said : SaysCommand words (Words.Run run)
-  pub named : given_text run.output ≡ Some name
+  pub named : (given_text run.output ≡ Some name) ⊎ (given_text run.save ≡ Some name)
 
--- every file is as before, where contents are told, but one that the words name to be written
+-- every file is as before, where contents are told, but those that the words name to be written
 abbrev pub KeepsOtherFiles : List (List ℕ) → Option Tree → Option Tree → Type 0
 KeepsOtherFiles words None None = ⊤
 KeepsOtherFiles words (Some old) (Some new) = (name : List ℕ) → ¬ NamesOutput words name → new name ≡ old name
@@ -54,16 +57,22 @@ IsQuiet status = (status ≢ 0) × (status ≢ 1) × (status ≢ 5)
 abbrev pub HasStatus : ℕ → ℕ → Type 0
 HasStatus wanted status = (status ≡ wanted) ⊎ (status ≡ 1)
 
+-- the table had no node for a key of a connection that was to be loaded: with status 6 the count of sweeps rose
+pub record RanOutOfNodes (old new : Pass FlowEntry) (status : ℕ) : Type 0 where
+  pub status_is : status ≡ 6
+  pub sweeps : old.sweeps + 1 ≤ new.sweeps
+
 -- something is answered, and no fault
 abbrev pub IsOk : {A F : Type 0} → Result A F → Type 0
 IsOk (Ok a) = ⊤
 IsOk (Err fault) = ⊥
 
-module _ (words : List (List ℕ)) (tree : Tree) where
+module _ (words : List (List ℕ)) (tree : Tree) (slots : ℕ) where
   -- the command's files end in this fault, whichever way they are read
   pub data MustRefuse (fault : CommandFault) : Type 0 where
     run : {words_of : Run} → SaysCommand words (Words.Run words_of) →
-        ((result : Result RunPlan CommandFault) → PreparesRun (told_files tree) (told_files tree) (names_of_run words_of) result → result ≡ Err fault) →
+        ((result : Result RunPlan CommandFault) →
+        StartsRun (told_files tree) (told_files tree) (names_of_run words_of) (given_text words_of.load) slots result → result ≡ Err fault) →
         MustRefuse fault
     load : {command : Command} {load_of : Load} → SaysCommand words command → loaded_by command ≡ Some load_of →
         ((result : Result Configuration CommandFault) → LoadsAlone (told_files tree) (told_files tree) (given_text load_of.ifaces) load_of.conf.now result →
@@ -72,7 +81,8 @@ module _ (words : List (List ℕ)) (tree : Tree) where
   -- the command's files are in their grammars and limits, whichever way they are read
   pub data CanDo : Type 0 where
     run : {words_of : Run} → SaysCommand words (Words.Run words_of) →
-        ((result : Result RunPlan CommandFault) → PreparesRun (told_files tree) (told_files tree) (names_of_run words_of) result → IsOk result) → CanDo
+        ((result : Result RunPlan CommandFault) →
+        StartsRun (told_files tree) (told_files tree) (names_of_run words_of) (given_text words_of.load) slots result → IsOk result) → CanDo
     load : {command : Command} {load_of : Load} → SaysCommand words command → loaded_by command ≡ Some load_of →
         ((result : Result Configuration CommandFault) → LoadsAlone (told_files tree) (told_files tree) (given_text load_of.ifaces) load_of.conf.now result →
         IsOk result) → CanDo

@@ -1,6 +1,7 @@
 // What npfctl does: from the words of the command line and the bytes of its files to the lines of a report, a status and the line of a fault.
 //
-// Each command is a few steps, the first fault of which is answered: `running` prepares a run, plays it, and puts and writes what it makes;
+// Each command is a few steps, the first fault of which is answered: `running` prepares a run, loads its connections, plays it, puts and writes
+// what it makes, and saves its connections (`saving`);
 // `looking` loads a configuration and puts what is to be seen of it; `generating` runs a generated input from files in memory
 // (`generated_files`); `top` gives
 // the status, and puts the line of a fault.
@@ -16,6 +17,7 @@ pub mod laws;
 mod listing;
 mod looking;
 mod running;
+mod saving;
 mod top;
 
 pub use top::{Status, npfctl_top};

@@ -1,7 +1,7 @@
-// A run: it is prepared, played and reported, and what passed is written where a file is named for it.
+// A run: it is prepared, its connections are loaded, it is played and reported, what passed is written, and its connections are saved.
+// Files are loaded, written and saved where the words name them.
 ghost use Rattle.std.specs.Prelude.{◌≡◌, ◌≤◌, ℕ, List, All, IfOk, IfErr, OnOk, IsErrOf, length};
-ghost use Rattle.npf_outside.specs.Counts.{Rose};
-ghost use Rattle.npf_outside.specs.Files.{Has, SameFiles, SameOthers};
+ghost use Rattle.npf_outside.specs.Files.{SameOthers};
 ghost use Rattle.npf_outside.specs.Sink.{Appends};
 ghost use Rattle.npf_ctl_arrivals.specs.Within.{HasCaptureTime};
 ghost use Rattle.npf_traffic.specs.declared.packet.Packet.{Packet as PacketType};
@@ -9,35 +9,37 @@ ghost use Rattle.npf_runner.specs.Plays.{PlaysPhases};
 ghost use Rattle.npf_ctl_output.specs.Extents.{AreExtentsOf, EndsInPacket};
 ghost use Rattle.npf_ctl_output.specs.Outputs.{AreOutputsOf};
 ghost use Rattle.npf_ctl_output.specs.Report.{report_text};
+ghost use Rattle.npf_ctl_output.specs.Writing.{HasReadOn, IsUnwritten, KeepsUnnamed};
 ghost use Rattle.npf_ctl_prepare.specs.Playable.{IsPlayable};
 ghost use Rattle.npf_ctl_prepare.specs.View.{run_plan_of};
 ghost use Rattle.npf_ctl_words.specs.declared.command.Command.{Command as CommandType};
-ghost use Rattle.npf_ctl_words.specs.CommandLine.{SaysCommand};
+ghost use Rattle.npf_ctl_words.specs.CommandLine.{SaysCommand, given_text};
 ghost use Rattle.npf_ctl_messages.specs.declared.fault.CommandFault.{CommandFault as FaultType};
 ghost use Rattle.npf_ctl.specs.Commands.{spread_said};
 ghost use Rattle.npf_connections.specs.Stay.{IsLater, IsOut};
 ghost use Rattle.npf_flow.specs.Flows.{flow_law};
-ghost use Rattle.npf_ctl.specs.Ends.{EndsIn, FailsReport, HasReadOn, IsFresh, IsUnwritten};
+ghost use Rattle.npf_ctl.specs.Ends.{EndsIn, FailsPlan, FailsReport, FollowsPlan, IsFresh, MayBegin};
 ghost use Rattle.npf_ctl.specs.Running.{IsWrittenTo, moment};
 ghost use Rattle.npf_ctl.specs.Top.{KeepsOtherFiles};
 
+use crate::saving::save_connections;
 use npf_connections::Connections;
 use npf_ctl_arrivals::Captures;
 use npf_ctl_messages::CommandFault;
-use npf_ctl_output::{ip_extents, put_report, written_capture};
+use npf_ctl_output::{ip_extents, put_report, write_file, written_capture};
 use npf_ctl_prepare::{Prepared, RunFiles, prepare_run};
+use npf_ctl_saved::{interface_names, load_connections};
 use npf_ctl_words::{Run, Spread as SpreadWord};
 use npf_flow::FlowLaw;
-use npf_outside::{FileFault, Files, Sink};
+use npf_outside::{Files, Sink};
 use npf_packet::IpExtent;
 use npf_runner::{Gate, Played, Spread, play};
-use npf_types::{List, NoMemory, Text};
 use std::alloc::Global;
 use std::sync::Wait;
 use std::thread::Threads;
 
-/// Runs a script's packets, puts the report, and writes what passed where the words name a file for it. A failing put ends the run
-/// before anything is written.
+/// Runs a script's packets with the connections of a file, where the words name one; puts the report, writes what passed and saves the connections
+/// where the words name files for them. A failing put ends the run before anything is written.
 pub(crate) fn run<R: Threads + Wait + Sync, F: Files, O: Sink, C: Connections<FlowLaw>, G: Gate>(
     rt: &R,
     alloc: Global,
@@ -65,6 +67,38 @@ pub(crate) fn run<R: Threads + Wait + Sync, F: Files, O: Sink, C: Connections<Fl
     };
     let mut captures = Captures::new(alloc);
     let prepared = prepare_run(alloc, names, files, &mut captures)?;
+    let interfaces = interface_names(alloc, &prepared.ifaces)?;
+    load_connections(rt, alloc, words.load, &interfaces, files, conns, pass)?;
+    run_prepared(rt, alloc, prepared, words, files, out, conns, pass, gate)?;
+    save_connections(rt, alloc, words.save, &interfaces, files, conns, pass)
+}
+
+// Plays what is prepared, puts the report, and writes what passed where the words name a file for it.
+#[tactic(auto, using(crate::proofs::FileLemmas::keeps_itself, crate::proofs::FileLemmas::read_on))]
+fn run_prepared<R: Threads + Wait + Sync, F: Files, O: Sink, C: Connections<FlowLaw>, G: Gate>(
+    rt: &R,
+    alloc: Global,
+    prepared: Prepared<'_>,
+    words: Run<'_>,
+    files: &mut F,
+    out: &mut O,
+    conns: &C,
+    pass: &mut C::Pass,
+    gate: &G,
+) -> Result<(), CommandFault>
+    requires out { IsOut flow_law (C.fits conns.now) C.view pass.old }
+    requires ready { MayBegin (C.view pass.old) }
+    requires workers { (1 ≤ words.workers) × (words.workers ≤ 64) }
+    requires playable { IsPlayable prepared }
+    ensures done { OnOk result (FollowsPlan words.entry (run_plan_of prepared.entry) (C.view pass.old) (C.view pass.new) (O.moment out.old) (O.moment out.new) (F.moment files.new)) }
+    ensures fails { IfErr result (FailsPlan words.entry (run_plan_of prepared.entry) (C.view pass.old) (C.view pass.new) (O.moment out.old) (O.moment out.new)
+        (F.moment files.old) (F.moment files.new)) }
+    ensures others { KeepsUnnamed (given_text words.entry.output) (F.moment files.old).contents (F.moment files.new).contents }
+    ensures reads { HasReadOn (F.moment files.old) (F.moment files.new) }
+    ensures faultless { OnOk result ((F.moment files.new).write_faults ≡ (F.moment files.old).write_faults) }
+    ensures out { IsOut flow_law (C.fits conns.now) C.view pass.new }
+    ensures later { IsLater (C.view pass.old) (C.view pass.new) }
+{
     match words.output {
         None => {
             report_run(rt, alloc, prepared, words, out, conns, pass, gate)?;
@@ -90,7 +124,7 @@ fn report_run<'a, R: Threads + Wait + Sync, O: Sink, C: Connections<FlowLaw>, G:
     gate: &G,
 ) -> Result<Played<'a>, CommandFault>
     requires out { IsOut flow_law (C.fits conns.now) C.view pass.old }
-    requires fresh { IsFresh (C.view pass.old) }
+    requires ready { MayBegin (C.view pass.old) }
     requires workers { (1 ≤ words.workers) × (words.workers ≤ 64) }
     requires playable { IsPlayable prepared }
     ensures played { IfOk result (λ played. PlaysPhases (run_plan_of prepared.entry).configs words.entry.workers (spread_said words.entry.spread)
@@ -145,6 +179,7 @@ fn write_passed<F: Files>(
     requires timely { All HasCaptureTime played.now.packets }
     ensures written { (packets : List PacketType) → AreExtentsOf packets extents.now → AreOutputsOf packets played.now.outcomes played.now.packets
         → OnOk result (IsWrittenTo (F.moment files.new) packets played.now.packets played.now.outcomes name.now) }
+    ensures faultless { OnOk result ((F.moment files.new).write_faults ≡ (F.moment files.old).write_faults) }
     ensures fails { IfErr result (IsUnwritten (F.moment files.old) (F.moment files.new) name.now) }
     ensures others { SameOthers (F.moment files.old).contents (F.moment files.new).contents name.now }
     ensures reads { HasReadOn (F.moment files.old) (F.moment files.new) }
@@ -155,18 +190,5 @@ fn write_passed<F: Files>(
         played.packets.as_slice(),
         played.outcomes.as_slice(),
     )?;
-    match files.write(name, bytes.as_slice()) {
-        Ok(()) => Ok(()),
-        Err(FileFault::Failed) => Err(CommandFault::Unwritten {
-            file: text_of(alloc, name)?,
-        }),
-        Err(FileFault::Long | FileFault::NoMemory) => Err(CommandFault::NoMemory),
-    }
-}
-
-// A copy of a file's name, for a fault.
-fn text_of(alloc: Global, name: &str) -> Result<Text, NoMemory>
-    ensures { IfOk result (λ text. text ≡ name.now) }
-{
-    Ok(List::of_vec(Vec::from_slice(alloc, name.as_bytes())?))
+    write_file(alloc, name, bytes.as_slice(), files)
 }

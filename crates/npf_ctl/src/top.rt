@@ -11,9 +11,9 @@ ghost use Rattle.npf_outside.specs.Sink.{Appends, AppendsFront};
 ghost use Rattle.npf_ctl_words.specs.CommandLine.{is_command_line, word_texts};
 ghost use Rattle.npf_ctl_input.specs.File.{ReadsWell};
 ghost use Rattle.npf_ctl.specs.Ends.{EndsIn, AnswersWords, IsFresh, SaysFault};
-ghost use Rattle.npf_ctl.specs.Faults.{IsFaulted, KeepsFiles};
+ghost use Rattle.npf_ctl.specs.Faults.{IsFaulted, LeavesFiles};
 ghost use Rattle.npf_ctl.specs.Running.{moment};
-ghost use Rattle.npf_ctl.specs.Top.{HasStatus, CanDo, CanGenerate, DoesWords, IsQuiet, KeepsOtherFiles, MustRefuse};
+ghost use Rattle.npf_ctl.specs.Top.{HasStatus, CanDo, CanGenerate, DoesWords, IsQuiet, KeepsOtherFiles, MustRefuse, RanOutOfNodes};
 
 use crate::generating::run_generated;
 use crate::looking::{Look, look_at};
@@ -34,8 +34,8 @@ pub type Status = u8;
 
 /// Does what the words ask; they leave out the program's name.
 ///
-/// - `run CONF SCRIPT [--ifaces FILE] [--workers N] [--spread rr|flow] [--write FILE]` runs the packets of a script's captures, or of a capture
-///   alone, through a configuration of npf.conf(5), and puts a line for each packet and the total line on `out`
+/// - `run CONF SCRIPT [--ifaces FILE] [--workers N] [--spread rr|flow] [--write FILE] [--load FILE] [--save FILE]` runs the packets of a script's
+///   captures, or of a capture alone, through a configuration of npf.conf(5), and puts a line for each packet and the total line on `out`
 /// - `validate CONF`, `show CONF` and `debug CONF`, each with `[--ifaces FILE]`, put the count of a configuration's rules, its canonical text, and
 ///   the programs of its rules
 /// - `gen NUMBER` runs the generated input of this number, and puts the total line
@@ -74,24 +74,28 @@ pub fn npfctl_top<
         (moment (F.moment files.old) (O.moment out.old) (C.view pass.old)) (moment (F.moment files.new) (O.moment out.new) (C.view pass.new))
         (E.moment err.old) (E.moment err.new) result }
 
-    // What must be refused is, for the fault that it comes to, and what can be done is, but for want of memory.
+    // What must be refused is, for the fault that it comes to, and what can be done is, but for want of memory, or of a node for a connection
+    // that is loaded.
     ensures refuses_words { is_command_line (word_texts words.now) ≡ false → HasStatus 2 result }
-    ensures refuses { (tree : Tree) (fault : FaultType) → (F.moment files.old).contents ≡ Some tree → MustRefuse (word_texts words.now) tree fault
+    ensures refuses { (tree : Tree) (fault : FaultType) → (F.moment files.old).contents ≡ Some tree
+        → MustRefuse (word_texts words.now) tree (C.view pass.old).slots fault
         → ReadsWell (F.moment files.old) (F.moment files.new) → HasStatus (status_of_fault fault) result }
-    ensures complete { (tree : Tree) → (F.moment files.old).contents ≡ Some tree → CanDo (word_texts words.now) tree
+    ensures complete { (tree : Tree) → (F.moment files.old).contents ≡ Some tree → CanDo (word_texts words.now) tree (C.view pass.old).slots
         → ReadsWell (F.moment files.old) (F.moment files.new)
         → StoodStill (O.moment out.old).faults (O.moment out.new).faults
-        → StoodStill (F.moment files.old).write_faults (F.moment files.new).write_faults → HasStatus 0 result }
+        → StoodStill (F.moment files.old).write_faults (F.moment files.new).write_faults
+        → HasStatus 0 result ⊎ RanOutOfNodes (C.view pass.old) (C.view pass.new) result }
     ensures complete_generated { CanGenerate (word_texts words.now)
         → StoodStill (O.moment out.old).faults (O.moment out.new).faults → HasStatus 0 result }
 
-    // With 2, 3, 4, 7, 8 and 9 nothing is put on the output, no file changes, and the table of connections is asked nothing; with any status
-    // but 0 no file changes unless a write failed, and with any at all none but the one that is to be written.
+    // With 2, 3, 4, 6, 7, 8 and 9 nothing is put on the output, no file changes, and the table of connections is asked nothing, unless it had no
+    // node for a connection that was to be loaded; with any status but 0 no file changes unless a write failed, or memory ran out at the second
+    // of two files; and with any at all none but those that are to be written.
     ensures quiet { IsQuiet result → Appends (O.moment out.old).held (O.moment out.new).held [] }
     ensures same { IsQuiet result → SameFiles (F.moment files.old).contents (F.moment files.new).contents }
-    ensures idle { IsQuiet result → C.view pass.new ≡ C.view pass.old }
-    ensures kept { result ≢ 0 → KeepsFiles
-        (moment (F.moment files.old) (O.moment out.old) (C.view pass.old)) (moment (F.moment files.new) (O.moment out.new) (C.view pass.new)) }
+    ensures idle { IsQuiet result → (C.view pass.new ≡ C.view pass.old) ⊎ RanOutOfNodes (C.view pass.old) (C.view pass.new) result }
+    ensures kept { result ≢ 0 → LeavesFiles (word_texts words.now)
+        (moment (F.moment files.old) (O.moment out.old) (C.view pass.old)) (moment (F.moment files.new) (O.moment out.new) (C.view pass.new)) result }
     ensures files { KeepsOtherFiles (word_texts words.now) (F.moment files.old).contents (F.moment files.new).contents }
 
     // The pass is outside again, owns all places, and has its number and slots; its history goes on, and its sweeps and its epoch don't fall.

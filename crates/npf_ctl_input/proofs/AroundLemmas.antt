@@ -4,14 +4,14 @@ use Rattle.npf_outside.specs.Files.{FilesMoment}
 use Rattle.npf_config.specs.Reading.{OnlyReads}
 use Rattle.npf_ctl_input.specs.Around.{Around, CountsOn}
 
-counts_between : (one two three : FilesMoment) → CountsOn one two → CountsOn two three → CountsOn one three
+pub counts_between : (one two three : FilesMoment) → CountsOn one two → CountsOn two three → CountsOn one three
 counts_between one two three first next = record {
   read_faults = omega arith;
   read_faults_of = λ name. omega (arith, first.read_faults_of name, next.read_faults_of name);
   taken = omega arith;
 }
 
-counts_read : (old new : FilesMoment) → OnlyReads old new → CountsOn old new
+pub counts_read : (old new : FilesMoment) → OnlyReads old new → CountsOn old new
 counts_read old new reads = record { read_faults = reads.read_faults; read_faults_of = reads.read_faults_of; taken = reads.taken }
 
 module _ (before old middle new after : FilesMoment) (around : Around before old new after) where

@@ -5,7 +5,7 @@ use Rattle.npf_ctl_messages.specs.declared.fault.CommandFault.{CommandFault}
 use Rattle.npf_ctl_messages.specs.declared.fault.CommandFault.TheVariants.{NoMemory}
 use Rattle.npf_ctl_input.specs.Unless.{IfTold, UnlessMemory}
 
-told_lasts : (P Q : CommandFault → Type 0) → ((fault : CommandFault) → P fault → Q fault) → (fault : CommandFault) → IfTold P fault → IfTold Q fault
+pub told_lasts : (P Q : CommandFault → Type 0) → ((fault : CommandFault) → P fault → Q fault) → (fault : CommandFault) → IfTold P fault → IfTold Q fault
 told_lasts P Q lasts NoMemory is = tt
 told_lasts P Q lasts fault is = lasts fault is
 

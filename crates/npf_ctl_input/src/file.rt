@@ -39,7 +39,7 @@ pub fn read_file<F: Files>(
 }
 
 /// A copy of a file's name, for a fault.
-pub(crate) fn text_of(alloc: Global, name: &str) -> Result<Text, NoMemory>
+pub fn text_of(alloc: Global, name: &str) -> Result<Text, NoMemory>
     ensures { IfOk result (λ text. text ≡ name.now) }
 {
     Ok(List::of_vec(Vec::from_slice(alloc, name.as_bytes())?))

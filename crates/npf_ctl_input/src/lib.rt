@@ -13,7 +13,7 @@ pub mod laws;
 mod loading;
 mod source;
 
-pub use file::read_file;
+pub use file::{read_file, text_of};
 pub use interfaces::read_interfaces;
 pub use loading::{load_alone, load_file, told_fault};
 pub use source::{Source, read_source};

@@ -12,11 +12,13 @@ use Rattle.npf_pcap.specs.declared.fault.CaptureFault.{CaptureFault}
 use Rattle.npf_pcap.specs.Fault.{number_of, name_of, record_of}
 use Rattle.npf_table.specs.Fault.{table_fault_number, table_fault_name}
 use Rattle.npf_ctl_messages.specs.declared.fault.CommandFault.{CommandFault}
-use Rattle.npf_ctl_messages.specs.declared.fault.CommandFault.TheVariants.{Usage, Configuration, Unread, Long, Capture, Line, Many, Unwritten, OutputUnwritten, NoMemory}
+use Rattle.npf_ctl_messages.specs.declared.fault.CommandFault.TheVariants.{Usage, Configuration, Unread, Long, Saved, Capture, Line, Many, Unwritten, OutputUnwritten, NoMemory}
 use Rattle.npf_ctl_messages.specs.declared.fault.LineFault.{LineFault}
 use Rattle.npf_ctl_messages.specs.declared.fault.LineFault.TheVariants.{BadLine, Conf, UnknownTable, Table, UnknownRuleset, UnknownRule}
 use Rattle.npf_ctl_messages.specs.declared.fault.Quantity.{Quantity}
 use Rattle.npf_ctl_messages.specs.declared.fault.Quantity.TheVariants as Quantities
+use Rattle.npf_ctl_messages.specs.declared.fault.SavedRefusal.{SavedRefusal}
+use Rattle.npf_ctl_messages.specs.declared.fault.SavedRefusal.TheVariants.{BadSaved, OtherInterfaces, TooManySaved, SavedNoNode}
 
 abbrev pub status_of_fault : CommandFault → ℕ
 status_of_fault NoMemory = 1
@@ -25,6 +27,7 @@ status_of_fault (Configuration _ _) = 3
 status_of_fault (Unread _) = 4
 status_of_fault (Unwritten _) = 5
 status_of_fault OutputUnwritten = 5
+status_of_fault (Saved _ _) = 6
 status_of_fault (Capture _ _) = 7
 status_of_fault (Line _ _ _) = 8
 status_of_fault (Long _ _) = 9
@@ -100,12 +103,35 @@ line_detail_text _ = []
 abbrev pub line_fault_text : LineFault → List ℕ
 line_fault_text fault = numbered_text (line_fault_number fault) (line_fault_name fault) ++ line_detail_text fault
 
-abbrev pub record_of_text : Option ℕ → List ℕ
-record_of_text None = []
-record_of_text (Some n) = codes " " ++ decimal n
+-- a number behind a name, where there is one
+abbrev pub number_behind : Option ℕ → List ℕ
+number_behind None = []
+number_behind (Some n) = codes " " ++ decimal n
+
+-- why a file of saved connections isn't loaded: its number, its name, and behind them the line, from 1, or how many connections there are
+abbrev pub saved_number : SavedRefusal → ℕ
+saved_number (BadSaved line) = 80
+saved_number (OtherInterfaces line) = 81
+saved_number (TooManySaved count) = 82
+saved_number SavedNoNode = 83
+
+abbrev pub saved_name : SavedRefusal → List ℕ
+saved_name (BadSaved line) = codes "BadSaved"
+saved_name (OtherInterfaces line) = codes "OtherInterfaces"
+saved_name (TooManySaved count) = codes "TooManySaved"
+saved_name SavedNoNode = codes "SavedNoNode"
+
+abbrev pub saved_count : SavedRefusal → Option ℕ
+saved_count (BadSaved line) = Some line
+saved_count (OtherInterfaces line) = Some line
+saved_count (TooManySaved count) = Some count
+saved_count SavedNoNode = None
+
+abbrev pub saved_fault_text : SavedRefusal → List ℕ
+saved_fault_text fault = numbered_text (saved_number fault) (saved_name fault) ++ number_behind (saved_count fault)
 
 abbrev pub capture_fault_text : CaptureFault → List ℕ
-capture_fault_text fault = numbered_text (number_of fault) (name_of fault) ++ record_of_text (record_of fault)
+capture_fault_text fault = numbered_text (number_of fault) (name_of fault) ++ number_behind (record_of fault)
 
 -- what a fault's line says behind the program's name
 abbrev pub said_of : CommandFault → List ℕ
@@ -114,6 +140,7 @@ said_of (Configuration file fault) =
     file ++ (codes ":" ++ (decimal fault.span.line ++ (codes ":" ++ (decimal fault.span.col ++ (codes ": " ++ conf_fault_text fault.fault)))))
 said_of (Unread file) = codes "cannot read " ++ file
 said_of (Long file most) = codes "limit bytes " ++ (file ++ (codes " over " ++ decimal most))
+said_of (Saved file fault) = file ++ (codes ": " ++ saved_fault_text fault)
 said_of (Capture file fault) = file ++ (codes ": " ++ capture_fault_text fault)
 said_of (Line script line fault) = script ++ (codes ":" ++ (decimal line ++ (codes ": " ++ line_fault_text fault)))
 said_of (Many what count) = codes "limit " ++ over_text (quantity_name what) count (most_of what)

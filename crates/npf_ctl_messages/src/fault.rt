@@ -1,5 +1,5 @@
 ghost use Rattle.std.specs.Prelude.{◌≡◌};
-ghost use Rattle.npf_ctl_messages.specs.Message.{line_fault_name, line_fault_number, status_of_fault};
+ghost use Rattle.npf_ctl_messages.specs.Message.{line_fault_name, line_fault_number, saved_count, saved_name, saved_number, status_of_fault};
 
 use npf_faults::{ConfFault, Fault};
 use npf_pcap::CaptureFault;
@@ -26,6 +26,11 @@ pub enum CommandFault {
     Long {
         file: Text,
         most: u64,
+    },
+    /// The saved connections of the file aren't loaded.
+    Saved {
+        file: Text,
+        fault: SavedRefusal,
     },
     /// The file is no capture.
     Capture {
@@ -100,6 +105,58 @@ impl LineFault {
     }
 }
 
+/// Why the saved connections of a file aren't loaded. Lines are counted from 1.
+#[derive(Clone, Copy, Debug, PartialEq, Eq)]
+pub enum SavedRefusal {
+    /// The first line that is bad: it isn't one of such a file, or may not stand where it does.
+    BadSaved(u32),
+    /// The first line that has another interface than the run, or where one is missing.
+    OtherInterfaces(u32),
+    /// So many connections are listed, more than the table has slots.
+    TooManySaved(u64),
+    /// The table had no node for a key.
+    SavedNoNode,
+}
+
+impl SavedRefusal {
+    /// The number that is printed for the fault.
+    pub fn number(&self) -> u8
+        ensures { result ≡ saved_number self.now }
+    {
+        match *self {
+            SavedRefusal::BadSaved(_) => 80,
+            SavedRefusal::OtherInterfaces(_) => 81,
+            SavedRefusal::TooManySaved(_) => 82,
+            SavedRefusal::SavedNoNode => 83,
+        }
+    }
+
+    /// The name that is printed for the fault.
+    pub fn name(&self) -> &'static str
+        ensures { result.now ≡ saved_name self.now }
+    {
+        match *self {
+            SavedRefusal::BadSaved(_) => "BadSaved",
+            SavedRefusal::OtherInterfaces(_) => "OtherInterfaces",
+            SavedRefusal::TooManySaved(_) => "TooManySaved",
+            SavedRefusal::SavedNoNode => "SavedNoNode",
+        }
+    }
+
+    /// The line or the count that is printed behind them.
+    pub fn count(&self) -> Option<u64>
+        ensures { result ≡ saved_count self.now }
+    {
+        match *self {
+            SavedRefusal::BadSaved(line) | SavedRefusal::OtherInterfaces(line) => {
+                Some(u64::from(line))
+            }
+            SavedRefusal::TooManySaved(count) => Some(count),
+            SavedRefusal::SavedNoNode => None,
+        }
+    }
+}
+
 /// What a run may have only so many of.
 #[derive(Clone, Copy, Debug, PartialEq, Eq)]
 pub enum Quantity {
@@ -124,6 +181,7 @@ impl CommandFault {
             CommandFault::Configuration { .. } => 3,
             CommandFault::Unread { .. } => 4,
             CommandFault::Unwritten { .. } | CommandFault::OutputUnwritten => 5,
+            CommandFault::Saved { .. } => 6,
             CommandFault::Capture { .. } => 7,
             CommandFault::Line { .. } => 8,
             CommandFault::Long { .. } | CommandFault::Many { .. } => 9,

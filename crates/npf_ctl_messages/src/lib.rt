@@ -13,5 +13,5 @@ mod limit;
 mod messages;
 mod writing;
 
-pub use fault::{CommandFault, LineFault, Quantity};
+pub use fault::{CommandFault, LineFault, Quantity, SavedRefusal};
 pub use messages::message;

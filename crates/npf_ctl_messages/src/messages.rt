@@ -1,7 +1,7 @@
 ghost use Rattle.std.specs.Prelude.{◌≡◌, ◌++◌, IfOk, OnOk, codes};
-ghost use Rattle.npf_ctl_messages.specs.Message.{message_line, said_of, conf_fault_text, detail_text, line_fault_text, capture_fault_text};
+ghost use Rattle.npf_ctl_messages.specs.Message.{message_line, said_of, conf_fault_text, detail_text, line_fault_text, capture_fault_text, saved_fault_text};
 
-use crate::fault::{CommandFault, LineFault};
+use crate::fault::{CommandFault, LineFault, SavedRefusal};
 use crate::limit::{most_excess, most_of, quantity_name};
 use crate::writing::{write_numbered, write_over};
 use npf_faults::{ConfFault, Fault};
@@ -31,6 +31,10 @@ fn write_said(into: &mut Vec<u8>, fault: &CommandFault) -> Result<(), NoMemory>
         CommandFault::Configuration { file, fault } => write_placed(into, file.as_slice(), fault),
         CommandFault::Unread { file } => write_named(into, "cannot read ", file.as_slice()),
         CommandFault::Long { file, most } => write_long(into, file.as_slice(), *most),
+        CommandFault::Saved { file, fault } => {
+            write_bytes(into, file.as_slice())?;
+            write_saved_fault(into, fault)
+        }
         CommandFault::Capture { file, fault } => {
             write_bytes(into, file.as_slice())?;
             write_capture_fault(into, fault)
@@ -96,6 +100,17 @@ fn write_detail(into: &mut Vec<u8>, fault: &Fault) -> Result<(), NoMemory>
             write_over(into, excess.name(), *count, most_excess(*excess))
         }
         _ => Ok(()),
+    }
+}
+
+fn write_saved_fault(into: &mut Vec<u8>, fault: &SavedRefusal) -> Result<(), NoMemory>
+    ensures { OnOk result (into.new.items ≡ into.old.items ++ (codes ": " ++ saved_fault_text fault.now)) }
+{
+    write_text(into, ": ")?;
+    write_numbered(into, fault.number(), fault.name())?;
+    match fault.count() {
+        Some(count) => write_counted(into, " ", count),
+        None => Ok(()),
     }
 }
 

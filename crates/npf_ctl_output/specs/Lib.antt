@@ -2,4 +2,5 @@ pub mod Extents
 pub mod Outputs
 pub mod Putting
 pub mod Report
+pub mod Writing
 pub mod Written

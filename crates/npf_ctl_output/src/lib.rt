@@ -1,5 +1,5 @@
 // What a run puts out: its report on the standard output, line by line (docs/npfctl.8, "The report"), and the capture of
-// the packets that it let pass.
+// the packets that it let pass; and it writes a file.
 //
 // A run writes over the bytes of its packets, so `ip_extents` notes before it where each record has its IP packet, and
 // `written_capture` cuts the sent bytes by these notes after it. No packet is copied but into the capture's own bytes.
@@ -13,10 +13,12 @@ mod extent;
 mod laws;
 mod putting;
 mod report;
+mod writing;
 mod written;
 
 pub use extent::ip_extents;
 pub use laws::played_are_outputs;
 pub use putting::put_text;
 pub use report::{put_report, put_total};
+pub use writing::write_file;
 pub use written::written_capture;

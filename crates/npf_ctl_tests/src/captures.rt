@@ -65,3 +65,8 @@ pub fn addresses(alloc: Global, count: &str) -> Result<Vec<u8>> {
     }
     Ok(bytes)
 }
+
+/// So many spaces.
+pub fn spaces(alloc: Global, count: &str) -> Result<Vec<u8>> {
+    Ok(vec![in alloc; b' '; count.parse()?]?)
+}

@@ -1,5 +1,5 @@
 // Rows that prepare a run: files, the calls that fail, the slots of the table of connections, and whether the gate tells what it counted.
-use crate::captures::{addresses, capture_header, frame, record};
+use crate::captures::{addresses, capture_header, frame, record, spaces};
 use crate::setting::Setting;
 use anyhow::{Context, Result, bail};
 use npf_fixtures::texts::{hex_bytes, unescaped};
@@ -71,6 +71,7 @@ fn append(setting: &mut Setting, word: &str, text: &str) -> Result<()> {
         "+" => unescaped(alloc, text)?,
         "x" => hex_bytes(alloc, text)?,
         "addresses" => addresses(alloc, text)?,
+        "spaces" => spaces(alloc, text)?,
         ">" => record(&setting.folder, alloc, text)?,
         "frame" => frame(&setting.folder, alloc, text)?,
         _ => bail!("no such row"),

@@ -21,7 +21,7 @@ struct Answer {
 }
 
 /// Prints what the top call answers to these words over the files: its status, and what is put on both sinks. Where it wrote the file `o`,
-/// that has the bytes of the file `w`.
+/// that has the bytes of the file `w`, and where it wrote `p`, of `v`.
 pub fn run<R: Print + AllocGlobal + Threads + Wait + Sync>(
     rt: &R,
     setting: &mut Setting,
@@ -36,7 +36,8 @@ pub fn run<R: Print + AllocGlobal + Threads + Wait + Sync>(
     print_lines(rt, "", out.bytes())?;
     print_lines(rt, "! ", err.bytes())?;
     print_gate(rt, setting, &gate)?;
-    print_written(rt, setting, &mut files)
+    print_written(rt, setting, &mut files, "o", "w")?;
+    print_written(rt, setting, &mut files, "p", "v")
 }
 
 fn call<R: AllocGlobal + Threads + Wait + Sync>(
@@ -81,13 +82,19 @@ fn print_gate(rt: &impl Print, setting: &mut Setting, gate: &Around) -> Result<(
     Ok(())
 }
 
-fn print_written(rt: &impl Print, setting: &Setting, files: &mut MemFiles) -> Result<()> {
-    let Ok(written) = files.read(setting.alloc, "o", u64::MAX) else {
+fn print_written(
+    rt: &impl Print,
+    setting: &Setting,
+    files: &mut MemFiles,
+    name: &str,
+    wanted: &str,
+) -> Result<()> {
+    let Ok(written) = files.read(setting.alloc, name, u64::MAX) else {
         return Ok(());
     };
-    if written.as_slice() != setting.folder.bytes("w")? {
-        return Err(anyhow!("o has other bytes than w"));
+    if written.as_slice() != setting.folder.bytes(wanted)? {
+        return Err(anyhow!("{name} has other bytes than {wanted}"));
     }
-    println!(rt; "o is as w")?;
+    println!(rt; "{name} is as {wanted}")?;
     Ok(())
 }

@@ -20,6 +20,8 @@ same_run rows a b p q = record {
   workers = some_same _ _ (sym p.workers ∙ q.workers);
   spread = some_same _ _ (sym p.spread ∙ q.spread);
   output = sym p.output ∙ q.output;
+  load = sym p.load ∙ q.load;
+  save = sym p.save ∙ q.save;
 }
 
 same_load : (rows : List Row) (a b : Load) → TellsLoad rows a → TellsLoad rows b → IsSameLoad a b

@@ -86,6 +86,8 @@ pub record TellsRun (rows : List Row) (run : Run) : Type 0 where
   pub few : run.workers ≤ 64
   pub spread : spread_in rows ≡ Some run.spread
   pub output : first_of (codes "write") rows ≡ given_text run.output
+  pub load : first_of (codes "load") rows ≡ given_text run.load
+  pub save : first_of (codes "save") rows ≡ given_text run.save
 
 -- and of a command that loads a configuration
 pub record TellsLoad (rows : List Row) (load : Load) : Type 0 where

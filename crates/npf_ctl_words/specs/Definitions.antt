@@ -42,12 +42,13 @@ number_rule = record (word_rule (codes "number")) { parser = Some number_parser 
 abbrev pub loading_command : Text → App
 loading_command id = with_rule (with_rule (new_app id) (word_rule (codes "conf"))) (option_rule (codes "ifaces"))
 
--- run CONF SCRIPT [--ifaces FILE] [--workers N] [--spread NAME] [--write FILE]
+-- run CONF SCRIPT [--ifaces FILE] [--workers N] [--spread NAME] [--write FILE] [--load FILE] [--save FILE]
 abbrev pub run_command : App
 run_command =
     let words = with_rule (with_rule (new_app (codes "run")) (word_rule (codes "conf"))) (word_rule (codes "script")) in
     let ifaces = with_rule words (option_rule (codes "ifaces")) in
-    with_rule (with_rule (with_rule ifaces workers_rule) spread_rule) (option_rule (codes "write"))
+    let dealt = with_rule (with_rule ifaces workers_rule) spread_rule in
+    with_rule (with_rule (with_rule dealt (option_rule (codes "write"))) (option_rule (codes "load"))) (option_rule (codes "save"))
 
 -- gen NUMBER
 abbrev pub gen_command : App

@@ -15,6 +15,8 @@ pub record IsSameRun (a b : Run) : Type 0 where
   pub workers : a.workers ≡ b.workers
   pub spread : a.spread ≡ b.spread
   pub output : given_text a.output ≡ given_text b.output
+  pub load : given_text a.load ≡ given_text b.load
+  pub save : given_text a.save ≡ given_text b.save
 
 pub record IsSameLoad (a b : Load) : Type 0 where
   pub conf : a.conf.now ≡ b.conf.now

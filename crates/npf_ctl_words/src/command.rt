@@ -34,6 +34,10 @@ pub struct Run<'a> {
     pub spread: Spread,
     /// The file that the packets that pass are written to.
     pub output: Option<&'a str>,
+    /// The file of saved connections that are loaded before the run.
+    pub load: Option<&'a str>,
+    /// The file that the connections are saved to after the run.
+    pub save: Option<&'a str>,
 }
 
 /// What the commands load that only look at a configuration.

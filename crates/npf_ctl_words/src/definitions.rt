@@ -30,7 +30,9 @@ fn run<'a>(alloc: Global) -> Result<Command<'a>, AllocError>
         .arg(option(alloc, "ifaces"))?
         .arg(workers(alloc))?
         .arg(spread(alloc))?
-        .arg(option(alloc, "write"))?;
+        .arg(option(alloc, "write"))?
+        .arg(option(alloc, "load"))?
+        .arg(option(alloc, "save"))?;
     Ok(command)
 }
 

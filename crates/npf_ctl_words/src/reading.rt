@@ -120,6 +120,8 @@ fn run_of<'a>(matches: &ArgMatches<'a>) -> Option<Run<'a>>
         workers: few_workers(value(matches, "workers")),
         spread,
         output: given(matches, "write"),
+        load: given(matches, "load"),
+        save: given(matches, "save"),
     })
 }
 

@@ -20,7 +20,7 @@ returns-in_err-prepared-clause-ends g c =
 pub returns-in_err-played-clause-ends : goal.returns-in_err-played-clause-ends
 returns-in_err-played-clause-ends g c =
     let same : c.from_residual-in_err-played.result ≡ Err NoMemory = search rules in
-    rw same (λ texts files said. MeetsFault.in_memory (inl (nothing_put (g.O.Sink.moment c.args.out.now))) (inl (same_as_itself files.contents)))
+    rw same (λ texts files said. MeetsFault.in_memory (inl (nothing_put (g.O.Sink.moment c.args.out.now))) (inl (inl (same_as_itself files.contents))))
 
 pub returns-clause-ends : goal.returns-clause-ends
 returns-clause-ends g c = λ texts files said.

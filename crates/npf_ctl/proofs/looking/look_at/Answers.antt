@@ -27,7 +27,7 @@ pub returns-in_err-text-clause-ends : goal.returns-in_err-text-clause-ends
 returns-in_err-text-clause-ends g c =
     let same : c.from_residual-in_err-text.result ≡ Err NoMemory = search rules in
     rw same (λ texts pass said. MeetsFault.in_memory (inl (nothing_put (g.O.Sink.moment c.args.out.now)))
-    (inl (only_read (g.F.Files.moment c.args.files.now) (g.F.Files.moment c.load_alone.new.files) c.load_alone.ensures.reads)))
+    (inl (inl (only_read (g.F.Files.moment c.args.files.now) (g.F.Files.moment c.load_alone.new.files) c.load_alone.ensures.reads))))
 
 pub returns-clause-ends : goal.returns-clause-ends
 returns-clause-ends g c = λ texts pass said.

@@ -51,3 +51,6 @@ returns-clause-whole g c =
     let old = (g.O.Sink.moment c.args.out.now).held in
     let new = (g.O.Sink.moment c.put_report.new.out).held in
     subst (λ (t : List ℕ). Appends old new t) text c.in_ok-put_report.ensures.whole
+
+pub play-requires-clause-unnumbered : goal.play-requires-clause-unnumbered
+play-requires-clause-unnumbered g c κs within = c.requires.ready.unnumbered _

@@ -1,14 +1,18 @@
-use Rattle.std.proofs.Common.{rules, ◌≡◌, ◌∙◌, Err, inl, refl, sym}
+use Rattle.std.proofs.Common.{rules, ◌≡◌, ◌∙◌, List, Err, IfSome, OnOk, inl, inr, refl, subst}
+use Rattle.npf_types.specs.declared.name.Name.{Name}
+use Rattle.npf_ctl_saved.proofs.ReadLemmas.{reads_after}
+use Rattle.npf_connections.proofs.SaidLemmas.{later_more}
+use Rattle.npf_ctl_input.proofs.AroundLemmas.{around_first, around_next}
 use Rattle.npf_ctl_messages.specs.declared.fault.CommandFault.TheVariants.{NoMemory}
-use Rattle.std.proofs.lemmas.Slice.Zip.{AllZip-long}
-use Rattle.npf_ctl_output.specs.Extents.{IsExtentOf}
-use Rattle.npf_ctl_output.proofs.OutputLemmas.{counts_of_outputs, outputs_have_time}
 use Rattle.npf_ctl_prepare.specs.View.{run_plan_of}
+use Rattle.npf_ctl_saved.specs.Loading.{BeginsLoaded, FailsLoad, interface_names}
+use Rattle.npf_ctl_input.specs.Unless.{IfTold}
+use Rattle.npf_ctl_words.specs.CommandLine.{given_text}
 use Rattle.npf_ctl.specs.Faults.{MeetsFault}
-use Rattle.npf_ctl.specs.Running.{moment}
-use Rattle.npf_ctl.proofs.EndLemmas.{each_unwritten_since, unreported}
-use Rattle.npf_ctl.proofs.FileLemmas.{around_work, extents_named, nothing_put, only_read, others_keep, read_on}
-use Rattle.npf_ctl.proofs.RunLemmas.{reported_ends, run_unprepared, writing_ends}
+use Rattle.npf_ctl.specs.Running.{IsSavedTo, moment}
+use Rattle.npf_ctl.proofs.FileLemmas.{around_work, keeps_by, keeps_on, nothing_put, only_read, read_on, read_on_through, same_keeps}
+use Rattle.npf_ctl.proofs.ReadyLemmas.{later_than_new, ready}
+use Rattle.npf_ctl.proofs.RunLemmas.{run_unfollowed, run_unloaded, run_unprepared, saving_ends}
 use Rattle.npf_ctl.proofs.running.run.Goals as goal
 
 pub returns-in_err-prepared-clause-ends : goal.returns-in_err-prepared-clause-ends
@@ -22,86 +26,138 @@ returns-in_err-prepared-clause-ends g c =
     rw same (λ texts said. run_unprepared texts (moment first out pass) (moment last out pass) c.args.words said
     (record { put = nothing_put out; files = only_read first last c.prepare_run.ensures.reads; idle = refl }) fault (c.in_err-prepared.ensures.comes first last (around_work first last last (read_on last))))
 
-pub returns-in_err-report_run-in-None-clause-ends : goal.returns-in_err-report_run-in-None-clause-ends
-returns-in_err-report_run-in-None-clause-ends g c =
-    let first = g.F.Files.moment c.args.files.now in
-    let last = g.F.Files.moment c.prepare_run.new.files in
-    let out = g.O.Sink.moment c.args.out.now in
-    let pass = g.C.Connections.view c.args.pass.now in
-    let fault = c.in_err-report_run-in-None.field-0.0 in
-    let same : c.from_residual-in_err-report_run-in-None.result ≡ Err fault = search rules in
-    rw same (λ texts said. unreported texts (moment first out pass) (moment last (g.O.Sink.moment c.report_run.new.out) (g.C.Connections.view c.report_run.new.pass)) c.args.words
-    (run_plan_of c.in_ok-prepared.prepared) said (only_read first last c.prepare_run.ensures.reads) (c.in_ok-prepared.ensures.comes first last (around_work first last last (read_on last))) fault c.in_err-report_run-in-None.ensures.fails)
-
-pub returns-in_err-extents-in-Some-clause-ends : goal.returns-in_err-extents-in-Some-clause-ends
-returns-in_err-extents-in-Some-clause-ends g c =
-    let same : c.from_residual-in_err-extents-in-Some.result ≡ Err NoMemory = search rules in
+pub returns-in_err-interfaces-clause-ends : goal.returns-in_err-interfaces-clause-ends
+returns-in_err-interfaces-clause-ends g c =
+    let same : c.from_residual-in_err-interfaces.result ≡ Err NoMemory = search rules in
     rw same (λ texts said. MeetsFault.in_memory (inl (nothing_put (g.O.Sink.moment c.args.out.now)))
-    (inl (only_read (g.F.Files.moment c.args.files.now) (g.F.Files.moment c.prepare_run.new.files) c.prepare_run.ensures.reads)))
+    (inl (inl (only_read (g.F.Files.moment c.args.files.now) (g.F.Files.moment c.prepare_run.new.files) c.prepare_run.ensures.reads))))
 
-pub returns-in_err-played-in-Some-clause-ends : goal.returns-in_err-played-in-Some-clause-ends
-returns-in_err-played-in-Some-clause-ends g c =
+pub returns-in_err-load_connections-clause-ends : goal.returns-in_err-load_connections-clause-ends
+returns-in_err-load_connections-clause-ends g c =
     let first = g.F.Files.moment c.args.files.now in
-    let last = g.F.Files.moment c.prepare_run.new.files in
+    let read = g.F.Files.moment c.prepare_run.new.files in
+    let last = g.F.Files.moment c.load_connections.new.files in
     let out = g.O.Sink.moment c.args.out.now in
-    let pass = g.C.Connections.view c.args.pass.now in
-    let fault = c.in_err-played-in-Some.field-0.0 in
-    let same : c.from_residual-in_err-played-in-Some.result ≡ Err fault = search rules in
-    rw same (λ texts said. unreported texts (moment first out pass) (moment last (g.O.Sink.moment c.report_run-in-Some.new.out) (g.C.Connections.view c.report_run-in-Some.new.pass)) c.args.words
-    (run_plan_of c.in_ok-prepared.prepared) said (only_read first last c.prepare_run.ensures.reads) (c.in_ok-prepared.ensures.comes first last (around_work first last last (read_on last))) fault c.in_err-played-in-Some.ensures.fails)
+    let old = g.C.Connections.view c.args.pass.now in
+    let new = g.C.Connections.view c.load_connections.new.pass in
+    let reads = reads_after first read last c.prepare_run.ensures.reads c.load_connections.ensures.reads in
+    let whole = around_work first last last (read_on last) in
+    let fault = c.in_err-load_connections.field-0.0 in
+    let same : c.from_residual-in_err-load_connections.result ≡ Err fault = search rules in
+    let plan = run_plan_of c.in_ok-prepared.prepared in
+    let names : c.deref.result.now ≡ interface_names plan.ifaces = c.deref.ensures.value ∙ c.in_ok-interfaces.ensures in
+    let fails = subst (λ (n : List Name). IfTold (FailsLoad first last (given_text c.args.words.load) n old new) fault) names
+    (c.in_err-load_connections.ensures.fails first last (around_next first first read last last whole c.prepare_run.ensures.reads)) in
+    rw same (λ texts said. run_unloaded texts (moment first out old) (moment last out new) c.args.words said plan
+    (c.in_ok-prepared.ensures.comes first last (around_first first first read last last whole c.load_connections.ensures.reads))
+    (nothing_put out) (only_read first last reads) fault fails)
 
-pub write_passed-requires-clause-extents : goal.write_passed-requires-clause-extents
-write_passed-requires-clause-extents g c =
-    let counts = counts_of_outputs _ _ _ c.in_ok-played-in-Some.ensures.outputs in
-    let same_packets : c.as_slice.result.now ≡ c.in_ok-prepared.prepared.packets.items = search rules in
-    let same_extents : c.as_slice-in-Some.result.now ≡ c.in_ok-extents-in-Some.extents.items = search rules in
-    AllZip-long IsExtentOf _ _ (extents_named _ _ _ _ same_packets same_extents c.in_ok-extents-in-Some.ensures.extents) ∙ sym counts.1
-
-pub write_passed-requires-clause-outcomes : goal.write_passed-requires-clause-outcomes
-write_passed-requires-clause-outcomes g c =
-    let counts = counts_of_outputs _ _ _ c.in_ok-played-in-Some.ensures.outputs in counts.0 ∙ sym counts.1
-
-pub write_passed-requires-clause-timely : goal.write_passed-requires-clause-timely
-write_passed-requires-clause-timely g c = outputs_have_time _ _ _ c.in_ok-played-in-Some.ensures.outputs c.in_ok-prepared.ensures.playable.timed
-
-pub returns-in-None-clause-ends : goal.returns-in-None-clause-ends
-returns-in-None-clause-ends g c = λ texts said.
+pub returns-in_err-interfaces-clause-files : goal.returns-in_err-interfaces-clause-files
+returns-in_err-interfaces-clause-files g c = λ texts said.
     let first = g.F.Files.moment c.args.files.now in
-    let last = g.F.Files.moment c.prepare_run.new.files in
-    let before = moment first (g.O.Sink.moment c.args.out.now) (g.C.Connections.view c.args.pass.now) in
-    let after = moment last (g.O.Sink.moment c.report_run.new.out) (g.C.Connections.view c.report_run.new.pass) in
-    let told = c.in_ok-report_run-in-None.ensures in
-    let played = c.in_ok-report_run-in-None.field-0 in
-    reported_ends texts before after c.args.words said (run_plan_of c.in_ok-prepared.prepared) played.packets played.outcomes
-    (record {
-      played = record { prepared = c.in_ok-prepared.ensures.comes first last (around_work first last last (read_on last)); played = told.played };
-      reported = told.whole;
-    }) told.flushed (search rules) tt
+    let read = g.F.Files.moment c.prepare_run.new.files in
+    same_keeps texts first.contents read.contents (only_read first read c.prepare_run.ensures.reads)
+
+pub returns-in_err-load_connections-clause-files : goal.returns-in_err-load_connections-clause-files
+returns-in_err-load_connections-clause-files g c = λ texts said.
+    let first = g.F.Files.moment c.args.files.now in
+    let read = g.F.Files.moment c.prepare_run.new.files in
+    let last = g.F.Files.moment c.load_connections.new.files in
+    same_keeps texts first.contents last.contents (only_read first last (reads_after first read last c.prepare_run.ensures.reads c.load_connections.ensures.reads))
+
+pub returns-in_err-load_connections-clause-later : goal.returns-in_err-load_connections-clause-later
+returns-in_err-load_connections-clause-later g c = later_than_new (g.C.Connections.view c.args.pass.now) (g.C.Connections.view c.load_connections.new.pass) c.requires.fresh c.load_connections.ensures.same
+
+pub run_prepared-requires-clause-ready : goal.run_prepared-requires-clause-ready
+run_prepared-requires-clause-ready g c κs within =
+    let read = g.F.Files.moment c.prepare_run.new.files in
+    let last = g.F.Files.moment c.load_connections.new.files in
+    ready (g.C.Connections.view c.args.pass.now) (g.C.Connections.view c.load_connections.new.pass) c.requires.fresh c.load_connections.ensures.same
+    read last (given_text c.args.words.load) c.deref.result.now (c.in_ok-load_connections.ensures.begins read last (around_work read last last (read_on last)))
+
+pub returns-in_err-run_prepared-clause-ends : goal.returns-in_err-run_prepared-clause-ends
+returns-in_err-run_prepared-clause-ends g c =
+    let first = g.F.Files.moment c.args.files.now in
+    let read = g.F.Files.moment c.prepare_run.new.files in
+    let loaded = g.F.Files.moment c.load_connections.new.files in
+    let last = g.F.Files.moment c.run_prepared.new.files in
+    let old = g.C.Connections.view c.args.pass.now in
+    let begun = g.C.Connections.view c.load_connections.new.pass in
+    let before = moment first (g.O.Sink.moment c.args.out.now) old in
+    let after = moment last (g.O.Sink.moment c.run_prepared.new.out) (g.C.Connections.view c.run_prepared.new.pass) in
+    let reads = reads_after first read loaded c.prepare_run.ensures.reads c.load_connections.ensures.reads in
+    let whole = around_work first loaded last c.run_prepared.ensures.reads in
+    let fault = c.in_err-run_prepared.field-0.0 in
+    let same : c.from_residual-in_err-run_prepared.result ≡ Err fault = search rules in
+    let plan = run_plan_of c.in_ok-prepared.prepared in
+    let names : c.deref.result.now ≡ interface_names plan.ifaces = c.deref.ensures.value ∙ c.in_ok-interfaces.ensures in
+    rw same (λ texts said. run_unfollowed texts before after c.args.words said plan begun (record {
+      prepared = c.in_ok-prepared.ensures.comes first last (around_first first first read loaded last whole c.load_connections.ensures.reads);
+      same = c.load_connections.ensures.same;
+      begins = subst (λ (n : List Name). BeginsLoaded first last (given_text c.args.words.load) n old begun) names
+          (c.in_ok-load_connections.ensures.begins first last (around_next first first read loaded last whole c.prepare_run.ensures.reads));
+    }) loaded reads fault c.in_err-run_prepared.ensures.fails)
+
+pub returns-in_err-run_prepared-clause-files : goal.returns-in_err-run_prepared-clause-files
+returns-in_err-run_prepared-clause-files g c = λ texts said.
+    let first = g.F.Files.moment c.args.files.now in
+    let read = g.F.Files.moment c.prepare_run.new.files in
+    let loaded = g.F.Files.moment c.load_connections.new.files in
+    let last = g.F.Files.moment c.run_prepared.new.files in
+    let reads = reads_after first read loaded c.prepare_run.ensures.reads c.load_connections.ensures.reads in
+    keeps_on texts first.contents loaded.contents last.contents (same_keeps texts first.contents loaded.contents (only_read first loaded reads))
+    (keeps_by texts (given_text c.args.words.output) (λ name is. record { run = c.args.words; said = said; named = inl is }) loaded.contents last.contents c.run_prepared.ensures.others)
+
+pub returns-in_err-run_prepared-clause-later : goal.returns-in_err-run_prepared-clause-later
+returns-in_err-run_prepared-clause-later g c =
+    later_more (g.C.Connections.view c.args.pass.now) (g.C.Connections.view c.load_connections.new.pass) (g.C.Connections.view c.run_prepared.new.pass)
+    (later_than_new (g.C.Connections.view c.args.pass.now) (g.C.Connections.view c.load_connections.new.pass) c.requires.fresh c.load_connections.ensures.same) c.run_prepared.ensures.later
+
+pub save_connections-requires-clause-sole : goal.save_connections-requires-clause-sole
+save_connections-requires-clause-sole g c κs within = c.run_prepared.ensures.later.places ∙ c.load_connections.ensures.same.places ∙ c.requires.fresh.places
 
 pub returns-clause-ends : goal.returns-clause-ends
 returns-clause-ends g c = λ texts said.
     let first = g.F.Files.moment c.args.files.now in
     let read = g.F.Files.moment c.prepare_run.new.files in
-    let last = g.F.Files.moment c.write_passed.new.files in
-    let before = moment first (g.O.Sink.moment c.args.out.now) (g.C.Connections.view c.args.pass.now) in
-    let after = moment last (g.O.Sink.moment c.report_run-in-Some.new.out) (g.C.Connections.view c.report_run-in-Some.new.pass) in
-    let told = c.in_ok-played-in-Some.ensures in
-    let played = c.in_ok-played-in-Some.played in
-    let name = c.in-Some.name.now in
-    let same_packets : c.as_slice.result.now ≡ c.in_ok-prepared.prepared.packets.items = search rules in
-    let same_extents : c.as_slice-in-Some.result.now ≡ c.in_ok-extents-in-Some.extents.items = search rules in
-    writing_ends texts before after c.args.words said (run_plan_of c.in_ok-prepared.prepared) played.packets played.outcomes
-    (record {
-      played = record { prepared = c.in_ok-prepared.ensures.comes first last (around_work first read last c.write_passed.ensures.reads); played = told.played };
-      reported = told.whole;
-    }) told.flushed name (search rules) c.write_passed.result
-    (c.write_passed.ensures.written _ (extents_named _ _ _ _ same_packets same_extents c.in_ok-extents-in-Some.ensures.extents) told.outputs)
-    (each_unwritten_since first read last name c.prepare_run.ensures.reads.write_faults c.prepare_run.ensures.reads.contents c.write_passed.result c.write_passed.ensures.fails)
+    let loaded = g.F.Files.moment c.load_connections.new.files in
+    let mid = g.F.Files.moment c.run_prepared.new.files in
+    let last = g.F.Files.moment c.save_connections.new.files in
+    let old = g.C.Connections.view c.args.pass.now in
+    let begun = g.C.Connections.view c.load_connections.new.pass in
+    let before = moment first (g.O.Sink.moment c.args.out.now) old in
+    let after = moment last (g.O.Sink.moment c.run_prepared.new.out) (g.C.Connections.view c.run_prepared.new.pass) in
+    let reads = reads_after first read loaded c.prepare_run.ensures.reads c.load_connections.ensures.reads in
+    let whole = around_work first loaded last (read_on_through loaded mid last c.run_prepared.ensures.reads c.save_connections.ensures.reads) in
+    let plan = run_plan_of c.in_ok-prepared.prepared in
+    let names : c.deref.result.now ≡ interface_names plan.ifaces = c.deref.ensures.value ∙ c.in_ok-interfaces.ensures in
+    let again : c.deref-2.result.now ≡ interface_names plan.ifaces = c.deref-2.ensures.value ∙ c.in_ok-interfaces.ensures in
+    let saved = subst (λ (n : List Name). OnOk c.save_connections.result (IfSome (given_text c.args.words.save) (IsSavedTo last (g.C.Connections.view c.run_prepared.new.pass) n))) again
+    c.save_connections.ensures.saved in
+    rw c.save_connections.ensures.same
+    (saving_ends texts before after c.args.words said plan begun (record {
+      prepared = c.in_ok-prepared.ensures.comes first last (around_first first first read loaded last whole c.load_connections.ensures.reads);
+      same = c.load_connections.ensures.same;
+      begins = subst (λ (n : List Name). BeginsLoaded first last (given_text c.args.words.load) n old begun) names
+          (c.in_ok-load_connections.ensures.begins first last (around_next first first read loaded last whole c.prepare_run.ensures.reads));
+    }) loaded mid reads c.in_ok-run_prepared.ensures.faultless c.run_prepared.ensures.others c.in_ok-run_prepared.ensures.done
+    c.save_connections.ensures.others c.save_connections.result saved c.save_connections.ensures.fails)
 
 pub returns-clause-files : goal.returns-clause-files
 returns-clause-files g c = λ texts said.
     let first = g.F.Files.moment c.args.files.now in
     let read = g.F.Files.moment c.prepare_run.new.files in
-    let last = g.F.Files.moment c.write_passed.new.files in
-    others_keep texts c.in-Some.name.now (record { run = c.args.words; said = said; named = search rules })
-    first.contents read.contents last.contents (only_read first read c.prepare_run.ensures.reads) c.write_passed.ensures.others
+    let loaded = g.F.Files.moment c.load_connections.new.files in
+    let mid = g.F.Files.moment c.run_prepared.new.files in
+    let last = g.F.Files.moment c.save_connections.new.files in
+    let reads = reads_after first read loaded c.prepare_run.ensures.reads c.load_connections.ensures.reads in
+    keeps_on texts first.contents mid.contents last.contents
+    (keeps_on texts first.contents loaded.contents mid.contents (same_keeps texts first.contents loaded.contents (only_read first loaded reads))
+    (keeps_by texts (given_text c.args.words.output) (λ name is. record { run = c.args.words; said = said; named = inl is }) loaded.contents mid.contents c.run_prepared.ensures.others))
+    (keeps_by texts (given_text c.args.words.save) (λ name is. record { run = c.args.words; said = said; named = inr is }) mid.contents last.contents c.save_connections.ensures.others)
+
+pub returns-clause-later : goal.returns-clause-later
+returns-clause-later g c =
+    rw c.save_connections.ensures.same
+    (later_more (g.C.Connections.view c.args.pass.now) (g.C.Connections.view c.load_connections.new.pass) (g.C.Connections.view c.run_prepared.new.pass)
+    (later_than_new (g.C.Connections.view c.args.pass.now) (g.C.Connections.view c.load_connections.new.pass) c.requires.fresh c.load_connections.ensures.same) c.run_prepared.ensures.later)

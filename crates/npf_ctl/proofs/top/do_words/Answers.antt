@@ -10,7 +10,7 @@ returns-in-Err-Usage-clause-ends g c =
     MeetsFault.in_words (search rules) (not_touched (moment (g.F.Files.moment c.args.files.now) (g.O.Sink.moment c.args.out.now) (g.C.Connections.view c.args.pass.now)))
 
 pub returns-in-Err-NoMemory-clause-ends : goal.returns-in-Err-NoMemory-clause-ends
-returns-in-Err-NoMemory-clause-ends g c = MeetsFault.in_memory (inl (nothing_put (g.O.Sink.moment c.args.out.now))) (inl (same_as_itself (g.F.Files.moment c.args.files.now).contents))
+returns-in-Err-NoMemory-clause-ends g c = MeetsFault.in_memory (inl (nothing_put (g.O.Sink.moment c.args.out.now))) (inl (inl (same_as_itself (g.F.Files.moment c.args.files.now).contents)))
 
 pub returns-in-Run-clause-ends : goal.returns-in-Run-clause-ends
 returns-in-Run-clause-ends g c =
