@@ -1,5 +1,5 @@
 -- What changes make of configurations that are one is one.
-use Rattle.std.proofs.Common.{◌≡◌, ◌≢◌, ◌≤◌, ◌+◌, ℕ, Some, None, Result, Ok, Err, List, ◌∷◌, ◌++◌, length, nat_le, take, drop, slice_get, refl, sym, ap, subst, ◌∙◌, arith, Contains}
+use Rattle.std.proofs.Common.{◌≡◌, ◌+◌, ℕ, Some, Result, Ok, Err, List, ◌∷◌, ◌++◌, nat_le, take, drop, slice_get, refl, sym, ap, subst, ◌∙◌}
 use Rattle.std.specs.List.{AllZip}
 use Rattle.std.proofs.lemmas.Option.{same_Some}
 use Rattle.npf_types.specs.declared.limits.TheConstants.{MAX_TABLE_ENTRIES}
@@ -18,9 +18,9 @@ use Rattle.npf_ruleset.proofs.PairLemmas.{zip_each}
 use Rattle.npf_config.specs.Tables.{entry_count}
 use Rattle.npf_config_changes.specs.declared.fault.ChangeFault.{ChangeFault}
 use Rattle.npf_config_changes.specs.Additions.{AddsRule}
-use Rattle.npf_config_changes.specs.ChangeLaws.{AreOneAnswer, AreToldAlike, HasOneResult, OneAddition, OneFlush, OneRemoval, alike as stand_alike, equal}
+use Rattle.npf_config_changes.specs.ChangeLaws.{AreOneAnswer, AreToldAlike, HasOneResult, OneAddition, OneFlush, OneRemoval, equal}
 use Rattle.npf_config_changes.specs.Changes.{FlushesRules, RemovesRule}
-use Rattle.npf_config_changes.specs.Entries.{AddsEntry, AllowsChange, FindsTable, GainsEntry, IsTableAt, KeepsEntries, LosesEntry, RemovesEntry, TableAt, absent, allowed, beginning, found, gained, lost, present, read_only, unknown, with_entries, wrong_kind}
+use Rattle.npf_config_changes.specs.Entries.{AddsEntry, AllowsChange, FindsTable, GainsEntry, LosesEntry, RemovesEntry, TableAt, absent, allowed, beginning, found, gained, lost, present, read_only, unknown, with_entries, wrong_kind}
 use Rattle.npf_config_changes.specs.Rulesets.{are_one_name}
 use Rattle.npf_config_changes.specs.Told.{told_count, too_many}
 use Rattle.npf_config_law.specs.Answers.{AreOne}

@@ -1,5 +1,5 @@
 -- How many elements lists have of which one has those of the other.
-use Rattle.std.proofs.Common.{◌≡◌, ◌≢◌, ◌<◌, ◌≤◌, ◌+◌, ◌-◌, ℕ, inl, inr, List, [], ◌∷◌, length, get_or, refl, sym, ap, subst, ◌∙◌, arith, Contains}
+use Rattle.std.proofs.Common.{◌≡◌, ◌≢◌, ◌<◌, ◌≤◌, ◌+◌, ◌-◌, ℕ, inl, inr, List, [], ◌∷◌, length, get_or, refl, sym, ap, ◌∙◌, arith, Contains}
 use Rattle.std.specs.Prelude.{suc, ◌⊎◌}
 use Rattle.std.specs.List.{AllPairs, remove}
 use Rattle.std.proofs.lemmas.Bool.{cases_order}

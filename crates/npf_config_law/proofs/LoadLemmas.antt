@@ -1,16 +1,16 @@
 -- A text is loaded in one way: it means one configuration, or it is refused for faults that are alike.
-use Rattle.std.proofs.Common.{◌≡◌, ◌≢◌, ◌≤◌, ◌<◌, ℕ, Option, Some, inl, inr, Result, Ok, Err, List, [], ◌∷◌, ◌++◌, All, Contains, length, refl, sym, ap, subst, ◌∙◌, arith, slice_get}
+use Rattle.std.proofs.Common.{◌≡◌, ◌≤◌, ◌<◌, ℕ, Some, inl, inr, Result, Ok, Err, List, [], ◌∷◌, ◌++◌, All, Contains, length, refl, sym, ap, subst, ◌∙◌, arith, slice_get}
 use Rattle.std.proofs.lemmas.List.Elements.{All-contains, Contains-append_right}
 use Rattle.std.proofs.lemmas.Option.{same_Some}
-use Rattle.npf_types.specs.declared.limits.TheConstants.{MAX_INSTRUCTIONS, MAX_RULE_WEIGHT}
+use Rattle.npf_types.specs.declared.limits.TheConstants.{MAX_RULE_WEIGHT}
 use Rattle.npf_types.specs.declared.span.Span.{Span}
 use Rattle.npf_types.specs.Reading.{IsOnly}
 use Rattle.npf_faults.specs.declared.fault.ConfFault.{ConfFault}
 use Rattle.npf_faults.specs.declared.fault.Excess.TheVariants.{Weight, Instructions}
-use Rattle.npf_faults.specs.declared.fault.Fault.TheVariants.{Expected, TooMany}
+use Rattle.npf_faults.specs.declared.fault.Fault.TheVariants.{TooMany}
 use Rattle.npf_faults.specs.First.{IsFirstFaultOf, NotBefore}
 use Rattle.npf_lexer.specs.declared.token.Token.{Token}
-use Rattle.npf_lexer.specs.Lexer.{IsLexed, Lexed}
+use Rattle.npf_lexer.specs.Lexer.{IsLexed}
 use Rattle.npf_syntax.specs.declared.stmt.Tree.{Tree}
 use Rattle.npf_parser.specs.Law.{OnePlace, OneTree, TreeOrHalt}
 use Rattle.npf_parser.specs.Parse.{HaltsAt, Parses}
@@ -22,25 +22,22 @@ use Rattle.npf_model.specs.Configuration.{Configuration}
 use Rattle.npf_model.specs.Describes.{Tables}
 use Rattle.npf_model.specs.Verdict.{PlacedRule, all_rules}
 use Rattle.npf_bpf.specs.declared.insn.Insn.{Insn}
-use Rattle.npf_expand.specs.Elaborates.{Elaborates, model_of, tree_faults}
+use Rattle.npf_expand.specs.Elaborates.{model_of, tree_faults}
 use Rattle.npf_check.specs.Fault.{check_faults}
 use Rattle.npf_outside.specs.declared.files.FileFault.TheVariants as IsFile
 use Rattle.npf_outside.specs.Counts.{Rose, StoodStill}
 use Rattle.npf_outside.specs.Files.{FilesMoment, Tree as FileTree}
 use Rattle.npf_bpfgen.specs.RuleWeight.{weight_of}
-use Rattle.npf_ruleset.specs.Flat.{instructions, instructions_of}
-use Rattle.npf_ruleset.specs.Refusal.{IsFirstHeavy, IsLight, IsTooMuch, IsWithinLimits}
+use Rattle.npf_ruleset.specs.Refusal.{IsFirstHeavy, IsLight, IsWithinLimits}
 use Rattle.npf_ruleset.proofs.CompileLemmas.{instructions_counted}
 use Rattle.npf_config.specs.declared.fault.LoadFault.{LoadFault}
 use Rattle.npf_config.specs.declared.fault.LoadFault.TheVariants.{Conf, File, NoMemory}
-use Rattle.npf_config.specs.FirstConfiguration.{IsFirstConfiguration}
 use Rattle.npf_config.specs.Laws.{NeverBoth, OneMeaning}
 use Rattle.npf_config.specs.Refusal.{RefusesConfiguration, RefusesRules, RefusesTables, bad_line, by_rules, by_tables, by_text, too_heavy, too_many, too_much}
 use Rattle.npf_config.specs.RulePlaces.{inspected_places}
 use Rattle.npf_config.specs.Tables.{AreFirstTables}
 use Rattle.npf_config.specs.Text.{IsTreeOf, Means, RefusesText, in_checks, in_grammar, in_meaning, in_tokens}
-use Rattle.npf_config_law.specs.Entries.{AreOneConfiguration}
-use Rattle.npf_config_law.specs.Readings.{AreAlike, AreOneLoad, Loads, StandAlike, alike, equal}
+use Rattle.npf_config_law.specs.Readings.{AreAlike, AreOneLoad, LoadsOrEnds, StandAlike, alike, equal}
 use Rattle.npf_config_law.proofs.PartLemmas.{Parted, after, before as in_front, here, parted}
 use Rattle.npf_config_law.proofs.TableLemmas.{StopsAmong, bad, long, many, one_stops, read_or_stops, tables_same}
 
@@ -182,7 +179,7 @@ module _ (one_tree : OneTree) (tree_or_halt : TreeOrHalt) (one_place : OnePlace)
   conf_ends _ (by_tables tree model fault means is) = of_tables tree model means (stops_of model.tables fault is)
   conf_ends _ (by_rules tree model tables fault means are is) = of_rules tree model tables means are is
 
-  ends_of : (fault : LoadFault) → Loads ifaces text old now (Err fault) → Ends fault
+  ends_of : (fault : LoadFault) → LoadsOrEnds ifaces text old now (Err fault) → Ends fault
   ends_of (Conf fault) is = conf_ends fault is
   ends_of (File span name IsFile.Failed) is = absurd (stays is.refused.unread.unread.0)
   ends_of (File span name IsFile.Long) is =
@@ -218,14 +215,14 @@ module _ (one_tree : OneTree) (tree_or_halt : TreeOrHalt) (one_place : OnePlace)
       equal (ap Conf (one_rules tree model f g is (subst (λ (m : Model). RefusesRules tree m g) (sym same.1) moved)))
 
   -- what is loaded isn't refused
-  never_ends : (config : Configuration) (fault : LoadFault) → Loads ifaces text old now (Ok config) → ¬ Ends fault
+  never_ends : (config : Configuration) (fault : LoadFault) → LoadsOrEnds ifaces text old now (Ok config) → ¬ Ends fault
   never_ends config _ is (of_text {fault = f} refused) = never_both ifaces text is.0.tree config.model f is.0.means refused
   never_ends config fault is (of_tables tree model means stops) = no_stops tree is.0.tree model config.model config.tables fault means is.0.means is.0.tables stops
   never_ends config _ is (of_rules {fault = f} tree model tables means are refused) =
       let same = models_same tree is.0.tree model config.model means is.0.means in
       within_or_refused tree config.model is.1.0 f is.1.1 (subst (λ (m : Model). RefusesRules tree m f) same.1 refused)
 
-  pub one_load : (one two : Result Configuration LoadFault) → Loads ifaces text old now one → Loads ifaces text old now two → AreOneLoad one two
+  pub one_load : (one two : Result Configuration LoadFault) → LoadsOrEnds ifaces text old now one → LoadsOrEnds ifaces text old now two → AreOneLoad one two
   one_load (Ok one) (Ok two) is there =
       let same = models_same is.0.tree there.0.tree one.model two.model is.0.means there.0.means in
       record {

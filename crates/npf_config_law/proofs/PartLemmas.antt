@@ -1,6 +1,5 @@
 -- A list that is parted at an element in two ways.
-use Rattle.std.proofs.Common.{◌≡◌, inl, inr, List, [], ◌∷◌, ◌++◌, refl, sym, ap, ◌∙◌}
-use Rattle.std.specs.Prelude.{◌⊎◌}
+use Rattle.std.proofs.Common.{◌≡◌, List, [], ◌∷◌, ◌++◌, refl, sym}
 
 module _ {X : Type 0} where
   -- it is parted at one place; or the one element stands in front of the other, with what is between them

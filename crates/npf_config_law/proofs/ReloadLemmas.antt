@@ -1,5 +1,5 @@
 -- What is loaded in place of configurations that are one is one.
-use Rattle.std.proofs.Common.{◌≡◌, ℕ, Option, Some, Result, Ok, Err, List, sym, ap, subst, ◌∙◌}
+use Rattle.std.proofs.Common.{◌≡◌, ℕ, Some, Result, Ok, Err, List, sym, ap, subst, ◌∙◌}
 use Rattle.npf_types.specs.declared.span.Span.{Span}
 use Rattle.npf_faults.specs.declared.fault.ConfFault.{ConfFault}
 use Rattle.npf_syntax.specs.declared.stmt.Tree.{Tree}

@@ -16,11 +16,11 @@ use Rattle.npf_config_law.specs.Answers.{AreOne}
 use Rattle.npf_config_law.specs.Entries.{AreOneConfiguration}
 
 -- the text's configuration, whose rules can be compiled; or why it isn't loaded, but for want of memory
-abbrev pub Loads : List Iface → List ℕ → FilesMoment → FilesMoment → Result Configuration LoadFault → Type 0
-Loads ifaces text before now (Ok config) = IsFirstConfiguration ifaces before.contents text config × ((programs : List (List Insn)) × IsWithinLimits config.model programs)
-Loads ifaces text before now (Err (Conf fault)) = RefusesConfiguration ifaces text before now fault
-Loads ifaces text before now (Err (File span name fault)) = RefusesTableFile ifaces text before now span name fault
-Loads ifaces text before now (Err NoMemory) = ⊥
+abbrev pub LoadsOrEnds : List Iface → List ℕ → FilesMoment → FilesMoment → Result Configuration LoadFault → Type 0
+LoadsOrEnds ifaces text before now (Ok config) = IsFirstConfiguration ifaces before.contents text config × ((programs : List (List Insn)) × IsWithinLimits config.model programs)
+LoadsOrEnds ifaces text before now (Err (Conf fault)) = RefusesConfiguration ifaces text before now fault
+LoadsOrEnds ifaces text before now (Err (File span name fault)) = RefusesTableFile ifaces text before now span name fault
+LoadsOrEnds ifaces text before now (Err NoMemory) = ⊥
 
 -- the faults of a text stand at one place, and have one number
 pub record StandAlike (one other : ConfFault) : Type 0 where

@@ -14,8 +14,8 @@ use Rattle.npf_ctl_messages.specs.Message.{status_of_fault}
 use Rattle.npf_model.specs.Configuration.{Configuration}
 use Rattle.npf_ctl_prepare.specs.Laws.{RunsAreOfContents}
 use Rattle.npf_ctl_prepare.specs.Prepares.{RunPlan, PreparesRun}
-use Rattle.npf_ctl_prepare_law.specs.Laws.{OneLoad, OneRun}
-use Rattle.npf_ctl_prepare_law.specs.Readings.{AreOnePlan, AreToldAlike, bad_lines, equal, in_text, on_line}
+use Rattle.npf_ctl_prepare_law.specs.Laws.{OneLoadAlone, OneRun}
+use Rattle.npf_ctl_prepare_law.specs.Readings.{AreOnePlan, EndAlike, bad_lines, equal, in_text, on_line}
 use Rattle.npf_ctl_words.specs.declared.command.Command.{Command}
 use Rattle.npf_ctl_words.specs.declared.command.Command.TheVariants as Words
 use Rattle.npf_ctl_words.specs.declared.command.Load.{Load}
@@ -32,14 +32,14 @@ use Rattle.npf_ctl.specs.Top.{HasStatus, CanDo, DoesCommand, DoesWords, IsOk, Mu
 use Rattle.npf_ctl.proofs.EndLemmas.{reported_front}
 
 -- faults that are told alike have one status
-status_alike : (one other : CommandFault) → AreToldAlike one other → status_of_fault one ≡ status_of_fault other
+status_alike : (one other : CommandFault) → EndAlike one other → status_of_fault one ≡ status_of_fault other
 status_alike one other (equal same) = ap status_of_fault same
 status_alike _ _ (in_text stand) = refl
 status_alike _ _ (on_line stand) = refl
 status_alike _ _ bad_lines = refl
 
 -- what a reading that came to something agrees with came to something
-ok_of : {A : Type 0} (Same : A → A → Type 0) (a : A) (result : Result A CommandFault) → AreOne Same AreToldAlike (Ok a) result → IsOk result
+ok_of : {A : Type 0} (Same : A → A → Type 0) (a : A) (result : Result A CommandFault) → AreOne Same EndAlike (Ok a) result → IsOk result
 ok_of Same a (Ok b) same = tt
 ok_of Same a (Err fault) never = never
 
@@ -57,7 +57,7 @@ module _ (words : List (List ℕ)) (before after : Moment) (A : Type 0) (ComesTo
 
   module _ (is : IsToldBy) (old new : SinkMoment) (status : ℕ) where
     -- one fault alone can be told
-    only : (Same : A → A → Type 0) (fault : CommandFault) → ((result : Result A CommandFault) → ComesTo result → AreOne Same AreToldAlike (Err fault) result) → AnswersWords words before after old new status →
+    only : (Same : A → A → Type 0) (fault : CommandFault) → ((result : Result A CommandFault) → ComesTo result → AreOne Same EndAlike (Err fault) result) → AnswersWords words before after old new status →
         HasStatus (status_of_fault fault) status
     only Same fault must (AnswersWords.done zero does flushed silent) = let ok = is.does does in absurd (must (Ok ok.0) ok.1)
     only Same fault must (AnswersWords.refused faulted) = by faulted.fault faulted.cause faulted.status_is where
@@ -190,7 +190,7 @@ module _ (words : List (List ℕ)) (before after : Moment) (tree : Tree) (told :
       generated = λ {number} {tree} {fault} said_b holds comes. not_other (Words.Gen number) said_b refl;
     }
 
-  module _ (of_runs : RunsAreOfContents) (of_loads : LoadsAreOfContents) (one_run : OneRun) (one_load : OneLoad) (old new : SinkMoment) (status : ℕ) where
+  module _ (of_runs : RunsAreOfContents) (of_loads : LoadsAreOfContents) (one_run : OneRun) (one_load : OneLoadAlone) (old new : SinkMoment) (status : ℕ) where
     pub refuses_fault : (fault : CommandFault) → MustRefuse words tree fault → AnswersWords words before after old new status → HasStatus (status_of_fault fault) status
     refuses_fault fault (MustRefuse.run {words_of = run} said must) =
         only words before after RunPlan (OfRun of_runs run said) (run_told of_runs run said) old new status AreOnePlan fault

@@ -17,7 +17,7 @@ use Rattle.npf_config_changes.specs.ChangeLaws.{HasOneResult}
 use Rattle.npf_config_law.proofs.AnswerLemmas.{once_behind, once_told}
 use Rattle.npf_config_law.specs.Answers.{AreOne}
 use Rattle.npf_config_law.specs.Entries.{AreOneConfiguration}
-use Rattle.npf_config_law.specs.Readings.{AreAlike, AreOneLoad, Loads, alike, equal as equal_loads}
+use Rattle.npf_config_law.specs.Readings.{AreAlike, AreOneLoad, LoadsOrEnds, alike, equal as equal_loads}
 use Rattle.npf_config_law.proofs.LoadLemmas.{one_load}
 use Rattle.npf_ctl_script.specs.Laws.{NoScriptIsRefused, OneScript}
 use Rattle.npf_ctl_messages.specs.declared.fault.CommandFault.{CommandFault}
@@ -26,7 +26,7 @@ use Rattle.npf_ctl_input.specs.File.{ReadsFile, failed, longer, told_files, whol
 use Rattle.npf_ctl_input.specs.Interfaces.{NamesInterfaces, ReadsInterfaces, named, refused}
 use Rattle.npf_ctl_input.specs.Loading.{LoadsAlone, LoadsFile, LoadsText, loaded, longer as long_table, refused as refused_text, told_load, unread}
 use Rattle.npf_ctl_input.specs.Source.{ReadsSource, Scripted, alone, bad_line, longer as long_script, scripted}
-use Rattle.npf_ctl_prepare_law.specs.Readings.{Agree, AreToldAlike, bad_lines, equal, in_text}
+use Rattle.npf_ctl_prepare_law.specs.Readings.{Agree, EndAlike, bad_lines, equal, in_text}
 use Rattle.npf_ctl_prepare_law.proofs.AgreeLemmas.{behind_one}
 use Rattle.npf_ctl_prepare_law.proofs.IfaceLemmas.{iface_file_or_bad, one_bad_iface_line, one_iface_file}
 
@@ -89,7 +89,7 @@ module _ (one_tree : OneTree) (tree_or_halt : TreeOrHalt) (one_place : OnePlace)
 
   record LoadsSo (ifaces : List Iface) (file text : List ℕ) (result : Result Configuration CommandFault) : Type 0 where
     pub read : Result Configuration LoadFault
-    pub loads : Loads ifaces text (told_files tree) (told_files tree) read
+    pub loads : LoadsOrEnds ifaces text (told_files tree) (told_files tree) read
     pub told : result ≡ told_result file read
 
   loads_so : (ifaces : List Iface) (file text : List ℕ) (result : Result Configuration CommandFault) → LoadsText (told_files tree) (told_files tree) ifaces file text result
@@ -99,11 +99,11 @@ module _ (one_tree : OneTree) (tree_or_halt : TreeOrHalt) (one_place : OnePlace)
   loads_so ifaces file text _ (unread {span = span} {name = name} is) = record { read = Err (File span name IsFile.Failed); loads = is; told = refl }
   loads_so ifaces file text _ (long_table {span = span} {name = name} is) = record { read = Err (File span name IsFile.Long); loads = is; told = refl }
 
-  told_alike : (file : List ℕ) (fault other : LoadFault) → AreAlike fault other → AreToldAlike (told_load file fault) (told_load file other)
+  told_alike : (file : List ℕ) (fault other : LoadFault) → AreAlike fault other → EndAlike (told_load file fault) (told_load file other)
   told_alike file fault other (equal_loads same) = equal (ap (told_load file) same)
   told_alike file _ _ (alike stand) = in_text stand
 
-  told_one : (file : List ℕ) (one two : Result Configuration LoadFault) → AreOneLoad one two → AreOne AreOneConfiguration AreToldAlike (told_result file one) (told_result file two)
+  told_one : (file : List ℕ) (one two : Result Configuration LoadFault) → AreOneLoad one two → AreOne AreOneConfiguration EndAlike (told_result file one) (told_result file two)
   told_one file (Ok a) (Ok b) same = same
   told_one file (Ok a) (Err g) same = absurd same
   told_one file (Err f) (Ok b) same = absurd same

@@ -32,19 +32,19 @@ use Rattle.npf_ctl_input.specs.File.{ReadsFile, told_files}
 use Rattle.npf_ctl_input.specs.Loading.{LoadsText, loaded as loads_first}
 use Rattle.npf_ctl_prepare.specs.Making.{AddsRuleAlone, MakesConfigurations, MakesNext, told_at_line}
 use Rattle.npf_ctl_prepare.specs.Reloading.{ReloadsFile, ReloadsText, loaded, told_in_file, unloaded}
-use Rattle.npf_ctl_prepare_law.specs.Readings.{Agree, AreToldAlike, equal, on_line}
+use Rattle.npf_ctl_prepare_law.specs.Readings.{Agree, EndAlike, equal, on_line}
 use Rattle.npf_ctl_prepare_law.proofs.AgreeLemmas.{behind_one}
 use Rattle.npf_ctl_prepare_law.proofs.InputLemmas.{one_file, texts_agree}
 
 -- faults of changes are told alike at one line
-line_alike : (script : List ℕ) (line : ℕ) (one two : ChangeFault) → AreChangesAlike one two → AreToldAlike (told_at_line script line one) (told_at_line script line two)
+line_alike : (script : List ℕ) (line : ℕ) (one two : ChangeFault) → AreChangesAlike one two → EndAlike (told_at_line script line one) (told_at_line script line two)
 line_alike script line one two (equal_changes same) = equal (ap (told_at_line script line) same)
 line_alike script line _ _ (alike place number) = on_line (record { place = place; number = number })
 
 at_line : (stage other : Stage Configuration ChangeFault) (script : List ℕ) (line : ℕ)
     → ((one two : Result Configuration ChangeFault) → stage one → other two → AreOne AreOneConfiguration AreChangesAlike one two)
     → Agree AreOneConfiguration (stage told_by told_at_line script line) (other told_by told_at_line script line)
-at_line stage other script line = one_told AreOneConfiguration AreChangesAlike AreToldAlike stage other (told_at_line script line) (line_alike script line)
+at_line stage other script line = one_told AreOneConfiguration AreChangesAlike EndAlike stage other (told_at_line script line) (line_alike script line)
 
 module _ (one_tree : OneTree) (tree_or_halt : TreeOrHalt) (one_place : OnePlace) (one_meaning : OneMeaning) (never_both : NeverBoth)
     (one_addition : OneAddition) (one_removal : OneRemoval) (one_flush : OneFlush) (tree : Tree) (ifaces : List Iface) where
@@ -69,7 +69,7 @@ module _ (one_tree : OneTree) (tree_or_halt : TreeOrHalt) (one_place : OnePlace)
       reloads_agree _ two (unloaded {fault = f} is) (loaded there) = absurd (never_taken last f two is there)
       reloads_agree one _ (loaded is) (unloaded {fault = g} there) = absurd (never_taken old g one there is)
       reloads_agree one two (loaded is) (loaded there) =
-          one_told AreOneConfiguration (λ f g. f ≡ g) AreToldAlike (TakesOver ifaces (told_files tree).contents old text) (TakesOver ifaces (told_files tree).contents last text)
+          one_told AreOneConfiguration (λ f g. f ≡ g) EndAlike (TakesOver ifaces (told_files tree).contents old text) (TakesOver ifaces (told_files tree).contents last text)
           (told_in_file file) (λ f g faults. equal (ap (told_in_file file) faults))
           (takeovers_agree one_tree tree_or_halt one_place one_meaning never_both tree (told_files tree) (told_files tree) refl (refl, omega arith) ifaces text old last same)
           one two is there
@@ -109,7 +109,7 @@ module _ (one_tree : OneTree) (tree_or_halt : TreeOrHalt) (one_place : OnePlace)
       (MakesConfigurations (told_files tree) (told_files tree) ifaces script lines also last)
   configurations_agree script [] made also old last all same = λ one two is there. rw (is, there) all
   configurations_agree script (line ∷ lines) made also old last all same =
-      one_behind AreOneConfiguration (AllZip AreOneConfiguration) AreToldAlike (MakesNext (told_files tree) (told_files tree) ifaces script old line)
+      one_behind AreOneConfiguration (AllZip AreOneConfiguration) EndAlike (MakesNext (told_files tree) (told_files tree) ifaces script old line)
       (MakesNext (told_files tree) (told_files tree) ifaces script last line) _ _ (next_agrees old last same script line)
       (λ a b _ _ next. configurations_agree script lines (if makes_change line.1 then made ++ a ∷ [] else made) (if makes_change line.1 then also ++ b ∷ [] else also) a b
       (grown (makes_change line.1) made also a b all next) next)

@@ -26,7 +26,7 @@ use Rattle.npf_ctl_input.specs.Source.{Source, ReadsSource, lines_of_source}
 use Rattle.npf_ctl_prepare.specs.Captures.{GathersCaptures}
 use Rattle.npf_ctl_prepare.specs.Making.{MakesConfigurations}
 use Rattle.npf_ctl_prepare.specs.Prepares.{KeepsScriptLimits, Plans, PreparesRun, PreparesSource, RunNames, numbered_by, planned}
-use Rattle.npf_ctl_prepare_law.specs.Readings.{Agree, AreOnePlan, AreToldAlike}
+use Rattle.npf_ctl_prepare_law.specs.Readings.{Agree, AreOnePlan, EndAlike}
 use Rattle.npf_ctl_prepare_law.proofs.AgreeLemmas.{behind_one}
 use Rattle.npf_ctl_prepare_law.proofs.CaptureLemmas.{one_gathered}
 use Rattle.npf_ctl_prepare_law.proofs.InputLemmas.{files_agree, one_file, one_interfaces, sources_agree}
@@ -56,7 +56,7 @@ module _ (one_tree : OneTree) (tree_or_halt : TreeOrHalt) (one_place : OnePlace)
         andthen λ configs. Plans ifaces configs gathered (unnumbered (lines_of_source script source)))
     made_agree ifaces gathered =
         let first = numbered_same ifaces one other same in
-        one_behind (AllZip AreOneConfiguration) AreOnePlan AreToldAlike _ _ _ _
+        one_behind (AllZip AreOneConfiguration) AreOnePlan EndAlike _ _ _ _
         (configurations_agree one_tree tree_or_halt one_place one_meaning never_both one_addition one_removal one_flush tree ifaces script (lines_of_source script source)
         (numbered_by ifaces one ∷ []) (numbered_by ifaces other ∷ []) (numbered_by ifaces one) (numbered_by ifaces other) (first, tt) first)
         (λ configs others _ _ all. plans_agree ifaces configs others gathered (unnumbered (lines_of_source script source)) all)
@@ -71,10 +71,10 @@ module _ (one_tree : OneTree) (tree_or_halt : TreeOrHalt) (one_place : OnePlace)
   pub runs_agree : (names : RunNames) → Agree AreOnePlan (PreparesRun (told_files tree) (told_files tree) names) (PreparesRun (told_files tree) (told_files tree) names)
   runs_agree names =
       behind_one AreOnePlan (ReadsInterfaces (told_files tree) (told_files tree) names.ifaces) _ _ (one_interfaces tree names.ifaces)
-      (λ given. one_behind AreOneConfiguration AreOnePlan AreToldAlike (LoadsFile (told_files tree) (told_files tree) given names.conf)
+      (λ given. one_behind AreOneConfiguration AreOnePlan EndAlike (LoadsFile (told_files tree) (told_files tree) given names.conf)
       (LoadsFile (told_files tree) (told_files tree) given names.conf) _ _ (files_agree one_tree tree_or_halt one_place one_meaning never_both tree given names.conf)
       (λ one other _ _ same. behind_one AreOnePlan (ReadsFile (told_files tree) (told_files tree) names.script MAX_CAPTURE_BYTES) _ _ (one_file tree names.script MAX_CAPTURE_BYTES)
-      (λ bytes. one_behind (λ (a b : Source). a ≡ b) AreOnePlan AreToldAlike (ReadsSource names.script bytes) (ReadsSource names.script bytes) _ _
+      (λ bytes. one_behind (λ (a b : Source). a ≡ b) AreOnePlan EndAlike (ReadsSource names.script bytes) (ReadsSource names.script bytes) _ _
       (sources_agree one_script none_refused names.script bytes)
       (λ source last _ _ sources. subst (λ (s : Source). Agree AreOnePlan (PreparesSource (told_files tree) (told_files tree) names.script given one source)
       (PreparesSource (told_files tree) (told_files tree) names.script given other s)) sources (sources_prepared names.script given one other same source)))))

@@ -11,6 +11,6 @@ abbrev pub OneRun : Type 0
 OneRun = (tree : Tree) (names : RunNames) →
     Agree AreOnePlan (PreparesRun (told_files tree) (told_files tree) names) (PreparesRun (told_files tree) (told_files tree) names)
 
-abbrev pub OneLoad : Type 0
-OneLoad = (tree : Tree) (ifaces : Option (List ℕ)) (conf : List ℕ) →
+abbrev pub OneLoadAlone : Type 0
+OneLoadAlone = (tree : Tree) (ifaces : Option (List ℕ)) (conf : List ℕ) →
     Agree AreOneConfiguration (LoadsAlone (told_files tree) (told_files tree) ifaces conf) (LoadsAlone (told_files tree) (told_files tree) ifaces conf)

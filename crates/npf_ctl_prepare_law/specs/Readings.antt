@@ -20,12 +20,12 @@ pub record AreOnePlan (one other : RunPlan) : Type 0 where
 
 -- The faults are one; or they are faults of one text that stand alike, those of a file or of the rule that a line of a script writes; or both
 -- are lines of one script that are bad, of which the numbers aren't compared.
-pub data AreToldAlike : CommandFault → CommandFault → Type 0 where
-  equal : {one other : CommandFault} → one ≡ other → AreToldAlike one other
-  in_text : {file : List ℕ} {one other : ConfFault} → StandAlike one other → AreToldAlike (Configuration file one) (Configuration file other)
-  on_line : {script : List ℕ} {line : ℕ} {one other : ConfFault} → StandAlike one other → AreToldAlike (Line script line (Conf one)) (Line script line (Conf other))
-  bad_lines : {script : List ℕ} {line other : ℕ} → AreToldAlike (Line script line BadLine) (Line script other BadLine)
+pub data EndAlike : CommandFault → CommandFault → Type 0 where
+  equal : {one other : CommandFault} → one ≡ other → EndAlike one other
+  in_text : {file : List ℕ} {one other : ConfFault} → StandAlike one other → EndAlike (Configuration file one) (Configuration file other)
+  on_line : {script : List ℕ} {line : ℕ} {one other : ConfFault} → StandAlike one other → EndAlike (Line script line (Conf one)) (Line script line (Conf other))
+  bad_lines : {script : List ℕ} {line other : ℕ} → EndAlike (Line script line BadLine) (Line script other BadLine)
 
 -- whatever the two stages come to, it is one, or both end in faults that are told alike
 abbrev pub Agree : {A : Type 0} → (A → A → Type 0) → Stage A CommandFault → Stage A CommandFault → Type 0
-Agree {A} Same stage other = (one two : Result A CommandFault) → stage one → other two → AreOne Same AreToldAlike one two
+Agree {A} Same stage other = (one two : Result A CommandFault) → stage one → other two → AreOne Same EndAlike one two

@@ -2,7 +2,7 @@
 // theorem about the stages of the order of work, each of which may be read in more ways than one.
 #![tactic(auto)]
 
-ghost use Rattle.npf_ctl_prepare_law.specs.Laws.{OneLoad, OneRun};
+ghost use Rattle.npf_ctl_prepare_law.specs.Laws.{OneLoadAlone, OneRun};
 
 use npf_config::laws::text_is_decided;
 use npf_config_changes::laws::{one_addition, one_removal};
@@ -14,7 +14,7 @@ use npf_pcap::laws::capture_law;
 /// and so is a configuration that is only looked at.
 pub fn one_run()
     ensures run { OneRun }
-    ensures load { OneLoad }
+    ensures load { OneLoadAlone }
 {
     one_tree();
     tree_or_halt();
