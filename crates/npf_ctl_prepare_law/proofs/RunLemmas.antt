@@ -1,0 +1,80 @@
+-- What a run is prepared from is one.
+use Rattle.std.proofs.Common.{◌≡◌, ℕ, List, [], ◌∷◌, length, refl, ap, subst}
+use Rattle.std.specs.List.{AllZip}
+use Rattle.npf_types.specs.declared.limits.TheConstants.{MAX_CAPTURE_BYTES}
+use Rattle.npf_types.specs.Stages.{◌andthen◌}
+use Rattle.npf_parser.specs.Law.{OnePlace, OneTree, TreeOrHalt}
+use Rattle.npf_pcap.specs.CaptureLaw.{CapturesHaveNoFault, OneCapture, OneFault}
+use Rattle.npf_model.specs.declared.iface.Iface.{Iface}
+use Rattle.npf_model.specs.Configuration.{Configuration}
+use Rattle.npf_model.specs.Numbering.{numbered}
+use Rattle.npf_outside.specs.Files.{Tree}
+use Rattle.npf_traffic.specs.declared.packet.Packet.{Packet}
+use Rattle.npf_config.specs.Laws.{NeverBoth, OneMeaning}
+use Rattle.npf_config_changes.specs.ChangeLaws.{HasOneResult, OneAddition, OneFlush, OneRemoval}
+use Rattle.npf_config_law.proofs.AnswerLemmas.{once_behind, once_told}
+use Rattle.npf_config_law.specs.Entries.{AreOneConfiguration}
+use Rattle.npf_config_law.proofs.AnswerLemmas.{one_behind}
+use Rattle.npf_ctl_script.specs.declared.script.ScriptLine.{ScriptLine}
+use Rattle.npf_ctl_script.specs.Laws.{NoScriptIsRefused, OneScript}
+use Rattle.npf_ctl_schedule.specs.Schedule.{phases_of, unnumbered}
+use Rattle.npf_ctl_arrivals.specs.Arrivals.{Gathered, none_gathered}
+use Rattle.npf_ctl_input.specs.File.{ReadsFile, told_files}
+use Rattle.npf_ctl_input.specs.Interfaces.{ReadsInterfaces}
+use Rattle.npf_ctl_input.specs.Loading.{LoadsFile}
+use Rattle.npf_ctl_input.specs.Source.{Source, ReadsSource, lines_of_source}
+use Rattle.npf_ctl_prepare.specs.Captures.{GathersCaptures}
+use Rattle.npf_ctl_prepare.specs.Making.{MakesConfigurations}
+use Rattle.npf_ctl_prepare.specs.Prepares.{KeepsScriptLimits, Plans, PreparesRun, PreparesSource, RunNames, numbered_by, planned}
+use Rattle.npf_ctl_prepare_law.specs.Readings.{Agree, AreOnePlan, EndAlike}
+use Rattle.npf_ctl_prepare_law.proofs.AgreeLemmas.{behind_one}
+use Rattle.npf_ctl_prepare_law.proofs.CaptureLemmas.{one_gathered}
+use Rattle.npf_ctl_prepare_law.proofs.InputLemmas.{files_agree, one_file, one_interfaces, sources_agree}
+use Rattle.npf_ctl_prepare_law.proofs.MakingLemmas.{configurations_agree}
+use Rattle.npf_ctl_prepare_law.proofs.OrderLemmas.{one_sorting}
+
+limits_once : (given : List Iface) (lines : List ScriptLine) → HasOneResult (KeepsScriptLimits given lines)
+limits_once given lines = once_behind _ _ (once_told _) (λ _. once_behind _ _ (once_told _) (λ _. once_behind _ _ (once_told _) (λ _. once_behind _ _ (once_told _) (λ _. once_told _))))
+
+plans_agree : (ifaces : List Iface) (configs others : List Configuration) (gathered : Gathered) (lines : List ScriptLine) → AllZip AreOneConfiguration configs others
+    → Agree AreOnePlan (Plans ifaces configs gathered lines) (Plans ifaces others gathered lines)
+plans_agree ifaces configs others gathered lines all _ _ (planned {packets = packets} by_time) (planned {packets = others'} sorted) =
+    let same : packets ≡ others' = one_sorting (λ packet. packet.time) gathered.packets packets others' by_time.sorted sorted.sorted by_time.stable sorted.stable in
+    record { ifaces = refl; configs = all; packets = same; phases = ap (λ (packets : List Packet). phases_of lines (length packets)) same }
+
+numbered_same : (ifaces : List Iface) (one other : Configuration) → AreOneConfiguration one other → AreOneConfiguration (numbered_by ifaces one) (numbered_by ifaces other)
+numbered_same ifaces one other same = record { model = ap (numbered ifaces) same.model; tables = same.tables }
+
+module _ (one_tree : OneTree) (tree_or_halt : TreeOrHalt) (one_place : OnePlace) (one_meaning : OneMeaning) (never_both : NeverBoth)
+    (one_addition : OneAddition) (one_removal : OneRemoval) (one_flush : OneFlush) (one_script : OneScript) (none_refused : NoScriptIsRefused)
+    (one_capture : OneCapture) (fine : CapturesHaveNoFault) (one_fault : OneFault) (tree : Tree) where
+  module _ (script : List ℕ) (given : List Iface) (one other : Configuration) (same : AreOneConfiguration one other) (source : Source) where
+    made_agree : (ifaces : List Iface) (gathered : Gathered) → Agree AreOnePlan
+        (MakesConfigurations (told_files tree) (told_files tree) ifaces script (lines_of_source script source) (numbered_by ifaces one ∷ []) (numbered_by ifaces one)
+        andthen λ configs. Plans ifaces configs gathered (unnumbered (lines_of_source script source)))
+        (MakesConfigurations (told_files tree) (told_files tree) ifaces script (lines_of_source script source) (numbered_by ifaces other ∷ []) (numbered_by ifaces other)
+        andthen λ configs. Plans ifaces configs gathered (unnumbered (lines_of_source script source)))
+    made_agree ifaces gathered =
+        let first = numbered_same ifaces one other same in
+        one_behind (AllZip AreOneConfiguration) AreOnePlan EndAlike _ _ _ _
+        (configurations_agree one_tree tree_or_halt one_place one_meaning never_both one_addition one_removal one_flush tree ifaces script (lines_of_source script source)
+        (numbered_by ifaces one ∷ []) (numbered_by ifaces other ∷ []) (numbered_by ifaces one) (numbered_by ifaces other) (first, tt) first)
+        (λ configs others _ _ all. plans_agree ifaces configs others gathered (unnumbered (lines_of_source script source)) all)
+
+    sources_prepared : Agree AreOnePlan (PreparesSource (told_files tree) (told_files tree) script given one source) (PreparesSource (told_files tree) (told_files tree) script given other source)
+    sources_prepared =
+        let lines = unnumbered (lines_of_source script source) in
+        behind_one AreOnePlan (KeepsScriptLimits given lines) _ _ (limits_once given lines)
+        (λ ifaces. behind_one AreOnePlan (GathersCaptures (told_files tree) (told_files tree) source ifaces lines none_gathered) _ _
+        (one_gathered one_capture fine one_fault tree source ifaces lines none_gathered) (made_agree ifaces))
+
+  pub runs_agree : (names : RunNames) → Agree AreOnePlan (PreparesRun (told_files tree) (told_files tree) names) (PreparesRun (told_files tree) (told_files tree) names)
+  runs_agree names =
+      behind_one AreOnePlan (ReadsInterfaces (told_files tree) (told_files tree) names.ifaces) _ _ (one_interfaces tree names.ifaces)
+      (λ given. one_behind AreOneConfiguration AreOnePlan EndAlike (LoadsFile (told_files tree) (told_files tree) given names.conf)
+      (LoadsFile (told_files tree) (told_files tree) given names.conf) _ _ (files_agree one_tree tree_or_halt one_place one_meaning never_both tree given names.conf)
+      (λ one other _ _ same. behind_one AreOnePlan (ReadsFile (told_files tree) (told_files tree) names.script MAX_CAPTURE_BYTES) _ _ (one_file tree names.script MAX_CAPTURE_BYTES)
+      (λ bytes. one_behind (λ (a b : Source). a ≡ b) AreOnePlan EndAlike (ReadsSource names.script bytes) (ReadsSource names.script bytes) _ _
+      (sources_agree one_script none_refused names.script bytes)
+      (λ source last _ _ sources. subst (λ (s : Source). Agree AreOnePlan (PreparesSource (told_files tree) (told_files tree) names.script given one source)
+      (PreparesSource (told_files tree) (told_files tree) names.script given other s)) sources (sources_prepared names.script given one other same source)))))
