@@ -45,7 +45,7 @@ impl<L: Law, H: KeyHash> Cells<L, H> {
     ghost use Rattle.npf_cells.specs.Cells.{IsPassIn};
     ghost use Rattle.npf_cells_rule.specs.Passes.{IsProtected};
 
-    /// Tries to get a lock. Answers whether it did: false exactly where a pass had it.
+    /// Tries to get a lock. Answers whether it did: false where a pass had it in some state that keeps the rule.
     pub fn try_lock(&self, pass: &mut CellPass<L>, lock: Lock) -> bool
         requires own { IsPassIn self.now pass.old }
         requires lock { IsLockOf self.now.table.shared.key lock }

@@ -62,8 +62,8 @@ impl<L: Law, H: KeyHash> Cells<L, H> {
     ghost use Rattle.npf_cells_turns.specs.EndKinds.{MayEndBy, TellsEnd};
     ghost use Rattle.npf_cells_turns.specs.TurnKinds.{GotTurn, HasTaken, HasSlotTurn};
 
-    /// Tries to get a slot's turn. Answers whether it did: false exactly where a pass had it. The pass then carries what the slot held,
-    /// which it moves by `exchange`.
+    /// Tries to get a slot's turn. Answers whether it did: false where a pass had it in some state that keeps the rule. The pass that got
+    /// it carries what the slot held, which it moves by `exchange`.
     pub fn try_turn(&self, pass: &mut CellPass<L>, slot: u32) -> bool
         requires own { IsPassIn self.now pass.old }
         requires slot { slot < self.now.table.shared.key.slots }
