@@ -28,6 +28,7 @@ pub fn reassemble<'a, R: Threads + Wait + Sync>(
     requires workers { (1 ≤ workers) × (workers ≤ 64) }
     requires short { All IsShortPacket packets.items }
     ensures whole { IfOk result (λ whole. Whole packets.entry.items whole.items) }
+    ensures short { IfOk result (λ whole. All IsShortPacket whole.items) }
 {
     no_fragments_stay();
     if !has_fragment(packets.as_slice()) {

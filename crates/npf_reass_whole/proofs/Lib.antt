@@ -5,4 +5,5 @@ pub mod HoldLemmas
 pub mod LawLemmas
 pub mod LayLemmas
 pub mod PutLemmas
+pub mod ShortLemmas
 pub mod WriteLemmas

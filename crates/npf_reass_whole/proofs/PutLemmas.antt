@@ -24,6 +24,7 @@ use Rattle.npf_reass_sets.specs.Key.{is_frag_key, of_key}
 use Rattle.npf_reass_whole.specs.Run.{CanLayOut, DecidesRun, HasPlacesBelow, HoldsBad, IsClassAmong, IsDatagramAmong, IsSeenAs, LaysOut, PutsAll, all_sets, with_sets_held}
 use Rattle.npf_pieces.specs.DatagramAt.{with_datagrams}
 use Rattle.npf_reass_whole.specs.Whole.{Whole}
+use Rattle.npf_reass_whole.proofs.ShortLemmas.{all_short}
 use Rattle.npf_reass_whole.proofs.AmongLemmas.{all_zip_at, at_place}
 use Rattle.npf_reass_whole.proofs.FateLemmas.{last_among, is_whole as whole_run}
 
@@ -141,3 +142,9 @@ module _ (packets : List Packet) (short : All IsShortPacket packets) (classes : 
 
     pub puts_whole : (new : List Packet) → PutsAll (all_sets classes) ds packets new → Whole packets new
     puts_whole new puts = subst (Whole packets) (sym puts.is) (put_is_whole puts.bad puts.holds)
+
+    pub puts_short : (new : List Packet) → PutsAll (all_sets classes) ds packets new → All IsShortPacket new
+    puts_short new puts =
+        subst (All IsShortPacket) (sym puts.is)
+        (all_short packets puts.bad run.seens (all_sets classes) ds (seen_as packets run.seens run.sees) short
+        (λ set c. whole_set law set (All-contains (IsSetAmong arrived) (all_sets classes) set sound_sets c)) lays puts.holds)

@@ -29,6 +29,7 @@ pub fn put_together<'a>(
     requires short { All IsShortPacket packets.items }
     requires decided { DecidesRun packets.items classes.now }
     ensures whole { IfOk result (λ whole. Whole packets.entry.items whole.items) }
+    ensures short { IfOk result (λ whole. All IsShortPacket whole.items) }
 {
     complete_set_is_whole();
     let datagrams = lay_out(alloc, packets.as_slice(), classes)?;
