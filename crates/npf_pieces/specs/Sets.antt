@@ -1,6 +1,6 @@
 -- The sets that the pieces of one key make, in the order in which they come (RFC 791 section 3.2, RFC 8200 section 4.5). A set
 -- is open until it is complete, is refused, or has waited too long.
-use Rattle.std.specs.Prelude.{ℕ, ◌+◌, ◌-◌, ◌==◌, ◌&&◌, ◌||◌, nat_lt, nat_le, max, if◌then◌else◌, Bool, true, false, zero, suc, Option, Some, None, List, [], ◌∷◌, ◌++◌, slice_range}
+use Rattle.std.specs.Prelude.{ℕ, ◌+◌, ◌-◌, ◌≤◌, ◌==◌, ◌&&◌, ◌||◌, nat_lt, nat_le, max, if◌then◌else◌, Bool, true, false, zero, suc, Option, Some, None, List, [], ◌∷◌, ◌++◌, slice_range}
 use Rattle.std.specs.List.{list_any}
 use Rattle.npf_types.specs.declared.address.Addr.{Addr}
 use Rattle.npf_types.specs.declared.address.Addr.TheVariants.{V4, V6}
@@ -109,3 +109,8 @@ sets_from set (a ∷ rest) =
 -- a set of these pieces by its places
 abbrev pub set_at : List Arrived → SetAt → Set
 set_at all set = record { pieces = slice_range all set.first set.behind; ending = set.ending }
+
+-- its places are those of a list of this length
+pub record StandsIn (count : ℕ) (set : SetAt) : Type 0 where
+  pub order : set.first ≤ set.behind
+  pub within : set.behind ≤ count

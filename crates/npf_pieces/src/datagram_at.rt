@@ -23,6 +23,7 @@ pub(crate) fn put_at<'a>(bytes: &'a mut [u8], extents: &[DatagramAt], packets: &
         let (own, more) = rest.split_at_mut(extent.len);
         let packet = &mut packets[extent.place];
         packet.link = Link::Raw;
+        packet.held = None;
         packet.bytes = PacketBytes::of(own);
         rest = more;
     }

@@ -28,4 +28,4 @@ pub use arrived::{Arrived, Ending, SetAt};
 pub use datagrams::{DatagramBytes, Datagrams};
 pub use laws::{complete_set_is_whole, one_seeing};
 pub use piece::{FragKey, Piece, Seen, piece_of};
-pub use sets::sets_of;
+pub use sets::{SetFinder, sets_of};

@@ -1,0 +1,4 @@
+pub mod CoverLemmas
+pub mod DecideLemmas
+pub mod KeyLemmas
+pub mod RunLemmas

@@ -1,0 +1,3 @@
+pub mod Fate
+pub mod Run
+pub mod Whole
