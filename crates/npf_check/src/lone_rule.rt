@@ -8,7 +8,7 @@ ghost use Rattle.npf_check.specs.Pair.{first_beside};
 use crate::written_rule::rule_fault;
 use npf_faults::{ConfFault, Fault, earlier, fault_if};
 use npf_model::{AddrItem, Ends, Rule};
-use npf_syntax::{Addresses, Ends as Written, RuleTree, Str, Value, Where};
+use npf_syntax::{Addresses, Boxed, Ends as Written, RuleTree, Str, Value, Where};
 use npf_types::Span;
 
 /// The number that a rule has for a table or a procedure that isn't there.
@@ -58,19 +58,19 @@ fn unknown_in_where(ends: &Where, rule: &Rule) -> Option<ConfFault>
     match ends {
         Where::All { .. } => None,
         Where::From { from, to, .. } => {
-            let source = unknown_in_ends(from, &rule.from);
+            let source = unknown_in_ends(from.get(), &rule.from);
             earlier(source, unknown_in_target(to, &rule.to))
         }
-        Where::To { to, .. } => unknown_in_ends(to, &rule.to),
+        Where::To { to, .. } => unknown_in_ends(to.get(), &rule.to),
     }
 }
 
-fn unknown_in_target(target: &Option<Written>, meant: &Ends) -> Option<ConfFault>
+fn unknown_in_target(target: &Option<Boxed<Written>>, meant: &Ends) -> Option<ConfFault>
     ensures { result ≡ first_fault (unknown_in_target target.now meant.now) }
 {
     match target {
         None => None,
-        Some(ends) => unknown_in_ends(ends, meant),
+        Some(ends) => unknown_in_ends(ends.get(), meant),
     }
 }
 

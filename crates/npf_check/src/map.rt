@@ -58,8 +58,10 @@ impl<'a> MapsLeft<'a> {
                 span,
                 ..
             } => {
-                let by_table = self.variables.has_table(&left.value, &right.value);
-                self.pass_map(by_table, kind, *span);
+                let by_table = self
+                    .variables
+                    .has_table(&left.get().value, &right.get().value);
+                self.pass_map(by_table, kind.get(), *span);
                 Ok(())
             }
             _ => Ok(()),

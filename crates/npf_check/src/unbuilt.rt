@@ -30,7 +30,7 @@ fn unbuilt_stmt(stmt: &Stmt) -> Option<ConfFault>
             let built = name.text.as_slice() == "icmp".as_bytes();
             fault_if(!built, *span, Fault::Unbuilt)
         }
-        Stmt::Map { kind, span, .. } => fault_if(!is_built_kind(kind), *span, Fault::Unbuilt),
+        Stmt::Map { kind, span, .. } => fault_if(!is_built_kind(kind.get()), *span, Fault::Unbuilt),
         _ => None,
     }
 }

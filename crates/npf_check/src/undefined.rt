@@ -7,7 +7,7 @@ ghost use Rattle.npf_check.specs.Undefined.{applied_faults, procedures_of_item, 
 
 use crate::name::{NameKind, Names, names_given};
 use npf_faults::{ConfFault, Fault, earlier, fault_if};
-use npf_syntax::{Addresses, Ends, Filter, Item, Stmt, Str, Tree, Value, Values, Where};
+use npf_syntax::{Addresses, Boxed, Ends, Filter, Item, Stmt, Str, Tree, Value, Values, Where};
 use npf_types::NoMemory;
 use std::alloc::Global;
 
@@ -43,8 +43,8 @@ fn table_in_stmt(tables: &Names, stmt: &Stmt) -> Option<ConfFault>
             ..
         } => {
             let sides = earlier(
-                table_in_value(tables, &left.value),
-                table_in_value(tables, &right.value),
+                table_in_value(tables, &left.get().value),
+                table_in_value(tables, &right.get().value),
             );
             earlier(sides, table_in_pass(tables, pass))
         }
@@ -72,12 +72,12 @@ fn table_in_item(tables: &Names, item: &Item) -> Option<ConfFault>
     }
 }
 
-fn table_in_pass(tables: &Names, pass: &Option<Filter>) -> Option<ConfFault>
+fn table_in_pass(tables: &Names, pass: &Option<Boxed<Filter>>) -> Option<ConfFault>
     ensures { result ≡ first_fault (tables_of_pass (holds tables.now) pass.now) }
 {
     match pass {
         None => None,
-        Some(filter) => table_in_where(tables, &filter.ends),
+        Some(filter) => table_in_where(tables, &filter.get().ends),
     }
 }
 
@@ -87,18 +87,21 @@ fn table_in_where(tables: &Names, ends: &Where) -> Option<ConfFault>
     match ends {
         Where::All { .. } => None,
         Where::From { from, to, .. } => {
-            earlier(table_in_ends(tables, from), table_in_target(tables, to))
+            earlier(
+                table_in_ends(tables, from.get()),
+                table_in_target(tables, to),
+            )
         }
-        Where::To { to, .. } => table_in_ends(tables, to),
+        Where::To { to, .. } => table_in_ends(tables, to.get()),
     }
 }
 
-fn table_in_target(tables: &Names, target: &Option<Ends>) -> Option<ConfFault>
+fn table_in_target(tables: &Names, target: &Option<Boxed<Ends>>) -> Option<ConfFault>
     ensures { result ≡ first_fault (tables_of_target (holds tables.now) target.now) }
 {
     match target {
         None => None,
-        Some(ends) => table_in_ends(tables, ends),
+        Some(ends) => table_in_ends(tables, ends.get()),
     }
 }
 

@@ -11,7 +11,7 @@ use crate::family::family_fault;
 use crate::port::port_fault;
 use npf_faults::{ConfFault, earlier};
 use npf_model::{Group, Item as Meant, Map, Model, Rule};
-use npf_syntax::{Filter, GroupHead, Item, Stmt, Tree};
+use npf_syntax::{Boxed, Filter, GroupHead, Item, Stmt, Tree};
 use npf_types::Span;
 
 /// Groups with names, which stand in a model in the order of the text, and the default group, which stands last.
@@ -144,7 +144,7 @@ impl FiltersLeft<'_> {
     }
 }
 
-fn pass_of_map(stmt: &Stmt) -> Option<&Option<Filter>>
+fn pass_of_map(stmt: &Stmt) -> Option<&Option<Boxed<Filter>>>
     ensures { MatchOption result (pass_of_map stmt.now ≡ []) (λ pass. pass_of_map stmt.now ≡ pass.now ∷ []) }
 {
     match stmt {
@@ -153,11 +153,11 @@ fn pass_of_map(stmt: &Stmt) -> Option<&Option<Filter>>
     }
 }
 
-fn filter_fault(filter: &Option<Filter>, meant: &Option<Rule>) -> Option<ConfFault>
+fn filter_fault(filter: &Option<Boxed<Filter>>, meant: &Option<Rule>) -> Option<ConfFault>
     ensures { result ≡ first_fault (faults_of_filter filter.now meant.now) }
 {
     match (filter, meant) {
-        (Some(filter), Some(meant)) => rule_fault(filter.span, meant),
+        (Some(filter), Some(meant)) => rule_fault(filter.get().span, meant),
         _ => None,
     }
 }

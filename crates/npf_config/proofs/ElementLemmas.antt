@@ -1,96 +1,25 @@
--- The lists of a rule have at most as many elements as were counted of its filter.
-use Rattle.std.proofs.Common.{◌≡◌, ◌≤◌, ◌<◌, ◌+◌, ◌^◌, ℕ, Option, Some, None, List, [], ◌∷◌, ◌++◌, length, map, refl, arith}
-use Rattle.std.specs.List.{cons_option, filter_map, flat_map, sum_by}
-use Rattle.std.proofs.lemmas.List.{length-append, length-map}
-use Rattle.std.proofs.lemmas.List.Sums.{sum_by-cons}
+-- The lists of a rule are as short as its compilation asks, where the elements that are counted of its filter keep the limit.
+use Rattle.std.proofs.Common.{◌≤◌, ℕ, Option, Some, None, List, arith}
 use Rattle.npf_types.specs.declared.limits.TheConstants.{MAX_LIST_ELEMENTS}
-use Rattle.npf_syntax.specs.declared.filter.Addresses.{Addresses}
-use Rattle.npf_syntax.specs.declared.filter.Addresses.TheVariants as Written
 use Rattle.npf_syntax.specs.declared.filter.Ends.{Ends as WrittenEnds}
 use Rattle.npf_syntax.specs.declared.filter.Ends.TheVariants as EndsAre
-use Rattle.npf_syntax.specs.declared.filter.Filter.{Filter}
-use Rattle.npf_syntax.specs.declared.filter.ProtoPart.{ProtoPart}
 use Rattle.npf_syntax.specs.declared.rule.RuleTree.{RuleTree}
-use Rattle.npf_syntax.specs.declared.value.Values.{Values}
 use Rattle.npf_model.specs.declared.iface.Iface.{Iface}
-use Rattle.npf_model.specs.Count.{listed}
-use Rattle.npf_expand_values.specs.Address.{addresses_count, address_items, host_item, items_of, listed_addresses}
-use Rattle.npf_expand_values.specs.Atom.{Atom, NumberAtom, RangeAtom, WordAtom, StringAtom, BlockAtom, TableAtom, AddressesAtom, Env}
+use Rattle.npf_expand_values.specs.Atom.{Env}
 use Rattle.npf_expand_values.specs.Declarations.{Declared}
-use Rattle.npf_expand_values.specs.Port.{atom_ports, ports_count, ports_of}
-use Rattle.npf_expand_values.specs.Protocol.{protocol_of, spliced_ones}
-use Rattle.npf_expand_values.specs.Use.{count_of, element_count}
-use Rattle.npf_expand_values.specs.Variable.{listed_values, spliced}
-use Rattle.npf_expand.specs.Rule.{ends_count, ends_of_written, filter_count, part_count, part_protocols, rule_of_tree, source_ends, destination_ends}
+use Rattle.npf_expand.specs.Rule.{ends_count, ends_of_written, filter_count, rule_of_tree, source_ends, destination_ends}
+use Rattle.npf_expand.proofs.CountedLemmas.{addresses_few, part_few, ports_few}
 use Rattle.npf_bpfgen.specs.RuleWeight.{HasShortEnds, HasShortLists}
 
-kept_one : {Y : Type 0} (kept : Option Y) (ys : List Y) (n m : ℕ) → ((y : Y) → kept ≡ Some y → 1 ≤ n) → length ys ≤ m → length (cons_option kept ys) ≤ n + m
-kept_one None ys n m some few = omega arith
-kept_one (Some y) ys n m some few = let one = some y refl in omega arith
-
-kept_few : {Y : Type 0} (keep : Atom → Option Y) → ((atom : Atom) (y : Y) → keep atom ≡ Some y → 1 ≤ count_of atom) → (atoms : List Atom)
-    → length (filter_map keep atoms) ≤ element_count atoms
-kept_few keep some [] = omega arith
-kept_few keep some (atom ∷ atoms) =
-    rw (sum_by-cons count_of atom atoms) (kept_one (keep atom) (filter_map keep atoms) (count_of atom) (element_count atoms) (some atom) (kept_few keep some atoms))
-
-protocol_counts : (atom : Atom) (number : ℕ) → protocol_of atom ≡ Some number → 1 ≤ count_of atom
-protocol_counts (AddressesAtom addrs) number is = absurd (let none : None ≡ Some number = is in cc)
-protocol_counts (NumberAtom _) number is = omega arith
-protocol_counts (RangeAtom _ _) number is = omega arith
-protocol_counts (WordAtom _ _) number is = omega arith
-protocol_counts (StringAtom _) number is = omega arith
-protocol_counts (BlockAtom _ _) number is = omega arith
-protocol_counts (TableAtom _) number is = omega arith
-
-ports_counted : (atom : Atom) (range : ℕ × ℕ) → atom_ports atom ≡ Some range → 1 ≤ count_of atom
-ports_counted (AddressesAtom addrs) range is = absurd (let none : None ≡ Some range = is in cc)
-ports_counted (NumberAtom _) range is = omega arith
-ports_counted (RangeAtom _ _) range is = omega arith
-ports_counted (WordAtom _ _) range is = omega arith
-ports_counted (StringAtom _) range is = omega arith
-ports_counted (BlockAtom _ _) range is = omega arith
-ports_counted (TableAtom _) range is = omega arith
-
-items_counted : (tables : List (List ℕ)) (atom : Atom) → length (items_of tables atom) ≤ count_of atom
-items_counted tables (AddressesAtom addrs) = let same = length-map addrs host_item in omega arith
-items_counted tables (NumberAtom _) = omega arith
-items_counted tables (RangeAtom _ _) = omega arith
-items_counted tables (WordAtom _ _) = omega arith
-items_counted tables (StringAtom _) = omega arith
-items_counted tables (BlockAtom _ _) = omega arith
-items_counted tables (TableAtom _) = omega arith
-
-items_few : (tables : List (List ℕ)) (atoms : List Atom) → length (flat_map (items_of tables) atoms) ≤ element_count atoms
-items_few tables [] = omega arith
-items_few tables (atom ∷ atoms) =
-    let here = items_counted tables atom in
-    let rest = items_few tables atoms in
-    let both = length-append (items_of tables atom) (flat_map (items_of tables) atoms) in
-    rw (sum_by-cons count_of atom atoms) (omega arith)
-
 module _ (ifaces : List Iface) (env : Env) (tables : List (List ℕ)) where
-  addresses_few : (addresses : Addresses) → listed (address_items ifaces env tables addresses) ≤ addresses_count ifaces env addresses
-  addresses_few (Written.Any span) = omega arith
-  addresses_few (Written.One value span) = items_few tables (spliced ifaces env (value ∷ []))
-  addresses_few (Written.List list span) = items_few tables (spliced ifaces env list.values)
-
-  ports_few : (ports : Option Values) → listed (ports_of ifaces env ports) ≤ ports_count ifaces env ports
-  ports_few None = omega arith
-  ports_few (Some values) = kept_few atom_ports ports_counted (spliced ifaces env (listed_values values))
-
-  part_few : (part : Option ProtoPart) → length (part_protocols ifaces env part) ≤ part_count ifaces env part
-  part_few None = omega arith
-  part_few (Some part) = kept_few protocol_of protocol_counts (spliced_ones env part.protocols)
-
   ends_short : (ends : Option WrittenEnds) → ends_count ifaces env ends ≤ MAX_LIST_ELEMENTS → HasShortEnds (ends_of_written ifaces env tables ends)
   ends_short None few = record { addrs = omega arith; ports = omega arith }
   ends_short (Some (EndsAre.Addresses addresses ports span)) few =
-      let of_addresses = addresses_few addresses in
-      let of_ports = ports_few ports in
+      let of_addresses = addresses_few ifaces env tables addresses in
+      let of_ports = ports_few ifaces env tables ports in
       record { addrs = omega arith; ports = omega arith }
   ends_short (Some (EndsAre.Ports ports span)) few =
-      let of_ports = ports_few (Some ports) in
+      let of_ports = ports_few ifaces env tables (Some ports) in
       record { addrs = omega arith; ports = omega arith }
 
 pub rule_short : (ifaces : List Iface) (env : Env) (declared : Declared) (rule : RuleTree) → filter_count ifaces env rule.filter ≤ MAX_LIST_ELEMENTS

@@ -24,7 +24,8 @@ use Rattle.npf_expand.specs.Rule.{filter_count, passing_faults, rule_faults, rul
 use Rattle.npf_check.specs.Undefined.{is_table_in, tables_of_item, tables_of_stmt, tables_of_where}
 use Rattle.npf_ruleset.specs.Refusal.{IsCompilable}
 use Rattle.npf_config.proofs.ElementLemmas.{rule_short}
-use Rattle.npf_config.proofs.NoneLemmas.{back, front, within_limit}
+use Rattle.npf_expand.proofs.CountedLemmas.{within_limit}
+use Rattle.npf_config.proofs.NoneLemmas.{back, front}
 use Rattle.npf_config.proofs.TableNameLemmas.{AreDefined, NamesDefined, env_defined, given_is_named, rule_numbers}
 
 -- `all` are the statements of the whole text, `stmts` those that are left

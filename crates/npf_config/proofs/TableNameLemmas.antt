@@ -31,7 +31,8 @@ use Rattle.npf_expand_values.specs.Variable.{Definition, binding_of, defined, de
 use Rattle.npf_expand.specs.Rule.{ends_of_written, rule_of_tree, source_ends, destination_ends}
 use Rattle.npf_check.specs.Undefined.{is_table_in, table_faults, tables_of_addresses, tables_of_ends, tables_of_target, tables_of_values, tables_of_where}
 use Rattle.npf_bpfgen.specs.Condition.{HasItemNumber, HasItemNumbers, HasTableNumbers}
-use Rattle.npf_config.proofs.NoneLemmas.{back, front, untold}
+use Rattle.npf_expand.proofs.ElementLemmas.{untold}
+use Rattle.npf_config.proofs.NoneLemmas.{back, front}
 
 -- a place that is found among names
 record IsFound (found : Option ℕ) (most : ℕ) : Type 0 where

@@ -41,7 +41,7 @@ back : {X : Type 0} (xs ys : List X) → xs ++ ys ≡ [] → ys ≡ []
 back [] ys none = none
 back (x ∷ xs) ys none = cc
 
-untold : (test : Bool) (span : Span) (fault : Fault) → fault_if test span fault ≡ [] → test ≡ false
+pub untold : (test : Bool) (span : Span) (fault : Fault) → fault_if test span fault ≡ [] → test ≡ false
 untold true span fault none = cc
 untold false span fault none = refl
 

@@ -1,3 +1,4 @@
+pub mod CountedLemmas
 pub mod ElementLemmas
 pub mod FirstAtom
 pub mod ReadLemmas

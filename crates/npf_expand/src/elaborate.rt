@@ -124,12 +124,12 @@ impl<'a> State<'a> {
                 span,
             } => {
                 let line = MapLine {
-                    iface,
-                    kind,
+                    iface: iface.get(),
+                    kind: kind.get(),
                     proto,
-                    left,
+                    left: left.get(),
                     arrow: *arrow,
-                    right,
+                    right: right.get(),
                     pass,
                 };
                 self.add_map(alloc, interfaces, declarations, &line, *span)

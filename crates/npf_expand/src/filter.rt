@@ -20,7 +20,7 @@ use npf_expand_values::{
 use npf_faults::{ConfFault, earlier};
 use npf_model::{AddrItem, Ends as ModelEnds, Rule, StateOpt};
 use npf_syntax::{
-    Addresses, Detail, Ends, Filter, One, ProtoPart, Protocols, Value, Values, Where,
+    Addresses, Boxed, Detail, Ends, Filter, One, ProtoPart, Protocols, Value, Values, Where,
 };
 use npf_types::{Decision, List, NoMemory};
 use std::alloc::{AllocError, Global};
@@ -36,12 +36,15 @@ fn ones_fault<'a>(scope: &Scope<'_, 'a, '_>, ones: &'a [One]) -> Option<ConfFaul
     first
 }
 
-fn part_fault<'a>(scope: &Scope<'_, 'a, '_>, part: &'a Option<ProtoPart>) -> Option<ConfFault>
+fn part_fault<'a>(
+    scope: &Scope<'_, 'a, '_>,
+    part: &'a Option<Boxed<ProtoPart>>,
+) -> Option<ConfFault>
     requires { AreSound scope.now.variables.now }
     ensures { result ≡ first_fault (part_faults (ifaces_of_scope scope.now) (env_of_scope scope.now) part.now) }
 {
     match part {
-        Some(part) => ones_fault(scope, written_ones(&part.protocols)),
+        Some(part) => ones_fault(scope, written_ones(&part.get().protocols)),
         None => None,
     }
 }
@@ -94,7 +97,7 @@ fn source_fault<'a>(scope: &Scope<'_, 'a, '_>, ends: &'a Where) -> Option<ConfFa
     ensures { result ≡ first_fault (ends_faults (ifaces_of_scope scope.now) (env_of_scope scope.now) (source_ends ends.now)) }
 {
     match ends {
-        Where::From { from, .. } => ends_fault(scope, from),
+        Where::From { from, .. } => ends_fault(scope, from.get()),
         _ => None,
     }
 }
@@ -106,10 +109,10 @@ fn destination_fault<'a>(scope: &Scope<'_, 'a, '_>, ends: &'a Where) -> Option<C
     match ends {
         Where::All { .. } => None,
         Where::From { to, .. } => match to {
-            Some(to) => ends_fault(scope, to),
+            Some(to) => ends_fault(scope, to.get()),
             None => None,
         },
-        Where::To { to, .. } => ends_fault(scope, to),
+        Where::To { to, .. } => ends_fault(scope, to.get()),
     }
 }
 
@@ -159,13 +162,13 @@ fn ports_count<'a>(
 fn part_count<'a>(
     scope: &Scope<'_, 'a, '_>,
     alloc: Global,
-    part: &'a Option<ProtoPart>,
+    part: &'a Option<Boxed<ProtoPart>>,
 ) -> Result<usize, NoMemory>
     requires { AreSound scope.now.variables.now }
     ensures { IfOk result (λ count. count ≡ counted (part_count (ifaces_of_scope scope.now) (env_of_scope scope.now) part.now)) }
 {
     match part {
-        Some(part) => scope.count_ones(alloc, written_ones(&part.protocols)),
+        Some(part) => scope.count_ones(alloc, written_ones(&part.get().protocols)),
         None => Ok(0),
     }
 }
@@ -202,7 +205,7 @@ fn source_count<'a>(
     ensures { IfOk result (λ count. count ≡ counted (ends_count (ifaces_of_scope scope.now) (env_of_scope scope.now) (source_ends ends.now))) }
 {
     match ends {
-        Where::From { from, .. } => ends_count(scope, alloc, from),
+        Where::From { from, .. } => ends_count(scope, alloc, from.get()),
         _ => Ok(0),
     }
 }
@@ -218,10 +221,10 @@ fn destination_count<'a>(
     match ends {
         Where::All { .. } => Ok(0),
         Where::From { to, .. } => match to {
-            Some(to) => ends_count(scope, alloc, to),
+            Some(to) => ends_count(scope, alloc, to.get()),
             None => Ok(0),
         },
-        Where::To { to, .. } => ends_count(scope, alloc, to),
+        Where::To { to, .. } => ends_count(scope, alloc, to.get()),
     }
 }
 
@@ -290,13 +293,13 @@ fn listed_ports<'a>(
 fn protocols_of<'a>(
     scope: &Scope<'_, 'a, '_>,
     alloc: Global,
-    part: &'a Option<ProtoPart>,
+    part: &'a Option<Boxed<ProtoPart>>,
 ) -> Result<List<u8>, NoMemory>
     requires { AreSound scope.now.variables.now }
     ensures { IfOk result (λ all. all ≡ part_protocols (ifaces_of_scope scope.now) (env_of_scope scope.now) part.now) }
 {
     match part {
-        Some(part) => listed_protocols(scope, alloc, written_ones(&part.protocols)),
+        Some(part) => listed_protocols(scope, alloc, written_ones(&part.get().protocols)),
         None => Ok(List::of_vec(Vec::new(alloc))),
     }
 }
@@ -347,7 +350,7 @@ fn source_of<'a>(
     ensures { IfOk result (λ all. all ≡ ends_of_written (ifaces_of_scope scope.now) (env_of_scope scope.now) (declared_of_scope scope.now).tables (source_ends ends.now)) }
 {
     match ends {
-        Where::From { from, .. } => ends_of(scope, alloc, from),
+        Where::From { from, .. } => ends_of(scope, alloc, from.get()),
         _ => Ok(any_ends()),
     }
 }
@@ -363,10 +366,10 @@ fn destination_of<'a>(
     match ends {
         Where::All { .. } => Ok(any_ends()),
         Where::From { to, .. } => match to {
-            Some(to) => ends_of(scope, alloc, to),
+            Some(to) => ends_of(scope, alloc, to.get()),
             None => Ok(any_ends()),
         },
-        Where::To { to, .. } => ends_of(scope, alloc, to),
+        Where::To { to, .. } => ends_of(scope, alloc, to.get()),
     }
 }
 
@@ -407,20 +410,20 @@ fn any_ends() -> ModelEnds
     }
 }
 
-fn part_flags(part: &Option<ProtoPart>) -> Option<(u8, u8)>
+fn part_flags(part: &Option<Boxed<ProtoPart>>) -> Option<(u8, u8)>
     ensures { result ≡ flags_of_detail (detail_of_part part.now) }
 {
     match part {
-        Some(part) => flags_of(&part.detail),
+        Some(part) => flags_of(&part.get().detail),
         None => None,
     }
 }
 
-fn part_icmp(part: &Option<ProtoPart>) -> Option<(u8, Option<u8>)>
+fn part_icmp(part: &Option<Boxed<ProtoPart>>) -> Option<(u8, Option<u8>)>
     ensures { result ≡ icmp_of_detail (detail_of_part part.now) }
 {
     match part {
-        Some(part) => icmp_of(&part.detail),
+        Some(part) => icmp_of(&part.get().detail),
         None => None,
     }
 }

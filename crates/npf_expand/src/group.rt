@@ -19,7 +19,7 @@ use crate::text::text_of;
 use npf_expand_values::{Scope, name_of};
 use npf_faults::{ConfFault, earlier};
 use npf_model::{Group, Item, OnIf, Rule};
-use npf_syntax::{Direction, GroupHead, Iface, Item as WrittenItem, RuleTree, Str};
+use npf_syntax::{Boxed, Direction, GroupHead, Iface, Item as WrittenItem, RuleTree, Str};
 use npf_types::{List, NoMemory};
 use std::alloc::Global;
 
@@ -157,7 +157,7 @@ fn ruleset_of<'a>(
     alloc: Global,
     name: &Str,
     dir: &Option<Direction>,
-    on: &'a Option<Iface>,
+    on: &'a Option<Boxed<Iface>>,
 ) -> Item
     requires { AreSound scope.now.variables.now }
     ensures { result ≡ Item.Dynamic (named name.now.text) (option_map dir_of dir.now)
@@ -172,22 +172,22 @@ fn ruleset_of<'a>(
     }
 }
 
-fn on_fault<'a>(scope: &Scope<'_, 'a, '_>, on: &'a Option<Iface>) -> Option<ConfFault>
+fn on_fault<'a>(scope: &Scope<'_, 'a, '_>, on: &'a Option<Boxed<Iface>>) -> Option<ConfFault>
     requires { AreSound scope.now.variables.now }
     ensures { result ≡ first_fault (on_faults (ifaces_of_scope scope.now) (env_of_scope scope.now) on.now) }
 {
     match on {
-        Some(iface) => scope.iface_fault(iface),
+        Some(iface) => scope.iface_fault(iface.get()),
         None => None,
     }
 }
 
-fn on_of<'a>(scope: &Scope<'_, 'a, '_>, on: &'a Option<Iface>) -> Option<OnIf>
+fn on_of<'a>(scope: &Scope<'_, 'a, '_>, on: &'a Option<Boxed<Iface>>) -> Option<OnIf>
     requires { AreSound scope.now.variables.now }
     ensures { result ≡ option_map (on_iface (ifaces_of_scope scope.now) (env_of_scope scope.now)) on.now }
 {
     match on {
-        Some(iface) => Some(scope.on_iface(iface)),
+        Some(iface) => Some(scope.on_iface(iface.get())),
         None => None,
     }
 }

@@ -18,7 +18,7 @@ use crate::filter::{filter_count, filter_fault, filter_rule};
 use npf_expand_values::{Atom, Role, Scope, block_of};
 use npf_faults::{ConfFault, earlier};
 use npf_model::{Algo, Arrow, Map, Rule, Side as ModelSide};
-use npf_syntax::{Arrow as Sign, Filter, Iface, MapKind, One, Side, Value, Word};
+use npf_syntax::{Arrow as Sign, Boxed, Filter, Iface, MapKind, One, Side, Value, Word};
 use npf_types::{Addr, NoMemory, Prefix};
 use std::alloc::Global;
 
@@ -27,11 +27,11 @@ use std::alloc::Global;
 pub(crate) struct MapLine<'a> {
     pub(crate) iface: &'a Iface,
     pub(crate) kind: &'a MapKind,
-    pub(crate) proto: &'a Option<One>,
+    pub(crate) proto: &'a Option<Boxed<One>>,
     pub(crate) left: &'a Side,
     pub(crate) arrow: Sign,
     pub(crate) right: &'a Side,
-    pub(crate) pass: &'a Option<Filter>,
+    pub(crate) pass: &'a Option<Boxed<Filter>>,
 }
 
 /// The first fault of a map, but for the number of its filter's elements.
@@ -76,12 +76,15 @@ pub(crate) fn map_of<'a>(
     })
 }
 
-fn one_protocol_fault<'a>(scope: &Scope<'_, 'a, '_>, proto: &'a Option<One>) -> Option<ConfFault>
+fn one_protocol_fault<'a>(
+    scope: &Scope<'_, 'a, '_>,
+    proto: &'a Option<Boxed<One>>,
+) -> Option<ConfFault>
     requires { AreSound scope.now.variables.now }
     ensures { result ≡ first_fault (one_protocol_faults (env_of_scope scope.now) proto.now) }
 {
     match proto {
-        Some(one) => scope.single_one_fault(one),
+        Some(one) => scope.single_one_fault(one.get()),
         None => None,
     }
 }
@@ -107,12 +110,15 @@ fn side_fault<'a>(scope: &Scope<'_, 'a, '_>, side: &'a Side) -> Option<ConfFault
     )
 }
 
-fn map_filter_fault<'a>(scope: &Scope<'_, 'a, '_>, pass: &'a Option<Filter>) -> Option<ConfFault>
+fn map_filter_fault<'a>(
+    scope: &Scope<'_, 'a, '_>,
+    pass: &'a Option<Boxed<Filter>>,
+) -> Option<ConfFault>
     requires { AreSound scope.now.variables.now }
     ensures { result ≡ first_fault (map_filter_faults (ifaces_of_scope scope.now) (env_of_scope scope.now) pass.now) }
 {
     match pass {
-        Some(filter) => filter_fault(scope, filter),
+        Some(filter) => filter_fault(scope, filter.get()),
         None => None,
     }
 }
@@ -121,13 +127,13 @@ fn map_filter_fault<'a>(scope: &Scope<'_, 'a, '_>, pass: &'a Option<Filter>) -> 
 pub(crate) fn pass_count<'a>(
     scope: &Scope<'_, 'a, '_>,
     alloc: Global,
-    pass: &'a Option<Filter>,
+    pass: &'a Option<Boxed<Filter>>,
 ) -> Result<usize, NoMemory>
     requires { AreSound scope.now.variables.now }
     ensures { IfOk result (λ count. count ≡ counted (filter_elements (ifaces_of_scope scope.now) (declared_of_scope scope.now) (env_of_scope scope.now) pass.now)) }
 {
     match pass {
-        Some(filter) => filter_count(scope, alloc, filter),
+        Some(filter) => filter_count(scope, alloc, filter.get()),
         None => Ok(0),
     }
 }
@@ -135,26 +141,26 @@ pub(crate) fn pass_count<'a>(
 fn map_filter<'a>(
     scope: &Scope<'_, 'a, '_>,
     alloc: Global,
-    pass: &'a Option<Filter>,
+    pass: &'a Option<Boxed<Filter>>,
 ) -> Result<Option<Rule>, NoMemory>
     requires { AreSound scope.now.variables.now }
     ensures { IfOk result (λ rule. rule ≡ option_map (filter_rule (ifaces_of_scope scope.now) (env_of_scope scope.now) (declared_of_scope scope.now).tables) pass.now) }
 {
     match pass {
-        Some(filter) => Ok(Some(filter_rule(scope, alloc, filter)?)),
+        Some(filter) => Ok(Some(filter_rule(scope, alloc, filter.get())?)),
         None => Ok(None),
     }
 }
 
 #[tactic(auto, using(crate::proofs::FirstAtom::first_protocol_is))]
-fn one_protocol<'a>(scope: &Scope<'_, 'a, '_>, proto: &'a Option<One>) -> Option<u8>
+fn one_protocol<'a>(scope: &Scope<'_, 'a, '_>, proto: &'a Option<Boxed<One>>) -> Option<u8>
     requires { AreSound scope.now.variables.now }
     ensures { result ≡ one_protocol (env_of_scope scope.now) proto.now }
 {
     let Some(one) = proto else {
         return None;
     };
-    match scope.first_of_one(one) {
+    match scope.first_of_one(one.get()) {
         Some(atom) => atom.protocol(),
         None => None,
     }

@@ -42,14 +42,14 @@ impl<'a> Scope<'_, 'a, '_> {
             Value::Word { word, .. } => Some(Bound::alone(Atom::Word(word))),
             Value::Str { string, .. } => Some(Bound::alone(Atom::Str(string))),
             Value::Address { address, len, .. } => {
-                Some(Bound::alone(Atom::Block(address.addr, length_of_block(len))))
+                Some(Bound::alone(Atom::Block(address.get().addr, length_of_block(len))))
             }
             Value::Table { name, .. } => Some(Bound::alone(Atom::Table(name))),
             Value::Function {
                 function,
                 iface,
                 ..
-            } => { Some(Bound::alone(Atom::Addresses(self.addresses(*function, iface)))) }
+            } => { Some(Bound::alone(Atom::Addresses(self.addresses(*function, iface.get())))) }
         }
     }
 
@@ -141,7 +141,7 @@ impl<'a> Scope<'_, 'a, '_> {
                 function,
                 iface,
                 span,
-            } => self.function_fault(*function, iface, *span),
+            } => self.function_fault(*function, iface.get(), *span),
             _ => None,
         }
     }

@@ -11,7 +11,9 @@ use npf_parser_values::{
     Role, Stop, after_word, behind_sign, behind_word, read_flags, read_number_to, read_protocols,
     read_value, read_value_list, read_values, span_to,
 };
-use npf_syntax::{Addresses, Detail, Ends, Family, Filter, Number, ProtoPart, Values, Where, Word};
+use npf_syntax::{
+    Addresses, Boxed, Detail, Ends, Family, Filter, Number, ProtoPart, Values, Where, Word,
+};
 use std::alloc::Global;
 
 #[tactic(auto, unfolding(crate::specs::Filter::family))]
@@ -113,7 +115,7 @@ fn read_detail<'a>(
 fn read_proto_part<'a>(
     alloc: Global,
     tokens: &'a [Token],
-) -> Result<(Option<ProtoPart>, &'a [Token]), Stop<'a>>
+) -> Result<(Option<Boxed<ProtoPart>>, &'a [Token]), Stop<'a>>
     ensures { Answers ((meaning (optional proto_part)).read tokens.now) result }
 {
     match behind_word("proto", tokens) {
@@ -126,7 +128,7 @@ fn read_proto_part<'a>(
                 detail,
                 span,
             };
-            Ok((Some(part), rest))
+            Ok((Some(Boxed::new(alloc, part)?), rest))
         }
         None => Ok((None, tokens)),
     }
@@ -202,13 +204,13 @@ fn read_ends<'a>(alloc: Global, tokens: &'a [Token]) -> Result<(Ends, &'a [Token
 fn read_optional_to<'a>(
     alloc: Global,
     tokens: &'a [Token],
-) -> Result<(Option<Ends>, &'a [Token]), Stop<'a>>
+) -> Result<(Option<Boxed<Ends>>, &'a [Token]), Stop<'a>>
     ensures { Answers ((meaning (optional (preceded (quoted (codes "to")) ends))).read tokens.now) result }
 {
     match behind_word("to", tokens) {
         Some(rest) => {
             let (to, rest) = read_ends(alloc, rest)?;
-            Ok((Some(to), rest))
+            Ok((Some(Boxed::new(alloc, to)?), rest))
         }
         None => Ok((None, tokens)),
     }
@@ -224,6 +226,7 @@ fn read_where<'a>(alloc: Global, tokens: &'a [Token]) -> Result<(Where, &'a [Tok
     }
     if let Some(rest) = behind_word("from", tokens) {
         let (from, rest) = read_ends(alloc, rest)?;
+        let from = Boxed::new(alloc, from)?;
         let (to, rest) = read_optional_to(alloc, rest)?;
         let span = span_to(tokens, rest);
         return Ok((Where::From { from, to, span }, rest));
@@ -231,6 +234,7 @@ fn read_where<'a>(alloc: Global, tokens: &'a [Token]) -> Result<(Where, &'a [Tok
     match behind_word("to", tokens) {
         Some(rest) => {
             let (to, rest) = read_ends(alloc, rest)?;
+            let to = Boxed::new(alloc, to)?;
             let span = span_to(tokens, rest);
             Ok((Where::To { to, span }, rest))
         }

@@ -14,7 +14,7 @@ use npf_parser_values::{
     Role, Stop, after_word, behind_sign, behind_word, read_iface, read_one, read_value, read_word,
     span_to,
 };
-use npf_syntax::{Arrow, Filter, MapKind, One, Side, Stmt, Value, Word};
+use npf_syntax::{Arrow, Boxed, Filter, MapKind, One, Side, Stmt, Value, Word};
 use std::alloc::Global;
 
 fn read_algo<'a>(
@@ -97,13 +97,13 @@ fn read_side<'a>(alloc: Global, tokens: &'a [Token]) -> Result<(Side, &'a [Token
 fn read_optional_proto<'a>(
     alloc: Global,
     tokens: &'a [Token],
-) -> Result<(Option<One>, &'a [Token]), Stop<'a>>
+) -> Result<(Option<Boxed<One>>, &'a [Token]), Stop<'a>>
     ensures { Answers ((meaning (optional (preceded (quoted (codes "proto")) one))).read tokens.now) result }
 {
     match behind_word("proto", tokens) {
         Some(rest) => {
             let (one, rest) = read_one(alloc, rest)?;
-            Ok((Some(one), rest))
+            Ok((Some(Boxed::new(alloc, one)?), rest))
         }
         None => Ok((None, tokens)),
     }
@@ -112,13 +112,13 @@ fn read_optional_proto<'a>(
 fn read_optional_pass<'a>(
     alloc: Global,
     tokens: &'a [Token],
-) -> Result<(Option<Filter>, &'a [Token]), Stop<'a>>
+) -> Result<(Option<Boxed<Filter>>, &'a [Token]), Stop<'a>>
     ensures { Answers ((meaning (optional (preceded (quoted (codes "pass")) filter))).read tokens.now) result }
 {
     match behind_word("pass", tokens) {
         Some(rest) => {
             let (filter, rest) = read_filter(alloc, rest)?;
-            Ok((Some(filter), rest))
+            Ok((Some(Boxed::new(alloc, filter)?), rest))
         }
         None => Ok((None, tokens)),
     }
@@ -141,12 +141,12 @@ pub(crate) fn read_map<'a>(
     let (pass, rest) = read_optional_pass(alloc, rest)?;
     let span = span_to(tokens, rest);
     let map = Stmt::Map {
-        iface,
-        kind,
+        iface: Boxed::new(alloc, iface)?,
+        kind: Boxed::new(alloc, kind)?,
         proto,
-        left,
+        left: Boxed::new(alloc, left)?,
         arrow,
-        right,
+        right: Boxed::new(alloc, right)?,
         pass,
         span,
     };

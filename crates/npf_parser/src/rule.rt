@@ -8,7 +8,7 @@ ghost use Rattle.npf_parser.specs.Rule.{answer, action, stateful, direction, end
 use crate::filter::read_filter;
 use npf_lexer::Token;
 use npf_parser_values::{Stop, behind_word, read_iface, read_string, span_to};
-use npf_syntax::{Answer, Direction, Iface, RuleAction, RuleTree, Stateful, Str};
+use npf_syntax::{Answer, Boxed, Direction, Iface, RuleAction, RuleTree, Stateful, Str};
 use std::alloc::Global;
 
 #[tactic(auto, unfolding(crate::specs::Rule::answer))]
@@ -92,13 +92,13 @@ fn final_of(tokens: &[Token]) -> (bool, &[Token])
 pub(crate) fn read_on<'a>(
     alloc: Global,
     tokens: &'a [Token],
-) -> Result<(Option<Iface>, &'a [Token]), Stop<'a>>
+) -> Result<(Option<Boxed<Iface>>, &'a [Token]), Stop<'a>>
     ensures { Answers ((meaning (optional on)).read tokens.now) result }
 {
     match behind_word("on", tokens) {
         Some(rest) => {
             let (iface, rest) = read_iface(alloc, rest)?;
-            Ok((Some(iface), rest))
+            Ok((Some(Boxed::new(alloc, iface)?), rest))
         }
         None => Ok((None, tokens)),
     }

@@ -1,9 +1,10 @@
 // Values and lists of values: a function for each line of the grammar.
 ghost use Rattle.std.specs.Prelude.{◌≡◌, IfOk, IfErr};
-ghost use Rattle.npf_phrase.specs.Grammar.{meaning, optional};
+ghost use Rattle.npf_lexer.specs.declared.token.Sign.TheVariants as Sign;
+ghost use Rattle.npf_phrase.specs.Grammar.{◌&◌, fitted, meaning, optional};
 ghost use Rattle.npf_parser_values.specs.declared.stop.Stop.TheVariants.{NoMemory as no_memory};
 ghost use Rattle.npf_parser_values.specs.Answer.{Answers, AnswersAlone, Finds};
-ghost use Rattle.npf_parser_values.specs.Token.{spaced};
+ghost use Rattle.npf_parser_values.specs.Token.{address, spaced};
 ghost use Rattle.npf_parser_values.specs.Value.{iface, number_behind, is_range, number_value, is_prefix, address_value, table_value, function, word_of, argument, function_value, word_value, variable_value, string_value, written, is_port, is_port_end, can_stand, value, listed_values, values_inside, value_list, values};
 
 use crate::leaf::{
@@ -15,7 +16,7 @@ use crate::stop::Stop;
 use crate::text::{copied, span_to};
 use crate::tokens::{after_sign, after_spaced, behind_sign, behind_spaced, behind_word, skip};
 use npf_lexer::{Sign, Token, TokenKind};
-use npf_syntax::{Address, Function, Iface, Number, Value, ValueList, Values, Word};
+use npf_syntax::{Address, Boxed, Function, Iface, Number, Value, ValueList, Values, Word};
 use npf_types::List;
 use std::alloc::Global;
 
@@ -100,17 +101,33 @@ fn is_prefix(address: Address, len: Option<Number>) -> bool
     }
 }
 
-#[tactic(auto, unfolding(crate::specs::Value::address_value))]
-fn read_address_value(inside: bool, tokens: &[Token]) -> Result<(Value, &[Token]), Stop>
-    ensures { AnswersAlone ((meaning (address_value inside)).read tokens.now) result }
+/// An address, and the length behind it where one stands there.
+fn read_prefix(
+    inside: bool,
+    tokens: &[Token],
+) -> Result<((Address, Option<Number>), &[Token]), Stop>
+    ensures { AnswersAlone ((meaning (fitted is_prefix (spaced inside address & number_behind Sign.Slash inside))).read tokens.now) result }
 {
     let (address, rest) = read_address(tokens)?;
     let (len, rest) = read_number_behind(Sign::Slash, inside, skip(inside, rest))?;
     if is_prefix(address, len) {
-        let span = span_to(tokens, rest);
-        return Ok((Value::Address { address, len, span }, rest));
+        return Ok(((address, len), rest));
     }
     Err(Stop::Before(tokens))
+}
+
+#[tactic(auto, unfolding(crate::specs::Value::address_value))]
+fn read_address_value<'a>(
+    alloc: Global,
+    inside: bool,
+    tokens: &'a [Token],
+) -> Result<(Value, &'a [Token]), Stop<'a>>
+    ensures { Answers ((meaning (address_value inside)).read tokens.now) result }
+{
+    let ((address, len), rest) = read_prefix(inside, tokens)?;
+    let address = Boxed::new(alloc, address)?;
+    let span = span_to(tokens, rest);
+    Ok((Value::Address { address, len, span }, rest))
 }
 
 #[tactic(auto, unfolding(crate::specs::Value::table_value))]
@@ -207,14 +224,15 @@ fn read_function_value<'a>(
     let (iface, rest) = read_argument(alloc, inside, rest)?;
     let span = span_to(tokens, rest);
     match iface {
-        Some(iface) => Ok((
-            Value::Function {
+        Some(iface) => {
+            let iface = Boxed::new(alloc, iface)?;
+            let value = Value::Function {
                 function,
                 iface,
                 span,
-            },
-            rest,
-        )),
+            };
+            Ok((value, rest))
+        }
         None => {
             let word = word_of(alloc, function)?;
             Ok((Value::Word { word, span }, rest))
@@ -286,7 +304,7 @@ fn read_written<'a>(
                 kind: TokenKind::Address(_),
                 ..
             },
-        ) => read_address_value(inside, tokens),
+        ) => read_address_value(alloc, inside, tokens),
         Some(
             Token {
                 kind: TokenKind::Word(_),

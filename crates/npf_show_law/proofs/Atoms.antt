@@ -10,7 +10,6 @@ use Rattle.npf_types.specs.declared.span.Span.{Span}
 use Rattle.npf_types.specs.Name.{name_bytes}
 use Rattle.npf_types.specs.NameText.{is_name}
 use Rattle.npf_faults.specs.declared.fault.ConfFault.{ConfFault}
-use Rattle.npf_faults.specs.declared.fault.Fault.{Fault}
 use Rattle.npf_faults.specs.declared.fault.Fault.TheVariants.{Expected, UnknownInterface, UnknownTable}
 use Rattle.npf_syntax.specs.declared.value.Function.{Function}
 use Rattle.npf_syntax.specs.declared.value.Iface.{Iface as WrittenIface}
@@ -24,6 +23,7 @@ use Rattle.npf_expand_values.specs.Atom.{Atom, NumberAtom, RangeAtom, WordAtom, 
 use Rattle.npf_expand_values.specs.Iface.{iface_binding, iface_span, iface_faults, name_text, only_name, bound_name, iface_name, addresses_of_first, addresses_of, is_of, has_none, address_faults}
 use Rattle.npf_expand_values.specs.Use.{atoms_of, undefined_faults}
 use Rattle.npf_expand_values.specs.Variable.{Definition, number_atom, length_of_block, empty_list_at, binding_of, own_faults, spliced, definition_faults, is_bound_to_list, is_list, unless_refused, defined, env_of}
+use Rattle.npf_expand.proofs.ElementLemmas.{untold}
 use Rattle.npf_parser_values.specs.Value.{is_range}
 use Rattle.npf_show_tokens.specs.Showable.{FitsAddr}
 use Rattle.npf_show_tokens.specs.Tokens.{is_run_word}
@@ -38,10 +38,6 @@ front_none (x ∷ xs) ys none = cc
 pub back_none : {X : Type 0} (xs ys : List X) → xs ++ ys ≡ [] → ys ≡ []
 back_none [] ys none = none
 back_none (x ∷ xs) ys none = cc
-
-pub untold : (test : Bool) (span : Span) (fault : Fault) → fault_if test span fault ≡ [] → test ≡ false
-untold true span fault none = cc
-untold false span fault none = refl
 
 -- the faults of one atom that is used
 pub split : (unfit : Bool) (span : Span) (words : List ConfFault) → fault_if (unfit || false) span Expected ++ (words ++ []) ≡ [] → (unfit ≡ false) × (words ≡ [])

@@ -1,121 +1,51 @@
 -- The lists of a model have no more elements than were counted of its text.
-use Rattle.std.proofs.Common.{◌≡◌, ◌≤◌, ◌+◌, ℕ, ◌&&◌, nat_le, nat_lt, false, Option, Some, None, option_map, List, [], ◌∷◌, ◌++◌, length, map, refl, sym, subst, arith}
-use Rattle.std.specs.List.{cons_option, filter_map, flat_map, sum_by}
-use Rattle.std.proofs.lemmas.Bool.Decides.{nat_tests}
-use Rattle.std.proofs.lemmas.List.{length-append, length-map}
+use Rattle.std.proofs.Common.{◌≡◌, ◌≤◌, ◌+◌, ℕ, Option, Some, None, option_map, List, [], ◌∷◌, ◌++◌, length, map, refl, sym, subst, arith}
+use Rattle.std.specs.List.{sum_by}
 use Rattle.std.proofs.lemmas.List.Sums.{sum_by-append, sum_by-cons}
 use Rattle.npf_types.specs.declared.limits.TheConstants.{MAX_LIST_ELEMENTS}
-use Rattle.npf_types.specs.declared.span.Span.{Span}
-use Rattle.npf_syntax.specs.declared.filter.Addresses.{Addresses}
 use Rattle.npf_syntax.specs.declared.filter.Ends.{Ends as WrittenEnds}
 use Rattle.npf_syntax.specs.declared.filter.Filter.{Filter}
-use Rattle.npf_syntax.specs.declared.filter.ProtoPart.{ProtoPart}
 use Rattle.npf_syntax.specs.declared.group.GroupHead.{GroupHead}
 use Rattle.npf_syntax.specs.declared.group.Item.{Item as WrittenItem}
 use Rattle.npf_syntax.specs.declared.stmt.Stmt.{Stmt}
-use Rattle.npf_syntax.specs.declared.value.Values.{Values}
 use Rattle.npf_model.specs.declared.group.Group.{Group}
 use Rattle.npf_model.specs.declared.iface.Iface.{Iface}
 use Rattle.npf_model.specs.declared.map.Map.{Map}
 use Rattle.npf_model.specs.Count.{listed, elements_of_ends, elements_of}
-use Rattle.npf_expand_values.specs.Address.{addresses_count, address_items, host_item, items_of}
-use Rattle.npf_expand_values.specs.Atom.{Atom, NumberAtom, RangeAtom, WordAtom, StringAtom, BlockAtom, TableAtom, AddressesAtom, Env}
+use Rattle.npf_expand_values.specs.Address.{addresses_count, address_items}
+use Rattle.npf_expand_values.specs.Atom.{Env}
 use Rattle.npf_expand_values.specs.Declarations.{Declared}
-use Rattle.npf_expand_values.specs.Port.{atom_ports, ports_count, ports_of}
-use Rattle.npf_expand_values.specs.Protocol.{protocol_of, spliced_ones}
-use Rattle.npf_expand_values.specs.Use.{count_of, element_count}
-use Rattle.npf_expand_values.specs.Variable.{Definition, env_of, listed_values, spliced}
+use Rattle.npf_expand_values.specs.Port.{ports_count, ports_of}
+use Rattle.npf_expand_values.specs.Variable.{Definition, env_of}
 use Rattle.npf_expand.specs.Elaborates.{behind, default_group, filter_elements, gathered, maps_of, named_group, stmt_elements, stmt_faults, stmts_faults}
 use Rattle.npf_expand.specs.Group.{group_of_tree, head_faults, item_elements, item_faults, item_of_tree, items_elements, items_faults}
 use Rattle.npf_expand.specs.Map.{map_faults, map_of_tree}
 use Rattle.npf_expand.specs.Rule.{ends_count, ends_of_written, filter_count, filter_rule, part_count, part_protocols, passing_faults, rule_faults, source_ends, destination_ends}
+use Rattle.npf_expand.proofs.CountedLemmas.{addresses_few, part_few, ports_few, within_limit}
 use Rattle.npf_show_meaning.specs.Regular.{entry_elements, pass_elements}
-use Rattle.npf_show_law.proofs.Atoms.{front_none, back_none, untold}
-
-kept_one : {Y : Type 0} (kept : Option Y) (ys : List Y) (n m : ℕ) → ((y : Y) → kept ≡ Some y → 1 ≤ n) → length ys ≤ m → length (cons_option kept ys) ≤ n + m
-kept_one None ys n m some few = omega (arith, few)
-kept_one (Some y) ys n m some few = let one = some y refl in omega (arith, one, few)
-
-kept_few : {Y : Type 0} (keep : Atom → Option Y) → ((atom : Atom) (y : Y) → keep atom ≡ Some y → 1 ≤ count_of atom) → (atoms : List Atom) → length (filter_map keep atoms) ≤ element_count atoms
-kept_few keep some [] = omega arith
-kept_few keep some (atom ∷ atoms) =
-    rw (sum_by-cons count_of atom atoms) (kept_one (keep atom) (filter_map keep atoms) (count_of atom) (element_count atoms) (some atom) (kept_few keep some atoms))
-
-protocol_counts : (atom : Atom) (number : ℕ) → protocol_of atom ≡ Some number → 1 ≤ count_of atom
-protocol_counts (AddressesAtom addrs) number is = absurd (let none : None ≡ Some number = is in cc)
-protocol_counts (NumberAtom _) number is = omega arith
-protocol_counts (RangeAtom _ _) number is = omega arith
-protocol_counts (WordAtom _ _) number is = omega arith
-protocol_counts (StringAtom _) number is = omega arith
-protocol_counts (BlockAtom _ _) number is = omega arith
-protocol_counts (TableAtom _) number is = omega arith
-
-ports_counted : (atom : Atom) (range : ℕ × ℕ) → atom_ports atom ≡ Some range → 1 ≤ count_of atom
-ports_counted (AddressesAtom addrs) range is = absurd (let none : None ≡ Some range = is in cc)
-ports_counted (NumberAtom _) range is = omega arith
-ports_counted (RangeAtom _ _) range is = omega arith
-ports_counted (WordAtom _ _) range is = omega arith
-ports_counted (StringAtom _) range is = omega arith
-ports_counted (BlockAtom _ _) range is = omega arith
-ports_counted (TableAtom _) range is = omega arith
-
-items_counted : (tables : List (List ℕ)) (atom : Atom) → length (items_of tables atom) ≤ count_of atom
-items_counted tables (AddressesAtom addrs) = let same = length-map addrs host_item in omega (arith, same)
-items_counted tables (NumberAtom _) = omega arith
-items_counted tables (RangeAtom _ _) = omega arith
-items_counted tables (WordAtom _ _) = omega arith
-items_counted tables (StringAtom _) = omega arith
-items_counted tables (BlockAtom _ _) = omega arith
-items_counted tables (TableAtom _) = omega arith
-
-items_few : (tables : List (List ℕ)) (atoms : List Atom) → length (flat_map (items_of tables) atoms) ≤ element_count atoms
-items_few tables [] = omega arith
-items_few tables (atom ∷ atoms) =
-    let here = items_counted tables atom in
-    let rest = items_few tables atoms in
-    let both = length-append (items_of tables atom) (flat_map (items_of tables) atoms) in
-    rw (sum_by-cons count_of atom atoms) (omega (arith, here, rest, both))
+use Rattle.npf_show_law.proofs.Atoms.{front_none, back_none}
 
 module _ (ifaces : List Iface) (env : Env) (tables : List (List ℕ)) where
-  addresses_few : (addresses : Addresses) → listed (address_items ifaces env tables addresses) ≤ addresses_count ifaces env addresses
-  addresses_few (Addresses.Any span) = omega arith
-  addresses_few (Addresses.One value span) = items_few tables (spliced ifaces env (value ∷ []))
-  addresses_few (Addresses.List list span) = items_few tables (spliced ifaces env list.values)
-
-  ports_few : (ports : Option Values) → listed (ports_of ifaces env ports) ≤ ports_count ifaces env ports
-  ports_few None = omega arith
-  ports_few (Some values) = kept_few atom_ports ports_counted (spliced ifaces env (listed_values values))
-
-  part_few : (part : Option ProtoPart) → length (part_protocols ifaces env part) ≤ part_count ifaces env part
-  part_few None = omega arith
-  part_few (Some part) = kept_few protocol_of protocol_counts (spliced_ones env part.protocols)
-
   ends_few : (ends : Option WrittenEnds) → elements_of_ends (ends_of_written ifaces env tables ends) ≤ ends_count ifaces env ends
   ends_few None = omega arith
   ends_few (Some (WrittenEnds.Addresses addresses ports span)) =
-      let of_addresses = addresses_few addresses in
-      let of_ports = ports_few ports in
+      let of_addresses = addresses_few ifaces env tables addresses in
+      let of_ports = ports_few ifaces env tables ports in
       let both : listed (address_items ifaces env tables addresses) + listed (ports_of ifaces env ports) ≤ addresses_count ifaces env addresses + ports_count ifaces env ports = omega (arith, of_addresses, of_ports) in
       both
   ends_few (Some (WrittenEnds.Ports ports span)) =
-      let of_ports = ports_few (Some ports) in
+      let of_ports = ports_few ifaces env tables (Some ports) in
       let all : 0 + listed (ports_of ifaces env (Some ports)) ≤ ports_count ifaces env (Some ports) = omega (arith, of_ports) in
       all
 
   filter_few : (f : Filter) → elements_of (filter_rule ifaces env tables f) ≤ filter_count ifaces env f
   filter_few f =
-      let of_part = part_few f.proto in
+      let of_part = part_few ifaces env tables f.proto in
       let of_source = ends_few (source_ends f.ends) in
       let of_destination = ends_few (destination_ends f.ends) in
       let all : length (part_protocols ifaces env f.proto) + elements_of_ends (ends_of_written ifaces env tables (source_ends f.ends)) + elements_of_ends (ends_of_written ifaces env tables (destination_ends f.ends))
       ≤ part_count ifaces env f.proto + ends_count ifaces env (source_ends f.ends) + ends_count ifaces env (destination_ends f.ends) = omega (arith, of_part, of_source, of_destination) in
       all
-
-within : (before more most : ℕ) → (nat_le before most && nat_lt most (before + more)) ≡ false → before ≤ most → before + more ≤ most
-within before more most passes is = grind (arith, nat_tests)
-
-within_limit : (before more : ℕ) (span : Span) → passing_faults before more span ≡ [] → before ≤ MAX_LIST_ELEMENTS → before + more ≤ MAX_LIST_ELEMENTS
-within_limit before more span none is = within before more MAX_LIST_ELEMENTS (untold _ span _ none) is
 
 abbrev map_elements : Map → ℕ
 map_elements m = pass_elements m.filter

@@ -33,7 +33,8 @@ use Rattle.npf_show_tokens.specs.Showable.{FitsByte, FitsAddr, IsShowablePrefix,
 use Rattle.npf_show_tokens.specs.Tokens.{is_run_word}
 use Rattle.npf_show_meaning.specs.Regular.{IsForward}
 use Rattle.npf_show_law.proofs.Gives.{Every}
-use Rattle.npf_show_law.proofs.Atoms.{IsSoundAtom, front_none, back_none, untold, split, either_off, is_on, some_left}
+use Rattle.npf_expand.proofs.ElementLemmas.{untold}
+use Rattle.npf_show_law.proofs.Atoms.{IsSoundAtom, front_none, back_none, split, either_off, is_on, some_left}
 
 -- a block of an address that fits
 v4_fits : (a n : ℕ) → a < 2 ^ 32 → kept_bits 32 n a < 2 ^ 32

@@ -52,7 +52,8 @@ use Rattle.npf_show_tokens.specs.Tokens.{is_run_word}
 use Rattle.npf_show_meaning.specs.Regular.{IsOfText, IsForward, IsRegularItem, IsFilterAlone, IsRegularFilter, IsRegularSide, IsRegularOn, IsRegularRule, IsRegularEntry, IsRegularGroup, IsRegularMap, IsRegularDecl}
 use Rattle.npf_show_law.proofs.Gives.{Every, IfThere}
 use Rattle.npf_show_law.proofs.Sound.{IsSoundValue, IsSoundPort, IsPlainStr, IsSoundFilter, IsSoundItem, IsSoundHead, IsSoundSide, IsSoundCall, IsSoundStmt}
-use Rattle.npf_show_law.proofs.Atoms.{IsSoundAtom, IsSoundEnv, front_none, back_none, untold, is_on, value_sound, iface_named, bound_atoms}
+use Rattle.npf_expand.proofs.ElementLemmas.{untold}
+use Rattle.npf_show_law.proofs.Atoms.{IsSoundAtom, IsSoundEnv, front_none, back_none, is_on, value_sound, iface_named, bound_atoms}
 use Rattle.npf_show_law.proofs.Meant.{block_shows, IsGoodRange, port_small, byte_small, service_small, protocol_small}
 use Rattle.npf_show_law.proofs.FilterMeant.{every_all, named_text, filter_meant}
 

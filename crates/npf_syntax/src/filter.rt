@@ -1,3 +1,4 @@
+use crate::boxed::Boxed;
 use crate::value::{One, OneList, Value, ValueList, Values};
 use crate::word::{Number, Word};
 use npf_types::Span;
@@ -70,12 +71,12 @@ pub enum Where {
         span: Span,
     },
     From {
-        from: Ends,
-        to: Option<Ends>,
+        from: Boxed<Ends>,
+        to: Option<Boxed<Ends>>,
         span: Span,
     },
     To {
-        to: Ends,
+        to: Boxed<Ends>,
         span: Span,
     },
 }
@@ -84,7 +85,7 @@ pub enum Where {
 #[derive(Debug, Drop)]
 pub struct Filter {
     pub family: Option<Family>,
-    pub proto: Option<ProtoPart>,
+    pub proto: Option<Boxed<ProtoPart>>,
     pub ends: Where,
     pub span: Span,
 }

@@ -1,3 +1,4 @@
+use crate::boxed::Boxed;
 use crate::rule::{Direction, RuleTree};
 use crate::value::Iface;
 use crate::word::Str;
@@ -10,7 +11,7 @@ pub enum GroupHead {
     Named {
         name: Str,
         dir: Option<Direction>,
-        on: Option<Iface>,
+        on: Option<Boxed<Iface>>,
         span: Span,
     },
     Default {
@@ -28,7 +29,7 @@ pub enum Item {
     Ruleset {
         name: Str,
         dir: Option<Direction>,
-        on: Option<Iface>,
+        on: Option<Boxed<Iface>>,
         span: Span,
     },
 }

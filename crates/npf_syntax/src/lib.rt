@@ -2,12 +2,14 @@
 //
 // Each line of the grammar with alternatives is an enum with a variant for each, and each other line a struct. Their
 // fields are the parts of the line in its order, but for single quoted words: an optional part is an `Option`, an
-// optional quoted word a `bool`, a repeated part a `List`, and a choice of quoted words an enum of them.
+// optional quoted word a `bool`, a repeated part a `List`, and a choice of quoted words an enum of them. A wide part stands
+// behind a box (`Boxed`), which contracts do not see.
 //
 // The contract: these types say no more than their fields. Each has the span of the text that it was read from, from its
 // first token to its last.
 #![tactic(auto)]
 
+mod boxed;
 mod filter;
 mod group;
 mod map;
@@ -17,6 +19,7 @@ mod stmt;
 mod value;
 mod word;
 
+pub use boxed::Boxed;
 pub use filter::{Addresses, Detail, Ends, Family, Filter, ProtoPart, Protocols, Where};
 pub use group::{GroupHead, Item};
 pub use map::{Arrow, MapKind, Side};

@@ -1,3 +1,4 @@
+use crate::boxed::Boxed;
 use crate::filter::Filter;
 use crate::value::Iface;
 use crate::word::Str;
@@ -41,7 +42,7 @@ pub struct RuleTree {
     pub dir: Option<Direction>,
     /// Whether the word `final` stands there.
     pub last: bool,
-    pub on: Option<Iface>,
+    pub on: Option<Boxed<Iface>>,
     pub filter: Filter,
     /// The procedure's name.
     pub apply: Option<Str>,

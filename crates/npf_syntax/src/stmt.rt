@@ -1,3 +1,4 @@
+use crate::boxed::Boxed;
 use crate::filter::Filter;
 use crate::group::{GroupHead, Item};
 use crate::map::{Arrow, MapKind, Side};
@@ -46,13 +47,13 @@ pub enum Stmt {
         span: Span,
     },
     Map {
-        iface: Iface,
-        kind: MapKind,
-        proto: Option<One>,
-        left: Side,
+        iface: Boxed<Iface>,
+        kind: Boxed<MapKind>,
+        proto: Option<Boxed<One>>,
+        left: Boxed<Side>,
         arrow: Arrow,
-        right: Side,
-        pass: Option<Filter>,
+        right: Boxed<Side>,
+        pass: Option<Boxed<Filter>>,
         span: Span,
     },
     Group {

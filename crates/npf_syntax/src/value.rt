@@ -1,3 +1,4 @@
+use crate::boxed::Boxed;
 use crate::word::{Address, Number, Str, Var, Word};
 use npf_types::{List, Span};
 
@@ -54,7 +55,7 @@ pub enum Value {
         span: Span,
     },
     Address {
-        address: Address,
+        address: Boxed<Address>,
         len: Option<Number>,
         span: Span,
     },
@@ -64,7 +65,7 @@ pub enum Value {
     },
     Function {
         function: Function,
-        iface: Iface,
+        iface: Boxed<Iface>,
         span: Span,
     },
 }

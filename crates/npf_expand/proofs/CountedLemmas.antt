@@ -1,0 +1,87 @@
+-- The lists of a rule have at most as many elements as are counted of its filter, and elements that pass no limit keep it.
+use Rattle.std.proofs.Common.{◌≡◌, ◌≤◌, ◌+◌, ℕ, ◌&&◌, nat_le, nat_lt, false, Option, Some, None, List, [], ◌∷◌, length, refl, arith}
+use Rattle.std.specs.List.{cons_option, filter_map, flat_map}
+use Rattle.std.proofs.lemmas.Bool.Decides.{nat_tests}
+use Rattle.std.proofs.lemmas.List.{length-append, length-map}
+use Rattle.std.proofs.lemmas.List.Sums.{sum_by-cons}
+use Rattle.npf_types.specs.declared.limits.TheConstants.{MAX_LIST_ELEMENTS}
+use Rattle.npf_types.specs.declared.span.Span.{Span}
+use Rattle.npf_syntax.specs.declared.filter.Addresses.{Addresses}
+use Rattle.npf_syntax.specs.declared.filter.Addresses.TheVariants as Written
+use Rattle.npf_syntax.specs.declared.filter.ProtoPart.{ProtoPart}
+use Rattle.npf_syntax.specs.declared.value.Values.{Values}
+use Rattle.npf_model.specs.declared.iface.Iface.{Iface}
+use Rattle.npf_model.specs.Count.{listed}
+use Rattle.npf_expand_values.specs.Address.{addresses_count, address_items, host_item, items_of}
+use Rattle.npf_expand_values.specs.Atom.{Atom, NumberAtom, RangeAtom, WordAtom, StringAtom, BlockAtom, TableAtom, AddressesAtom, Env}
+use Rattle.npf_expand_values.specs.Port.{atom_ports, ports_count, ports_of}
+use Rattle.npf_expand_values.specs.Protocol.{protocol_of, spliced_ones}
+use Rattle.npf_expand_values.specs.Use.{count_of, element_count}
+use Rattle.npf_expand_values.specs.Variable.{listed_values, spliced}
+use Rattle.npf_expand.specs.Rule.{part_count, part_protocols, passing_faults}
+use Rattle.npf_expand.proofs.ElementLemmas.{untold}
+
+kept_one : {Y : Type 0} (kept : Option Y) (ys : List Y) (n m : ℕ) → ((y : Y) → kept ≡ Some y → 1 ≤ n) → length ys ≤ m → length (cons_option kept ys) ≤ n + m
+kept_one None ys n m some few = omega arith
+kept_one (Some y) ys n m some few = let one = some y refl in omega arith
+
+kept_few : {Y : Type 0} (keep : Atom → Option Y) → ((atom : Atom) (y : Y) → keep atom ≡ Some y → 1 ≤ count_of atom) → (atoms : List Atom)
+    → length (filter_map keep atoms) ≤ element_count atoms
+kept_few keep some [] = omega arith
+kept_few keep some (atom ∷ atoms) =
+    rw (sum_by-cons count_of atom atoms) (kept_one (keep atom) (filter_map keep atoms) (count_of atom) (element_count atoms) (some atom) (kept_few keep some atoms))
+
+protocol_counts : (atom : Atom) (number : ℕ) → protocol_of atom ≡ Some number → 1 ≤ count_of atom
+protocol_counts (AddressesAtom addrs) number is = absurd (let none : None ≡ Some number = is in cc)
+protocol_counts (NumberAtom _) number is = omega arith
+protocol_counts (RangeAtom _ _) number is = omega arith
+protocol_counts (WordAtom _ _) number is = omega arith
+protocol_counts (StringAtom _) number is = omega arith
+protocol_counts (BlockAtom _ _) number is = omega arith
+protocol_counts (TableAtom _) number is = omega arith
+
+ports_counted : (atom : Atom) (range : ℕ × ℕ) → atom_ports atom ≡ Some range → 1 ≤ count_of atom
+ports_counted (AddressesAtom addrs) range is = absurd (let none : None ≡ Some range = is in cc)
+ports_counted (NumberAtom _) range is = omega arith
+ports_counted (RangeAtom _ _) range is = omega arith
+ports_counted (WordAtom _ _) range is = omega arith
+ports_counted (StringAtom _) range is = omega arith
+ports_counted (BlockAtom _ _) range is = omega arith
+ports_counted (TableAtom _) range is = omega arith
+
+items_counted : (tables : List (List ℕ)) (atom : Atom) → length (items_of tables atom) ≤ count_of atom
+items_counted tables (AddressesAtom addrs) = let same = length-map addrs host_item in omega arith
+items_counted tables (NumberAtom _) = omega arith
+items_counted tables (RangeAtom _ _) = omega arith
+items_counted tables (WordAtom _ _) = omega arith
+items_counted tables (StringAtom _) = omega arith
+items_counted tables (BlockAtom _ _) = omega arith
+items_counted tables (TableAtom _) = omega arith
+
+items_few : (tables : List (List ℕ)) (atoms : List Atom) → length (flat_map (items_of tables) atoms) ≤ element_count atoms
+items_few tables [] = omega arith
+items_few tables (atom ∷ atoms) =
+    let here = items_counted tables atom in
+    let rest = items_few tables atoms in
+    let both = length-append (items_of tables atom) (flat_map (items_of tables) atoms) in
+    rw (sum_by-cons count_of atom atoms) (omega arith)
+
+module _ (ifaces : List Iface) (env : Env) (tables : List (List ℕ)) where
+  pub addresses_few : (addresses : Addresses) → listed (address_items ifaces env tables addresses) ≤ addresses_count ifaces env addresses
+  addresses_few (Written.Any span) = omega arith
+  addresses_few (Written.One value span) = items_few tables (spliced ifaces env (value ∷ []))
+  addresses_few (Written.List list span) = items_few tables (spliced ifaces env list.values)
+
+  pub ports_few : (ports : Option Values) → listed (ports_of ifaces env ports) ≤ ports_count ifaces env ports
+  ports_few None = omega arith
+  ports_few (Some values) = kept_few atom_ports ports_counted (spliced ifaces env (listed_values values))
+
+  pub part_few : (part : Option ProtoPart) → length (part_protocols ifaces env part) ≤ part_count ifaces env part
+  part_few None = omega arith
+  part_few (Some part) = kept_few protocol_of protocol_counts (spliced_ones env part.protocols)
+
+within : (before more most : ℕ) → (nat_le before most && nat_lt most (before + more)) ≡ false → before ≤ most → before + more ≤ most
+within before more most passes is = grind (arith, nat_tests)
+
+pub within_limit : (before more : ℕ) (span : Span) → passing_faults before more span ≡ [] → before ≤ MAX_LIST_ELEMENTS → before + more ≤ MAX_LIST_ELEMENTS
+within_limit before more span none is = within before more MAX_LIST_ELEMENTS (untold _ span _ none) is
