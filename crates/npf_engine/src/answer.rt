@@ -1,4 +1,4 @@
-// What becomes of a packet of IP.
+// What becomes of a packet of IP. All are inlined, so that an answer's parts aren't copied from call to call.
 ghost use Rattle.std.specs.Prelude.{◌≡◌, None, Some, false, is_some};
 ghost use Rattle.npf_types.specs.declared.decision.Decision.TheVariants.{Block};
 ghost use Rattle.npf_types.specs.declared.decision.Return.TheVariants.{Nothing};
@@ -39,6 +39,7 @@ pub(crate) struct Answer {
 
 impl Answer {
     /// The connection that holds the packet's key took it.
+    #[inline(always)]
     pub(crate) fn by_conn(met: &Met) -> Answer
         ensures explains { AnswersByConn met.now result }
         ensures passes { passes result.outcome ≡ is_some result.rewriting }
@@ -48,6 +49,7 @@ impl Answer {
     }
 
     /// The connection whose packet this error quotes took it.
+    #[inline(always)]
     pub(crate) fn by_quoted(met: &Met) -> Answer
         ensures explains { AnswersByQuoted met.now result }
         ensures passes { passes result.outcome ≡ is_some result.rewriting }
@@ -57,6 +59,7 @@ impl Answer {
     }
 
     /// No rule decides, and the packet is blocked.
+    #[inline(always)]
     pub(crate) fn unruled(config: u64) -> Answer
         ensures outcome { result.outcome ≡ Outcome.ByRule (Block Nothing) None None config None }
         ensures rewriting { result.rewriting ≡ None }
@@ -74,6 +77,7 @@ impl Answer {
     }
 
     /// A rule blocks the packet.
+    #[inline(always)]
     pub(crate) fn blocked(config: u64, ruling: &Ruling) -> Answer
         ensures outcome { result.outcome ≡ by_ruling config ruling.now None }
         ensures rewriting { result.rewriting ≡ None }
@@ -85,6 +89,7 @@ impl Answer {
     }
 
     /// A rule passes the packet, which opened this connection or was to open none.
+    #[inline(always)]
     pub(crate) fn passed(
         config: u64,
         ruling: &Ruling,
@@ -101,6 +106,7 @@ impl Answer {
     }
 
     /// A rule passes the packet, which goes on without the connection that it was to open.
+    #[inline(always)]
     pub(crate) fn unkept(config: u64, ruling: &Ruling, why: Refusal) -> Answer
         ensures outcome { result.outcome ≡ unkept config ruling.now why }
         ensures rewriting { result.rewriting ≡ Some (own_rewriting ruling.now.action unchanged) }
@@ -117,6 +123,7 @@ impl Answer {
     }
 
     /// The packet can't be translated.
+    #[inline(always)]
     pub(crate) fn dropped(config: u64, rule: u32, why: Refusal) -> Answer
         ensures outcome { result.outcome ≡ Outcome.Dropped rule config why }
         ensures rewriting { result.rewriting ≡ None }
@@ -129,6 +136,7 @@ impl Answer {
 }
 
 /// A connection took the packet, which is translated so where it passes.
+#[inline(always)]
 fn taken(met: &Met, translation: Translation) -> Answer
     ensures outcome { result.outcome ≡ by_conn met.now }
     ensures rewriting { result.rewriting ≡ taken_rewriting met.now.reply translation }
@@ -159,6 +167,7 @@ fn taken(met: &Met, translation: Translation) -> Answer
 }
 
 /// A packet is rewritten by its rule's action and this change.
+#[inline(always)]
 fn own_rewriting(ruling: &Ruling, change: Change) -> Rewriting
     ensures { result ≡ own_rewriting ruling.now.action change }
 {
@@ -170,6 +179,7 @@ fn own_rewriting(ruling: &Ruling, change: Change) -> Rewriting
 }
 
 /// The outcome of a packet on which a rule decided.
+#[inline(always)]
 fn by_ruling(config: u64, ruling: &Ruling, opened: Option<ConnId>) -> Outcome
     ensures { result ≡ by_ruling config ruling.now opened }
 {

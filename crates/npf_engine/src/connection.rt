@@ -25,7 +25,8 @@ pub(crate) struct Keys {
     pub(crate) every: Key,
 }
 
-/// Looks for a packet's connection by the one key, and, where no connection takes the packet, by the other.
+/// Looks for a packet's connection by the one key, and, where no connection takes the packet, by the other. Inlined, as `find` is.
+#[inline(always)]
 pub(crate) fn find_either<R: Wait, C: Connections<FlowLaw>>(
     rt: &R,
     conns: &C,

@@ -1,4 +1,5 @@
 // The ICMP gateway: how an error of ICMP finds the live connection whose packet it quotes.
+ghost use Rattle.std.specs.Prelude.{true};
 ghost use Rattle.npf_connections.specs.Said.{Does};
 ghost use Rattle.npf_connections.specs.Stay.{GoesOn, IsIn};
 ghost use Rattle.npf_flow.specs.Flows.{flow_law};
@@ -19,6 +20,7 @@ use std::sync::Wait;
 
 /// Looks for the connection of the packet that an error quotes, where the configuration has the gateway. The connection's flow stays as
 /// it is.
+#[inline(always)]
 pub(crate) fn find_quoted<R: Wait, C: Connections<FlowLaw>>(
     rt: &R,
     conns: &C,
@@ -35,6 +37,23 @@ pub(crate) fn find_quoted<R: Wait, C: Connections<FlowLaw>>(
     if !model.alg_icmp {
         return None;
     }
+    find_inner(rt, conns, pass, crossing)
+}
+
+/// Looks for the connection of the packet that an error quotes. Kept apart, so that a packet pays for none of it without the gateway.
+#[inline(never)]
+fn find_inner<R: Wait, C: Connections<FlowLaw>>(
+    rt: &R,
+    conns: &C,
+    pass: &mut C::Pass,
+    crossing: &Crossing,
+) -> Option<Met>
+    requires inside { IsIn flow_law (C.fits conns.now) C.view pass.old }
+    requires decodes { Decodes crossing.now.link crossing.now.bytes.now (Ip crossing.now.facts.now) }
+    ensures inside { IsIn flow_law (C.fits conns.now) C.view pass.new }
+    ensures view { GoesOn (record (C.view pass.old) { answered = (C.view pass.new).answered }) (C.view pass.new) }
+    ensures does { Does (C.view pass.old) (C.view pass.new) (λ said. AsksQuoted true (arrival_of crossing.now) crossing.now.facts.now said result) }
+{
     decoded_has_room();
     let Some(inner) = inner_of(crossing.bytes, crossing.facts) else {
         return None;

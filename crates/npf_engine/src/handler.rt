@@ -89,6 +89,7 @@ pub fn packet<R: Wait, C: Connections<FlowLaw>>(
 
 /// What becomes of a packet of IP: the live connection that it belongs to takes it, or, by the configuration that is read, that of what
 /// it quotes, or the configuration decides.
+#[inline(always)]
 pub(crate) fn answer<R: Wait, C: Connections<FlowLaw>>(
     rt: &R,
     conns: &C,
@@ -127,6 +128,7 @@ pub(crate) fn answer<R: Wait, C: Connections<FlowLaw>>(
 }
 
 /// What a configuration makes of a packet that no connection took.
+#[inline(always)]
 fn answer_by_rules<R: Wait, C: Connections<FlowLaw>>(
     rt: &R,
     conns: &C,

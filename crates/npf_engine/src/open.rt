@@ -1,4 +1,4 @@
-// A packet that a rule passes, and what becomes of the connection that it is to open.
+// A packet that a rule passes, and what becomes of the connection that it is to open. All are inlined, as an answer is.
 ghost use Rattle.std.specs.Prelude.{◌≡◌, ◌≤◌, ◌+◌, true, false, Some, [], is_some};
 ghost use Rattle.npf_connections.specs.Said.{Does};
 ghost use Rattle.npf_connections.specs.Stay.{IsIn};
@@ -30,6 +30,7 @@ pub(crate) struct Passed {
 }
 
 /// What becomes of a packet that a rule passes: it opens a connection where it should.
+#[inline(always)]
 pub(crate) fn answer_passed<R: Wait, C: Connections<FlowLaw>>(
     rt: &R,
     conns: &C,
@@ -58,6 +59,7 @@ pub(crate) fn answer_passed<R: Wait, C: Connections<FlowLaw>>(
 }
 
 /// What the packet would open.
+#[inline(always)]
 fn attempt_of(crossing: &Crossing, arg: &FlowArg, passed: &Passed) -> Attempt
     requires { arg.now ≡ arg_of crossing.now.time crossing.now.facts.now }
     ensures { result ≡ attempt_of (arrival_of crossing.now) crossing.now.facts.now passed.now.ruling passed.now.mapping }
@@ -74,6 +76,7 @@ fn attempt_of(crossing: &Crossing, arg: &FlowArg, passed: &Passed) -> Attempt
 }
 
 /// What becomes of a packet that was to open a connection.
+#[inline(always)]
 fn answer_tried(passed: &Passed, opened: Opened) -> Answer
     requires decided { passed.now.ruling.decision ≡ Decision.Pass }
     ensures explains { (sight : Sight) → (opened ≡ Opened.Refused Refusal.Full → WasFull sight) → AnswersTried passed.now opened result sight }
@@ -90,6 +93,7 @@ fn answer_tried(passed: &Passed, opened: Opened) -> Answer
 }
 
 /// What becomes of a packet whose key has this holder, which was stepped: a live one takes it.
+#[inline(always)]
 fn answer_known(passed: &Passed, holder: Found, answer: Stepped<FlowReply>) -> Answer
     requires { passed.now.ruling.decision ≡ Decision.Pass }
     ensures explains { (sight : Sight) → AnswersTried passed.now (Opened.Known holder answer) result sight }
@@ -108,6 +112,7 @@ fn answer_known(passed: &Passed, holder: Found, answer: Stepped<FlowReply>) -> A
 
 /// What becomes of a packet that has no connection: it is sent without translation where no map applies, and dropped where
 /// one does.
+#[inline(always)]
 fn answer_refused(passed: &Passed, why: Refusal) -> Answer
     requires { passed.now.ruling.decision ≡ Decision.Pass }
     ensures explains { (sight : Sight) (opened : IsOpened) → LacksConnection sight opened why → AnswersTried passed.now opened result sight }

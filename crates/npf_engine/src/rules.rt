@@ -1,4 +1,4 @@
-// What a configuration makes of a packet that no connection took.
+// What a configuration makes of a packet that no connection took. All are inlined, as an answer is.
 ghost use Rattle.std.specs.Prelude.{◌≡◌, ◌↔◌, IsTrue, Some};
 ghost use Rattle.npf_packet.specs.declared.decoded.Decoded.TheVariants.{Ip};
 ghost use Rattle.npf_packet.specs.Decoding.{Decodes};
@@ -47,6 +47,7 @@ pub(crate) const UNCHANGED: Change = Change {
 };
 
 /// The rule that decides on the packet, if one does.
+#[inline(always)]
 pub(crate) fn ruling_of(config: &Config, crossing: &Crossing) -> Option<Ruling>
     requires { Decodes crossing.now.link crossing.now.bytes.now (Ip crossing.now.facts.now) }
     ensures { result ≡ ruling_of (configuration config.now) crossing.now.facts.now crossing.now.ifid crossing.now.dir }
@@ -67,6 +68,7 @@ pub(crate) fn ruling_of(config: &Config, crossing: &Crossing) -> Option<Ruling>
 }
 
 /// The action of a rule: that of its procedure, and empty without one.
+#[inline(always)]
 fn action_of(model: &Model, rule: &Rule) -> Action
     ensures { result ≡ action_of model.now rule.now }
 {
@@ -80,6 +82,7 @@ fn action_of(model: &Model, rule: &Rule) -> Action
 }
 
 /// The map that translates the packet, if one does.
+#[inline(always)]
 pub(crate) fn mapping_of(config: &Config, crossing: &Crossing) -> Mapping
     requires { Decodes crossing.now.link crossing.now.bytes.now (Ip crossing.now.facts.now) }
     ensures { result ≡ mapping_of (configuration config.now) crossing.now.facts.now crossing.now.ifid crossing.now.dir }
@@ -96,6 +99,7 @@ pub(crate) fn mapping_of(config: &Config, crossing: &Crossing) -> Mapping
 }
 
 /// A map by its algorithm, with what it makes of the packet.
+#[inline(always)]
 fn mapping_by_algo(algo: Algo, made: MapPlan) -> Mapping
     ensures { result ≡ mapping algo made }
 {
@@ -108,6 +112,7 @@ fn mapping_by_algo(algo: Algo, made: MapPlan) -> Mapping
 }
 
 /// How the packets of a connection that the packet would open are translated.
+#[inline(always)]
 pub(crate) fn plan_of(mapping: &Mapping) -> MapPlan
     ensures { result ≡ plan_of mapping.now }
 {
@@ -122,6 +127,7 @@ pub(crate) fn plan_of(mapping: &Mapping) -> MapPlan
 }
 
 /// The change of a packet that opens no connection.
+#[inline(always)]
 pub(crate) fn static_change(mapping: &Mapping) -> Change
     ensures { result ≡ static_change mapping.now }
 {
@@ -132,6 +138,7 @@ pub(crate) fn static_change(mapping: &Mapping) -> Change
 }
 
 /// Whether a packet that passes opens a connection.
+#[inline(always)]
 pub(crate) fn opens_one(ruling: &Ruling, mapping: &Mapping) -> bool
     ensures { IsTrue result ↔ OpensOne ruling.now mapping.now }
 {
@@ -140,6 +147,7 @@ pub(crate) fn opens_one(ruling: &Ruling, mapping: &Mapping) -> bool
 
 /// The interface of the keys: that of every interface exactly where the rule is `stateful-all`, or the configuration binds no
 /// key to its interface.
+#[inline(always)]
 pub(crate) fn key_interface(settings: Settings, state: StateOpt, ifid: IfId) -> IfId
     ensures { result ≡ key_interface settings state ifid }
 {
@@ -149,6 +157,7 @@ pub(crate) fn key_interface(settings: Settings, state: StateOpt, ifid: IfId) -> 
     }
 }
 
+#[inline(always)]
 fn bound_interface(is_bound: bool, ifid: IfId) -> IfId
     ensures { result ≡ bound_interface is_bound ifid }
 {

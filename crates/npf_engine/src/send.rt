@@ -1,4 +1,4 @@
-// What is sent of a packet.
+// What is sent of a packet. All are inlined: a packet that isn't sent pays for a test alone.
 ghost use Rattle.std.specs.Prelude.{◌≡◌, None, length, IfSome};
 ghost use Rattle.std.specs.Option.{option_map};
 ghost use Rattle.npf_icmpalg.specs.Error.{HasQuotedRoom};
@@ -11,6 +11,7 @@ use npf_rewrite::{normalize, translate};
 use npf_types::Facts;
 
 /// Normalises and then translates the packet with these facts, where it is sent; of any other no byte changes.
+#[inline(always)]
 pub(crate) fn rewrite(bytes: &mut [u8], facts: &Facts, rewriting: &Option<Rewriting>)
     requires { HasRoom (length bytes.old) facts.now }
     ensures sent { IsSentSo bytes.old facts.now rewriting.now (option_map (λ _. bytes.new) rewriting.now) }
@@ -22,6 +23,7 @@ pub(crate) fn rewrite(bytes: &mut [u8], facts: &Facts, rewriting: &Option<Rewrit
 }
 
 /// Rewrites a packet that is sent, and an error with what it quotes, which its bytes tell as they arrived.
+#[inline(always)]
 fn rewrite_sent(bytes: &mut [u8], facts: &Facts, rewriting: &Rewriting)
     requires { HasRoom (length bytes.old) facts.now }
     ensures { IsRewrittenBy bytes.old facts.now rewriting.now.translation rewriting.now.action rewriting.now.change bytes.new }
@@ -35,6 +37,7 @@ fn rewrite_sent(bytes: &mut [u8], facts: &Facts, rewriting: &Rewriting)
 }
 
 /// What is translated together with the packet, which quotes it.
+#[inline(always)]
 fn quoted_by(bytes: &[u8], facts: &Facts, translation: Translation) -> Option<Inner>
     requires { HasRoom (length bytes.now) facts.now }
     ensures value { result ≡ quoted_by bytes.now facts.now translation }

@@ -22,6 +22,7 @@ impl Law for FlowLaw {
         step_flow(state, way, *arg)
     }
 
+    #[inline(always)]
     fn advance(state: &mut Flow, way: Way, arg: &FlowArg) -> FlowReply {
         advance_flow(state, way, *arg)
     }

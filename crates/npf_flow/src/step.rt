@@ -1,3 +1,4 @@
+// A step of a flow. What makes one in place is inlined, so that its answer isn't copied from call to call.
 ghost use Rattle.std.specs.Prelude.{◌≡◌};
 ghost use Rattle.npf_flow.specs.Flows.{accepts, kind_after, is_backward, moves_on, next_flow, change_of, flow_reply};
 
@@ -36,6 +37,7 @@ pub fn step_flow(flow: &Flow, way: Way, arg: FlowArg) -> (Flow, FlowReply)
 }
 
 /// The same in place.
+#[inline(always)]
 pub fn advance_flow(flow: &mut Flow, way: Way, arg: FlowArg) -> FlowReply
     ensures next { flow.new ≡ next_flow flow.old way arg }
     ensures answer { result ≡ flow_reply flow.old way arg }
@@ -55,6 +57,7 @@ pub fn advance_flow(flow: &mut Flow, way: Way, arg: FlowArg) -> FlowReply
 }
 
 /// The kind after a packet, and whether the packet is accepted.
+#[inline(always)]
 fn step_kind(kind: FlowKind, way: Way, seg: Option<Segment>) -> (FlowKind, bool)
     ensures kind { result.0 ≡ kind_after kind way seg }
     ensures pass { result.1 ≡ accepts kind way seg }
@@ -72,12 +75,14 @@ fn step_kind(kind: FlowKind, way: Way, seg: Option<Segment>) -> (FlowKind, bool)
     }
 }
 
+#[inline(always)]
 fn is_backward(way: Way) -> bool
     ensures { result ≡ is_backward way }
 {
     matches!(way, Way::Backward)
 }
 
+#[inline(always)]
 fn change_of(flow: &Flow, way: Way) -> Change
     ensures { result ≡ change_of flow.now way }
 {

@@ -85,6 +85,8 @@ where
         end::<L>(&self.table.shared, &mut pass.seat, Ending::Leaves);
     }
 
+    // Inlined with what it asks of the store, and so is a step: each packet looks twice, and what is answered isn't copied from call to call.
+    #[inline(always)]
     fn look(&self, rt: &impl Wait, pass: &mut OneTurnPass<L>, n: u64, key: Key) -> Option<Found> {
         take::<L>(rt, &self.table.shared, &mut pass.seat);
         let found = pass.seat.slot_mut(&self.table.shared, 0).store.holder(key);
@@ -96,6 +98,7 @@ where
         found
     }
 
+    #[inline(always)]
     fn step(
         &self,
         rt: &impl Wait,

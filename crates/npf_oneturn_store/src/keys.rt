@@ -71,6 +71,7 @@ impl Keys {
     }
 
     /// The key's bucket.
+    #[inline(always)]
     pub(crate) fn bucket(&self, key: Key) -> usize
         ensures value { result ≡ bucket_of self.now.buckets key }
         ensures within { result < self.now.buckets }
@@ -79,6 +80,7 @@ impl Keys {
     }
 
     /// The key's holder. Before the first key no bucket is asked for.
+    #[inline(always)]
     pub(crate) fn find(&self, key: Key) -> Option<Found>
         ensures { result ≡ keeper_of self.now key }
     {
@@ -89,6 +91,7 @@ impl Keys {
     }
 
     /// The key's holder, by the key's bucket.
+    #[inline(always)]
     pub(crate) fn search(&self, bucket: usize, key: Key) -> Option<Found>
         requires bucket { bucket ≡ bucket_of self.now.buckets key }
         requires exists { bucket < self.now.buckets }
@@ -106,6 +109,7 @@ impl Keys {
         None
     }
 
+    #[inline(always)]
     fn standing(&self, place: usize) -> Option<Holding>
         ensures { result ≡ standing self.now.holdings.items place }
     {
@@ -115,6 +119,7 @@ impl Keys {
         }
     }
 
+    #[inline(always)]
     fn found(&self, place: usize, key: Key) -> Option<Found>
         ensures { result ≡ found_at self.now.holdings.items key place }
     {
@@ -125,6 +130,7 @@ impl Keys {
     }
 
     // The key's holder, where the bucket names its place.
+    #[inline(always)]
     fn named(&self, bucket: usize, key: Key) -> Option<Found>
         requires exists { bucket < self.now.buckets }
         requires written { self.now.used ≡ true }

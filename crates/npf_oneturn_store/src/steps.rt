@@ -8,6 +8,7 @@ use npf_types::Way;
 
 /// The next step of a connection's flow, by a packet of that way. Done, with the law's answer and the number of the steps before
 /// this one, where the connection is Live; NotLive, with nothing changed, exactly where it isn't.
+#[inline(always)]
 pub fn step<L: Law>(
     store: &mut Store<L::State>,
     id: ConnId,
@@ -24,6 +25,7 @@ pub fn step<L: Law>(
 }
 
 // The next step of a Live connection, in place: the law's answer, and the number of the steps before this one.
+#[inline(always)]
 fn advance<L: Law>(connection: &mut Connection<L::State>, way: Way, arg: &L::Arg) -> (L::Reply, u64)
     requires { IsLivePhase connection.old.phase }
     ensures { AdvancesFlow L.meaning connection.old connection.new way arg.now result.0 result.1 }

@@ -51,6 +51,7 @@ impl<S: Copy> Store<S> {
     }
 
     /// The key's holder, in whatever phase it is.
+    #[inline(always)]
     pub fn holder(&self, key: Key) -> Option<Found>
         ensures { result ≡ holder_of self.now key }
     {
@@ -67,6 +68,7 @@ impl<S: Copy> Store<S> {
         }
     }
 
+    #[inline(always)]
     pub(crate) fn is_live(&self, id: ConnId) -> bool
         ensures { IsTrue result ↔ IsLivePhase (phase_of self.now id) }
     {

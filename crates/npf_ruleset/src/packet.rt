@@ -36,7 +36,8 @@ impl Packet<'_> {
     ghost use Rattle.npf_ruleset.specs.Packet.{coprocessor, flat_matches};
 
     /// Whether the rule matches: its row admits the packet, it isn't bound to elsewhere, and its
-    /// program describes it.
+    /// program describes it. Inlined into the loops over rules, most of which are left at their rows.
+    #[inline(always)]
     pub(crate) fn meets(&self, rule: &FlatRule) -> bool
         ensures { result ≡ flat_matches self.now rule.now }
     {

@@ -1,16 +1,15 @@
-use Rattle.std.proofs.Common.{sym, ◌∙◌}
+use Rattle.std.proofs.Common.{Bool, sym, subst}
+use Rattle.npf_connections.specs.Said.{Does}
+use Rattle.npf_engine.specs.Answer.{arrival_of}
 use Rattle.npf_engine.specs.Gateway.{AsksQuoted}
-use Rattle.npf_engine.proofs.GatewayLemmas.{asked_nothing, asked_quoted, quotes_none}
+use Rattle.npf_engine.proofs.GatewayLemmas.{asked_nothing}
 use Rattle.npf_engine.proofs.gateway.find_quoted.Goals as goal
 
 pub returns-then-not-model-clause-does : goal.returns-then-not-model-clause-does
 returns-then-not-model-clause-does g c = asked_nothing _ (AsksQuoted.off c.if-not-model.true)
 
-pub returns-in_default-clause-does : goal.returns-in_default-clause-does
-returns-in_default-clause-does g c =
-    asked_nothing _ (AsksQuoted.no_error (quotes_none c.args.crossing.now.bytes.now c.args.crossing.now.facts.now (sym c.inner_of.ensures.quoted ∙ c.in_default.is)))
-
 pub returns-clause-does : goal.returns-clause-does
 returns-clause-does g c =
-    asked_quoted c.args.crossing.now c.args.model.now.alg_icmp c.in-Some.inner c.peek_of-peek.result _ _ c.if-not-model.false
-    (sym c.inner_of.ensures.quoted ∙ c.in-Some.is) c.peek_of-peek.ensures c.inner_key.ensures c.inner_key-2.ensures _ _ _ c.find_either.ensures.does
+    subst (λ (gateway : Bool). Does (g.C.Connections.view c.args.pass.now) (g.C.Connections.view c.find_inner.new.pass)
+          (λ said. AsksQuoted gateway (arrival_of c.args.crossing.now) c.args.crossing.now.facts.now said c.find_inner.result))
+      (sym c.if-not-model.false) c.find_inner.ensures.does
