@@ -1,3 +1,8 @@
+// The contract of a table.
+//
+// Each clause `view` names all that the pass shows after the call, so that a caller loses nothing, but for the epoch, which only rises. A
+// hold says what it leaves of the connection's keys, so that a caller needs no law of the machine to give them up. What makes a sweep full, and
+// by how much the epoch goes on, isn't said: that is the affair of tables that have nodes and epochs.
 use npf_core::{ConnId, Entry, Found, Held, Kept, Law, Stepped};
 use npf_types::{Key, Way};
 use std::sync::Wait;

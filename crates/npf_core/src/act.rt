@@ -1,3 +1,4 @@
+// What is asked of the machine.
 use crate::conn_id::ConnId;
 use npf_types::{Key, Way};
 

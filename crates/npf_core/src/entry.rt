@@ -1,3 +1,4 @@
+// What a history is made of. It is a list with the oldest entry first.
 use crate::act::Act;
 use crate::reply::Reply;
 

@@ -1,3 +1,4 @@
+// Who holds a key.
 use crate::conn_id::ConnId;
 use npf_types::Way;
 

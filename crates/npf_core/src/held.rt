@@ -1,3 +1,4 @@
+// What a hold is answered. A reply of the machine is the very answer of the call.
 use crate::found::Found;
 
 /// What a connection that asks for a key is answered.

@@ -1,3 +1,4 @@
+// The keys of a plain machine, a list without order.
 ghost use Rattle.std.specs.Prelude.{◌≡◌, filter, not};
 ghost use Rattle.std.specs.List.{list_any};
 ghost use Rattle.npf_core.specs.Holding.{holder_in};

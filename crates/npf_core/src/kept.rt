@@ -1,3 +1,4 @@
+// What is saved of a connection.
 use crate::conn_id::ConnId;
 use npf_types::Key;
 

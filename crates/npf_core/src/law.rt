@@ -1,3 +1,4 @@
+// What a connection's flow goes by. Flows are `Copy`; that they may go to another thread is asked where a table is shared.
 ghost use Rattle.std.specs.Prelude.{◌≡◌};
 
 use npf_types::Way;

@@ -1,3 +1,4 @@
+// The machine as a plain value, for tests: a look-up walks its list of keys, so it isn't meant for many connections.
 ghost use Rattle.std.specs.Prelude.{◌≡◌, ℕ, ◌<◌, ◌-◌, ◌^◌, ◌↔◌, length, slice_get, IsTrue, IfOk, IfSome, IfNone, OnOk, OnErr};
 ghost use Rattle.npf_core.specs.Holding.{is_each_once};
 ghost use Rattle.npf_core.specs.Slot.{NextIncarnationsFit};

@@ -1,3 +1,4 @@
+// One act of the machine.
 ghost use Rattle.std.specs.Prelude.{◌≡◌, ℕ, ◌↔◌, IsTrue, IfOk, OnErr};
 ghost use Rattle.npf_core.specs.Allowed.{IsDue};
 ghost use Rattle.npf_core.specs.Machine.{stage_of};

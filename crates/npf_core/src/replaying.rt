@@ -1,3 +1,4 @@
+// Acts in order, with the replies that a legal history of them has. Replies need no equality so: what is compared is the history.
 ghost use Rattle.std.specs.Prelude.{◌≡◌, IfOk, IfErr};
 ghost use Rattle.npf_core.specs.History.{Legal};
 ghost use Rattle.npf_core.specs.Replaying.{asked_in, HasReplayFault};

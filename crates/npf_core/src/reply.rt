@@ -1,3 +1,4 @@
+// What the machine answers.
 use crate::conn_id::ConnId;
 use crate::found::Found;
 use crate::held::Held;

@@ -1,3 +1,6 @@
+// What a packet asks of the table, and what becomes of it.
+//
+// An attempt has its facts by value: a reference would give it a lifetime, and a packet opens a connection once.
 use npf_core::{ConnId, Found, Stepped};
 use npf_flow::{FlowArg, FlowReply};
 use npf_nat::MapPlan;

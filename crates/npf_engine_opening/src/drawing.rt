@@ -1,3 +1,6 @@
+// The port of a translation: the first of its candidates that nobody holds.
+//
+// A hold that finds no node makes no entry, since the machine has no such answer; the count of full sweeps shows it.
 ghost use Rattle.std.specs.Prelude.{◌≡◌, ◌≤◌, ◌+◌, Err, [], ◌∷◌};
 ghost use Rattle.npf_types.specs.declared.key.Way.{Way};
 ghost use Rattle.npf_core.specs.History.{state_of};

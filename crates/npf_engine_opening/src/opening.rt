@@ -1,3 +1,7 @@
+// A connection from its claim to its start, a key a function.
+//
+// What is said to the table is a list of acts with their answers, without the pass's number and its view, so that a packet's explanation takes
+// it as it is. What is given up is exactly what was held.
 ghost use Rattle.std.specs.Prelude.{◌≡◌, ◌≤◌, ◌+◌, [], ◌∷◌};
 ghost use Rattle.npf_core.specs.History.{state_of};
 ghost use Rattle.npf_connections.specs.Said.{Does};

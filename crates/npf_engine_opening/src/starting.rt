@@ -1,3 +1,4 @@
+// The last key of a connection, and its start.
 ghost use Rattle.std.specs.Prelude.{◌≡◌, ◌≢◌, ◌≤◌, ◌+◌, [], ◌∷◌};
 ghost use Rattle.npf_core.specs.History.{state_of};
 ghost use Rattle.npf_connections.specs.Said.{Does};

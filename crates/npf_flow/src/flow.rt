@@ -1,3 +1,7 @@
+// Flows and their opening.
+//
+// A flow is opened by what a packet brings: with a segment it is one of TCP, without one it is of another protocol, which then takes no
+// notice of segments. So nobody above asks for the protocol twice.
 ghost use Rattle.std.specs.Prelude.{◌≡◌};
 ghost use Rattle.npf_flow.specs.Flows.{opening_flow, opening_kind};
 

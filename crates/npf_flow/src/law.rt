@@ -1,3 +1,4 @@
+// The law of flows as a table of connections takes it.
 ghost use Rattle.npf_flow.specs.Flows.{flow_law};
 
 use crate::flow::Flow;

@@ -1,4 +1,6 @@
 // A step of a flow. What makes one in place is inlined, so that its answer isn't copied from call to call.
+//
+// No packet of TCP lacks a segment; a flow of TCP refuses one that does, so that the law says something at every argument.
 ghost use Rattle.std.specs.Prelude.{◌≡◌};
 ghost use Rattle.npf_flow.specs.Flows.{accepts, kind_after, is_backward, moves_on, next_flow, change_of, flow_reply};
 

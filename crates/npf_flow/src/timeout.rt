@@ -1,3 +1,4 @@
+// When a flow runs out.
 ghost use Rattle.std.specs.Prelude.{◌≡◌, ◌≤◌};
 ghost use Rattle.npf_flow.specs.Timeout.{tcp_timeout, timeout_seconds, timeout, is_due};
 

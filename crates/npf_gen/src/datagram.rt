@@ -1,3 +1,4 @@
+// A generated packet. A sum of UDP that comes to 0 is written 0xFFFF (RFC 768).
 ghost use Rattle.std.specs.Prelude.{◌≡◌, ◌≤◌, ◌++◌, ◌/◌, ◌%◌, ◌^◌, OnOk, length};
 ghost use Rattle.npf_fields.specs.Checksum.{with_carries as once_carried};
 ghost use Rattle.npf_gen.specs.Datagram.{datagram_bytes, datagram_of, ipv4_words, ipv4_sum as sum_of_ipv4, udp_words, udp_sum as sum_of_udp, internet_sum as sum_of_words, word_bytes};

@@ -1,3 +1,4 @@
+// The generator of draws.
 ghost use Rattle.std.specs.Prelude.{◌≡◌, ◌/◌, ◌^◌};
 ghost use Rattle.npf_gen.specs.Draw.{following_state};
 

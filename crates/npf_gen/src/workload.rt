@@ -1,3 +1,4 @@
+// The three texts of a run. Each line ends in a line feed, the last too. Draws count from 1: packet i takes three, from 3i - 2 on.
 ghost use Rattle.std.specs.Prelude.{◌≡◌, ◌<◌, ◌*◌, ◌++◌, ◌^◌, IfOk, OnOk};
 ghost use Rattle.npf_pcap.specs.Spelling.{capture_bytes, record_bytes};
 ghost use Rattle.npf_gen.specs.Workload.{configuration_text, script_text, packet_count, generated_records, sent_at};

@@ -1,3 +1,7 @@
+// Keys as sums of their parts.
+//
+// They are defined by sums of powers of two and made by shifts: each part is below the next one's power, so the laws follow by arithmetic.
+// The version is that of the source's family; a packet's addresses are of one.
 ghost use Rattle.std.specs.Prelude.{◌≡◌};
 ghost use Rattle.npf_key.specs.Key.{key_between, key_of, backward_key, port_key};
 

@@ -1,3 +1,4 @@
+// The ports of what a packet carries.
 ghost use Rattle.std.specs.Prelude.{◌≡◌};
 ghost use Rattle.npf_key.specs.Port.{echo_port, source_port, destination_port};
 

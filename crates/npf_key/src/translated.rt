@@ -1,3 +1,4 @@
+// The facts of a packet once it is translated, and of its answers.
 ghost use Rattle.std.specs.Prelude.{◌≡◌, Option};
 ghost use Rattle.npf_key.specs.Translated.{shares_family, fitting, address_there, named_port, port_there, l4_there, facts_there, l4_about, about, echo_there};
 

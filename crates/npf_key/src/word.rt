@@ -1,3 +1,4 @@
+// The first word of a key, and the halves of an address.
 ghost use Rattle.std.specs.Prelude.{◌≡◌};
 ghost use Rattle.npf_key.specs.Key.{version, upper, lower, first_word, marked_word};
 

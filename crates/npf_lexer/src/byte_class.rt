@@ -1,3 +1,4 @@
+// The classes of bytes.
 ghost use Rattle.std.specs.Prelude.{◌≡◌};
 ghost use Rattle.npf_lexer.specs.ByteClass.{byte_class, is_run_byte, is_variable_start, is_variable_byte, is_string_byte, is_line_byte};
 

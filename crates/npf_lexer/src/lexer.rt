@@ -1,3 +1,7 @@
+// A text's tokens, one after the other.
+//
+// A text is one of two things, its tokens or its first fault, said by one relation with a law that it is one alone: so each half of
+// 'exactly where' is one clause. A fault's span is the first byte of what is bad, a string's its quote; a number too large has all of it.
 ghost use Rattle.std.specs.Prelude.{◌≡◌, ◌≤◌, Ok, Err, IfOk, IfErr, length};
 ghost use Rattle.npf_types.specs.Reading.{IsOnly};
 ghost use Rattle.npf_lexer.specs.Lexer.{IsLexed, IfFault, end_token};

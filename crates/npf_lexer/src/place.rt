@@ -1,3 +1,4 @@
+// Places in a text.
 ghost use Rattle.std.specs.Prelude.{◌≡◌, ◌+◌, ◌≤◌};
 ghost use Rattle.npf_lexer.specs.Place.{text_start, along, over_line, span_of};
 

@@ -1,3 +1,4 @@
+// Runs: numbers, addresses and words. The texts of addresses are std's relations.
 ghost use Rattle.std.specs.Prelude.{◌≡◌, ◌+◌, ◌≤◌, IfOk, IsTrue, ℕ, MatchOption, length, take, true};
 ghost use Rattle.npf_lexer.specs.Run.{goes_on, longest_run, ends_in_colon, run_len, is_decimal, number_run, is_word, word_run, is_no_colon, IsAddressOrWord, ReadsRun};
 ghost use Rattle.std.specs.Char.{is_ascii_digit};

@@ -1,3 +1,4 @@
+// Signs by their spelling.
 ghost use Rattle.std.specs.Prelude.{◌≡◌, find, nat_eq};
 ghost use Rattle.npf_lexer.specs.Sign.{sign_text, sign_at};
 

@@ -1,3 +1,4 @@
+// What tokens are.
 use npf_types::{Addr, Span, Text};
 
 /// A sign of npf.conf(5): `<->`, `<-`, `->`, `<`, `>`, `=`, `{`, `}`, `(`, `)`, `,`, `/`, `-` and `:`.

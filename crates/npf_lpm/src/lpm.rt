@@ -1,3 +1,7 @@
+// The table of both families.
+//
+// Contracts see a list of prefixes whose order means nothing. A new prefix alone can run out of memory, and leaves the table as it was; a
+// removal keeps the index of a table that has become small, which is right and goes with the table.
 ghost use Rattle.std.specs.Prelude.{◌≡◌, ◌≢◌, ◌≤◌, ◌+◌, ◌<◌, ◌↔◌, ℕ, [], Contains, IsTrue, IfOk, OnOk, OnErr, length, map, if◌then◌else◌, true, false};
 ghost use Rattle.std.specs.Bool.{OnFalse};
 ghost use Rattle.std.specs.List.{AllPairs, filter};

@@ -1,3 +1,4 @@
+// A slot's connection.
 use crate::phase::Phase;
 
 /// The last connection of a slot. Incarnations count from 1 per slot.

@@ -1,3 +1,4 @@
+// Which bucket a key is of. The upper half of the hash tells it, in proportion to the buckets' count, without a division.
 ghost use Rattle.std.specs.Prelude.{◌≡◌, ◌<◌, ◌^◌, ◌*◌, ◌/◌};
 ghost use Rattle.npf_oneturn_store.specs.Hash.{mixed, hash_of, bucket_of};
 

@@ -1,3 +1,4 @@
+// The keys of one connection.
 use npf_types::Key;
 
 /// The keys that a connection holds.

@@ -1,3 +1,9 @@
+// Who holds which key.
+//
+// A bucket, of which there is one for two slots, names 16 places: at two keys a slot that is four keys a bucket where the table is full. A name
+// whose place has no key of the bucket is written over; a 17th key sets the bucket's flag for good, and a key that the bucket doesn't name is
+// then looked for at all places. So nothing but time rests on how keys fall. The buckets, of which only the room is taken at first, are
+// written at the first key, so that a run of stateless rules alone pays for none of them.
 ghost use Rattle.std.specs.Prelude.{◌≡◌, false, true, ◌≢◌, ℕ, ◌<◌, ◌≤◌, ◌*◌, ◌+◌, ◌↔◌, length, vec_len, vec_capacity, get_or, Option, Some, None, IfOk, IfSome, IfNone, IsTrue};
 ghost use Rattle.npf_core.specs.NextState.{is_found};
 ghost use Rattle.npf_types.specs.declared.key.Key.{Key};

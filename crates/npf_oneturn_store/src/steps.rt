@@ -1,3 +1,4 @@
+// Steps of flows, and connections that are due. `due` answers for one slot, so that who expires goes over the slots once.
 ghost use Rattle.npf_oneturn_store.specs.Store.{AdvancesFlow, AnswersStep, IsLivePhase, TellsDue};
 
 use crate::connection::Connection;

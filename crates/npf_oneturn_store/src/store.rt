@@ -1,3 +1,8 @@
+// Connections by slot and by key.
+//
+// A connection has one place for the key of each way, so no place can be wanting, and no call but `new` takes memory; hence a hold asks that
+// the connection holds no key of that way. A slot and its three places are written when it is first claimed, so that a run pays for the slots
+// that it uses. A claim goes up from a hint below which each slot is claimed: between two frees it passes each slot once at most.
 ghost use Rattle.std.specs.Prelude.{◌≡◌, ◌≢◌, ◌<◌, ◌≤◌, ◌*◌, ◌-◌, ◌^◌, ◌↔◌, length, vec_len, vec_capacity, IsTrue, IfOk, IfSome, IfNone};
 ghost use Rattle.npf_oneturn_store.specs.Connection.{AreFit, HoldersStand};
 

@@ -1,3 +1,7 @@
+// What files are to those that read and write them.
+//
+// An object shows a moment, one ghost record, and a clause compares two of them. Told contents are a function from names to bytes, compared
+// name by name: that only finitely many files are there isn't said, and nothing needs it. An answer that is Ok raises no count.
 ghost use Rattle.std.specs.Prelude.{◌≡◌, ℕ, ◌≤◌, List, [], length, IfOk, OnOk, IsErrOf};
 ghost use Rattle.npf_outside.specs.Counts.{Rose, count_after};
 ghost use Rattle.npf_outside.specs.Files.{FilesMoment, Has, IsLonger, SameFiles, SameOthers, SameReadFaults};

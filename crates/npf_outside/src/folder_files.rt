@@ -1,3 +1,6 @@
+// The files of the system.
+//
+// One count of failed reads serves all names, since one for each would want memory at the very read that fails.
 ghost use Rattle.std.specs.Prelude.{◌≡◌, ◌≢◌, ◌↔◌, ◌<◌, ◌≤◌, [], ◌++◌, true, None, length, take, is_ok, IfSome, IfOk, IsOk, OnOk, IsErrOf};
 ghost use Rattle.std.specs.IoError.{error_kind};
 ghost use Rattle.std.specs.Fs.{new_options, with_create, with_truncate, with_write};

@@ -1,3 +1,4 @@
+// Files in memory. The name of a failed read is noted; where memory runs out for the note, it does so for the read.
 ghost use Rattle.std.specs.Prelude.{◌≡◌, ◌↔◌, ◌⊎◌, ◌++◌, [], ◌∷◌, ℕ, ◌<◌, ◌≤◌, ◌≢◌, List, Some, None, length, IfOk, OnOk, OnErr, IsErrOf, Contains};
 ghost use Rattle.npf_outside.specs.Calls.{planned, next_call};
 ghost use Rattle.npf_outside.specs.Counts.{Rose, count_after};

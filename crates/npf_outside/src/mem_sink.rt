@@ -1,3 +1,4 @@
+// A sink in memory.
 ghost use Rattle.std.specs.Prelude.{◌≡◌, ◌↔◌, ◌++◌, [], ◌∷◌, ℕ, ◌+◌, ◌≤◌, Some, length, IfOk, OnOk, OnErr, IsErrOf, Contains, vec_len};
 ghost use Rattle.npf_outside.specs.Calls.{planned, next_call};
 ghost use Rattle.npf_outside.specs.Counts.{Rose};

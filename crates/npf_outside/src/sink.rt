@@ -1,3 +1,6 @@
+// What a sink is to those that put bytes on it.
+//
+// A put that runs out of memory has put nothing, and one that failed may have put a front. So what is to be whole or nothing is one put.
 ghost use Rattle.std.specs.Prelude.{◌≡◌, ℕ, ◌≤◌, List, [], OnOk, IsErrOf};
 ghost use Rattle.npf_outside.specs.Counts.{Rose};
 ghost use Rattle.npf_outside.specs.Sink.{SinkMoment, Appends, AppendsFront};

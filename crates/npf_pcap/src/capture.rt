@@ -1,3 +1,4 @@
+// A capture as a value.
 use npf_types::{Link, List};
 
 /// A packet as it was captured: its time, in nanoseconds since 1970, and the bytes that were stored of it.

@@ -1,3 +1,4 @@
+// Where a capture's packets stand in its bytes, so that a run needn't copy them: a page of fresh memory costs more than a packet's bytes.
 ghost use Rattle.std.specs.Prelude.{◌≡◌, length};
 ghost use Rattle.npf_pcap.specs.Extent.{bytes_at, EndsWithin};
 

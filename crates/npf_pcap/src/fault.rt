@@ -1,3 +1,7 @@
+// What is wrong with bytes that are no capture.
+//
+// The line for people and the contracts read one table, of a number and a name for each fault. Out of memory has the number 0, which is
+// never printed.
 ghost use Rattle.std.specs.Prelude.{◌≡◌};
 ghost use Rattle.npf_pcap.specs.Fault.{number_of, name_of, record_of};
 

@@ -1,3 +1,7 @@
+// The four formats that a magic number tells.
+//
+// The magic number is read with the highest byte first and compared with four numbers, so bytes tell one format at most, whatever they are,
+// and the laws of captures need no premise on bytes.
 ghost use Rattle.std.specs.Prelude.{◌≡◌, ◌≢◌, ◌+◌, ◌≤◌, length, IfSome, IfNone};
 ghost use Rattle.npf_pcap.specs.declared.format.Order.{Order as OrderType};
 ghost use Rattle.npf_pcap.specs.declared.format.Precision.{Precision as PrecisionType};

@@ -1,3 +1,7 @@
+// A capture's header, and then its records from the front.
+//
+// Records are described from the front by their sizes, and not by splits that exist: then no bytes are two captures, and each law is one
+// induction.
 ghost use Rattle.std.specs.Prelude.{◌≡◌, ◌≢◌, ◌+◌, ◌≤◌, ◌<◌, ◌↔◌, ◌⊎◌, List as Seq, length, drop, IsTrue, IfOk, IfErr, IfSome, IfNone, MatchResult, IsErrAnd, All};
 ghost use Rattle.npf_types.specs.declared.link.Link.{Link as LinkType};
 ghost use Rattle.npf_pcap.specs.declared.capture.Record.{Record as RecordType};

@@ -1,3 +1,4 @@
+// The one spelling of a capture that is written.
 ghost use Rattle.std.specs.Prelude.{◌≡◌, ◌++◌, IfOk, OnOk, All};
 ghost use Rattle.byteorder.specs.Endian.{little_bytes};
 ghost use Rattle.npf_pcap.specs.Capture.{IsCapture};

@@ -1,3 +1,8 @@
+// A reader of the published number.
+//
+// What `left_right` tells of a number can't be kept, so a told number is a floor here: `read`, which may wait, looks again until the number is
+// no less. In a run it doesn't wait, since a number is told once it was shown. No number comes behind the last, so a reader that read it looks
+// no more, and in a run without changes a packet reads no shared word.
 ghost use Rattle.std.specs.Prelude.{◌≡◌, ◌≤◌};
 ghost use Rattle.left_right.specs.Sides.{view};
 ghost use Rattle.npf_publish.specs.NumberRange.{IsInRange};

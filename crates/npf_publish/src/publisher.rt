@@ -1,3 +1,9 @@
+// The one that publishes.
+//
+// Relied on are the ruled reads and steps of `left_right` (`Reader::enter_as`, `Writer::publish_as`): each takes effect at one step and keeps a
+// rule over the value that is shown and what each seat knows. The publishing step is always Ok, as taking in a number can't fail. That a
+// publisher's wait for its readers ends, no contract says. The last number stands beside the one that is shown, as a rule is a type and can't
+// name a number of a run. A place that `left_right` refuses is out of memory, since that crate names no cause.
 ghost use Rattle.std.specs.Prelude.{◌≡◌, ◌≤◌, [], drop};
 ghost use Rattle.left_right.specs.Sides.{view};
 ghost use Rattle.npf_publish.specs.NumberRange.{IsInRange};

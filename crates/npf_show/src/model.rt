@@ -1,3 +1,4 @@
+// A model's statements in their order.
 ghost use Rattle.std.specs.Prelude.{◌≡◌, IfOk};
 ghost use Rattle.npf_show.specs.Piece.{spelled};
 ghost use Rattle.npf_show.specs.Model.{model_pieces};

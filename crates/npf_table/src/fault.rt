@@ -1,3 +1,4 @@
+// Why a table is refused. A bad line is printed by the name that the configuration's fault has.
 ghost use Rattle.std.specs.Prelude.{◌≡◌};
 ghost use Rattle.npf_table.specs.Fault.{table_fault_number, table_fault_name, fault_line};
 

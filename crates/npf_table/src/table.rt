@@ -1,3 +1,4 @@
+// A table, its file, and its changes. `copy` takes an allocator as every copy here does; the copy is made with the table's own.
 ghost use Rattle.std.specs.Prelude.{◌≡◌, ◌≢◌, ◌≤◌, ◌+◌, ◌↔◌, ℕ, IsTrue, IfOk, IfErr, OnOk, OnErr, Contains, length};
 ghost use Rattle.std.specs.List.{AllPairs};
 ghost use Rattle.npf_types.specs.Prefix.{Covers};

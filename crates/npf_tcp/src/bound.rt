@@ -1,3 +1,4 @@
+// Where the numbers of a segment may lie. What isn't known of a side bounds nothing.
 ghost use Rattle.std.specs.Prelude.{◌≡◌};
 ghost use Rattle.npf_tcp.specs.Bound.{is_sent_in_bounds, is_ack_in_bounds, is_in_bounds_by, is_reset_in_bounds, is_in_bounds};
 

@@ -1,3 +1,4 @@
+// The table of phases: a row for each phase, by the class of a segment and the way that it goes.
 ghost use Rattle.std.specs.Prelude.{◌≡◌};
 ghost use Rattle.npf_tcp.specs.Cell.{row, cell};
 

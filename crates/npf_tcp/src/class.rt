@@ -1,3 +1,4 @@
+// The classes of segments that the table of phases tells apart.
 ghost use Rattle.std.specs.Prelude.{◌≡◌};
 
 use crate::flag::{has_ack, has_fin, has_rst, has_syn};

@@ -1,3 +1,7 @@
+// A connection's first segment.
+//
+// A side of which nothing is known yet has 0 as its numbers and no scale: no rule reads them before a segment or an acknowledgment sets them. A
+// scale option without SYN brings no scale (RFC 7323 section 2.2).
 ghost use Rattle.std.specs.Prelude.{◌≡◌};
 ghost use Rattle.npf_tcp.specs.Opening.{opening_state, opening_phase, opening_forward, opening_backward};
 

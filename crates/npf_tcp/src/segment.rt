@@ -1,3 +1,7 @@
+// A later segment.
+//
+// A side that is seen never loses greatest window. One that isn't seen but has a window might, at its first segment; no state that comes
+// from an opening has such a side (`laws`).
 ghost use Rattle.std.specs.Prelude.{◌≡◌, Option};
 ghost use Rattle.npf_tcp.specs.Segment.{sender_of, receiver_of, state_after, sender_after, receiver_after, side_after_sending, side_after_ack, sender_scale, receiver_scale, is_without_scales, segment_step};
 

@@ -1,3 +1,4 @@
+// Sequence numbers, which go round (RFC 9293 section 3.4).
 ghost use Rattle.std.specs.Prelude.{◌≡◌};
 ghost use Rattle.npf_tcp.specs.Sequence.{is_at_or_before, later_of};
 
