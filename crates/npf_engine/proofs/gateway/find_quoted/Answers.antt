@@ -11,5 +11,5 @@ returns-then-not-model-clause-does g c = asked_nothing _ (AsksQuoted.off c.if-no
 pub returns-clause-does : goal.returns-clause-does
 returns-clause-does g c =
     subst (λ (gateway : Bool). Does (g.C.Connections.view c.args.pass.now) (g.C.Connections.view c.find_inner.new.pass)
-          (λ said. AsksQuoted gateway (arrival_of c.args.crossing.now) c.args.crossing.now.facts.now said c.find_inner.result))
-      (sym c.if-not-model.false) c.find_inner.ensures.does
+    (λ said. AsksQuoted gateway (arrival_of c.args.crossing.now) c.args.crossing.now.facts.now said c.find_inner.result))
+    (sym c.if-not-model.false) c.find_inner.ensures.does
