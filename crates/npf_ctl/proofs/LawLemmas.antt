@@ -1,5 +1,5 @@
 -- What must be refused is, and what can be done is done, where contents are told and no read fails.
-use Rattle.std.proofs.Common.{◌≡◌, ◌∙◌, ◌⊎◌, ⊎_elim, inl, inr, ℕ, true, List, Some, None, Ok, Err, Result, refl, sym, ap, subst, arith}
+use Rattle.std.proofs.Common.{◌≡◌, ◌∙◌, ◌⊎◌, ⊎_elim, inl, inr, ℕ, true, List, Some, None, Ok, Err, Result, refl, sym, subst, arith}
 use Rattle.std.proofs.lemmas.Bool.{false≢true}
 use Rattle.npf_config_law.specs.Answers.{AreOne}
 use Rattle.npf_config_law.specs.Entries.{AreOneConfiguration}

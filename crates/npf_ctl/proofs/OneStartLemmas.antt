@@ -1,5 +1,5 @@
 -- Over told files, of which no read fails, what a run is started from is one plan, or faults of one status.
-use Rattle.std.proofs.Common.{◌≡◌, ◌≤◌, ◌<◌, ℕ, Option, Some, None, Result, Ok, Err, List, length, slice_get, refl, sym, ap, subst, arith}
+use Rattle.std.proofs.Common.{◌≡◌, ℕ, Option, Some, None, Result, Ok, Err, List, length, slice_get, refl, sym, ap, subst, arith}
 use Rattle.npf_types.specs.declared.name.Name.{Name}
 use Rattle.npf_types.specs.Stages.{◌andthen◌, gives}
 use Rattle.npf_outside.specs.Files.{Tree}
