@@ -1,6 +1,8 @@
 -- What must be refused is, and what can be done is done, where contents are told and no read fails.
-use Rattle.std.proofs.Common.{◌≡◌, ◌∙◌, ◌⊎◌, ⊎_elim, inl, inr, ℕ, true, List, Some, None, Ok, Err, Result, refl, sym, ap, subst, arith}
+use Rattle.std.proofs.Common.{◌≡◌, ◌∙◌, ◌⊎◌, ⊎_elim, inl, inr, ℕ, true, List, Some, None, Ok, Err, Result, refl, sym, subst, arith}
 use Rattle.std.proofs.lemmas.Bool.{false≢true}
+use Rattle.npf_config_law.specs.Answers.{AreOne}
+use Rattle.npf_config_law.specs.Entries.{AreOneConfiguration}
 use Rattle.npf_outside.specs.Counts.{StoodStill}
 use Rattle.npf_outside.specs.Files.{Tree}
 use Rattle.npf_outside.specs.Sink.{SinkMoment}
@@ -14,6 +16,8 @@ use Rattle.npf_ctl_messages.specs.Message.{status_of_fault}
 use Rattle.npf_model.specs.Configuration.{Configuration}
 use Rattle.npf_ctl_prepare.specs.Laws.{RunsAreOfContents}
 use Rattle.npf_ctl_prepare.specs.Prepares.{RunPlan}
+use Rattle.npf_ctl_prepare_law.specs.Laws.{OneLoadAlone, OneRun}
+use Rattle.npf_ctl_prepare_law.specs.Readings.{AreOnePlan}
 use Rattle.npf_ctl_words.specs.declared.command.Command.{Command}
 use Rattle.npf_ctl_words.specs.declared.command.Command.TheVariants as Words
 use Rattle.npf_ctl_words.specs.declared.command.Load.{Load}
@@ -21,7 +25,7 @@ use Rattle.npf_ctl_words.specs.declared.command.Run.{Run}
 use Rattle.npf_ctl_words.specs.CommandLine.{SaysCommand, given_text, is_command_line}
 use Rattle.npf_ctl_words.specs.Laws.{IsSameCommand, IsSameLoad, IsSameRun, OneCommand}
 use Rattle.npf_ctl.specs.Commands.{loaded_by, names_of_run, spread_said}
-use Rattle.npf_ctl.specs.Generated.{HoldsWorkload, PreparesOf}
+use Rattle.npf_ctl.specs.Generated.{HoldsWorkload, PreparesOf, generated_names}
 use Rattle.npf_ctl.specs.Ends.{AnswersWords}
 use Rattle.npf_ctl.specs.Faults.{MeetsFault, PutsFront}
 use Rattle.npf_ctl.specs.Running.{Moment, PlaysWords}
@@ -29,7 +33,13 @@ use Rattle.npf_ctl.specs.Starting.{StartsRun}
 use Rattle.npf_ctl.specs.Texts.{TextOf}
 use Rattle.npf_ctl.specs.Top.{HasStatus, CanDo, DoesCommand, DoesWords, IsOk, MustRefuse, RanOutOfNodes}
 use Rattle.npf_ctl.proofs.EndLemmas.{reported_front}
+use Rattle.npf_ctl.proofs.OneStartLemmas.{HaveOneStatus, one_start, told_alike}
 use Rattle.npf_ctl.proofs.StartLemmas.{started, started_without, starts_of_contents}
+
+-- what a reading that came to something agrees with came to something
+ok_of : {A : Type 0} (Same : A → A → Type 0) (a : A) (result : Result A CommandFault) → AreOne Same HaveOneStatus (Ok a) result → IsOk result
+ok_of Same a (Ok b) same = tt
+ok_of Same a (Err fault) never = never
 
 -- a fault of files is told by what they come to
 module _ (words : List (List ℕ)) (before after : Moment) (A : Type 0) (ComesTo : Result A CommandFault → Type 0) where
@@ -47,16 +57,16 @@ module _ (words : List (List ℕ)) (before after : Moment) (A : Type 0) (ComesTo
         ComesTo (Err fault)
 
   module _ (is : IsToldBy) (old new : SinkMoment) (status : ℕ) where
-    -- one fault alone can be told
-    only : (fault : CommandFault) → ((result : Result A CommandFault) → ComesTo result → result ≡ Err fault) → AnswersWords words before after old new status →
-        HasStatus (status_of_fault fault) status
-    only fault must (AnswersWords.done zero does flushed silent) = let ok = is.does does in let e = must (Ok ok.0) ok.1 in cc
-    only fault must (AnswersWords.refused faulted) = by faulted.fault faulted.cause faulted.status_is where
+    -- faults of one status alone can be told
+    only : (Same : A → A → Type 0) (fault : CommandFault) → ((result : Result A CommandFault) → ComesTo result → AreOne Same HaveOneStatus (Err fault) result) →
+        AnswersWords words before after old new status → HasStatus (status_of_fault fault) status
+    only Same fault must (AnswersWords.done zero does flushed silent) = let ok = is.does does in absurd (must (Ok ok.0) ok.1)
+    only Same fault must (AnswersWords.refused faulted) = by faulted.fault faulted.cause faulted.status_is where
       never : {X : Type 0} → (a : A) × ComesTo (Ok a) → X
-      never ok = let e = must (Ok ok.0) ok.1 in cc
+      never ok = absurd (must (Ok ok.0) ok.1)
 
       same : (other : CommandFault) → ComesTo (Err other) → status ≡ status_of_fault other → HasStatus (status_of_fault fault) status
-      same other comes at = let e : other ≡ fault = (let e = must (Err other) comes in cc) in inl (at ∙ ap status_of_fault e)
+      same other comes at = inl (at ∙ sym (must (Err other) comes))
 
       by : (other : CommandFault) → MeetsFault words before after other → status ≡ status_of_fault other → HasStatus (status_of_fault fault) status
       by _ (MeetsFault.in_words not untouched) at = absurd (false≢true (sym not ∙ is.taken))
@@ -199,19 +209,24 @@ module _ (words : List (List ℕ)) (before after : Moment) (tree : Tree) (told :
       generated = λ {number} {tree} {fault} said_b holds comes. not_other (Words.Gen number) said_b refl;
     }
 
-  module _ (of_runs : RunsAreOfContents) (of_files : FilesAreOfContents) (of_loads : LoadsAreOfContents) (old new : SinkMoment) (status : ℕ) where
+  module _ (of_runs : RunsAreOfContents) (of_files : FilesAreOfContents) (of_loads : LoadsAreOfContents) (one_run : OneRun) (one_load : OneLoadAlone) (old new : SinkMoment) (status : ℕ) where
     pub refuses_fault : (fault : CommandFault) → MustRefuse words tree before.pass.slots fault → AnswersWords words before after old new status → HasStatus (status_of_fault fault) status
     refuses_fault fault (MustRefuse.run {words_of = run} said must) =
-        only words before after RunPlan (OfRun of_runs of_files run said) (run_told of_runs of_files run said) old new status fault must
+        only words before after RunPlan (OfRun of_runs of_files run said) (run_told of_runs of_files run said) old new status AreOnePlan fault
+        (λ result. one_start tree one_run (names_of_run run) (given_text run.load) before.pass.slots (Err fault) result must)
     refuses_fault fault (MustRefuse.load {command = command} {load_of = load} said loaded must) =
-        only words before after Configuration (OfLoad of_loads command load said loaded) (load_told of_loads command load said loaded) old new status fault must
+        only words before after Configuration (OfLoad of_loads command load said loaded) (load_told of_loads command load said loaded) old new status AreOneConfiguration fault
+        (λ result comes. told_alike AreOneConfiguration (Err fault) result (one_load tree (given_text load.ifaces) load.conf.now (Err fault) result must comes))
 
     pub does_all : CanDo words tree before.pass.slots → StoodStill before.out.faults after.out.faults → StoodStill before.files.write_faults after.files.write_faults →
         AnswersWords words before after old new status → HasStatus 0 status ⊎ RanOutOfNodes before.pass after.pass status
-    does_all (CanDo.run {words_of = run} said can) puts writes =
-        none words before after RunPlan (OfRun of_runs of_files run said) (run_told of_runs of_files run said) old new status (RanOutOfNodes before.pass after.pass status) (λ b said_b lacks. lacks) can puts (λ b said_b. writes)
-    does_all (CanDo.load {command = command} {load_of = load} said loaded can) puts writes =
-        none words before after Configuration (OfLoad of_loads command load said loaded) (load_told of_loads command load said loaded) old new status (RanOutOfNodes before.pass after.pass status) (λ b said_b lacks. lacks) can puts (λ b said_b. writes)
+    does_all (CanDo.run {words_of = run} {plan = plan} said can) puts writes =
+        none words before after RunPlan (OfRun of_runs of_files run said) (run_told of_runs of_files run said) old new status (RanOutOfNodes before.pass after.pass status) (λ b said_b lacks. lacks)
+        (λ result comes. ok_of AreOnePlan plan result (one_start tree one_run (names_of_run run) (given_text run.load) before.pass.slots (Ok plan) result can comes)) puts (λ b said_b. writes)
+    does_all (CanDo.load {command = command} {load_of = load} {config = config} said loaded can) puts writes =
+        none words before after Configuration (OfLoad of_loads command load said loaded) (load_told of_loads command load said loaded) old new status (RanOutOfNodes before.pass after.pass status) (λ b said_b lacks. lacks)
+        (λ result comes. ok_of AreOneConfiguration config result
+        (told_alike AreOneConfiguration (Ok config) result (one_load tree (given_text load.ifaces) load.conf.now (Ok config) result can comes))) puts (λ b said_b. writes)
 
 module _ (words : List (List ℕ)) (before after : Moment) (one : OneCommand) (number : ℕ) (said : SaysCommand words (Words.Gen number)) where
   abbrev OfGenerated : Result RunPlan CommandFault → Type 0
@@ -259,9 +274,10 @@ module _ (words : List (List ℕ)) (before after : Moment) (one : OneCommand) (n
     generated = λ {number = other} {tree = held} {fault} said_b holds comes. (held, holds_so other said_b held holds, comes);
   }
 
-  pub generates_all : ((held : Tree) (result : Result RunPlan CommandFault) → HoldsWorkload number held → PreparesOf held result → IsOk result) →
+  pub generates_all : OneRun → ((held : Tree) → HoldsWorkload number held → (plan : RunPlan) × PreparesOf held (Ok plan)) →
       (old new : SinkMoment) (status : ℕ) → StoodStill before.out.faults after.out.faults → AnswersWords words before after old new status → HasStatus 0 status
-  generates_all can old new status puts answers =
+  generates_all one_run can old new status puts answers =
       ⊎_elim (λ is. is) (λ lacks. absurd lacks)
       (none words before after RunPlan OfGenerated generated_told old new status ⊥ (λ run said_b lacks. no_other (Words.Run run) said_b (λ other e. cc))
-      (λ result comes. can comes.0 result comes.1 comes.2) puts (λ run said_b. no_other (Words.Run run) said_b (λ other e. cc)) answers)
+      (λ result comes. let plan = can comes.0 comes.1 in
+      ok_of AreOnePlan plan.0 result (told_alike AreOnePlan (Ok plan.0) result (one_run comes.0 generated_names (Ok plan.0) result plan.1 comes.2))) puts (λ run said_b. no_other (Words.Run run) said_b (λ other e. cc)) answers)

@@ -5,6 +5,7 @@ pub mod GenerateLemmas
 pub mod LawLemmas
 pub mod ListingLemmas
 pub mod LookLemmas
+pub mod OneStartLemmas
 pub mod ReadyLemmas
 pub mod RunLemmas
 pub mod SaveLemmas

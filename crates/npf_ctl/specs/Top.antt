@@ -68,27 +68,22 @@ IsOk (Ok a) = ⊤
 IsOk (Err fault) = ⊥
 
 module _ (words : List (List ℕ)) (tree : Tree) (slots : ℕ) where
-  -- the command's files end in this fault, whichever way they are read
+  -- the command's files end in this fault, and so in none of another status, and in no plan (npf_ctl_prepare_law)
   pub data MustRefuse (fault : CommandFault) : Type 0 where
     run : {words_of : Run} → SaysCommand words (Words.Run words_of) →
-        ((result : Result RunPlan CommandFault) →
-        StartsRun (told_files tree) (told_files tree) (names_of_run words_of) (given_text words_of.load) slots result → result ≡ Err fault) →
-        MustRefuse fault
+        StartsRun (told_files tree) (told_files tree) (names_of_run words_of) (given_text words_of.load) slots (Err fault) → MustRefuse fault
     load : {command : Command} {load_of : Load} → SaysCommand words command → loaded_by command ≡ Some load_of →
-        ((result : Result Configuration CommandFault) → LoadsAlone (told_files tree) (told_files tree) (given_text load_of.ifaces) load_of.conf.now result →
-        result ≡ Err fault) → MustRefuse fault
+        LoadsAlone (told_files tree) (told_files tree) (given_text load_of.ifaces) load_of.conf.now (Err fault) → MustRefuse fault
 
-  -- the command's files are in their grammars and limits, whichever way they are read
+  -- the command's files are in their grammars and limits: they come to a plan, or to a configuration
   pub data CanDo : Type 0 where
-    run : {words_of : Run} → SaysCommand words (Words.Run words_of) →
-        ((result : Result RunPlan CommandFault) →
-        StartsRun (told_files tree) (told_files tree) (names_of_run words_of) (given_text words_of.load) slots result → IsOk result) → CanDo
-    load : {command : Command} {load_of : Load} → SaysCommand words command → loaded_by command ≡ Some load_of →
-        ((result : Result Configuration CommandFault) → LoadsAlone (told_files tree) (told_files tree) (given_text load_of.ifaces) load_of.conf.now result →
-        IsOk result) → CanDo
+    run : {words_of : Run} {plan : RunPlan} → SaysCommand words (Words.Run words_of) →
+        StartsRun (told_files tree) (told_files tree) (names_of_run words_of) (given_text words_of.load) slots (Ok plan) → CanDo
+    load : {command : Command} {load_of : Load} {config : Configuration} → SaysCommand words command → loaded_by command ≡ Some load_of →
+        LoadsAlone (told_files tree) (told_files tree) (given_text load_of.ifaces) load_of.conf.now (Ok config) → CanDo
 
 -- the words ask for a generated run, whose files, which stand in memory, are in their grammars and limits
 pub record CanGenerate (words : List (List ℕ)) : Type 0 where
   pub number : ℕ
   pub said : SaysCommand words (Words.Gen number)
-  pub accepted : (held : Tree) (result : Result RunPlan CommandFault) → HoldsWorkload number held → PreparesOf held result → IsOk result
+  pub accepted : (held : Tree) → HoldsWorkload number held → (plan : RunPlan) × PreparesOf held (Ok plan)

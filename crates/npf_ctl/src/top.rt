@@ -20,6 +20,7 @@ use crate::looking::{Look, look_at};
 use crate::running::run;
 use npf_connections::Connections;
 use npf_ctl_messages::{CommandFault, message};
+use npf_ctl_prepare_law::one_run;
 use npf_ctl_words::laws::one_command;
 use npf_ctl_words::{Command, WordsFault, read_words};
 use npf_flow::FlowLaw;
@@ -74,8 +75,8 @@ pub fn npfctl_top<
         (moment (F.moment files.old) (O.moment out.old) (C.view pass.old)) (moment (F.moment files.new) (O.moment out.new) (C.view pass.new))
         (E.moment err.old) (E.moment err.new) result }
 
-    // What must be refused is, for the fault that it comes to, and what can be done is, but for want of memory, or of a node for a connection
-    // that is loaded.
+    // What must be refused is, for the fault that its files come to, and what can be done is, but for want of memory, or of a node for a
+    // connection that is loaded. Told files come to one of both (npf_ctl_prepare_law), so this is exactly where.
     ensures refuses_words { is_command_line (word_texts words.now) ≡ false → HasStatus 2 result }
     ensures refuses { (tree : Tree) (fault : FaultType) → (F.moment files.old).contents ≡ Some tree
         → MustRefuse (word_texts words.now) tree (C.view pass.old).slots fault
@@ -105,6 +106,7 @@ pub fn npfctl_top<
     one_command();
     npf_ctl_input::laws::contents_decide();
     npf_ctl_prepare::laws::contents_decide();
+    one_run();
     answer(rt, alloc, words, files, out, err, conns, pass, gate)
 }
 

@@ -57,7 +57,7 @@ returns-clause-refuses g c =
     let new = g.E.Sink.moment c.answer.new.err in
     let texts = word_texts c.args.words.now in
     λ tree fault told must well.
-    refuses_fault texts before after tree told well c.one_command.ensures c.contents_decide-2.ensures c.contents_decide.ensures.files c.contents_decide.ensures.loads old new c.answer.result fault must c.answer.ensures.answered
+    refuses_fault texts before after tree told well c.one_command.ensures c.contents_decide-2.ensures c.contents_decide.ensures.files c.contents_decide.ensures.loads c.one_run.ensures.run c.one_run.ensures.load old new c.answer.result fault must c.answer.ensures.answered
 
 pub returns-clause-complete : goal.returns-clause-complete
 returns-clause-complete g c =
@@ -67,7 +67,7 @@ returns-clause-complete g c =
     let new = g.E.Sink.moment c.answer.new.err in
     let texts = word_texts c.args.words.now in
     λ tree told can well puts writes.
-    does_all texts before after tree told well c.one_command.ensures c.contents_decide-2.ensures c.contents_decide.ensures.files c.contents_decide.ensures.loads old new c.answer.result can puts writes c.answer.ensures.answered
+    does_all texts before after tree told well c.one_command.ensures c.contents_decide-2.ensures c.contents_decide.ensures.files c.contents_decide.ensures.loads c.one_run.ensures.run c.one_run.ensures.load old new c.answer.result can puts writes c.answer.ensures.answered
 
 pub returns-clause-quiet : goal.returns-clause-quiet
 returns-clause-quiet g c =
@@ -112,4 +112,4 @@ returns-clause-complete_generated g c =
     let old = g.E.Sink.moment c.args.err.now in
     let new = g.E.Sink.moment c.answer.new.err in
     let texts = word_texts c.args.words.now in
-    λ can puts. generates_all texts before after c.one_command.ensures can.number can.said can.accepted old new c.answer.result puts c.answer.ensures.answered
+    λ can puts. generates_all texts before after c.one_command.ensures can.number can.said c.one_run.ensures.run can.accepted old new c.answer.result puts c.answer.ensures.answered
