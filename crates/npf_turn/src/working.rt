@@ -90,7 +90,7 @@ fn step_flow<L: Law>(
     ((next, steps.saturating_add(1)), reply)
 }
 
-/// Kills a connection that the pass is building. It keeps its keys.
+/// Kills a connection that the pass is building. It keeps its keys, and is the pass's own until it lets it go.
 pub fn kill<L: Law, H: KeyHash>(
     rt: &impl Wait,
     cells: &Cells<L, H>,
@@ -111,8 +111,8 @@ pub fn kill<L: Law, H: KeyHash>(
     cells.end_turn(pass, id.slot, &TurnAct::Abandoned { id });
 }
 
-/// Kills the slot's connection where it is Live and due at that time, and answers it. It keeps its keys. Otherwise the pass has seen of the
-/// slot that none is due there.
+/// Kills the slot's connection where it is Live and due at that time, and answers it. It keeps its keys, and is the pass's own until it lets
+/// it go. Otherwise the pass has seen of the slot that none is due there.
 pub fn expire<L: Law, H: KeyHash>(
     rt: &impl Wait,
     cells: &Cells<L, H>,
