@@ -41,6 +41,7 @@ pub record EmptiesPlace (t t' : TrieWords) (slot : ℕ) (way : Way) (p : Place) 
   pub stood : t.cell p ≡ Leaf slot way
   pub emptied : t'.cell p ≡ Empty
   pub others : (q : Place) → q ≢ p → t'.cell q ≡ t.cell q
+  pub parents : (node : ℕ) → t'.parent node ≡ t.parent node
 
 pub empties_place : {t t' : TrieWords} {slot : ℕ} {way : Way} {p : Place} {level : ℕ} {digits : ℕ → ℕ} → EmptiesPlace t t' slot way p level digits → FillsPlace t.cell t'.cell p
 empties_place empties = record { was_end = subst IsEnd (sym empties.stood) tt; ends_now = subst IsEnd (sym empties.emptied) tt; others = empties.others }
@@ -149,10 +150,11 @@ module _ {S V : Type 0} (side_of : V → TrieSide) (digest : Key → ℕ) (layou
           held = ap k'.holder (takes.keys slot w) ∙ (still_held (t.key slot w) l q ne (record { on_path = home; is_end = subst IsEnd (sym was) tt }) ∙ (right.held ∙ ap (λ (f : Found). Some f) (sym (found_same slot w))));
         }
 
+    no_node : (q : Place) (node : ℕ) → t'.cell q ≡ Node node → q ≢ p
+    no_node q node is e = let no : Empty ≡ Node node = sym empties.emptied ∙ (ap t'.cell (sym e) ∙ is) in absurd cc
+
     nodes : (ds : ℕ → ℕ) (l : ℕ) (q : Place) (node : ℕ) → AreDigits ds → IsOnPath ds t'.cell l q → t'.cell q ≡ Node node → IsRightNode layout.nodes published l node
-    nodes ds l q node are on is =
-        let ne : q ≢ p = (λ e. let no : Empty ≡ Node node = sym empties.emptied ∙ (ap t'.cell (sym e) ∙ is) in absurd cc) in
-        kept.nodes ds l q node are (before ds l q on) (sym (empties.others q ne) ∙ is)
+    nodes ds l q node are on is = kept.nodes ds l q node are (before ds l q on) (sym (empties.others q (no_node q node is)) ∙ is)
 
     homes : (ds : ℕ → ℕ) (l : ℕ) (q : Place) (slot : ℕ) (w : Way) → AreDigits ds → IsOnPath ds t'.cell l q → t'.cell q ≡ Leaf slot w → IsOnPath (digits_of digest (t'.key slot w)) t'.cell l q
     homes ds l q slot w are on is =
@@ -167,7 +169,7 @@ module _ {S V : Type 0} (side_of : V → TrieSide) (digest : Key → ℕ) (layou
 
     -- the part, where each seat fits
     pub trie_emptied : all_grown side_of views' ≡ all_grown side_of views → ((j : ℕ) (v : V) → get_elem? views' j ≡ some v → FitsTrie digest layout.slots k' t' (side_of v)) → Trie side_of digest layout published k' words' views'
-    trie_emptied sums each = record { ends = ends; leaves = leaves; nodes = nodes; homes = homes; levels = filled_levels changed kept.levels; hang = hang; counted = kept.counted ∙ sym sums; each = each }
+    trie_emptied sums each = record { ends = ends; leaves = leaves; nodes = nodes; homes = homes; levels = filled_levels changed kept.levels; parents = λ ds l q node are on is. empties.parents node ∙ kept.parents ds l q node are (before ds l q on) (sym (empties.others q (no_node q node is)) ∙ is); hang = hang; counted = kept.counted ∙ sym sums; each = each }
 
     -- a seat fits still that knows no more, saw nothing of the place under the place's lock, and whose leaf's key is still held
     pub fits_emptied : (side side' : TrieSide) → KnowsNoMore side side' → ((x : SeenCell) → side'.seen ≡ Some x → Contains side.locks (lock_of x.place) → x.place ≢ p) →
