@@ -75,6 +75,7 @@ module _ {S A R : Type 0} (m : Meaning S A R) (digest : Key → ℕ) (layout : L
         (trie_same trie_side digest layout kept.published k k s.words words s.views id me.0 w kept.trie at (publishes_less me.0.trie) (record {
           holder = λ key. refl;
           claimed = λ identity c. c;
+          dead = λ identity e. e;
           cells = λ digits _ level q on. ⊎_elim
               (λ (e : q ≡ p). ap (cell_in layout words) e ∙ (cell_here m digest layout s kept p inside (cell_word cell) ∙ (said cell ∙ (sym there.is ∙ ap t.cell (sym e)))))
               (λ (ne : q ≢ p). cell_else m digest layout s kept p inside (cell_word cell) q ne)

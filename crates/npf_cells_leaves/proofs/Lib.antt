@@ -1,3 +1,4 @@
+pub mod EmptyLemmas
 pub mod FillLemmas
 pub mod GivenLemmas
 pub mod GrowLemmas
