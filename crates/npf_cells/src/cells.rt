@@ -169,6 +169,7 @@ impl<L: Law, H: KeyHash> Cells<L, H> {
         requires done { pass.old.seat.me.0.pools.builds ≡ [] }
         requires other_done { other.seat.me.0.pools.builds ≡ [] }
         requires other_nodes { other.seat.me.0.pools.nodes ≡ [] }
+        requires other_kills { other.seat.me.0.pools.kills ≡ [] }
         requires other_turn { other.seat.me.0.turn ≡ None }
         ensures own { IsPassIn self.now pass.new }
         ensures idle { pass.new.seat.me.0.epochs.pin ≡ Idle }

@@ -73,7 +73,9 @@ impl<L: Law, H: KeyHash> Cells<L, H> {
 
     /// Stores in a word of a node that the pass owns, but never in its state; or in a word of a connection that it is building, but
     /// never in its turn or its phase, as incarnation that connection's own alone, and in the words of a key only while it holds none of
-    /// that way; or in the phase of a connection whose turn the pass has. The fields are those of docs/ARCHITECTURE.md, counted from 0.
+    /// that way, and in its notes below 2^63; or in the phase of a connection whose turn the pass has; or, in the first note of a connection
+    /// that the pass killed and that holds no key, the epoch that it loaded since it last killed any, plus 2^63: so it lets the connection
+    /// go. The fields are those of docs/ARCHITECTURE.md, counted from 0.
     pub fn store_private(
         &self,
         pass: &mut CellPass<L>,

@@ -1,6 +1,7 @@
 -- Kind 15 where what stands in a place is stored again keeps the rule.
 use Rattle.std.specs.List.{Contains}
-use Rattle.std.proofs.Common.{◌≤◌, length, ◌≡◌, ◌≢◌, ℕ, List, set, refl, sym, ap, ◌∙◌, subst, ⊎_elim, inl, length-set}
+use Rattle.std.proofs.Common.{◌≤◌, length, ◌≡◌, ◌≢◌, ℕ, List, set, refl, sym, ap, ◌∙◌, subst, ⊎_elim, inl, arith, length-set}
+use Rattle.std.proofs.lemmas.List.{get_or-set_other}
 use mathlib.Core.Option.{some}
 use lib.ListN.{get_elem?}
 use Rattle.atomic_table.specs.Table.{State, Me, Step, Allows, stepped, keeps}
@@ -16,6 +17,7 @@ use Rattle.npf_paths.specs.Places.{lock_of}
 use Rattle.npf_paths.proofs.FillingLemmas.{same_or_apart}
 use Rattle.npf_cells_words.specs.declared.layout.Layout.{Layout}
 use Rattle.npf_cells_words.specs.Places.{IsInTrie, place_at}
+use Rattle.npf_cells_words.specs.Layout.{notes_field}
 use Rattle.npf_cells_words.proofs.WordLemmas.{place_behind}
 use Rattle.npf_seats.proofs.PrefixLemmas.{none_listed}
 use Rattle.npf_cells_leaves.specs.declared.trie.TrieSide.{TrieSide}
@@ -27,6 +29,7 @@ use Rattle.npf_cells_lives.proofs.StoredLemmas.{stored_kept, stored-set}
 use Rattle.npf_cells_rule.specs.declared.view.CellView.{CellView}
 use Rattle.npf_cells_rule.specs.Cells.{IsCells}
 use Rattle.npf_cells_rule.specs.Views.{lock_side, pool_side, trie_side}
+use Rattle.npf_cells_rule.proofs.DeathFrames.{deaths_on}
 use Rattle.npf_cells_rule.proofs.Frames.{alone_still, private_step, turns_apart}
 use Rattle.npf_cells_holds.specs.PublishKinds.{SeesLocked, publishing, StoresAgain}
 use Rattle.npf_cells_holds.proofs.PlaceLemmas.{cell_here, cell_else, key_else, inc_else, turn_else, lock_else, own_else}
@@ -86,6 +89,9 @@ module _ {S A R : Type 0} (m : Meaning S A R) (digest : Key → ℕ) (layout : L
         (λ j u ne e. stored_kept layout s.words words u.pools u.pools (kept.stored j u e) refl (λ pool place field own. own) (own_else m digest layout s kept p inside (cell_word cell) (digits_of digest there.key) there.level are there.on_path j u e)))
         (locks-same lock_side layout s.words words s.views (set s.views id w) kept.locks (lock_else m digest layout s kept p inside (cell_word cell)) (holders-set lock_side layout s.views id me.0 w at refl))
         (turns_apart m digest layout s (place_at layout p) (cell_word cell) id me.0 w k kept at refl (λ slot field h f. turn_else m digest layout s kept p inside (cell_word cell) slot field) (λ slot. inl refl))
+        (deaths_on m digest layout s (place_at layout p) (cell_word cell) id me.0 w kept at refl refl (record { rests = λ i dead bare rests. (rests, refl) })
+        (let same = get_or-set_other s.words (place_at layout p) 0 (cell_word cell) 0 (λ e. absurd (let far = place_behind layout p in omega (arith, e, far))) in omega (arith, same))
+        (λ slot h. turn_else m digest layout s kept p inside (cell_word cell) slot notes_field))
       where
         words : List ℕ
         words = set s.words (place_at layout p) (cell_word cell)

@@ -1,4 +1,5 @@
 -- Kind 11 for a key that is to be held keeps the rule, and tells what the key's path meets.
+use Rattle.std.specs.List.{Contains}
 use Rattle.std.proofs.Common.{◌≡◌, ℕ, ◌+◌, ◌≤◌, Bool, cond, true, false, true≢false, Some, List, [], ◌∷◌, ◌++◌, map, set, length, slice_index, refl, sym, ap, ◌∙◌, subst, ⊎_elim, inl, inr, length-set}
 use Rattle.std.proofs.lemmas.List.{set-get_or}
 use mathlib.Core.Option.{some}
@@ -38,17 +39,20 @@ use Rattle.npf_cells_pins.proofs.EpochLemmas.{within_last}
 use Rattle.npf_cells_leaves.specs.declared.trie.LoadedLeaf.{LoadedLeaf}
 use Rattle.npf_cells_leaves.specs.declared.trie.PathPlace.{PathPlace}
 use Rattle.npf_cells_leaves.specs.declared.trie.TrieSide.{TrieSide}
-use Rattle.npf_cells_leaves.specs.Trie.{cell_in, digits_of, TrieWords, trie_words, IsRightLeaf, StaysLeaf, FitsTrie, Trie}
+use Rattle.npf_cells_leaves.specs.Trie.{cell_in, digits_of, TrieWords, trie_words, leaf_found, IsRightLeaf, StaysLeaf, FitsTrie, Trie}
 use Rattle.npf_cells_leaves.proofs.TrieLemmas.{grown-set, KeepsTrie, knows_same, keeps_words, fits_kept, fits-set, fits_all, trie_kept, are_digits, cell_there}
 use Rattle.npf_cells_lives.specs.Conns.{inc_word, entry_seat}
+use Rattle.npf_cells_lives.specs.Deaths.{IsKeyless}
 use Rattle.npf_cells_lives.specs.Pools.{taken}
 use Rattle.npf_cells_lives.proofs.BuiltLemmas.{bare_in_log}
 use Rattle.npf_cells_lives.proofs.ConnLemmas.{BuildsIn, builds-kept, unstored-set}
+use Rattle.npf_cells_lives.proofs.DeathLemmas.{Spares, spares_held, RestsNoMore}
 use Rattle.npf_cells_lives.proofs.PoolLemmas.{pools-same, taken-set}
 use Rattle.npf_cells_rule.specs.declared.view.CellView.{CellView}
 use Rattle.npf_cells_rule.specs.Cells.{IsCells}
 use Rattle.npf_cells_rule.specs.Passes.{IsProtected, cell_pass, IsPassOf}
-use Rattle.npf_cells_rule.specs.Views.{seat_side, reader_view, with_trie, pool_side, trie_side}
+use Rattle.npf_cells_rule.specs.Views.{seat_side, reader_view, with_trie, pool_side, trie_side, leaf_id, death_side}
+use Rattle.npf_cells_rule.proofs.DeathFrames.{rests_or_holds, holder_keyed}
 use Rattle.npf_cells_rule.proofs.EntryLemmas.{adds_entry, sole_entries}
 use Rattle.npf_cells_rule.proofs.Frames.{alone_within, entry_step}
 use Rattle.npf_cells_rule.proofs.PassLemmas.{pinned_in}
@@ -88,6 +92,13 @@ module _ {S A R : Type 0} (m : Meaning S A R) (digest : Key → ℕ) (layout : L
     fits : FitsSeats entry_seat layout.slots (map seat_side s.views) kept.log id me.0.seats
     fits = kept.seats.each id me.0.seats (at_map seat_side s.views id me.0 at)
 
+    -- a load that leaves the leaf, and forgets what was answered, rests on nothing more
+    fewer_rests : (side : TrieSide) → side.answered ≡ [] → side.leaf ≡ me.0.trie.leaf → RestsNoMore k (death_side me.0) (death_side (record me.0 { trie = side }))
+    fewer_rests side none same = rests_or_holds k (death_side me.0) (death_side (record me.0 { trie = side })) refl (λ i rests. ⊎_elim
+        (λ (c : Contains side.answered i). absurd (none_listed i (subst (λ ids. Contains ids i) none c)))
+        (λ (e : leaf_id side.leaf ≡ Some i). inl (inr (ap leaf_id (sym same) ∙ e)))
+        rests)
+
     -- a node leads on
     pub leads : (node : ℕ) → t.cell p ≡ Node node → IsCells m digest layout (stepped s word (slice_index s.words word) id me.1 (record me.0 { trie = descending digest key p level node (renewed me.0.trie) }) keeps)
     leads node is = load_step m digest layout s word id me.1 me.0 (descending digest key p level node (renewed me.0.trie)) kept at (place_behind layout p) (record {
@@ -95,7 +106,7 @@ module _ {S A R : Type 0} (m : Meaning S A R) (digest : Key → ℕ) (layout : L
       leaf = was.leaf;
       seen = sees m digest layout s id me kept at lives settled place stays 0 key p stands (Node node) is;
       claimed = λ i c. absurd (none_listed i c);
-    }) refl refl (alone_within (record me.0 { trie = descending digest key p level node (renewed me.0.trie) }) place stays)
+    }) refl refl (fewer_rests (descending digest key p level node (renewed me.0.trie)) refl refl) (alone_within (record me.0 { trie = descending digest key p level node (renewed me.0.trie) }) place stays)
 
     -- where nothing stands only that is seen
     pub sights : IsCells m digest layout (stepped s word (slice_index s.words word) id me.1 (record me.0 { trie = sighting key level p (t.cell p) (renewed me.0.trie) }) keeps)
@@ -104,7 +115,7 @@ module _ {S A R : Type 0} (m : Meaning S A R) (digest : Key → ℕ) (layout : L
       leaf = was.leaf;
       seen = sees m digest layout s id me kept at lives settled place stays 0 key p stands (t.cell p) refl;
       claimed = λ i c. absurd (none_listed i c);
-    }) refl refl (alone_within (record me.0 { trie = sighting key level p (t.cell p) (renewed me.0.trie) }) place stays)
+    }) refl refl (fewer_rests (sighting key level p (t.cell p) (renewed me.0.trie)) refl refl) (alone_within (record me.0 { trie = sighting key level p (t.cell p) (renewed me.0.trie) }) place stays)
 
     module _ (slot : ℕ) (leaf_way : Way) (is : t.cell p ≡ Leaf slot leaf_way) where
       abbrev leaf : LoadedLeaf
@@ -116,6 +127,15 @@ module _ {S A R : Type 0} (m : Meaning S A R) (digest : Key → ℕ) (layout : L
       leaf_stays : (x : LoadedLeaf) → Some leaf ≡ Some x → StaysLeaf layout.slots k.holder t x
       leaf_stays x e = subst (StaysLeaf layout.slots k.holder t) (some_same _ _ e) (record { right = right; key = refl; inc = refl })
 
+      leaf_keyed : (i : ConnId) → leaf_id (Some leaf) ≡ Some i → ¬ (IsKeyless k i)
+      leaf_keyed i e = subst (λ (x : ConnId). ¬ (IsKeyless k x)) (some_same _ _ e) (holder_keyed k (t.key slot leaf_way) (leaf_found t slot leaf_way) right.held)
+
+      meeter_rests : RestsNoMore k (death_side me.0) (death_side (record me.0 { trie = meeting key p (t.cell p) level leaf me.0.trie }))
+      meeter_rests = rests_or_holds k (death_side me.0) (death_side (record me.0 { trie = meeting key p (t.cell p) level leaf me.0.trie })) refl (λ i rests. inr (⊎_elim
+          (λ (c : Contains [] i). absurd (none_listed i c))
+          (λ (e : leaf_id (Some leaf) ≡ Some i). leaf_keyed i e)
+          rests))
+
       -- the leaf of another key is met
       pub meets : IsCells m digest layout (stepped s word (slice_index s.words word) id me.1 (record me.0 { trie = meeting key p (t.cell p) level leaf me.0.trie }) keeps)
       meets = load_step m digest layout s word id me.1 me.0 (meeting key p (t.cell p) level leaf me.0.trie) kept at (place_behind layout p) (record {
@@ -123,7 +143,7 @@ module _ {S A R : Type 0} (m : Meaning S A R) (digest : Key → ℕ) (layout : L
         leaf = leaf_stays;
         seen = sees m digest layout s id me kept at lives settled place stays 0 key p stands (t.cell p) refl;
         claimed = λ i c. absurd (none_listed i c);
-      }) refl refl (alone_within (record me.0 { trie = meeting key p (t.cell p) level leaf me.0.trie }) place stays)
+      }) refl refl meeter_rests (alone_within (record me.0 { trie = meeting key p (t.cell p) level leaf me.0.trie }) place stays)
 
       module _ (conn : ConnId) (way : Way) (may : MayHoldSo m me.0 conn way) (same : is_key leaf.key key ≡ true) where
         abbrev entry : Entry S A R
@@ -172,10 +192,22 @@ module _ {S A R : Type 0} (m : Meaning S A R) (digest : Key → ℕ) (layout : L
         builds_after : BuildsIn pool_side k' (set s.views id asker)
         builds_after = builds-kept pool_side k' s.views id me.0 asker at refl refl (λ j v e. let b = kept.connections.each j v e in record { building = b.building; owing = b.owing; once = b.once })
 
+        spares : Spares k k'
+        spares = spares_held k k' (λ other. holder_stays k key (leaf_holder leaf) (record { id = conn; way = way }) held other (is_key key other) refl) (λ slot dead. refl)
+
+        asker_rests : RestsNoMore k (death_side me.0) (death_side asker)
+        asker_rests = rests_or_holds k (death_side me.0) (death_side asker) refl (λ i rests. inr (⊎_elim
+            (λ (c : Contains ((leaf_holder leaf).id ∷ []) i). ⊎_elim
+            (λ (e : (leaf_holder leaf).id ≡ i). leaf_keyed i (ap Some e))
+            (λ d. absurd (none_listed i d))
+            (cons_cases (leaf_holder leaf).id i [] c))
+            (λ (e : leaf_id (Some leaf) ≡ Some i). leaf_keyed i e)
+            rests))
+
         pub takes : IsCells m digest layout (stepped s word (slice_index s.words word) id me.1 asker keeps)
         takes =
             let words = set-get_or s.words word 0 in
-            entry_step m digest layout s word (slice_index s.words word) id me.1 me.0 asker kept at lives place entry refl follows refl refl (kept.stored id me.0 at) refl refl (λ slot. inl refl) (alone_within asker place stays)
+            entry_step m digest layout s word (slice_index s.words word) id me.1 me.0 asker kept at lives place entry refl follows refl refl (kept.stored id me.0 at) refl refl (λ slot. inl refl) refl spares (λ slot. refl) asker_rests (alone_within asker place stays)
             (record { before = λ j h. ap (λ ws. slice_index ws j) words; behind = λ j h. ap (λ ws. slice_index ws j) words })
             (pools-same layout (taken pool_side kept.published k s.views) (taken pool_side kept.published k' (set s.views id asker)) s.words (set s.words word (slice_index s.words word)) kept.pools
             (length-set s.words word (slice_index s.words word)) (λ j h. ap (λ ws. slice_index ws j) words) (taken-set pool_side kept.published k s.views id me.0 asker at refl))

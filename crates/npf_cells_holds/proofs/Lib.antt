@@ -5,3 +5,4 @@ pub mod LookKeepLemmas
 pub mod OwnedLemmas
 pub mod PlaceLemmas
 pub mod PublishKeepLemmas
+pub mod SpareLemmas

@@ -18,7 +18,7 @@ use Rattle.npf_core.specs.Meaning.{Meaning}
 use Rattle.npf_paths.specs.declared.place.Lock.{Lock}
 use Rattle.npf_cells_words.specs.declared.layout.Layout.{Layout}
 use Rattle.npf_cells_words.specs.declared.layout.Pool.TheVariants.{Slots}
-use Rattle.npf_cells_words.specs.Layout.{inc_field, key_field, field_at}
+use Rattle.npf_cells_words.specs.Layout.{inc_field, key_field, notes_field, field_at}
 use Rattle.npf_cells_words.specs.Places.{lock_at, IsLockOf, place_at}
 use Rattle.npf_cells_words.proofs.WordLemmas.{lock_behind, lock_reach, not_place, not_slot}
 use Rattle.npf_seats.specs.Sums.{others_than, occurs}
@@ -33,11 +33,13 @@ use Rattle.npf_cells_lives.specs.declared.pools.PoolSide.{PoolSide}
 use Rattle.npf_cells_lives.specs.Locks.{has_lock, lock_holders, Locks}
 use Rattle.npf_cells_lives.specs.Stored.{FitsStored}
 use Rattle.npf_cells_lives.proofs.ConnLemmas.{builds-kept, unstored-set, conns-same}
+use Rattle.npf_cells_lives.proofs.DeathLemmas.{RestsNoMore}
 use Rattle.npf_cells_lives.proofs.StoredLemmas.{no_lock, stored_kept, stored-set}
 use Rattle.npf_cells_rule.specs.declared.view.CellView.{CellView}
 use Rattle.npf_cells_rule.specs.Cells.{FitsAlone, IsCells}
 use Rattle.npf_cells_rule.specs.Passes.{IsPassOf, IsProtected}
-use Rattle.npf_cells_rule.specs.Views.{with_trie, lock_side, pool_side, trie_side}
+use Rattle.npf_cells_rule.specs.Views.{with_trie, lock_side, pool_side, trie_side, death_side}
+use Rattle.npf_cells_rule.proofs.DeathFrames.{deaths_on}
 use Rattle.npf_cells_rule.proofs.Frames.{alone_still, alone_within, private_step, turns_apart}
 use Rattle.npf_cells_rule.proofs.StoodLemmas.{stood_so}
 use Rattle.npf_cells_holds.specs.LockKinds.{locking, locks_but, unlocking, TriesLock, StoresState}
@@ -163,9 +165,9 @@ module _ {S A R : Type 0} (m : Meaning S A R) (digest : Key → ℕ) (layout : L
     keeps_trie n = lock_keeps layout k s.words lock n exists
 
     -- a step on the word of the lock, after which the seat fits and is one of those that have it
-    lock_step : (n : ℕ) (side : TrieSide) → side.grown ≡ me.0.trie.grown → FitsAlone (having side) → FitsTrie digest layout.slots k (t' n) side → n ≡ lock_holders lock_side layout (set s.views id (having side)) lock → n ≤ 1 →
+    lock_step : (n : ℕ) (side : TrieSide) → side.grown ≡ me.0.trie.grown → RestsNoMore k (death_side me.0) (death_side (having side)) → FitsAlone (having side) → FitsTrie digest layout.slots k (t' n) side → n ≡ lock_holders lock_side layout (set s.views id (having side)) lock → n ≤ 1 →
         ((other : Lock) → lock_at layout other ≢ word → has_lock layout other side.locks ≡ has_lock layout other me.0.trie.locks) → IsCells m digest layout (stepped s word n id me.1 (having side) keeps)
-    lock_step n side grown alone fits here most others =
+    lock_step n side grown less alone fits here most others =
         let w = having side in
         private_step m digest layout s word n id me.1 me.0 w kept at (lock_behind layout lock) refl refl refl refl alone
         (trie_kept trie_side digest layout kept.published k k s.words (words' n) s.views (set s.views id w) kept.trie (keeps_trie n) (grown-set trie_side s.views id me.0 w at grown)
@@ -175,6 +177,9 @@ module _ {S A R : Type 0} (m : Meaning S A R) (digest : Key → ℕ) (layout : L
         (stored-set pool_side layout (words' n) s.views id w (on me.0.pools (kept.stored id me.0 at)) (λ j u ne there. on u.pools (kept.stored j u there)))
         (locks-set layout s.words s.views id me.0 w lock n kept.locks at (let reach = lock_reach layout lock exists in let long = kept.connections.reach in omega (arith, reach, long)) here most others)
         (turns_apart m digest layout s word n id me.0 w k kept at refl (λ slot field h f. get_or-set_other s.words word (field_at layout Slots slot field) n 0 (not_slot layout slot field lock exists)) (λ slot. inl refl))
+        (deaths_on m digest layout s word n id me.0 w kept at refl refl less
+        (let same = get_or-set_other s.words word 0 n 0 (λ e. absurd (let far = lock_behind layout lock in omega (arith, e, far))) in omega (arith, same))
+        (λ slot h. get_or-set_other s.words word (field_at layout Slots slot notes_field) n 0 (not_slot layout slot notes_field lock exists)))
       where
         on : (pools : PoolSide) → FitsStored layout s.words pools → FitsStored layout (words' n) pools
         on pools h = stored_kept layout s.words (words' n) pools pools h refl (λ pool place field own. own)
@@ -189,7 +194,7 @@ module _ {S A R : Type 0} (m : Meaning S A R) (digest : Key → ℕ) (layout : L
 
     -- the lock was free, and the pass has it
     pub got : IsProtected me.0.epochs.pin → 1 ≤ length me.0.seats.readers → slice_index s.words word ≡ 0 → IsCells m digest layout (stepped s word 1 id me.1 (having (locking lock me.0.trie)) keeps)
-    got stays place free = lock_step 1 (locking lock me.0.trie) refl (alone_within (having (locking lock me.0.trie)) place stays) (fits_locking digest layout.slots k (t' 1) lock me.0.trie (fits_still 1))
+    got stays place free = lock_step 1 (locking lock me.0.trie) refl (record { rests = λ i dead bare rests. (rests, refl) }) (alone_within (having (locking lock me.0.trie)) place stays) (fits_locking digest layout.slots k (t' 1) lock me.0.trie (fits_still 1))
         (let says = kept.locks.says lock exists in
         let after = holders_after (locking lock me.0.trie) in
         let more = occurs-cons word word (map (lock_at layout) me.0.trie.locks) in
@@ -213,7 +218,7 @@ module _ {S A R : Type 0} (m : Meaning S A R) (digest : Key → ℕ) (layout : L
     locked_alone side place c = alone_still me.0 (having side) (kept.alone id me.0 at) place refl (λ none. absurd (none_listed lock (subst (λ locks. Contains locks lock) none.locks c)))
 
     freed : 1 ≤ length me.0.seats.readers → Contains me.0.trie.locks lock → IsCells m digest layout (stepped s word 0 id me.1 (having (record me.0.trie { locks = locks_but layout lock me.0.trie.locks })) keeps)
-    freed place c = lock_step 0 (record me.0.trie { locks = locks_but layout lock me.0.trie.locks }) refl (locked_alone (record me.0.trie { locks = locks_but layout lock me.0.trie.locks }) place c) (fits_unlocking digest layout.slots k (t' 0) layout lock me.0.trie (fits_still 0))
+    freed place c = lock_step 0 (record me.0.trie { locks = locks_but layout lock me.0.trie.locks }) refl (record { rests = λ i dead bare rests. (rests, refl) }) (locked_alone (record me.0.trie { locks = locks_but layout lock me.0.trie.locks }) place c) (fits_unlocking digest layout.slots k (t' 0) layout lock me.0.trie (fits_still 0))
         (let had = held c in
         let all = had.0 in
         let mine = had.1 in
@@ -223,7 +228,7 @@ module _ {S A R : Type 0} (m : Meaning S A R) (digest : Key → ℕ) (layout : L
         (λ other ne. ap (occurs (lock_at layout other)) (but_words layout lock me.0.trie.locks) ∙ left_others word (lock_at layout other) (map (lock_at layout) me.0.trie.locks) ne)
 
     stays_locked : 1 ≤ length me.0.seats.readers → Contains me.0.trie.locks lock → IsCells m digest layout (stepped s word 1 id me.1 me.0 keeps)
-    stays_locked place c = lock_step 1 me.0.trie refl (locked_alone me.0.trie place c) (fits_still 1) (let had = held c in let all = had.0 in let after = holders_after me.0.trie in omega (arith, all, after)) (omega arith) (λ other ne. refl)
+    stays_locked place c = lock_step 1 me.0.trie refl (record { rests = λ i dead bare rests. (rests, refl) }) (locked_alone me.0.trie place c) (fits_still 1) (let had = held c in let all = had.0 in let after = holders_after me.0.trie in omega (arith, all, after)) (omega arith) (λ other ne. refl)
 
     pub stores_state : (state : ℕ) → 1 ≤ length me.0.seats.readers → Contains me.0.trie.locks lock → state < 2 → IsCells m digest layout (stepped s word state id me.1 (having (unlocking layout lock state me.0.trie)) keeps)
     stores_state zero place c h = freed place c

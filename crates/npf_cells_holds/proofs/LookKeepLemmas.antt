@@ -1,6 +1,6 @@
 -- Kind 11 with its look, and kind 12, keep the rule.
 use Rattle.std.specs.List.{Contains}
-use Rattle.std.proofs.Common.{◌≡◌, ℕ, zero, suc, ◌+◌, ◌/◌, ◌%◌, ◌^◌, ◌<◌, ◌≤◌, cond, eqb, eq-eqb, ne_eqb, true, true≢false, Option, Some, None, List, [], ◌∷◌, ◌++◌, map, set, length, slice_index, refl, sym, ap, ◌∙◌, subst, ⊎_elim, inl, arith, length-set}
+use Rattle.std.proofs.Common.{◌≡◌, ◌⊎◌, ℕ, zero, suc, ◌+◌, ◌/◌, ◌%◌, ◌^◌, ◌<◌, ◌≤◌, cond, eqb, eq-eqb, ne_eqb, true, true≢false, Option, Some, None, List, [], ◌∷◌, ◌++◌, map, set, length, slice_index, refl, sym, ap, ◌∙◌, subst, ⊎_elim, inl, inr, arith, length-set}
 use Rattle.std.proofs.lemmas.List.{set-get_or}
 use mathlib.Core.Option.{some}
 use lib.ListN.{get_elem?}
@@ -40,16 +40,19 @@ use Rattle.npf_cells_leaves.specs.declared.trie.LoadedLeaf.{LoadedLeaf}
 use Rattle.npf_cells_leaves.specs.declared.trie.PathPlace.{PathPlace}
 use Rattle.npf_cells_leaves.specs.declared.trie.SeenCell.{SeenCell}
 use Rattle.npf_cells_leaves.specs.declared.trie.TrieSide.{TrieSide}
-use Rattle.npf_cells_leaves.specs.Trie.{cell_in, key_in, digits_of, TrieWords, trie_words, holder_at, StaysLeaf, StaysSighted, FitsTrie, Trie}
+use Rattle.npf_cells_leaves.specs.Trie.{cell_in, key_in, digits_of, TrieWords, trie_words, leaf_found, holder_at, StaysLeaf, StaysSighted, FitsTrie, Trie}
 use Rattle.npf_cells_leaves.proofs.TrieLemmas.{are_digits, cell_there, trie_moved}
 use Rattle.npf_cells_lives.specs.Conns.{inc_word, entry_seat}
+use Rattle.npf_cells_lives.specs.Deaths.{IsKeyless}
 use Rattle.npf_cells_lives.specs.Pools.{taken}
 use Rattle.npf_cells_lives.proofs.ConnLemmas.{builds-kept, unstored-set}
+use Rattle.npf_cells_lives.proofs.DeathLemmas.{spares_all, RestsNoMore}
 use Rattle.npf_cells_lives.proofs.PoolLemmas.{pools-same, taken-set}
 use Rattle.npf_cells_rule.specs.declared.view.CellView.{CellView}
 use Rattle.npf_cells_rule.specs.Cells.{FitsAlone, IsCells}
 use Rattle.npf_cells_rule.specs.Passes.{IsProtected, cell_pass}
-use Rattle.npf_cells_rule.specs.Views.{seat_side, reader_view, with_trie, pool_side, trie_side}
+use Rattle.npf_cells_rule.specs.Views.{seat_side, reader_view, with_trie, pool_side, trie_side, leaf_id, death_side}
+use Rattle.npf_cells_rule.proofs.DeathFrames.{rests_or_holds, holder_keyed, deaths_load}
 use Rattle.npf_cells_rule.proofs.EntryLemmas.{adds_entry, sole_entries}
 use Rattle.npf_cells_rule.proofs.Frames.{alone_still, alone_within, conns_apart, stored_apart, locks_apart, turns_behind, entry_step, private_step}
 use Rattle.npf_cells_rule.proofs.PassLemmas.{pinned_in}
@@ -106,8 +109,9 @@ fits_layout layout Mark leaf node = tt
 module _ {S A R : Type 0} (m : Meaning S A R) (digest : Key → ℕ) (layout : Layout) where
   -- a load of a word behind the pools', after which the seat still fits
   pub load_step : (s : State (Running S) (CellView S A R)) (i id : ℕ) (c : List (ℕ × Running S)) (v : CellView S A R) (side : TrieSide) (kept : IsCells m digest layout s) → get_elem? s.views id ≡ some v → root_at layout ≤ i →
-      FitsTrie digest layout.slots (state_of m kept.log) (trie_words layout s.words) side → side.locks ≡ v.trie.locks → side.grown ≡ v.trie.grown → FitsAlone (record v { trie = side }) → IsCells m digest layout (stepped s i (slice_index s.words i) id c (record v { trie = side }) keeps)
-  load_step s i id c v side kept at behind fits locks grown alone =
+      FitsTrie digest layout.slots (state_of m kept.log) (trie_words layout s.words) side → side.locks ≡ v.trie.locks → side.grown ≡ v.trie.grown → RestsNoMore (state_of m kept.log) (death_side v) (death_side (record v { trie = side })) → FitsAlone (record v { trie = side }) →
+      IsCells m digest layout (stepped s i (slice_index s.words i) id c (record v { trie = side }) keeps)
+  load_step s i id c v side kept at behind fits locks grown less alone =
       let w : CellView S A R = record v { trie = side } in
       private_step m digest layout s i (slice_index s.words i) id c v w kept at behind refl refl refl refl alone
       (subst (λ ws. Trie trie_side digest layout kept.published (state_of m kept.log) ws (set s.views id w)) (sym (set-get_or s.words i 0)) (trie_moved trie_side digest layout kept.published (state_of m kept.log) s.words s.views id v w kept.trie at grown fits))
@@ -115,6 +119,7 @@ module _ {S A R : Type 0} (m : Meaning S A R) (digest : Key → ℕ) (layout : L
       (stored_apart m digest layout s i (slice_index s.words i) id w kept (kept.stored id v at) (λ j h. ap (λ ws. slice_index ws j) (set-get_or s.words i 0)))
       (locks_apart m digest layout s i (slice_index s.words i) id v w kept at locks (λ j h. ap (λ ws. slice_index ws j) (set-get_or s.words i 0)))
       (turns_behind m digest layout s i (slice_index s.words i) id v w kept at refl (λ j h. ap (λ ws. slice_index ws j) (set-get_or s.words i 0)))
+      (deaths_load m digest layout s i id v w kept at refl refl less)
 
   module _ (s : State (Running S) (CellView S A R)) (id : ℕ) (me : Me (Running S) (CellView S A R)) (kept : IsCells m digest layout s) (at : get_elem? s.views id ≡ some me.0)
       (lives : me.0.seats.lives ≡ true) (settled : me.0.seats.theirs ≡ []) (place : 1 ≤ length me.0.seats.readers) (stays : IsProtected me.0.epochs.pin) (packet : ℕ) (key : Key) (p : Place) (stands : StandsOnPath digest me.0.trie key p) where
@@ -162,7 +167,7 @@ module _ {S A R : Type 0} (m : Meaning S A R) (digest : Key → ℕ) (layout : L
       leaf = (kept.trie.each id me.0 at).leaf;
       seen = sees (Node node) is;
       claimed = (kept.trie.each id me.0 at).claimed;
-    }) refl refl (alone_within (record me.0 { trie = descending digest key p level node me.0.trie }) place stays)
+    }) refl refl (record { rests = λ i dead bare rests. (rests, refl) }) (alone_within (record me.0 { trie = descending digest key p level node me.0.trie }) place stays)
 
     -- the leaf that is then known stays
     leaf_fits : (cell : Cell) → t.cell p ≡ cell → (leaf : LoadedLeaf) → leaf_after t cell me.0.trie.leaf ≡ Some leaf → StaysLeaf layout.slots k.holder t leaf
@@ -184,13 +189,35 @@ module _ {S A R : Type 0} (m : Meaning S A R) (digest : Key → ℕ) (layout : L
     looker_fits : FitsTrie digest layout.slots k t looker.trie
     looker_fits = record { stands = (kept.trie.each id me.0 at).stands; leaf = leaf_fits (t.cell p) refl; seen = sees (t.cell p) refl; claimed = found_claimed found refl }
 
+    -- whom it rests on anew holds a key
+    leaf_holds : (cell : Cell) → t.cell p ≡ cell → (i : ConnId) → leaf_id (leaf_after t cell me.0.trie.leaf) ≡ Some i → (leaf_id me.0.trie.leaf ≡ Some i) ⊎ ¬ (IsKeyless k i)
+    leaf_holds Empty is i e = inl e
+    leaf_holds (Leaf slot way) is i e =
+        let right = kept.trie.leaves (digits_of digest key) level p slot way (are_digits digest key) on is in
+        inr (subst (λ (x : ConnId). ¬ (IsKeyless k x)) (some_same _ _ e) (holder_keyed k (t.key slot way) (leaf_found t slot way) right.held))
+    leaf_holds (Node node) is i e = inl e
+    leaf_holds Mark is i e = inl e
+
+    answered_holds : (x : Option Found) → k.holder key ≡ x → (i : ConnId) → Contains (found_ids x ++ me.0.trie.answered) i → Contains me.0.trie.answered i ⊎ ¬ (IsKeyless k i)
+    answered_holds None e i c = inl c
+    answered_holds (Some holder) e i c = ⊎_elim
+        (λ (same : holder.id ≡ i). inr (subst (λ (x : ConnId). ¬ (IsKeyless k x)) same (holder_keyed k key holder e)))
+        (λ c'. inl c')
+        (cons_cases holder.id i me.0.trie.answered c)
+
+    looker_rests : RestsNoMore k (death_side me.0) (death_side looker)
+    looker_rests = rests_or_holds k (death_side me.0) (death_side looker) refl (λ i rests. ⊎_elim
+        (λ (c : Contains looker.trie.answered i). ⊎_elim (λ c'. inl (inl c')) (λ no. inr no) (answered_holds found refl i c))
+        (λ (e : leaf_id looker.trie.leaf ≡ Some i). ⊎_elim (λ e'. inl (inr e')) (λ no. inr no) (leaf_holds (t.cell p) refl i e))
+        rests)
+
     follows : MayFollow m layout.slots k entry
     follows = record { allowed = tt; replied = refl }
 
     pub ends : IsCells m digest layout (stepped s word (slice_index s.words word) id me.1 looker keeps)
     ends =
         let words = set-get_or s.words word 0 in
-        entry_step m digest layout s word (slice_index s.words word) id me.1 me.0 looker kept at lives place entry refl follows refl refl (kept.stored id me.0 at) refl refl (λ slot. inl refl) (alone_within looker place stays)
+        entry_step m digest layout s word (slice_index s.words word) id me.1 me.0 looker kept at lives place entry refl follows refl refl (kept.stored id me.0 at) refl refl (λ slot. inl refl) refl (spares_all k) (λ slot. refl) looker_rests (alone_within looker place stays)
         (record { before = λ j h. ap (λ ws. slice_index ws j) words; behind = λ j h. ap (λ ws. slice_index ws j) words })
         (pools-same layout (taken pool_side kept.published k s.views) (taken pool_side kept.published k (set s.views id looker)) s.words (set s.words word (slice_index s.words word)) kept.pools
         (length-set s.words word (slice_index s.words word)) (λ j h. ap (λ ws. slice_index ws j) words) (taken-set pool_side kept.published k s.views id me.0 looker at refl))
@@ -275,7 +302,7 @@ module _ {S A R : Type 0} (m : Meaning S A R) (digest : Key → ℕ) (layout : L
     keeps,
     tt,
     load_step s (field_at layout Slots slot (key_field way + place)) id me.1 me.0 (reading me.0.trie) kept at (omega arith)
-        (let fits = kept.trie.each id me.0 at in record { stands = fits.stands; leaf = fits.leaf; seen = fits.seen; claimed = fits.claimed }) refl refl
+        (let fits = kept.trie.each id me.0 at in record { stands = fits.stands; leaf = fits.leaf; seen = fits.seen; claimed = fits.claimed }) refl refl (record { rests = λ i dead bare rests. (rests, refl) })
         (alone_still me.0 (record me.0 { trie = reading me.0.trie }) (kept.alone id me.0 at) seated refl
         (λ none. record { stands = none.stands; leaf = none.leaf; seen = none.seen; meets = none.meets; answered = none.answered; locks = none.locks })),
     record {

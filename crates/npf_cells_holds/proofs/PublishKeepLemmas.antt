@@ -1,6 +1,6 @@
 -- Kind 15 for a key keeps the rule, and holds the key.
 use Rattle.std.specs.List.{Contains}
-use Rattle.std.proofs.Common.{◌≡◌, ◌≢◌, ℕ, ◌+◌, ◌<◌, ◌≤◌, true, false, true≢false, cond, Option, Some, None, List, [], ◌∷◌, ◌++◌, map, set, length, slice_index, refl, sym, ap, ◌∙◌, subst, ⊎_elim, inl, arith, length-set}
+use Rattle.std.proofs.Common.{◌≡◌, ◌≢◌, ℕ, ◌+◌, ◌<◌, ◌≤◌, true, false, true≢false, cond, Option, Some, None, List, [], ◌∷◌, ◌++◌, map, set, length, slice_index, refl, sym, ap, ◌∙◌, subst, ⊎_elim, inl, inr, arith, length-set}
 use Rattle.std.proofs.lemmas.Grind.{same_number_lists}
 use Rattle.std.proofs.lemmas.List.{map-set, get_or-set_other}
 use mathlib.Core.Option.{some}
@@ -37,7 +37,7 @@ use Rattle.npf_paths.proofs.GrowingLemmas.{growth_told}
 use Rattle.npf_cells_words.specs.declared.layout.Layout.{Layout}
 use Rattle.npf_cells_words.specs.declared.layout.Pool.{Pool}
 use Rattle.npf_cells_words.specs.declared.layout.Pool.TheVariants.{Slots}
-use Rattle.npf_cells_words.specs.Layout.{root_at, key_field, field_at}
+use Rattle.npf_cells_words.specs.Layout.{root_at, key_field, notes_field, field_at}
 use Rattle.npf_cells_words.specs.Places.{IsInTrie, place_at}
 use Rattle.npf_cells_words.proofs.WordLemmas.{place_lock, place_behind}
 use Rattle.npf_seats.specs.Seats.{FitsSeats, Seats}
@@ -54,6 +54,7 @@ use Rattle.npf_cells_leaves.proofs.GivenLemmas.{GivesKey, fits_still, others-fit
 use Rattle.npf_cells_leaves.proofs.GrowLemmas.{branch_seen, trie_grown}
 use Rattle.npf_cells_leaves.proofs.TrieLemmas.{said, knows_same, are_digits, cell_there}
 use Rattle.npf_cells_lives.specs.Conns.{Conns, entry_seat}
+use Rattle.npf_cells_lives.specs.Deaths.{Deaths}
 use Rattle.npf_cells_lives.specs.Locks.{Locks}
 use Rattle.npf_cells_lives.specs.Pools.{taken, Pools}
 use Rattle.npf_cells_lives.specs.Stored.{stored_value, StoredWords}
@@ -65,7 +66,8 @@ use Rattle.npf_cells_lives.proofs.StoredLemmas.{fits_unstored, stored_kept, stor
 use Rattle.npf_cells_rule.specs.declared.view.CellView.{CellView}
 use Rattle.npf_cells_rule.specs.Cells.{IsCells, FitsAlone}
 use Rattle.npf_cells_rule.specs.Passes.{IsProtected, cell_pass}
-use Rattle.npf_cells_rule.specs.Views.{seat_side, reader_view, lock_side, pool_side, trie_side, turn_side}
+use Rattle.npf_cells_rule.specs.Views.{seat_side, reader_view, lock_side, pool_side, trie_side, turn_side, leaf_id, death_side}
+use Rattle.npf_cells_rule.proofs.DeathFrames.{rests_or_holds, deaths_spared}
 use Rattle.npf_cells_rule.proofs.EntryLemmas.{adds_entry, sole_entries}
 use Rattle.npf_cells_rule.proofs.Frames.{alone-set, alone_within, framed, epochs_apart, turns_apart}
 use Rattle.npf_cells_rule.proofs.MetLemmas.{unowned}
@@ -76,6 +78,7 @@ use Rattle.npf_cells_holds.specs.PublishKinds.{SeesLocked, stored_cell, cell_sto
 use Rattle.npf_cells_holds.proofs.AgainKeepLemmas.{stands_there}
 use Rattle.npf_cells_holds.proofs.LookKeepLemmas.{word_of, on_path}
 use Rattle.npf_cells_holds.proofs.OwnedLemmas.{owns_there, taken_moved}
+use Rattle.npf_cells_holds.proofs.SpareLemmas.{hold_spares}
 use Rattle.npf_cells_holds.proofs.PlaceLemmas.{cell_here, cell_else, key_else, inc_else, turn_else, lock_else, own_else}
 use Rattle.npf_cells_holds.specs.PublishKinds.PutsFor.{fills, grows}
 use Rattle.npf_cells_lives.specs.Turns.{Running, Turns}
@@ -85,9 +88,9 @@ module _ {S A R : Type 0} (m : Meaning S A R) (digest : Key → ℕ) (layout : L
   publish_step : (s : State (Running S) (CellView S A R)) (i n id : ℕ) (v w : CellView S A R) (kept : IsCells m digest layout s) (published : List ℕ) → get_elem? s.views id ≡ some v → root_at layout ≤ i → v.seats.lives ≡ true → 1 ≤ length v.seats.readers →
       (entry : Entry S A R) → entry.seat ≡ id → MayFollow m layout.slots (state_of m kept.log) entry → w.seats ≡ record v.seats { history = kept.log ++ entry ∷ [] } → reader_view w ≡ reader_view v →
       ((pool : Pool) (place : ℕ) → taken pool_side published (after m (state_of m kept.log) entry) (set s.views id w) pool place ≡ taken pool_side kept.published (state_of m kept.log) s.views pool place) →
-      Trie trie_side digest layout published (after m (state_of m kept.log) entry) (set s.words i n) (set s.views id w) → Conns pool_side m layout (kept.log ++ entry ∷ []) (set s.words i n) (set s.views id w) → StoredWords pool_side layout (set s.words i n) (set s.views id w) → Locks lock_side layout (set s.words i n) (set s.views id w) → Turns turn_side layout (after m (state_of m kept.log) entry) (set s.words i n) s.homes (set s.views id w) → FitsAlone w →
+      Trie trie_side digest layout published (after m (state_of m kept.log) entry) (set s.words i n) (set s.views id w) → Conns pool_side m layout (kept.log ++ entry ∷ []) (set s.words i n) (set s.views id w) → StoredWords pool_side layout (set s.words i n) (set s.views id w) → Locks lock_side layout (set s.words i n) (set s.views id w) → Turns turn_side layout (after m (state_of m kept.log) entry) (set s.words i n) s.homes (set s.views id w) → Deaths death_side layout (after m (state_of m kept.log) entry) (set s.words i n) (set s.views id w) → FitsAlone w →
       (c : List (ℕ × Running S)) → IsCells m digest layout (stepped s i n id c w keeps)
-  publish_step s i n id v w kept published at behind lives place entry mine follows seats reads takes trie connections stored locks turns alone c =
+  publish_step s i n id v w kept published at behind lives place entry mine follows seats reads takes trie connections stored locks turns deaths alone c =
       let log = kept.log ++ entry ∷ [] in
       let state = state_of-append m kept.log entry in
       framed m digest layout s (stepped s i n id c w keeps) kept published log (length-set s.words i n)
@@ -101,6 +104,7 @@ module _ {S A R : Type 0} (m : Meaning S A R) (digest : Key → ℕ) (layout : L
       stored
       locks
       (subst (λ k. Turns turn_side layout k (set s.words i n) s.homes (set s.views id w)) (sym state) turns)
+      (subst (λ k. Deaths death_side layout k (set s.words i n) (set s.views id w)) (sym state) deaths)
       (alone-set s.views id w alone kept.alone)
     where
       below : (j : ℕ) → j < root_at layout → slice_index (set s.words i n) j ≡ slice_index s.words j
@@ -216,12 +220,19 @@ module _ {S A R : Type 0} (m : Meaning S A R) (digest : Key → ℕ) (layout : L
         (λ j u ne e. fits_still digest layout.slots k k' t t' conn key way (gives free) p old elsewhere u.trie u.trie (knows_same u.trie)
         (λ x seen has same. locks_alone lock_side layout s.words s.views j id u me.0 (lock_of p) kept.locks (place_lock layout p inside) e at (subst (λ q. Contains u.trie.locks (lock_of q)) same has) locked ne) (kept.trie.each j u e))
 
+    -- the hold spares the dead, and the pass rests on nothing more
+    deaths_held : (nodes : List ℕ) → Deaths death_side layout k' words' (set s.views id (holding nodes))
+    deaths_held nodes = deaths_spared m digest layout s word (cell_word cell) id me.0 (holding nodes) k' kept at refl refl (hold_spares m k id conn key way built) (λ slot. refl)
+        (rests_or_holds k (death_side me.0) (death_side (holding nodes)) refl (λ i rests. ⊎_elim (λ (c : Contains [] i). absurd (none_listed i c)) (λ (e : leaf_id me.0.trie.leaf ≡ Some i). inl (inr e)) rests))
+        (let same = get_or-set_other s.words word 0 (cell_word cell) 0 (λ e. absurd (let far = place_behind layout p in omega (arith, e, far))) in omega (arith, same))
+        (λ slot h. turn_else m digest layout s kept p inside (cell_word cell) slot notes_field)
+
     -- the rule, as long as the trie's part holds and the nodes pass from the pass to the trie
     held_so : (nodes : List ℕ) → k.holder key ≡ None →
         ((pool : Pool) (x : ℕ) → taken pool_side (nodes ++ kept.published) k' (set s.views id (holding nodes)) pool x ≡ taken pool_side kept.published k s.views pool x) →
         Trie trie_side digest layout (nodes ++ kept.published) k' words' (set s.views id (holding nodes)) → IsCells m digest layout (stepped s word (cell_word cell) id me.1 (holding nodes) keeps)
     held_so nodes free takes trie = publish_step s word (cell_word cell) id me.0 (holding nodes) kept (nodes ++ kept.published) at (place_behind layout p) lives place entry refl (follows free) refl refl takes trie (connected nodes free) (stored_stays nodes) (locks_stay nodes)
-        (turns_apart m digest layout s word (cell_word cell) id me.0 (holding nodes) k' kept at refl (λ slot field h f. turn_else m digest layout s kept p inside (cell_word cell) slot field) (λ slot. inl refl)) (alone_within (holding nodes) place stays) me.1
+        (turns_apart m digest layout s word (cell_word cell) id me.0 (holding nodes) k' kept at refl (λ slot field h f. turn_else m digest layout s kept p inside (cell_word cell) slot field) (λ slot. inl refl)) (deaths_held nodes) (alone_within (holding nodes) place stays) me.1
 
     -- the hold ends what the pass has then seen
     pub has_held : (nodes : List ℕ) → PutsFor digest layout me.0 conn key way p cell nodes → k.holder key ≡ None → HasHeld m digest layout conn key way p cell me (holding nodes, me.1)

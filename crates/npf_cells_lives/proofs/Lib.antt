@@ -1,5 +1,6 @@
 pub mod BuiltLemmas
 pub mod ConnLemmas
+pub mod DeathLemmas
 pub mod LockLemmas
 pub mod PoolLemmas
 pub mod SlotLemmas

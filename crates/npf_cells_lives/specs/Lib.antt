@@ -1,4 +1,5 @@
 pub mod Conns
+pub mod Deaths
 pub mod LivesLaw
 pub mod Locks
 pub mod Pools

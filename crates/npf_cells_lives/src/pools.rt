@@ -26,4 +26,10 @@ pub struct PoolSide {
     pub unstored: LinkedList<u32>,
     /// What it stored in its places since it last gave a node back or published anything for a key, the last first.
     pub stored: LinkedList<StoredWord>,
+    /// The connections that it killed and hasn't let go yet.
+    pub kills: LinkedList<ConnId>,
+    /// The connections that it reclaimed, whose first note still has its epoch.
+    pub reclaims: LinkedList<ConnId>,
+    /// Those whose first note it has set to 0 since.
+    pub cleared: LinkedList<ConnId>,
 }

@@ -7,4 +7,6 @@ pub struct Turn<S> {
     pub was: Slot<S>,
     /// What the phase's word says.
     pub phase: u64,
+    /// The epoch of the slot's first note, where the pass loaded one under this turn.
+    pub left: Option<u64>,
 }

@@ -8,11 +8,13 @@ use Rattle.atomic_table.specs.Seated.{TableId}
 use Rattle.atomic_table.specs.Table.{State, Me, Act, Step, stepped, Allows, carried_after, Valid, keeps}
 use Rattle.atomic_table.proofs.Lists.{at_map, exchanged}
 use Rattle.npf_types.specs.declared.key.Key.{Key}
+use Rattle.npf_core.specs.History.{state_of}
 use Rattle.npf_core.specs.Meaning.{Meaning}
 use Rattle.npf_connections.specs.Pass.{all_places}
 use Rattle.npf_connections.specs.Worn.{last_epoch}
 use Rattle.npf_cells_words.specs.declared.layout.Layout.{Layout}
-use Rattle.npf_cells_words.specs.Layout.{reader_at, epoch_word, reader_word}
+use Rattle.npf_cells_words.specs.declared.layout.Pool.TheVariants.{Slots}
+use Rattle.npf_cells_words.specs.Layout.{reader_at, epoch_word, reader_word, field_at, notes_field}
 use Rattle.npf_seats.specs.Sums.{occurs}
 use Rattle.npf_seats.proofs.SeatLemmas.{one_owner, owned_within}
 use Rattle.npf_seats.proofs.SumLemmas.{from_map, first_occurs}
@@ -24,16 +26,19 @@ use Rattle.npf_cells_pins.specs.Pinning.{loading, pinning, protecting, unpinning
 use Rattle.npf_cells_pins.proofs.EpochLemmas.{Change, changed}
 use Rattle.npf_cells_pins.proofs.KindLemmas.{is_met, loads, protects, scans, stores, advances, misses}
 use Rattle.npf_cells_leaves.specs.declared.trie.TrieSide.{TrieSide}
-use Rattle.npf_cells_leaves.specs.Trie.{forgetting}
+use Rattle.npf_cells_leaves.specs.Trie.{HasNoWalk, forgetting}
 use Rattle.npf_cells_leaves.proofs.TrieLemmas.{KnowsNoMore, knows_same, knows_less}
 use Rattle.npf_cells_lives.specs.Conns.{entry_seat}
+use Rattle.npf_cells_lives.specs.Deaths.{Deaths}
 use Rattle.npf_cells_rule.specs.declared.view.CellView.{CellView}
 use Rattle.npf_cells_rule.specs.Cells.{FitsAlone, IsCells}
 use Rattle.npf_cells_rule.specs.Passes.{IsPassOf, IsProtected}
-use Rattle.npf_cells_rule.specs.Views.{seat_side, reader_view, with_epochs}
+use Rattle.npf_cells_rule.specs.Views.{seat_side, reader_view, death_side, with_epochs}
+use Rattle.npf_cells_rule.proofs.DeathFrames.{rests_less, rests_none, deaths_on, deaths_load}
 use Rattle.npf_cells_rule.proofs.Frames.{epochs_step, alone_still, alone_within}
 use Rattle.npf_cells_rule.proofs.SoleLemmas.{raised_alone}
 use Rattle.npf_cells_rule.proofs.StoodLemmas.{stood_so}
+use Rattle.npf_cells_moves.proofs.LoadLemmas.{deaths_loading}
 use Rattle.npf_cells_moves.specs.Kinds.{unpinned, Loads, Pins, Protects, Unpins, Scans, RaisesEpoch}
 use Rattle.npf_cells_lives.specs.Turns.{Running}
 
@@ -53,10 +58,11 @@ module _ {S A R : Type 0} (m : Meaning S A R) (digest : Key → ℕ) (layout : L
 
     -- a load, which changes this side alone
     pub load_keeps : (i : ℕ) (side : EpochSide) → FitsAlone (record v { epochs = side }) → Change now reader readings id (record { places = v.seats.readers; side = side }) →
-        IsCells m digest layout (stepped s i (slice_index s.words i) id c (record v { epochs = side }) keeps)
-    load_keeps i side alone change = epochs_step m digest layout s i (slice_index s.words i) id c v (record v { epochs = side }) kept at refl refl (knows_same v.trie) refl alone (λ j h. ap (λ ws. slice_index ws j) (set-get_or s.words i 0))
+        Deaths death_side layout (state_of m kept.log) (set s.words i (slice_index s.words i)) (set s.views id (record v { epochs = side })) → IsCells m digest layout (stepped s i (slice_index s.words i) id c (record v { epochs = side }) keeps)
+    load_keeps i side alone change deaths = epochs_step m digest layout s i (slice_index s.words i) id c v (record v { epochs = side }) kept at refl refl (knows_same v.trie) refl alone (λ j h. ap (λ ws. slice_index ws j) (set-get_or s.words i 0))
         (subst (λ (ws : List ℕ). Epochs (epoch_word ws) (reader_word ws) (set readings id (record { places = v.seats.readers; side = side }))) (sym (set-get_or s.words i 0))
         (changed now now reader reader readings id (record { places = v.seats.readers; side = side }) kept.epochs change))
+        deaths
 
     -- the places of seats are of the table, and no two seats own one
     pub within : (j place : ℕ) (q : ReaderView) → get_elem? readings j ≡ some q → 1 ≤ occurs place q.places → place < all_places
@@ -75,9 +81,9 @@ module _ {S A R : Type 0} (m : Meaning S A R) (digest : Key → ℕ) (layout : L
     room place h = let a = kept.connections.reach in omega (arith, a, h)
 
     -- a store of the own reader word
-    pub store_keeps : (place : ℕ) (pin : Pin) (trie : TrieSide) → KnowsNoMore v.trie trie → place ≡ pin_place v.seats.readers → 1 ≤ length v.seats.readers → PinAllows pin now → ((n : ℕ) → NotProtectedBefore n pin) → FitsAlone (record v { epochs = record v.epochs { pin = pin }; trie = trie }) →
+    pub store_keeps : (place : ℕ) (pin : Pin) (trie : TrieSide) → KnowsNoMore v.trie trie → place ≡ pin_place v.seats.readers → 1 ≤ length v.seats.readers → PinAllows pin now → ((n : ℕ) → NotProtectedBefore n pin) → FitsAlone (record v { epochs = record v.epochs { pin = pin }; trie = trie }) → HasNoWalk trie →
         IsCells m digest layout (stepped s (reader_at place) (pin_word pin) id c (record v { epochs = record v.epochs { pin = pin }; trie = trie }) keeps)
-    store_keeps place pin trie less is some' guards free alone =
+    store_keeps place pin trie less is some' guards free alone out =
         let owns : 1 ≤ occurs place v.seats.readers = subst (λ p. 1 ≤ occurs p v.seats.readers) (sym is) (first_occurs v.seats.readers some') in
         let below = within id place (reader_view v) there owns in
         let long = room place below in
@@ -92,6 +98,8 @@ module _ {S A R : Type 0} (m : Meaning S A R) (digest : Key → ℕ) (layout : L
         (λ p ne. get_or-set_other s.words (reader_at place) (reader_at p) (pin_word pin) 0 (λ e. ne (omega (arith, e, is))))
         (λ j q ne e theirs. apart place owns j q ne e (subst (λ p. 1 ≤ occurs p q.places) (sym is) theirs))
         guards free)))
+        (deaths_on m digest layout s (reader_at place) (pin_word pin) id v (record v { epochs = record v.epochs { pin = pin }; trie = trie }) kept at refl refl (rests_none (state_of m kept.log) v (record v { epochs = record v.epochs { pin = pin }; trie = trie }) out)
+        (omega (arith, epoch)) (λ slot h. get_or-set_other s.words (reader_at place) (field_at layout Slots slot notes_field) (pin_word pin) 0 (λ e. absurd (omega (arith, e, below)))))
 
     -- the epoch is raised
     pub raise_keeps : (greatest known raises : ℕ) → now ≡ v.epochs.loaded → v.epochs.loaded < 2 ^ 62 → HasScannedAll v.epochs → greatest ≤ v.epochs.loaded + 1 → known ≤ v.epochs.loaded + 1 → raises ≡ v.epochs.raises + 1 → 1 ≤ length v.seats.readers →
@@ -108,6 +116,9 @@ module _ {S A R : Type 0} (m : Meaning S A R) (digest : Key → ℕ) (layout : L
         (advances now reader readings id (reader_view v) kept.epochs there (reader_word words') now greatest known raises same below all found le once
         (λ p. get_or-set_other s.words 0 (reader_at p) (v.epochs.loaded + 1) 0 (λ e. absurd (omega (arith, e))))
         within)))
+        (deaths_on m digest layout s 0 (v.epochs.loaded + 1) id v (record v { epochs = record v.epochs { met = now; greatest = greatest; known = known; raises = raises } }) kept at refl refl
+        (rests_less (state_of m kept.log) v (record v { epochs = record v.epochs { met = now; greatest = greatest; known = known; raises = raises } }) (knows_same v.trie) refl) (omega (arith, epoch, same))
+        (λ slot h. get_or-set_other s.words 0 (field_at layout Slots slot notes_field) (v.epochs.loaded + 1) 0 (λ e. absurd (omega (arith, e)))))
 
   pub may_load : (st : Step (Running S)) (id n : ℕ) (me : Me (Running S) (CellView S A R)) → 1 ≤ length me.0.seats.readers → Allows (IsCells m digest layout) n id me 0 (λ k. k) (Loads st me)
   may_load st id n me place s kept homes at bound = (
@@ -115,7 +126,8 @@ module _ {S A R : Type 0} (m : Meaning S A R) (digest : Key → ℕ) (layout : L
     keeps,
     tt,
     load_keeps s id me.1 me.0 kept at 0 (loading me.0.epochs (epoch_word s.words)) (alone_still me.0 (record me.0 { epochs = loading me.0.epochs (epoch_word s.words) }) (kept.alone id me.0 at) place refl (λ none. none))
-        (loads (epoch_word s.words) (reader_word s.words) (map reader_view s.views) id (reader_view me.0) kept.epochs (there s id me.1 me.0 kept at)),
+        (loads (epoch_word s.words) (reader_word s.words) (map reader_view s.views) id (reader_view me.0) kept.epochs (there s id me.1 me.0 kept at))
+        (deaths_loading m digest layout s id me.0 kept at),
     record { met = is_met (epoch_word s.words) (reader_word s.words) (map reader_view s.views) id (reader_view me.0) kept.epochs (there s id me.1 me.0 kept at); sole = λ all. raised_alone m digest layout s id me.0 kept at all; is = refl },
   )
 
@@ -127,7 +139,8 @@ module _ {S A R : Type 0} (m : Meaning S A R) (digest : Key → ℕ) (layout : L
         keeps,
         tt,
         store_keeps s id me.1 me.0 kept at place (Pinned me.0.epochs.loaded) me.0.trie (knows_same me.0.trie) is some' (kept.epochs.each id (reader_view me.0) (there s id me.1 me.0 kept at)).loaded (λ _. tt)
-            (record { out = λ _. (kept.alone id me.0 at).out (λ stays. subst IsProtected idle stays); spent = λ none. absurd (omega (arith, none, some')) }),
+            (record { out = λ _. (kept.alone id me.0 at).out (λ stays. subst IsProtected idle stays); spent = λ none. absurd (omega (arith, none, some')) })
+            ((kept.alone id me.0 at).out (λ stays. subst IsProtected idle stays)),
         record { is = refl },
       ))
 
@@ -137,7 +150,9 @@ module _ {S A R : Type 0} (m : Meaning S A R) (digest : Key → ℕ) (layout : L
     keeps,
     tt,
     load_keeps s id me.1 me.0 kept at 0 (protecting me.0.epochs (epoch_word s.words)) (alone_within (record me.0 { epochs = protecting me.0.epochs (epoch_word s.words) }) place tt)
-        (protects (epoch_word s.words) (reader_word s.words) (map reader_view s.views) id (reader_view me.0) kept.epochs (there s id me.1 me.0 kept at) epoch pin),
+        (protects (epoch_word s.words) (reader_word s.words) (map reader_view s.views) id (reader_view me.0) kept.epochs (there s id me.1 me.0 kept at) epoch pin)
+        (deaths_load m digest layout s 0 id me.0 (record me.0 { epochs = protecting me.0.epochs (epoch_word s.words) }) kept at refl refl
+        (rests_none (state_of m kept.log) me.0 (record me.0 { epochs = protecting me.0.epochs (epoch_word s.words) }) ((kept.alone id me.0 at).out (λ stays. subst IsProtected pin stays)))),
     record { met = is_met (epoch_word s.words) (reader_word s.words) (map reader_view s.views) id (reader_view me.0) kept.epochs (there s id me.1 me.0 kept at); sole = λ all. raised_alone m digest layout s id me.0 kept at all; is = refl },
   )
 
@@ -148,7 +163,8 @@ module _ {S A R : Type 0} (m : Meaning S A R) (digest : Key → ℕ) (layout : L
     keeps,
     tt,
     store_keeps s id me.1 me.0 kept at place Idle (forgetting me.0.trie) (knows_less me.0.trie) is some' tt (λ _. tt)
-        (record { out = λ _. record { stands = refl; leaf = refl; seen = refl; meets = refl; answered = refl; locks = free }; spent = λ none. absurd (omega (arith, none, some')) }),
+        (record { out = λ _. record { stands = refl; leaf = refl; seen = refl; meets = refl; answered = refl; locks = free }; spent = λ none. absurd (omega (arith, none, some')) })
+        (record { stands = refl; leaf = refl; seen = refl; meets = refl; answered = refl; locks = free }),
     record { is = refl },
   )
 
@@ -161,7 +177,9 @@ module _ {S A R : Type 0} (m : Meaning S A R) (digest : Key → ℕ) (layout : L
     load_keeps s id me.1 me.0 kept at (reader_at place) (scanning me.0.epochs place (reader_word s.words place))
         (alone_still me.0 (record me.0 { epochs = scanning me.0.epochs place (reader_word s.words place) }) (kept.alone id me.0 at) owns refl (λ none. none))
         (scans (epoch_word s.words) (reader_word s.words) (map reader_view s.views) id (reader_view me.0) kept.epochs (there s id me.1 me.0 kept at) place
-        (passes_by me.0.epochs (reader_word s.words place)) refl),
+        (passes_by me.0.epochs (reader_word s.words place)) refl)
+        (deaths_load m digest layout s (reader_at place) id me.0 (record me.0 { epochs = scanning me.0.epochs place (reader_word s.words place) }) kept at refl refl
+        (rests_less (state_of m kept.log) me.0 (record me.0 { epochs = scanning me.0.epochs place (reader_word s.words place) }) (knows_same me.0.trie) refl)),
     record { reader = place; there = is; stood = stood_so m digest layout s id me.0 (reader_at place) (reader_at place) kept at lives refl; is = refl },
   )
 
@@ -229,7 +247,8 @@ module _ {S A R : Type 0} (m : Meaning S A R) (digest : Key → ℕ) (layout : L
             tt,
             load_keeps s id me.1 me.0 kept at 0 (advancing me.0.epochs (epoch_word s.words)) (alone_still me.0 (tried me (epoch_word s.words)) (kept.alone id me.0 at) place refl (λ none. none))
                 (misses (epoch_word s.words) (reader_word s.words) (map reader_view s.views) id (reader_view me.0) kept.epochs (there s id me.1 me.0 kept at) (epoch_word s.words)
-                (max me.0.epochs.greatest (epoch_word s.words)) (known_after me (epoch_word s.words)) (raises_after me (epoch_word s.words)) greatest le none),
+                (max me.0.epochs.greatest (epoch_word s.words)) (known_after me (epoch_word s.words)) (raises_after me (epoch_word s.words)) greatest le none)
+                (deaths_load m digest layout s 0 id me.0 (tried me (epoch_word s.words)) kept at refl refl (rests_less (state_of m kept.log) me.0 (tried me (epoch_word s.words)) (knows_same me.0.trie) refl)),
             tells,
           )
 

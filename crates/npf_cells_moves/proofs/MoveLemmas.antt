@@ -25,12 +25,14 @@ use Rattle.npf_seats.proofs.SumLemmas.{first_occurs, sum-set}
 use Rattle.npf_cells_pins.specs.declared.pin.Pin.TheVariants.{Idle}
 use Rattle.npf_cells_pins.specs.Epochs.{Epochs, pin_place}
 use Rattle.npf_cells_pins.proofs.EpochLemmas.{epochs-split, epochs-join, within_last}
-use Rattle.npf_cells_leaves.specs.Trie.{all_grown, TrieWords, trie_words, FitsTrie}
+use Rattle.npf_cells_leaves.specs.Trie.{HasNoWalk, all_grown, TrieWords, trie_words, unread_side, FitsTrie}
 use Rattle.npf_cells_leaves.proofs.TrieLemmas.{KeepsTrie, knows_same, grown-set, grown-push, trie_kept, fits-set, fits-push, fits_unread, keeps_words}
 use Rattle.npf_cells_lives.specs.Conns.{entry_seat}
+use Rattle.npf_cells_lives.specs.Deaths.{Deaths}
 use Rattle.npf_cells_lives.specs.Pools.{taken}
 use Rattle.npf_cells_lives.specs.Stored.{FitsStored}
 use Rattle.npf_cells_lives.proofs.ConnLemmas.{fits_nothing, owes_nothing, builds-set, builds-kept, builds-push, unstored-set, unstored-push, conns-same}
+use Rattle.npf_cells_lives.proofs.DeathLemmas.{spares_all, RestsNoMore, deaths-same, deaths-push}
 use Rattle.npf_cells_lives.proofs.LockLemmas.{locks-same, holders-set, holders-push}
 use Rattle.npf_cells_lives.proofs.PoolLemmas.{pools-same, taken-set, taken-push}
 use Rattle.npf_cells_lives.proofs.StoredLemmas.{fits_unstored, own_same, stored_kept, stored-set, stored-push}
@@ -38,7 +40,8 @@ use Rattle.npf_cells_lives.proofs.TurnLemmas.{TurnsStay, turns-kept, turns-push}
 use Rattle.npf_cells_rule.specs.declared.view.CellView.{CellView}
 use Rattle.npf_cells_rule.specs.Cells.{FitsAlone, IsCells}
 use Rattle.npf_cells_rule.specs.Passes.{cell_pass, IsPassOf}
-use Rattle.npf_cells_rule.specs.Views.{seat_side, reader_view, nothing_left, lock_side, pool_side, trie_side, turn_side}
+use Rattle.npf_cells_rule.specs.Views.{seat_side, reader_view, nothing_left, lock_side, pool_side, trie_side, turn_side, death_side}
+use Rattle.npf_cells_rule.proofs.DeathFrames.{rests_none, rests_on_none}
 use Rattle.npf_cells_rule.proofs.Frames.{pushed_side, merged_side, framed, seats_step, alone-set, alone-push, alone_still}
 use Rattle.npf_cells_moves.specs.Moves.{gives_reader, given_view, joined_pools, joined_trie, takes_in, IsBorn, HasRead}
 use Rattle.npf_cells_lives.specs.Turns.{Running, Turns}
@@ -52,6 +55,14 @@ module _ {S A R : Type 0} (m : Meaning S A R) (digest : Key → ℕ) (layout : L
 
   turns_still : (s : State (Running S) (CellView S A R)) (id : ℕ) (v w : CellView S A R) (kept : IsCells m digest layout s) → get_elem? s.views id ≡ some v → w.turn ≡ v.turn → Turns turn_side layout (state_of m kept.log) s.words s.homes (set s.views id w)
   turns_still s id v w kept at same = turns-kept turn_side layout (state_of m kept.log) (state_of m kept.log) s.words s.words s.homes s.views id v w kept.turns at same (turns_same (state_of m kept.log) s.words)
+
+  deaths_still : (s : State (Running S) (CellView S A R)) (id : ℕ) (v w : CellView S A R) (kept : IsCells m digest layout s) → get_elem? s.views id ≡ some v → w.pools.kills ≡ v.pools.kills → w.epochs.loaded ≡ v.epochs.loaded →
+      RestsNoMore (state_of m kept.log) (death_side v) (death_side w) → Deaths death_side layout (state_of m kept.log) s.words (set s.views id w)
+  deaths_still s id v w kept at kills loaded less =
+      deaths-same death_side layout (state_of m kept.log) (state_of m kept.log) s.words s.words s.views id v w kept.deaths at (spares_all (state_of m kept.log)) (omega arith) less kills (λ conn c. loaded) (λ slot h. refl) (λ slot h. refl)
+
+  nothing_walked : HasNoWalk unread_side
+  nothing_walked = record { stands = refl; leaf = refl; seen = refl; meets = refl; answered = refl; locks = refl }
 
   -- a seat is split so
   pub splits : (id : ℕ) (v : CellView S A R) → v.seats.lives ≡ true → v.epochs.pin ≡ Idle → 2 ≤ length v.seats.readers →
@@ -75,6 +86,7 @@ module _ {S A R : Type 0} (m : Meaning S A R) (digest : Key → ℕ) (layout : L
       (locks-same lock_side layout s.words s.words s.views (set s.views id (gives_reader v) ++ given_view v ∷ []) kept.locks (λ lock h. refl)
       (λ lock. holders-push lock_side layout (set s.views id (gives_reader v)) (given_view v) refl lock ∙ holders-set lock_side layout s.views id v (gives_reader v) at refl lock))
       (turns-push turn_side layout (state_of m kept.log) s.words s.homes (set s.views id (gives_reader v)) (given_view v) (turns_still s id v (gives_reader v) kept at refl) refl)
+      (deaths-push death_side layout (state_of m kept.log) s.words (set s.views id (gives_reader v)) (given_view v) (deaths_still s id v (gives_reader v) kept at refl refl (record { rests = λ conn dead bare rests. (rests, refl) })) refl (rests_on_none (given_view v) nothing_walked))
       (alone-push (set s.views id (gives_reader v)) (given_view v) given_alone (alone-set s.views id (gives_reader v) (alone_still v (gives_reader v) (kept.alone id v at) some_left refl (λ none. none)) kept.alone))
     where
       some_left : 1 ≤ length (gives_reader v).seats.readers
@@ -88,8 +100,8 @@ module _ {S A R : Type 0} (m : Meaning S A R) (digest : Key → ℕ) (layout : L
 
   -- two seats are joined so
   pub joins : (id : ℕ) (v : CellView S A R) (other : ℕ) (w : CellView S A R) → v.seats.lives ≡ true → v.seats.theirs ≡ [] → v.epochs.pin ≡ Idle → 1 ≤ length v.seats.readers →
-      w.seats.lives ≡ true → w.seats.theirs ≡ [] → w.epochs.pin ≡ Idle → w.pools.nodes ≡ [] → w.pools.builds ≡ [] → w.trie.locks ≡ [] → w.turn ≡ None → Joins (IsCells m digest layout) id v other w (takes_in v w) nothing_left
-  joins id v other w lives theirs idle place w-lives w-theirs w-idle w-nodes w-builds w-locks w-turn s kept at apart there =
+      w.seats.lives ≡ true → w.seats.theirs ≡ [] → w.epochs.pin ≡ Idle → w.pools.nodes ≡ [] → w.pools.builds ≡ [] → w.pools.kills ≡ [] → w.trie.locks ≡ [] → w.turn ≡ None → Joins (IsCells m digest layout) id v other w (takes_in v w) nothing_left
+  joins id v other w lives theirs idle place w-lives w-theirs w-idle w-nodes w-builds w-kills w-locks w-turn s kept at apart there =
       let was : get_elem? s.views other ≡ some w = sym (set_else s.views id other (takes_in v w) apart) ∙ there in
       framed m digest layout s (record { words = s.words; homes = s.homes; views = set (set s.views id (takes_in v w)) other nothing_left }) kept kept.published kept.log refl
       (subst (λ sides. Seats entry_seat layout.slots all_places kept.log sides) (sym (merged_side seat_side s.views id other (takes_in v w) nothing_left))
@@ -112,6 +124,9 @@ module _ {S A R : Type 0} (m : Meaning S A R) (digest : Key → ℕ) (layout : L
       (locks-same lock_side layout s.words s.words s.views (set (set s.views id (takes_in v w)) other nothing_left) kept.locks (λ lock h. refl)
       (λ lock. holders-set lock_side layout (set s.views id (takes_in v w)) other w nothing_left there (sym w-locks) lock ∙ holders-set lock_side layout s.views id v (takes_in v w) at refl lock))
       (turns-kept turn_side layout (state_of m kept.log) (state_of m kept.log) s.words s.words s.homes (set s.views id (takes_in v w)) other w nothing_left (turns_still s id v (takes_in v w) kept at refl) there (sym w-turn) (turns_same (state_of m kept.log) s.words))
+      (deaths-same death_side layout (state_of m kept.log) (state_of m kept.log) s.words s.words (set s.views id (takes_in v w)) other w nothing_left
+      (deaths_still s id v (takes_in v w) kept at refl refl (record { rests = λ conn dead bare rests. (rests, refl) })) there (spares_all (state_of m kept.log)) (omega arith) (rests_none (state_of m kept.log) w nothing_left nothing_walked)
+      (sym w-kills) (λ conn c. absurd (none_listed conn c)) (λ slot h. refl) (λ slot h. refl))
       (alone-set (set s.views id (takes_in v w)) other nothing_left (record { out = λ _. record { stands = refl; leaf = refl; seen = refl; meets = refl; answered = refl; locks = refl }; spent = λ _. refl })
       (alone-set s.views id (takes_in v w) (alone_still v (takes_in v w) (kept.alone id v at) some_left refl (λ none. record { stands = none.stands; leaf = none.leaf; seen = none.seen; meets = none.meets; answered = none.answered; locks = none.locks })) kept.alone))
     where

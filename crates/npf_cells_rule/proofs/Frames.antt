@@ -15,7 +15,7 @@ use Rattle.npf_connections.specs.Pass.{all_places}
 use Rattle.npf_cells_words.specs.declared.layout.Layout.{Layout}
 use Rattle.npf_cells_words.specs.declared.layout.Pool.{Pool}
 use Rattle.npf_cells_words.specs.declared.layout.Pool.TheVariants.{Slots}
-use Rattle.npf_cells_words.specs.Layout.{pools_at, root_at, turn_field, phase_field, inc_field, field_at, epoch_word, reader_word}
+use Rattle.npf_cells_words.specs.Layout.{pools_at, root_at, turn_field, phase_field, inc_field, notes_field, field_at, epoch_word, reader_word}
 use Rattle.npf_cells_words.specs.Places.{lock_at}
 use Rattle.npf_cells_words.proofs.WordLemmas.{lock_behind, field_behind}
 use Rattle.npf_seats.specs.Seats.{Seats}
@@ -28,10 +28,12 @@ use Rattle.npf_cells_leaves.specs.Trie.{HasNoWalk, Trie}
 use Rattle.npf_cells_leaves.proofs.TrieLemmas.{KnowsNoMore, keeps_words, trie_same}
 use Rattle.npf_cells_lives.specs.declared.pools.PoolSide.{PoolSide}
 use Rattle.npf_cells_lives.specs.Conns.{inc_word, unstored_by, Conns, entry_seat}
+use Rattle.npf_cells_lives.specs.Deaths.{is_dead, Deaths}
 use Rattle.npf_cells_lives.specs.Locks.{Locks}
 use Rattle.npf_cells_lives.specs.Pools.{taken, Pools}
 use Rattle.npf_cells_lives.specs.Stored.{FitsStored, StoredWords}
 use Rattle.npf_cells_lives.proofs.ConnLemmas.{BuildsIn, builds-kept, unstored-set, conns-same}
+use Rattle.npf_cells_lives.proofs.DeathLemmas.{Spares, RestsNoMore}
 use Rattle.npf_cells_lives.proofs.LockLemmas.{locks-same, holders-set}
 use Rattle.npf_cells_lives.proofs.PoolLemmas.{pools-same, pools-kept, taken-set}
 use Rattle.npf_cells_lives.proofs.StoredLemmas.{stored-set, stored-words}
@@ -39,7 +41,8 @@ use Rattle.npf_cells_lives.proofs.TurnLemmas.{turns-kept}
 use Rattle.npf_cells_rule.specs.declared.view.CellView.{CellView}
 use Rattle.npf_cells_rule.specs.Cells.{FitsAlone, AllFitAlone, IsCells}
 use Rattle.npf_cells_rule.specs.Passes.{IsProtected}
-use Rattle.npf_cells_rule.specs.Views.{seat_side, reader_view, lock_side, pool_side, trie_side, turn_side}
+use Rattle.npf_cells_rule.specs.Views.{seat_side, reader_view, lock_side, pool_side, trie_side, turn_side, death_side}
+use Rattle.npf_cells_rule.proofs.DeathFrames.{rests_less, deaths_spared, deaths_apart, deaths_load}
 use Rattle.npf_cells_lives.specs.Turns.{IsTurnField, Running, StaysAt, Turns}
 
 pub pushed_side : {X Y : Type 0} (f : X → Y) (xs : List X) (i : ℕ) (x y : X) → map f (set xs i x ++ y ∷ []) ≡ set (map f xs) i (f x) ++ f y ∷ []
@@ -78,11 +81,11 @@ module _ {S A R : Type 0} where
   }
 
 module _ {S A R : Type 0} (m : Meaning S A R) (digest : Key → ℕ) (layout : Layout) where
-  -- a state of as many words, with the parts on seats, epochs, pools and connections
+  -- a state of as many words, with each part
   pub framed : (s s' : State (Running S) (CellView S A R)) (kept : IsCells m digest layout s) (published : List ℕ) (log : List (Entry S A R)) → length s'.words ≡ length s.words →
       Seats entry_seat layout.slots all_places log (map seat_side s'.views) → Epochs (epoch_word s'.words) (reader_word s'.words) (map reader_view s'.views) →
-      Pools layout (taken pool_side published (state_of m log) s'.views) s'.words → Trie trie_side digest layout published (state_of m log) s'.words s'.views → Conns pool_side m layout log s'.words s'.views → StoredWords pool_side layout s'.words s'.views → Locks lock_side layout s'.words s'.views → Turns turn_side layout (state_of m log) s'.words s'.homes s'.views → AllFitAlone s'.views → IsCells m digest layout s'
-  framed s s' kept published log count seats epochs pools trie connections stored locks turns alone = record {
+      Pools layout (taken pool_side published (state_of m log) s'.views) s'.words → Trie trie_side digest layout published (state_of m log) s'.words s'.views → Conns pool_side m layout log s'.words s'.views → StoredWords pool_side layout s'.words s'.views → Locks lock_side layout s'.words s'.views → Turns turn_side layout (state_of m log) s'.words s'.homes s'.views → Deaths death_side layout (state_of m log) s'.words s'.views → AllFitAlone s'.views → IsCells m digest layout s'
+  framed s s' kept published log count seats epochs pools trie connections stored locks turns deaths alone = record {
     log = log;
     published = published;
     seats = seats;
@@ -93,6 +96,7 @@ module _ {S A R : Type 0} (m : Meaning S A R) (digest : Key → ℕ) (layout : L
     stored = stored;
     locks = locks;
     turns = turns;
+    deaths = deaths;
     alone = alone;
   }
 
@@ -141,10 +145,10 @@ module _ {S A R : Type 0} (m : Meaning S A R) (digest : Key → ℕ) (layout : L
       turns_apart s i n id v w (state_of m kept.log) kept at same (λ slot field h f. words (field_at layout Slots slot field) (field_behind layout Slots slot field)) (λ slot. inl refl)
 
   -- a step on a word of the part on epochs, that changes this side of one view alone
-  pub epochs_step : (s : State (Running S) (CellView S A R)) (i n id : ℕ) (c : List (ℕ × Running S)) (v w : CellView S A R) → IsCells m digest layout s → get_elem? s.views id ≡ some v → w.seats ≡ v.seats → w.pools ≡ v.pools → KnowsNoMore v.trie w.trie → w.turn ≡ v.turn → FitsAlone w →
+  pub epochs_step : (s : State (Running S) (CellView S A R)) (i n id : ℕ) (c : List (ℕ × Running S)) (v w : CellView S A R) (kept : IsCells m digest layout s) → get_elem? s.views id ≡ some v → w.seats ≡ v.seats → w.pools ≡ v.pools → KnowsNoMore v.trie w.trie → w.turn ≡ v.turn → FitsAlone w →
       ((j : ℕ) → pools_at ≤ j → slice_index (set s.words i n) j ≡ slice_index s.words j) →
-      Epochs (epoch_word (set s.words i n)) (reader_word (set s.words i n)) (set (map reader_view s.views) id (reader_view w)) → IsCells m digest layout (stepped s i n id c w keeps)
-  epochs_step s i n id c v w kept at same pools trie turn alone words epochs = framed s (stepped s i n id c w keeps) kept kept.published kept.log (length-set s.words i n)
+      Epochs (epoch_word (set s.words i n)) (reader_word (set s.words i n)) (set (map reader_view s.views) id (reader_view w)) → Deaths death_side layout (state_of m kept.log) (set s.words i n) (set s.views id w) → IsCells m digest layout (stepped s i n id c w keeps)
+  epochs_step s i n id c v w kept at same pools trie turn alone words epochs deaths = framed s (stepped s i n id c w keeps) kept kept.published kept.log (length-set s.words i n)
       (subst (λ sides. Seats entry_seat layout.slots all_places kept.log sides) (sym (side_same seat_side s.views id v w at same)) kept.seats)
       (subst (λ rs. Epochs (epoch_word (set s.words i n)) (reader_word (set s.words i n)) rs) (sym (map-set reader_view s.views id w)) epochs)
       (pools-same layout (taken pool_side kept.published (state_of m kept.log) s.views) (taken pool_side kept.published (state_of m kept.log) (set s.views id w)) s.words (set s.words i n) kept.pools (length-set s.words i n) words
@@ -154,6 +158,7 @@ module _ {S A R : Type 0} (m : Meaning S A R) (digest : Key → ℕ) (layout : L
       (stored_apart s i n id w kept (subst (FitsStored layout s.words) (sym pools) (kept.stored id v at)) (λ j h. words j (omega (arith, h))))
       (locks_apart s i n id v w kept at trie.locks (λ j h. words j (omega (arith, h))))
       (turns_behind s i n id v w kept at turn (λ j h. words j (omega (arith, h))))
+      deaths
       (alone-set s.views id w alone kept.alone)
 
   -- a load that changes the seats' side of one view alone
@@ -170,6 +175,7 @@ module _ {S A R : Type 0} (m : Meaning S A R) (digest : Key → ℕ) (layout : L
       (stored_apart s i (slice_index s.words i) id w kept (subst (FitsStored layout s.words) (sym pools) (kept.stored id v at)) (λ j h. ap (λ ws. slice_index ws j) (set-get_or s.words i 0)))
       (locks_apart s i (slice_index s.words i) id v w kept at trie.locks (λ j h. ap (λ ws. slice_index ws j) (set-get_or s.words i 0)))
       (turns_behind s i (slice_index s.words i) id v w kept at turn (λ j h. ap (λ ws. slice_index ws j) (set-get_or s.words i 0)))
+      (deaths_load m digest layout s i id v w kept at (ap (λ p. p.kills) pools) (ap (λ (r : ReaderView). r.side.loaded) same) (rests_less (state_of m kept.log) v w trie (ap (λ (r : ReaderView). r.side.pin) same)))
       (alone-set s.views id w alone kept.alone)
 
   -- the part on epochs stays where the words before the pools' do, and what the seat knows of it
@@ -188,11 +194,17 @@ module _ {S A R : Type 0} (m : Meaning S A R) (digest : Key → ℕ) (layout : L
           let below = owned_within entry_seat layout.slots all_places kept.log (map seat_side s.views) j place x.0.seats kept.seats (at_map seat_side s.views j x.0 x.1) (omega (arith, same', owns)) in
           words (1 + place) (omega (arith, below))
 
+  -- the part on deaths stays through a step on a word of the pools
+  deaths_pool : (s : State (Running S) (CellView S A R)) (i n id : ℕ) (v w : CellView S A R) (kept : IsCells m digest layout s) → get_elem? s.views id ≡ some v → w.pools.kills ≡ v.pools.kills → reader_view w ≡ reader_view v →
+      RestsNoMore (state_of m kept.log) (death_side v) (death_side w) → IsPoolStep layout s.words i n → Deaths death_side layout (state_of m kept.log) (set s.words i n) (set s.views id w)
+  deaths_pool s i n id v w kept at kills reads less words =
+      deaths_apart m digest layout s i n id v w kept at kills (ap (λ (r : ReaderView). r.side.loaded) reads) less (let same = words.before 0 (omega arith) in omega (arith, same)) words.behind
+
   -- a step on a word of the part on pools, that changes this side of one view alone
   pub pools_step : (s : State (Running S) (CellView S A R)) (i n id : ℕ) (c : List (ℕ × Running S)) (v w : CellView S A R) (kept : IsCells m digest layout s) → get_elem? s.views id ≡ some v → w.seats ≡ v.seats → reader_view w ≡ reader_view v → KnowsNoMore v.trie w.trie → FitsStored layout s.words w.pools →
-      w.pools.builds ≡ v.pools.builds → w.pools.unstored ≡ v.pools.unstored → w.turn ≡ v.turn → FitsAlone w → IsPoolStep layout s.words i n →
+      w.pools.builds ≡ v.pools.builds → w.pools.unstored ≡ v.pools.unstored → w.pools.kills ≡ v.pools.kills → w.turn ≡ v.turn → FitsAlone w → IsPoolStep layout s.words i n →
       Pools layout (taken pool_side kept.published (state_of m kept.log) (set s.views id w)) (set s.words i n) → IsCells m digest layout (stepped s i n id c w keeps)
-  pools_step s i n id c v w kept at same reads trie stored builds unstored turn alone words pools = framed s (stepped s i n id c w keeps) kept kept.published kept.log (length-set s.words i n)
+  pools_step s i n id c v w kept at same reads trie stored builds unstored kills turn alone words pools = framed s (stepped s i n id c w keeps) kept kept.published kept.log (length-set s.words i n)
       (subst (λ sides. Seats entry_seat layout.slots all_places kept.log sides) (sym (side_same seat_side s.views id v w at same)) kept.seats)
       (epochs_apart s i n id v w kept at reads words.before)
       pools
@@ -201,13 +213,14 @@ module _ {S A R : Type 0} (m : Meaning S A R) (digest : Key → ℕ) (layout : L
       (stored_apart s i n id w kept stored words.behind)
       (locks_apart s i n id v w kept at trie.locks words.behind)
       (turns_behind s i n id v w kept at turn words.behind)
+      (deaths_pool s i n id v w kept at kills reads (rests_less (state_of m kept.log) v w trie (ap (λ (r : ReaderView). r.side.pin) reads)) words)
       (alone-set s.views id w alone kept.alone)
 
   -- the same, where the pass also sees all of the history
   pub sight_step : (s : State (Running S) (CellView S A R)) (i n id : ℕ) (c : List (ℕ × Running S)) (v w : CellView S A R) (kept : IsCells m digest layout s) → get_elem? s.views id ≡ some v → v.seats.lives ≡ true → w.seats ≡ record v.seats { history = kept.log } → reader_view w ≡ reader_view v →
-      KnowsNoMore v.trie w.trie → FitsStored layout s.words w.pools → w.pools.builds ≡ v.pools.builds → w.pools.unstored ≡ v.pools.unstored → w.turn ≡ v.turn → FitsAlone w → IsPoolStep layout s.words i n →
+      KnowsNoMore v.trie w.trie → FitsStored layout s.words w.pools → w.pools.builds ≡ v.pools.builds → w.pools.unstored ≡ v.pools.unstored → w.pools.kills ≡ v.pools.kills → w.turn ≡ v.turn → FitsAlone w → IsPoolStep layout s.words i n →
       Pools layout (taken pool_side kept.published (state_of m kept.log) (set s.views id w)) (set s.words i n) → IsCells m digest layout (stepped s i n id c w keeps)
-  sight_step s i n id c v w kept at lives seats reads trie stored builds unstored turn alone words pools = framed s (stepped s i n id c w keeps) kept kept.published kept.log (length-set s.words i n)
+  sight_step s i n id c v w kept at lives seats reads trie stored builds unstored kills turn alone words pools = framed s (stepped s i n id c w keeps) kept kept.published kept.log (length-set s.words i n)
       (subst (λ sides. Seats entry_seat layout.slots all_places kept.log sides) (sym (map-set seat_side s.views id w ∙ ap (λ side. set (map seat_side s.views) id side) seats))
       (seats-sees entry_seat layout.slots all_places kept.log (map seat_side s.views) id v.seats kept.seats (at_map seat_side s.views id v at) lives))
       (epochs_apart s i n id v w kept at reads words.before)
@@ -217,14 +230,16 @@ module _ {S A R : Type 0} (m : Meaning S A R) (digest : Key → ℕ) (layout : L
       (stored_apart s i n id w kept stored words.behind)
       (locks_apart s i n id v w kept at trie.locks words.behind)
       (turns_behind s i n id v w kept at turn words.behind)
+      (deaths_pool s i n id v w kept at kills reads (rests_less (state_of m kept.log) v w trie (ap (λ (r : ReaderView). r.side.pin) reads)) words)
       (alone-set s.views id w alone kept.alone)
 
   -- the same, where the pass also adds an entry of its own to the history
   pub entry_step : (s : State (Running S) (CellView S A R)) (i n id : ℕ) (c : List (ℕ × Running S)) (v w : CellView S A R) (kept : IsCells m digest layout s) → get_elem? s.views id ≡ some v → v.seats.lives ≡ true → 1 ≤ length v.seats.readers →
-      (entry : Entry S A R) → entry.seat ≡ id → MayFollow m layout.slots (state_of m kept.log) entry → w.seats ≡ record v.seats { history = kept.log ++ entry ∷ [] } → reader_view w ≡ reader_view v → FitsStored layout s.words w.pools → w.trie.locks ≡ v.trie.locks → w.turn ≡ v.turn → ((slot : ℕ) → StaysAt ((state_of m kept.log).slot slot) ((after m (state_of m kept.log) entry).slot slot)) → FitsAlone w →
+      (entry : Entry S A R) → entry.seat ≡ id → MayFollow m layout.slots (state_of m kept.log) entry → w.seats ≡ record v.seats { history = kept.log ++ entry ∷ [] } → reader_view w ≡ reader_view v → FitsStored layout s.words w.pools → w.trie.locks ≡ v.trie.locks → w.turn ≡ v.turn → ((slot : ℕ) → StaysAt ((state_of m kept.log).slot slot) ((after m (state_of m kept.log) entry).slot slot)) →
+      w.pools.kills ≡ v.pools.kills → Spares (state_of m kept.log) (after m (state_of m kept.log) entry) → ((slot : ℕ) → is_dead ((after m (state_of m kept.log) entry).slot slot).stage ≡ is_dead ((state_of m kept.log).slot slot).stage) → RestsNoMore (state_of m kept.log) (death_side v) (death_side w) → FitsAlone w →
       IsPoolStep layout s.words i n → Pools layout (taken pool_side kept.published (after m (state_of m kept.log) entry) (set s.views id w)) (set s.words i n) → Trie trie_side digest layout kept.published (after m (state_of m kept.log) entry) (set s.words i n) (set s.views id w) → BuildsIn pool_side (after m (state_of m kept.log) entry) (set s.views id w) →
       ((slot : ℕ) → slot < layout.slots → inc_word layout s.words slot + unstored_by pool_side (set s.views id w) slot ≡ ((after m (state_of m kept.log) entry).slot slot).inc) → IsCells m digest layout (stepped s i n id c w keeps)
-  entry_step s i n id c v w kept at lives place entry mine follows seats reads stored locks turn slots alone words pools trie builds incs =
+  entry_step s i n id c v w kept at lives place entry mine follows seats reads stored locks turn slots kills spares dead less alone words pools trie builds incs =
       let log = kept.log ++ entry ∷ [] in
       let state = state_of-append m kept.log entry in
       framed s (stepped s i n id c w keeps) kept kept.published log (length-set s.words i n)
@@ -243,12 +258,15 @@ module _ {S A R : Type 0} (m : Meaning S A R) (digest : Key → ℕ) (layout : L
       (locks_apart s i n id v w kept at locks words.behind)
       (subst (λ k. Turns turn_side layout k (set s.words i n) s.homes (set s.views id w)) (sym state)
       (turns_apart s i n id v w (after m (state_of m kept.log) entry) kept at turn (λ slot field h f. words.behind (field_at layout Slots slot field) (field_behind layout Slots slot field)) slots))
+      (subst (λ k. Deaths death_side layout k (set s.words i n) (set s.views id w)) (sym state)
+      (deaths_spared m digest layout s i n id v w (after m (state_of m kept.log) entry) kept at kills (ap (λ (r : ReaderView). r.side.loaded) reads) spares dead less (let same = words.before 0 (omega arith) in omega (arith, same))
+      (λ slot h. words.behind (field_at layout Slots slot notes_field) (field_behind layout Slots slot notes_field))))
       (alone-set s.views id w alone kept.alone)
 
   -- a step on a word behind the pools', that changes of one view what the pass still has to store alone
   pub private_step : (s : State (Running S) (CellView S A R)) (i n id : ℕ) (c : List (ℕ × Running S)) (v w : CellView S A R) (kept : IsCells m digest layout s) → get_elem? s.views id ≡ some v → root_at layout ≤ i → w.seats ≡ v.seats → reader_view w ≡ reader_view v →
-      w.pools.nodes ≡ v.pools.nodes → w.pools.builds ≡ v.pools.builds → FitsAlone w → Trie trie_side digest layout kept.published (state_of m kept.log) (set s.words i n) (set s.views id w) → Conns pool_side m layout kept.log (set s.words i n) (set s.views id w) → StoredWords pool_side layout (set s.words i n) (set s.views id w) → Locks lock_side layout (set s.words i n) (set s.views id w) → Turns turn_side layout (state_of m kept.log) (set s.words i n) s.homes (set s.views id w) → IsCells m digest layout (stepped s i n id c w keeps)
-  private_step s i n id c v w kept at behind same reads nodes builds alone trie connections stored locks turns = framed s (stepped s i n id c w keeps) kept kept.published kept.log (length-set s.words i n)
+      w.pools.nodes ≡ v.pools.nodes → w.pools.builds ≡ v.pools.builds → FitsAlone w → Trie trie_side digest layout kept.published (state_of m kept.log) (set s.words i n) (set s.views id w) → Conns pool_side m layout kept.log (set s.words i n) (set s.views id w) → StoredWords pool_side layout (set s.words i n) (set s.views id w) → Locks lock_side layout (set s.words i n) (set s.views id w) → Turns turn_side layout (state_of m kept.log) (set s.words i n) s.homes (set s.views id w) → Deaths death_side layout (state_of m kept.log) (set s.words i n) (set s.views id w) → IsCells m digest layout (stepped s i n id c w keeps)
+  private_step s i n id c v w kept at behind same reads nodes builds alone trie connections stored locks turns deaths = framed s (stepped s i n id c w keeps) kept kept.published kept.log (length-set s.words i n)
       (subst (λ sides. Seats entry_seat layout.slots all_places kept.log sides) (sym (side_same seat_side s.views id v w at same)) kept.seats)
       (epochs_apart s i n id v w kept at reads (λ j h. below j (omega (arith, h))))
       (pools-kept layout (taken pool_side kept.published (state_of m kept.log) s.views) (taken pool_side kept.published (state_of m kept.log) (set s.views id w)) s.words (set s.words i n) kept.pools (length-set s.words i n) below (taken-set pool_side kept.published (state_of m kept.log) s.views id v w at nodes))
@@ -257,6 +275,7 @@ module _ {S A R : Type 0} (m : Meaning S A R) (digest : Key → ℕ) (layout : L
       stored
       locks
       turns
+      deaths
       (alone-set s.views id w alone kept.alone)
     where
       below : (j : ℕ) → j < root_at layout → slice_index (set s.words i n) j ≡ slice_index s.words j

@@ -1,3 +1,5 @@
+pub mod DeathFrames
+pub mod DeathLawLemmas
 pub mod EntryLemmas
 pub mod Frames
 pub mod LawLemmas

@@ -8,6 +8,7 @@ use lib.ListN.{get_elem?}
 use Rattle.atomic_table.specs.Table.{opening as table_opening}
 use Rattle.atomic_table.proofs.Lists.{at_map}
 use Rattle.npf_types.specs.declared.key.Key.{Key}
+use Rattle.npf_core.specs.declared.conn_id.ConnId.{ConnId}
 use Rattle.npf_core.specs.Machine.{opening}
 use Rattle.npf_core.specs.Meaning.{Meaning}
 use Rattle.npf_connections.specs.Pass.{all_places}
@@ -19,7 +20,7 @@ use Rattle.npf_paths.proofs.LevelLemmas.{bare_has_levels}
 use Rattle.npf_cells_words.specs.declared.layout.Layout.{Layout}
 use Rattle.npf_cells_words.specs.declared.layout.Pool.{Pool}
 use Rattle.npf_cells_words.specs.declared.layout.Pool.TheVariants.{Slots, Nodes}
-use Rattle.npf_cells_words.specs.Layout.{turn_field, inc_field, phase_field, field_at, word_count, epoch_word, reader_word}
+use Rattle.npf_cells_words.specs.Layout.{turn_field, inc_field, phase_field, notes_field, field_at, word_count, epoch_word, reader_word}
 use Rattle.npf_cells_words.specs.Opening.{opening_words}
 use Rattle.npf_cells_words.specs.Places.{lock_at, is_in_trie, place_at}
 use Rattle.npf_cells_words.proofs.WordLemmas.{lock_behind, place_behind}
@@ -33,6 +34,7 @@ use Rattle.npf_cells_leaves.specs.Trie.{trie_words, holder_at, FitsTrie}
 use Rattle.npf_cells_leaves.proofs.TrieLemmas.{fits_unread}
 use Rattle.npf_cells_lives.specs.declared.turn.Turn.{Turn}
 use Rattle.npf_cells_lives.specs.Conns.{FitsBuilds, inc_word, unstored_by, entry_seat}
+use Rattle.npf_cells_lives.specs.Deaths.{first_note, has_epoch, slots_named, FitsKill, Deaths}
 use Rattle.npf_cells_lives.specs.Locks.{has_lock, lock_holders}
 use Rattle.npf_cells_lives.specs.Pools.{taken}
 use Rattle.npf_cells_lives.specs.Stored.{FitsStored}
@@ -40,7 +42,7 @@ use Rattle.npf_cells_lives.proofs.ConnLemmas.{fits_nothing}
 use Rattle.npf_cells_lives.proofs.StoredLemmas.{fits_unstored}
 use Rattle.npf_cells_rule.specs.declared.view.CellView.{CellView}
 use Rattle.npf_cells_rule.specs.Cells.{FitsAlone, IsCells, first_cell_view}
-use Rattle.npf_cells_rule.specs.Views.{reader_view, lock_side, pool_side, turn_side}
+use Rattle.npf_cells_rule.specs.Views.{reader_view, lock_side, pool_side, turn_side, death_side}
 use Rattle.npf_cells_lives.specs.Turns.{Running, has_turn, turn_holders, FitsTurn, Turns}
 use Rattle.npf_cells_rule.specs.Readers.{readers_in_turn}
 use Rattle.npf_cells_rule.proofs.ReaderLemmas.{in_turn_once, in_turn_never, length-in_turn}
@@ -98,6 +100,7 @@ module _ {S A R : Type 0} (layout : Layout) where
     stored = unstored;
     locks = record { says = λ lock h. behind layout (lock_at layout lock) (lock_behind layout lock) ∙ sym (unheld lock); alone = λ lock h. (let none = unheld lock in omega (arith, none)) };
     turns = first_turns;
+    deaths = first_deaths;
     alone = alone;
   })
     where
@@ -159,6 +162,23 @@ module _ {S A R : Type 0} (layout : Layout) where
           turnless : (j : ℕ) (v : CellView S A R) (turn : Turn S) → get_elem? (view ∷ []) j ≡ some v → v.turn ≡ Some turn → FitsTurn {S = S} layout opening (opening_words layout) turn
           turnless zero v turn e has = absurd (let no : None ≡ Some turn = ap (λ (u : CellView S A R). u.turn) (some-injective _ _ e) ∙ has in cc)
           turnless (suc j) v turn e has = absurd (some-ne-none v (sym e))
+
+      first_deaths : Deaths {S = S} death_side layout opening (opening_words layout) (view ∷ [])
+      first_deaths = record {
+        counted = λ slot h.
+            let sum = sum_by-cons (λ (u : CellView S A R). occurs slot (slots_named u.pools.kills)) view [] in
+            let note : has_epoch (first_note layout (opening_words layout) slot) ≡ 0 = ap has_epoch (no_note slot) in
+            omega (arith, sum, note);
+        kills = no_kills;
+        left = λ slot epoch h note. absurd (let none = no_note slot in omega (arith, note, none));
+      }
+        where
+          no_note : (slot : ℕ) → first_note layout (opening_words layout) slot ≡ 0
+          no_note slot = behind layout (field_at layout Slots slot notes_field) (omega arith)
+
+          no_kills : (j : ℕ) (v : CellView S A R) (id : ConnId) → get_elem? (view ∷ []) j ≡ some v → Contains v.pools.kills id → FitsKill {S = S} death_side opening (epoch_word (opening_words layout)) (view ∷ []) v.epochs.loaded id
+          no_kills zero v id e c = absurd (none_listed id (subst (λ (u : CellView S A R). Contains u.pools.kills id) (sym (some-injective _ _ e)) c))
+          no_kills (suc j) v id e c = absurd (some-ne-none v (sym e))
 
       alone : (j : ℕ) (v : CellView S A R) → get_elem? (view ∷ []) j ≡ some v → FitsAlone v
       alone zero v e = subst (λ (u : CellView S A R). FitsAlone u) (some-injective _ _ e)

@@ -1,5 +1,5 @@
 -- A step on the word of a slot's turn or of its phase leaves all parts but that on turns.
-use Rattle.std.proofs.Common.{◌≡◌, ◌≢◌, ℕ, ◌+◌, ◌<◌, List, [], ◌∷◌, set, slice_index, refl, sym, ap, subst, ⊎_elim, arith, length-set}
+use Rattle.std.proofs.Common.{◌≡◌, ◌≢◌, ℕ, ◌+◌, ◌<◌, ◌≤◌, List, [], ◌∷◌, set, slice_index, refl, sym, ap, subst, ⊎_elim, arith, length-set}
 use Rattle.std.proofs.lemmas.List.{get_or-set_other}
 use mathlib.Core.Option.{some}
 use lib.ListN.{get_elem?}
@@ -15,11 +15,12 @@ use Rattle.npf_paths.specs.declared.place.Lock.{Lock}
 use Rattle.npf_cells_words.specs.declared.layout.Layout.{Layout}
 use Rattle.npf_cells_words.specs.declared.layout.Pool.{Pool}
 use Rattle.npf_cells_words.specs.declared.layout.Pool.TheVariants.{Slots}
-use Rattle.npf_cells_words.specs.Layout.{root_at, turn_field, inc_field, phase_field, key_field, field_at}
+use Rattle.npf_cells_words.specs.Layout.{root_at, turn_field, inc_field, phase_field, key_field, notes_field, field_at}
 use Rattle.npf_cells_words.specs.Places.{lock_at, IsLockOf, place_at}
 use Rattle.npf_cells_words.proofs.WordLemmas.{field_behind, key_far, key_short, not_slot, slot_apart}
 use Rattle.npf_seats.specs.Seats.{Seats}
 use Rattle.npf_seats.proofs.SumLemmas.{side_same}
+use Rattle.npf_cells_pins.specs.declared.pin.EpochSide.{EpochSide}
 use Rattle.npf_cells_leaves.specs.Trie.{key_word, trie_words}
 use Rattle.npf_cells_leaves.proofs.TrieLemmas.{KeepsTrie, KnowsNoMore, cell_kept, knows_same, trie_same}
 use Rattle.npf_cells_lives.specs.declared.pools.PoolSide.{PoolSide}
@@ -34,6 +35,7 @@ use Rattle.npf_cells_lives.proofs.StoredLemmas.{stored_kept, stored-set, no_turn
 use Rattle.npf_cells_rule.specs.declared.view.CellView.{CellView}
 use Rattle.npf_cells_rule.specs.Cells.{FitsAlone, IsCells}
 use Rattle.npf_cells_rule.specs.Views.{seat_side, lock_side, pool_side, trie_side, turn_side}
+use Rattle.npf_cells_rule.proofs.DeathFrames.{rests_less, deaths_on}
 use Rattle.npf_cells_rule.proofs.Frames.{alone-set, framed, epochs_apart}
 
 module _ {S A R : Type 0} (m : Meaning S A R) (digest : Key → ℕ) (layout : Layout) where
@@ -106,4 +108,7 @@ module _ {S A R : Type 0} (m : Meaning S A R) (digest : Key → ℕ) (layout : L
         (stored_else id w (subst (FitsStored layout s.words) (sym pools) (kept.stored id v at)))
         (locks-same lock_side layout s.words words' s.views (set s.views id w) kept.locks lock_else (holders-set lock_side layout s.views id v w at (ap (λ t. t.locks) trie)))
         turns
+        (deaths_on m digest layout s word n id v w kept at (ap (λ (p : PoolSide). p.kills) pools) (ap (λ (e : EpochSide). e.loaded) epochs)
+        (rests_less k v w (subst (λ side. KnowsNoMore v.trie side) (sym trie) (knows_same v.trie)) (ap (λ (e : EpochSide). e.pin) epochs))
+        (let same = below 0 (omega arith) in omega (arith, same)) (λ p h. other_word (field_at layout Slots p notes_field) (λ e. absurd (let low = short in omega (arith, e, low)))))
         (alone-set s.views id w alone kept.alone)

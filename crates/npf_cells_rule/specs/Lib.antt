@@ -1,4 +1,5 @@
 pub mod Cells
+pub mod DeathLaw
 pub mod Passes
 pub mod Readers
 pub mod Stood

@@ -1,16 +1,21 @@
 -- The sides of a view, and views of which one side changes.
-use Rattle.std.specs.Prelude.{ℕ, Option, None, List}
+use Rattle.std.specs.Prelude.{ℕ, Option, Some, None, List}
 use Rattle.atomic_table.specs.Table.{Me}
+use Rattle.npf_core.specs.declared.conn_id.ConnId.{ConnId}
 use Rattle.npf_core.specs.declared.entry.Entry.{Entry}
 use Rattle.npf_paths.specs.declared.place.Lock.{Lock}
 use Rattle.npf_seats.specs.declared.side.SeatSide.{SeatSide}
 use Rattle.npf_seats.specs.Moves.{spent_seat}
 use Rattle.npf_cells_pins.specs.declared.pin.EpochSide.{EpochSide}
+use Rattle.npf_cells_pins.specs.declared.pin.Pin.{Pin}
+use Rattle.npf_cells_pins.specs.declared.pin.Pin.TheVariants.{Idle, Pinned, Protected}
 use Rattle.npf_cells_pins.specs.Epochs.{ReaderView, idle_side}
+use Rattle.npf_cells_leaves.specs.declared.trie.LoadedLeaf.{LoadedLeaf}
 use Rattle.npf_cells_leaves.specs.declared.trie.TrieSide.{TrieSide}
 use Rattle.npf_cells_leaves.specs.Trie.{unread_side}
 use Rattle.npf_cells_lives.specs.declared.pools.PoolSide.{PoolSide}
 use Rattle.npf_cells_lives.specs.declared.turn.Turn.{Turn}
+use Rattle.npf_cells_lives.specs.Deaths.{DeathSide}
 use Rattle.npf_cells_lives.specs.Pools.{empty_handed}
 use Rattle.npf_cells_rule.specs.declared.view.CellView.{CellView}
 
@@ -33,6 +38,39 @@ lock_side v = v.trie.locks
 -- the turn that a pass has
 abbrev pub turn_side : {S A R : Type 0} → CellView S A R → Option (Turn S)
 turn_side v = v.turn
+
+-- what the part on deaths sees of it
+abbrev pub protecting_epoch : Pin → Option ℕ
+protecting_epoch Idle = None
+protecting_epoch (Pinned epoch) = None
+protecting_epoch (Protected pinned epoch) = Some epoch
+
+abbrev pub leaf_id : Option LoadedLeaf → Option ConnId
+leaf_id None = None
+leaf_id (Some leaf) = Some (record { slot = leaf.slot; inc = leaf.inc })
+
+abbrev pub noted_by : {S : Type 0} → Option (Turn S) → Option (ℕ × ℕ)
+noted_by None = None
+noted_by (Some turn) = noted_there turn.slot turn.was.stage turn.left
+
+abbrev pub noted_there : {S : Type 0} → ℕ → Stage S → Option ℕ → Option (ℕ × ℕ)
+noted_there slot Vacant left = None
+noted_there slot (Building seat) left = None
+noted_there slot (Live flow steps) left = None
+noted_there slot Dead None = None
+noted_there slot Dead (Some epoch) = Some (slot, epoch)
+
+abbrev pub death_side : {S A R : Type 0} → CellView S A R → DeathSide
+death_side v = record {
+  kills = v.pools.kills;
+  reclaims = v.pools.reclaims;
+  cleared = v.pools.cleared;
+  noted = noted_by v.turn;
+  loaded = v.epochs.loaded;
+  protecting = protecting_epoch v.epochs.pin;
+  answered = v.trie.answered;
+  leaf = leaf_id v.trie.leaf;
+}
 
 -- the pass after a step that changes only what it knows of the epoch
 abbrev pub with_epochs : {S A R F : Type 0} → Me F (CellView S A R) → EpochSide → Me F (CellView S A R)

@@ -1,5 +1,6 @@
 // What holds of every table between any two steps. The functions do nothing: each is a theorem.
 ghost use Rattle.npf_cells_words.specs.declared.layout.Layout.{Layout};
+ghost use Rattle.npf_cells_rule.specs.DeathLaw.{RestsHoldBack};
 ghost use Rattle.npf_cells_rule.specs.TableLaw.{OwnsAlone, BuildsAlone, HoldsBack, CountsRaises, SoleRaises};
 ghost use Rattle.npf_cells_rule.specs.Readers.{ReadersStandApart};
 ghost use Rattle.npf_cells_rule.specs.TrieLaw.{EndsNameHolders, LeavesAreKept, NodesAreKept};
@@ -29,6 +30,11 @@ pub fn trie_law<L: Law>()
     ensures ends { (layout : Layout) → EndsNameHolders L.meaning layout }
     ensures leaves { (layout : Layout) → LeavesAreKept L.meaning layout }
     ensures nodes { (layout : Layout) → NodesAreKept L.meaning layout }
+{}
+
+/// The death law: while a pass may speak of a connection that was let go, the table's epoch is at most one more than that in its first note.
+pub fn death_law<L: Law>()
+    ensures rests { (layout : Layout) → RestsHoldBack L.meaning layout }
 {}
 
 /// The reader law: reader places that are given one after the other lie in different cache lines.

@@ -6,5 +6,5 @@
 mod laws;
 mod view;
 
-pub use laws::{claim_law, count_law, protection_law, reader_law, trie_law};
+pub use laws::{claim_law, count_law, death_law, protection_law, reader_law, trie_law};
 pub use view::CellView;

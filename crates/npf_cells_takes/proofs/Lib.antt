@@ -1,3 +1,5 @@
+pub mod BareLemmas
+pub mod LetGoLemmas
 pub mod PhaseKeepLemmas
 pub mod PoolKeepLemmas
 pub mod PrivateKeepLemmas

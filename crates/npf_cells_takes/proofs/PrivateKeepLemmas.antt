@@ -1,6 +1,6 @@
 -- Kind 10, and the load of an incarnation, keep the rule.
 use Rattle.std.specs.List.{Contains}
-use Rattle.std.proofs.Common.{◌≤◌, ◌≡◌, ◌≢◌, ℕ, ◌+◌, ◌<◌, Bool, true, false, cond, eqb, eq-eqb, ne_eqb, Some, List, ◌∷◌, set, length, slice_index, refl, sym, ap, ◌∙◌, subst, ⊎_elim, inl, arith, length-set}
+use Rattle.std.proofs.Common.{◌≤◌, ◌≡◌, ◌≢◌, ℕ, ◌+◌, ◌^◌, ◌<◌, Bool, ◌&&◌, true, false, cond, eqb, eq-eqb, ne_eqb, Some, List, ◌∷◌, set, length, slice_index, refl, sym, ap, ◌∙◌, subst, ⊎_elim, inl, arith, length-set}
 use Rattle.std.proofs.lemmas.Bool.Decides.{Decides-eqb, not_from_Decides}
 use Rattle.std.proofs.lemmas.List.{get_or-set_same, get_or-set_other, set-get_or}
 use mathlib.Core.Option.{some}
@@ -15,7 +15,7 @@ use Rattle.npf_core.proofs.IdentityLemmas.{counts_incarnations}
 use Rattle.npf_cells_words.specs.declared.layout.Layout.{Layout}
 use Rattle.npf_cells_words.specs.declared.layout.Pool.{Pool}
 use Rattle.npf_cells_words.specs.declared.layout.Pool.TheVariants.{Slots, Nodes}
-use Rattle.npf_cells_words.specs.Layout.{inc_field, phase_field, field_at, field_count, pool_places}
+use Rattle.npf_cells_words.specs.Layout.{inc_field, phase_field, notes_field, field_at, field_count, pool_places}
 use Rattle.npf_cells_words.specs.Places.{lock_at}
 use Rattle.npf_cells_words.proofs.WordLemmas.{inc_apart, field_behind, field_reach, node_apart}
 use Rattle.npf_seats.specs.Sums.{others_than, occurs}
@@ -26,17 +26,21 @@ use Rattle.npf_cells_leaves.specs.Trie.{trie_words}
 use Rattle.npf_cells_leaves.proofs.TrieLemmas.{KeepsTrie, knows_same, trie_same}
 use Rattle.npf_cells_lives.specs.declared.pools.StoredWord.{StoredWord}
 use Rattle.npf_cells_lives.specs.Conns.{inc_word, unstored_by, Conns}
+use Rattle.npf_cells_lives.specs.Deaths.{has_epoch, Deaths}
 use Rattle.npf_cells_lives.specs.Locks.{Locks}
 use Rattle.npf_cells_lives.specs.Stored.{stored_value, IsOwnField, FitsStored, StoredWords}
 use Rattle.npf_cells_lives.proofs.ConnLemmas.{building_at, builds-kept, unstored-set, conns-same, inc_shown, conns-stored}
+use Rattle.npf_cells_lives.proofs.DeathLemmas.{epoch_note, low_note}
 use Rattle.npf_cells_lives.proofs.LockLemmas.{locks-same, holders-set}
 use Rattle.npf_cells_lives.proofs.StoredLemmas.{own_same, stored_kept, stored-set, no_lock, no_turn}
 use Rattle.npf_cells_rule.specs.declared.view.CellView.{CellView}
 use Rattle.npf_cells_rule.specs.Cells.{IsCells}
-use Rattle.npf_cells_rule.specs.Views.{lock_side, pool_side, trie_side, turn_side, with_pools}
+use Rattle.npf_cells_rule.specs.Views.{lock_side, pool_side, trie_side, turn_side, death_side, with_pools}
+use Rattle.npf_cells_rule.proofs.DeathFrames.{deaths_load}
 use Rattle.npf_cells_rule.proofs.Frames.{alone_still, private_step, trie_apart, stored_apart, locks_apart, turns_apart, turns_behind}
 use Rattle.npf_cells_rule.proofs.LawLemmas.{builds_alone, owns_alone}
-use Rattle.npf_cells_takes.specs.PrivateKinds.{ShowsInc, ShowsTurnInc, MayStore, MayStoreInNode, MayStoreInSlot, MayStorePhase, storing, with_phase, LoadsInc, StoresPrivate}
+use Rattle.npf_cells_takes.specs.PrivateKinds.{ShowsInc, ShowsTurnInc, MayStore, MayStoreInNode, MayStoreInSlot, MayStorePhase, MayLetGo, storing, with_phase, letting_go, is_epoch_note, stored_in, LoadsInc, StoresPrivate}
+use Rattle.npf_cells_takes.proofs.LetGoLemmas.{deaths_built, deaths_in_node, lets_go}
 use Rattle.npf_cells_takes.proofs.PhaseKeepLemmas.{phase_stored}
 use Rattle.npf_cells_takes.proofs.PrivateTrieLemmas.{node_keeps, slot_keeps}
 use Rattle.npf_cells_lives.specs.Turns.{Running, stage_phase, Turns}
@@ -45,6 +49,17 @@ use Rattle.npf_cells_lives.specs.Turns.{Running, stage_phase, Turns}
 abbrev MayStoreOwn : {S A R : Type 0} → Meaning S A R → CellView S A R → Pool → ℕ → ℕ → ℕ → Type 0
 MayStoreOwn m v Slots slot field value = MayStoreInSlot m v slot field value
 MayStoreOwn m v Nodes node field value = MayStoreInNode v.pools node field
+
+-- a note that names a place has no epoch, and one that lets go has one
+no_epoch : (field value : ℕ) → (notes_field ≤ field → value < 2 ^ 63) → is_epoch_note field value ≡ false
+no_epoch field value low = by_test (eqb field notes_field) refl
+  where
+    by_test : (b : Bool) → eqb field notes_field ≡ b → (b && eqb (has_epoch value) 1) ≡ false
+    by_test true e = ap (λ n. eqb n 1) (low_note value (low (let is = (Decides-eqb field notes_field).0 e in omega (arith, is))))
+    by_test false e = refl
+
+an_epoch : (field value epoch : ℕ) → field ≡ notes_field → value ≡ 2 ^ 63 + epoch → is_epoch_note field value ≡ true
+an_epoch field value epoch is so = λ i. eq-eqb field notes_field is i && eqb ((ap has_epoch so ∙ epoch_note epoch) i) 1
 
 module _ {S A R : Type 0} (m : Meaning S A R) (digest : Key → ℕ) (layout : Layout) where
   -- who owns one word is one seat
@@ -124,7 +139,8 @@ module _ {S A R : Type 0} (m : Meaning S A R) (digest : Key → ℕ) (layout : L
             (conns_else s i (slice_index s.words i) id me.0 kept at (λ p h. ap (λ ws. slice_index ws (field_at layout Slots p inc_field)) (set-get_or s.words i 0)))
             (stored_apart m digest layout s i (slice_index s.words i) id me.0 kept (kept.stored id me.0 at) (λ j h. ap (λ ws. slice_index ws j) (set-get_or s.words i 0)))
             (locks_apart m digest layout s i (slice_index s.words i) id me.0 me.0 kept at refl (λ j h. ap (λ ws. slice_index ws j) (set-get_or s.words i 0)))
-            (turns_behind m digest layout s i (slice_index s.words i) id me.0 me.0 kept at refl (λ j h. ap (λ ws. slice_index ws j) (set-get_or s.words i 0))),
+            (turns_behind m digest layout s i (slice_index s.words i) id me.0 me.0 kept at refl (λ j h. ap (λ ws. slice_index ws j) (set-get_or s.words i 0)))
+            (deaths_load m digest layout s i id me.0 me.0 kept at refl refl (record { rests = λ j dead bare rests. (rests, refl) })),
         record { is = refl; shows = shows_inc s id slot me.0 kept at within; leaf = λ leaf e there. ap (λ p. inc_word layout s.words p) (sym there) ∙ ((kept.trie.each id me.0 at).leaf leaf e).inc; turn = shows_turn_inc s kept id me.0 at slot },
       )
 
@@ -191,6 +207,10 @@ module _ {S A R : Type 0} (m : Meaning S A R) (digest : Key → ℕ) (layout : L
     turns_stay pool unstored own = turns_apart m digest layout s (field_at layout pool place field) value id me.0 (with_stored pool unstored) (state_of m kept.log) kept at refl
         (λ slot f h is. get_or-set_other s.words (field_at layout pool place field) (field_at layout Slots slot f) value 0 (no_turn layout me.0.pools pool place field slot f own h is)) (λ slot. inl refl)
 
+    deaths_stay : (pool : Pool) (unstored : List ℕ) → place < pool_places layout pool → field < field_count pool → MayStoreOwn m me.0 pool place field value → Deaths death_side layout (state_of m kept.log) (words' pool) (set s.views id (with_stored pool unstored))
+    deaths_stay Slots unstored within exists may = deaths_built m digest layout s id me kept at place field value within exists (with_stored Slots unstored) refl refl refl may
+    deaths_stay Nodes unstored within exists may = deaths_in_node m digest layout s id me kept at place field value (with_stored Nodes unstored) within exists refl refl refl
+
     -- as long as the part on connections holds
     stored_step : me.0.seats.lives ≡ true → 1 ≤ length me.0.seats.readers → (pool : Pool) (unstored : List ℕ) → place < pool_places layout pool → field < field_count pool → MayStoreOwn m me.0 pool place field value →
         Conns pool_side m layout kept.log (words' pool) (set s.views id (with_stored pool unstored)) → Stored pool (with_stored pool unstored)
@@ -199,6 +219,7 @@ module _ {S A R : Type 0} (m : Meaning S A R) (digest : Key → ℕ) (layout : L
         private_step m digest layout s (field_at layout pool place field) value id me.1 me.0 (with_stored pool unstored) kept at (field_behind layout pool place field) refl refl refl refl (alone_still me.0 (with_stored pool unstored) (kept.alone id me.0 at) seated refl (λ none. none))
         (trie_same trie_side digest layout kept.published (state_of m kept.log) (state_of m kept.log) s.words (words' pool) s.views id me.0 (with_stored pool unstored) kept.trie at (knows_same me.0.trie) (trie_stays lives pool within exists may))
         connections (stored_stay pool unstored own (reaches pool within exists)) (locks_stay pool unstored own) (turns_stay pool unstored own)
+        (deaths_stay pool unstored within exists may)
 
     conns_stay : (pool : Pool) → ((slot : ℕ) → slot < layout.slots → field_at layout Slots slot inc_field ≢ field_at layout pool place field) → Conns pool_side m layout kept.log (words' pool) (set s.views id (with_stored pool me.0.pools.unstored))
     conns_stay pool apart = conns-same pool_side m layout kept.log s.words (words' pool) s.views (set s.views id (with_stored pool me.0.pools.unstored)) kept.connections (length-set s.words (field_at layout pool place field) value)
@@ -232,14 +253,17 @@ module _ {S A R : Type 0} (m : Meaning S A R) (digest : Key → ℕ) (layout : L
     stores s id me kept at place field value lives seated Nodes within exists may,
     record { is = refl },
   )
-  may_store st id n Slots place field value me lives seated within exists may s kept homes at bound = ⊎_elim in_own in_phase may
+  may_store st id n Slots place field value me lives seated within exists may s kept homes at bound = ⊎_elim in_own (λ more. ⊎_elim in_phase in_note more) may
     where
       Stores : Type 0
       Stores = (w : CellView S A R) × (a : Act (Running S)) × Valid s.homes me.1 a × IsCells m digest layout (stepped s (field_at layout Slots place field) value id me.1 w a)
           × StoresPrivate m digest layout Slots place field st me value (w, carried_after me.1 a)
 
-      after' : Bool → Me (Running S) (CellView S A R)
-      after' b = cond b (record me.0 { turn = with_phase value me.0.turn }, me.1) (with_pools me (storing Slots place field value me.0.pools))
+      after' : Bool → Bool → Me (Running S) (CellView S A R)
+      after' phase epoch = cond phase (record me.0 { turn = with_phase value me.0.turn }, me.1) (cond epoch (with_pools me (letting_go place me.0.pools)) (with_pools me (storing Slots place field value me.0.pools)))
+
+      is_after : {phase epoch : Bool} → eqb field phase_field ≡ phase → is_epoch_note field value ≡ epoch → after' phase epoch ≡ stored_in Slots place field value me
+      is_after e f = sym (λ i. after' (e i) (f i))
 
       in_own : MayStoreInSlot m me.0 place field value → Stores
       in_own own = (
@@ -247,7 +271,7 @@ module _ {S A R : Type 0} (m : Meaning S A R) (digest : Key → ℕ) (layout : L
         keeps,
         tt,
         stores s id me kept at place field value lives seated Slots within exists own,
-        record { is = sym (ap after' (ne_eqb field phase_field own.phaseless)) },
+        record { is = is_after (ne_eqb field phase_field own.phaseless) (no_epoch field value own.epochless) },
       )
 
       in_phase : MayStorePhase me.0 place field → Stores
@@ -257,5 +281,15 @@ module _ {S A R : Type 0} (m : Meaning S A R) (digest : Key → ℕ) (layout : L
         tt,
         subst (λ (y : ℕ × ℕ). IsCells m digest layout (stepped s (field_at layout Slots y.0 y.1) value id me.1 (record me.0 { turn = with_phase value me.0.turn }) keeps)) (λ i. (under.there i, sym under.phase i))
             (phase_stored m digest layout s kept id me.0 under.turn value at under.has seated),
-        record { is = sym (ap after' (eq-eqb field phase_field under.phase)) },
+        record { is = is_after {epoch = is_epoch_note field value} (eq-eqb field phase_field under.phase) refl },
+      )
+
+      in_note : MayLetGo m me.0 place field value → Stores
+      in_note go = (
+        record me.0 { pools = letting_go place me.0.pools },
+        keeps,
+        tt,
+        subst (λ f. IsCells m digest layout (stepped s (field_at layout Slots place f) value id me.1 (record me.0 { pools = letting_go place me.0.pools }) keeps)) (sym go.note)
+            (lets_go m digest layout s id me kept at place value within (record { id = go.id; killed = go.killed; there = go.there; note = refl; bare = go.bare; loaded = go.loaded; epoch = go.epoch }) seated),
+        record { is = is_after (ne_eqb field phase_field (λ e. absurd (let note = go.note in omega (arith, e, note)))) (an_epoch field value me.0.epochs.loaded go.note go.epoch) },
       )

@@ -1,7 +1,7 @@
 -- Kind 8 for slots keeps the rule, and makes the claim.
 use Rattle.std.specs.Int.{bit_at, w64}
 use Rattle.std.specs.List.{Contains}
-use Rattle.std.proofs.Common.{◌/◌, ◌≡◌, ◌≢◌, ℕ, ◌*◌, ◌%◌, ◌^◌, ◌<◌, ◌≤◌, Bool, true, false, true≢false, eqb, [], ◌∷◌, ◌++◌, map, set, length, slice_index, refl, sym, ap, ◌∙◌, subst, ⊎_elim, inl, inr, arith, bit_or}
+use Rattle.std.proofs.Common.{◌/◌, ◌≡◌, ◌≢◌, ◌+◌, ℕ, ◌*◌, ◌%◌, ◌^◌, ◌<◌, ◌≤◌, Bool, true, false, true≢false, cond, eqb, eq-eqb, [], ◌∷◌, ◌++◌, map, set, length, slice_index, refl, sym, ap, ◌∙◌, subst, ⊎_elim, inl, inr, arith, bit_or}
 use Rattle.std.proofs.lemmas.Bool.{cases_eq}
 use Rattle.std.proofs.lemmas.Bool.Decides.{Decides-eqb, not_from_Decides}
 use Rattle.std.proofs.lemmas.List.Elements.{Contains-append_left, Contains-append_right, Contains-push}
@@ -14,11 +14,13 @@ use Rattle.npf_types.specs.declared.key.Key.{Key}
 use Rattle.npf_core.specs.declared.act.Act.TheVariants.{Claim}
 use Rattle.npf_core.specs.declared.conn_id.ConnId.{ConnId}
 use Rattle.npf_core.specs.declared.entry.Entry.{Entry}
+use Rattle.npf_core.specs.declared.slot.Slot.{Slot}
 use Rattle.npf_core.specs.declared.reply.Reply.TheVariants.{ToClaim}
-use Rattle.npf_core.specs.declared.stage.Stage.TheVariants.{Building}
+use Rattle.npf_core.specs.declared.stage.Stage.TheVariants.{Vacant, Building, Dead}
 use Rattle.npf_core.specs.History.{MayFollow, Legal, state_of}
 use Rattle.npf_core.specs.Machine.{Machine, stage_of, IsClaimed}
 use Rattle.npf_core.specs.Meaning.{Meaning}
+use Rattle.npf_core.specs.NextState.{changed}
 use Rattle.npf_core.specs.Replies.{claimed_id}
 use Rattle.npf_core.proofs.HistoryLemmas.{state_of-append, Legal-append}
 use Rattle.npf_core.proofs.HolderLemmas.{claimed_by}
@@ -34,16 +36,18 @@ use Rattle.npf_cells_pins.proofs.EpochLemmas.{within_last}
 use Rattle.npf_cells_leaves.specs.Trie.{FitsTrie, trie_words}
 use Rattle.npf_cells_leaves.proofs.TrieLemmas.{KeepsTrie, knows_same, fits_kept, trie_kept, grown-set, fits-set, fits_all, keeps_words}
 use Rattle.npf_cells_lives.specs.Conns.{inc_word, entry_seat}
+use Rattle.npf_cells_lives.specs.Deaths.{is_dead}
 use Rattle.npf_cells_lives.specs.Pools.{taken}
 use Rattle.npf_cells_lives.specs.Stored.{IsOwnField, FitsStored}
 use Rattle.npf_cells_lives.proofs.ConnLemmas.{BuildsIn}
+use Rattle.npf_cells_lives.proofs.DeathLemmas.{Spares, spares_held, RestsNoMore, dead_at}
 use Rattle.npf_cells_lives.proofs.PoolLemmas.{pools-set, taken-set}
 use Rattle.npf_cells_lives.proofs.SlotLemmas.{clear_vacant, claimed, now_taken, now_building, slot_else, taken_else, builds_more, incs_more}
 use Rattle.npf_cells_lives.proofs.StoredLemmas.{stored_kept}
 use Rattle.npf_cells_rule.specs.declared.view.CellView.{CellView}
 use Rattle.npf_cells_rule.specs.Cells.{IsCells}
 use Rattle.npf_cells_rule.specs.Passes.{IsProtected, cell_pass}
-use Rattle.npf_cells_rule.specs.Views.{seat_side, reader_view, pool_side, trie_side}
+use Rattle.npf_cells_rule.specs.Views.{seat_side, reader_view, pool_side, trie_side, death_side}
 use Rattle.npf_cells_rule.proofs.EntryLemmas.{adds_entry, sole_entries}
 use Rattle.npf_cells_rule.proofs.Frames.{alone_within, sight_step, entry_step}
 use Rattle.npf_cells_takes.proofs.SightLemmas.{seer, seer_stored, has_seen}
@@ -102,6 +106,33 @@ module _ {S A R : Type 0} (m : Meaning S A R) (digest : Key → ℕ) (layout : L
         (λ ne. inl (slot_else m k id packet slot p ne))
         (cases_eq p slot)
 
+    -- it spares the dead, and the new connection is none of them
+    claim_spares : MayFollow m layout.slots k entry → Spares k (claimed m k id packet slot)
+    claim_spares may = spares_held k (claimed m k id packet slot) (λ key. refl) (λ p dead. ⊎_elim
+        (λ (e : p ≡ slot). absurd (let no : Vacant ≡ Dead = sym may.allowed.unclaimed ∙ (ap (λ q. (k.slot q).stage) (sym e) ∙ dead) in cc))
+        (λ ne. slot_else m k id packet slot p ne)
+        (cases_eq p slot))
+
+    claim_dead : MayFollow m layout.slots k entry → (p : ℕ) → is_dead ((claimed m k id packet slot).slot p).stage ≡ is_dead (k.slot p).stage
+    claim_dead may p = ⊎_elim
+        (λ (e : p ≡ slot).
+        let now : is_dead ((claimed m k id packet slot).slot slot).stage ≡ 0 = ap (λ b. is_dead (cond b (changed m id (Claim packet slot) (k.slot slot)) (k.slot slot)).stage) (eq-eqb slot slot refl) in
+        ap (λ q. is_dead ((claimed m k id packet slot).slot q).stage) e ∙ (now ∙ (sym (ap is_dead may.allowed.unclaimed) ∙ ap (λ q. is_dead (k.slot q).stage) (sym e))))
+        (λ ne. ap (λ (x : Slot S). is_dead x.stage) (slot_else m k id packet slot p ne))
+        (cases_eq p slot)
+
+    winner_rests : RestsNoMore k (death_side me.0) (death_side winner)
+    winner_rests = record { rests = λ i dead bare rests. (
+      ⊎_elim
+          (λ (c : Contains (claimed_id k slot ∷ me.0.trie.answered) i). ⊎_elim
+          (λ (e : claimed_id k slot ≡ i). absurd (let last : (k.slot slot).inc ≡ (k.slot slot).inc + 1 = (dead_at (k.slot slot) ((k.slot slot).inc + 1) (subst (λ (x : ConnId). stage_of k x ≡ Dead) (sym e) dead)).0 in omega (arith, last)))
+          (λ d. inl d)
+          (cons_cases (claimed_id k slot) i me.0.trie.answered c))
+          (λ e. inr e)
+          rests,
+      refl,
+    ) }
+
     -- the claim leaves the holders, and what was claimed
     keeps_claim : (n : ℕ) → bit_at found (slot % 64) ≡ 0 → KeepsTrie layout.slots k (claimed m k id packet slot) (trie_words layout s.words) (trie_words layout (set s.words word n))
     keeps_claim n clear = keeps_words layout k (claimed m k id packet slot) s.words (set s.words word n) (λ key. refl) (λ identity c. claimed_by m layout.slots k entry identity (follows clear) (λ e. absurd cc) c)
@@ -126,7 +157,7 @@ module _ {S A R : Type 0} (m : Meaning S A R) (digest : Key → ℕ) (layout : L
         IsCells m digest layout (stepped s word n id me.1 winner keeps)
     wins n clear here bits =
         let may = follows clear in
-        entry_step m digest layout s word n id me.1 me.0 winner kept at lives place entry refl may refl refl (winner_stored clear) refl refl (slots_stay may) (alone_within winner place stays) (pool_step layout s.words Slots slot n within)
+        entry_step m digest layout s word n id me.1 me.0 winner kept at lives place entry refl may refl refl (winner_stored clear) refl refl (slots_stay may) refl (claim_spares may) (claim_dead may) winner_rests (alone_within winner place stays) (pool_step layout s.words Slots slot n within)
         (pools-set layout (taken pool_side kept.published k s.views) (taken pool_side kept.published (claimed m k id packet slot) (set s.views id winner)) s.words Slots slot n kept.pools within (here ∙ sym (now_taken m k id packet slot)) bits
         (taken_else m k id packet slot pool_side s.views id me.0 winner at kept.published refl))
         (trie_kept trie_side digest layout kept.published k (claimed m k id packet slot) s.words (set s.words word n) s.views (set s.views id winner) kept.trie (keeps_claim n clear) (grown-set trie_side s.views id me.0 winner at refl)
@@ -165,7 +196,7 @@ module _ {S A R : Type 0} (m : Meaning S A R) (digest : Key → ℕ) (layout : L
         let bit = kept.pools.bits Slots slot within in
         let below = bit_at-lt found (slot % 64) in
         let one : bit_at found (slot % 64) ≡ 1 = omega (arith, some', below) in
-        sight_step m digest layout s word n id me.1 me.0 w kept at lives refl refl (knows_same me.0.trie) (seer_stored m digest layout s id me kept at lives place found) refl refl refl (alone_within w place stays) (pool_step layout s.words Slots slot n within)
+        sight_step m digest layout s word n id me.1 me.0 w kept at lives refl refl (knows_same me.0.trie) (seer_stored m digest layout s id me kept at lives place found) refl refl refl refl (alone_within w place stays) (pool_step layout s.words Slots slot n within)
         (pools-set layout (taken pool_side kept.published k s.views) (taken pool_side kept.published k (set s.views id w)) s.words Slots slot n kept.pools within (here ∙ (sym one ∙ (bit ∙ sym (taken' Slots slot)))) bits (λ other p two. taken' other p))
 
   pub may_claim_slot : (st : Step (Running S)) (id n packet slot mask : ℕ) (me : Me (Running S) (CellView S A R)) → me.0.seats.lives ≡ true → me.0.seats.theirs ≡ [] → 1 ≤ length me.0.seats.readers → IsProtected me.0.epochs.pin → slot < layout.slots → mask ≡ 1 * 2 ^ (slot % 64) % 2 ^ 64 →

@@ -1,21 +1,23 @@
 -- What loads and stores of a pass's own words change in its view, and what each tells.
-use Rattle.std.specs.Prelude.{◌≡◌, ◌≢◌, ◌⊎◌, ℕ, ◌+◌, ◌-◌, ◌^◌, ◌≤◌, ◌<◌, ◌==◌, Option, Some, None, List, ◌∷◌, Contains, if◌then◌else◌}
+use Rattle.std.specs.Prelude.{◌≡◌, ◌≢◌, ◌⊎◌, ℕ, ◌+◌, ◌-◌, ◌^◌, ◌≤◌, ◌<◌, ◌==◌, ◌&&◌, Bool, true, false, Option, Some, None, List, ◌∷◌, Contains, filter, if◌then◌else◌}
 use Rattle.atomic_table.specs.Table.{Me, Step}
 use Rattle.npf_types.specs.declared.key.Key.{Key}
 use Rattle.npf_types.specs.declared.key.Way.{Way}
 use Rattle.npf_core.specs.declared.conn_id.ConnId.{ConnId}
+use Rattle.npf_core.specs.declared.stage.Stage.TheVariants.{Dead}
 use Rattle.npf_core.specs.History.{state_of}
-use Rattle.npf_core.specs.Machine.{HoldsNone}
+use Rattle.npf_core.specs.Machine.{HoldsNone, stage_of}
 use Rattle.npf_core.specs.Meaning.{Meaning}
 use Rattle.npf_cells_words.specs.declared.layout.Layout.{Layout}
 use Rattle.npf_cells_words.specs.declared.layout.Pool.{Pool}
 use Rattle.npf_cells_words.specs.declared.layout.Pool.TheVariants.{Slots, Nodes}
-use Rattle.npf_cells_words.specs.Layout.{state_field, inc_field, phase_field, key_field}
+use Rattle.npf_cells_words.specs.Layout.{state_field, inc_field, phase_field, key_field, notes_field}
 use Rattle.npf_seats.specs.Sums.{others_than}
 use Rattle.npf_cells_leaves.specs.declared.trie.LoadedLeaf.{LoadedLeaf}
 use Rattle.npf_cells_leaves.specs.declared.trie.TrieSide.{TrieSide}
 use Rattle.npf_cells_lives.specs.declared.pools.PoolSide.{PoolSide}
 use Rattle.npf_cells_lives.specs.declared.turn.Turn.{Turn}
+use Rattle.npf_cells_lives.specs.Deaths.{IsKeyless, has_epoch}
 use Rattle.npf_cells_lives.specs.Turns.{stage_phase}
 use Rattle.npf_cells_rule.specs.declared.view.CellView.{CellView}
 use Rattle.npf_cells_rule.specs.Views.{with_pools}
@@ -57,6 +59,7 @@ pub record MayStoreInSlot {S A R : Type 0} (m : Meaning S A R) (v : CellView S A
   pub turnless : 1 ≤ field
   pub phaseless : field ≢ phase_field
   pub inc : field ≡ inc_field → value ≡ id.inc
+  pub epochless : notes_field ≤ field → value < 2 ^ 63
   pub keyless : (way : Way) → key_field way ≤ field → field < key_field way + 5 → HoldsNone (state_of m v.seats.history) id way
 
 -- a connection's phase may be stored under its slot's turn
@@ -66,9 +69,32 @@ pub record MayStorePhase {S A R : Type 0} (v : CellView S A R) (slot field : ℕ
   pub there : turn.slot ≡ slot
   pub phase : field ≡ phase_field
 
+-- the pass has seen the connection Dead and without keys
+pub record HasSeenBare {S A R : Type 0} (m : Meaning S A R) (v : CellView S A R) (id : ConnId) : Type 0 where
+  pub dead : stage_of (state_of m v.seats.history) id ≡ Dead
+  pub keyless : IsKeyless (state_of m v.seats.history) id
+
+-- the epoch that the pass loaded since it last killed anything may be stored, with the top bit, in the first note of a connection that it killed and that holds no key: it lets the connection go
+pub record MayLetGo {S A R : Type 0} (m : Meaning S A R) (v : CellView S A R) (slot field value : ℕ) : Type 0 where
+  pub id : ConnId
+  pub killed : Contains v.pools.kills id
+  pub there : id.slot ≡ slot
+  pub note : field ≡ notes_field
+  pub bare : HasSeenBare m v id
+  pub loaded : 1 ≤ v.epochs.loaded
+  pub epoch : value ≡ 2 ^ 63 + v.epochs.loaded
+
+-- the first note of a connection that the pass reclaimed is set to 0
+pub record MayClear {S A R : Type 0} (v : CellView S A R) (slot field value : ℕ) : Type 0 where
+  pub id : ConnId
+  pub reclaimed : Contains v.pools.reclaims id
+  pub there : id.slot ≡ slot
+  pub note : field ≡ notes_field
+  pub none : value ≡ 0
+
 -- in a place of either pool
 abbrev pub MayStore : {S A R : Type 0} → Meaning S A R → CellView S A R → Pool → ℕ → ℕ → ℕ → Type 0
-MayStore m v Slots slot field value = MayStoreInSlot m v slot field value ⊎ MayStorePhase v slot field
+MayStore m v Slots slot field value = MayStoreInSlot m v slot field value ⊎ (MayStorePhase v slot field ⊎ MayLetGo m v slot field value)
 MayStore m v Nodes node field value = MayStoreInNode v.pools node field
 
 -- what the pass still has to store: an incarnation that it stores no longer
@@ -88,10 +114,19 @@ abbrev pub with_phase : {S : Type 0} → ℕ → Option (Turn S) → Option (Tur
 with_phase value None = None
 with_phase value (Some turn) = Some (record turn { phase = value })
 
--- the pass after a store in one of its words: it knows what it stored, and of a phase by its turn
+-- the connection of the slot isn't the pass's any more
+abbrev pub letting_go : ℕ → PoolSide → PoolSide
+letting_go slot side = record side { kills = filter (λ (id : ConnId). if id.slot == slot then false else true) side.kills }
+
+-- a note that has an epoch
+abbrev pub is_epoch_note : ℕ → ℕ → Bool
+is_epoch_note field value = (field == notes_field) && (has_epoch value == 1)
+
+-- the pass after a store in one of its words: it knows what it stored, of a phase by its turn; and by an epoch in a note it lets go
 abbrev pub stored_in : {S A R F : Type 0} → Pool → ℕ → ℕ → ℕ → Me F (CellView S A R) → Me F (CellView S A R)
 stored_in Slots slot field value me =
-    if field == phase_field then (record me.0 { turn = with_phase value me.0.turn }, me.1) else with_pools me (storing Slots slot field value me.0.pools)
+    if field == phase_field then (record me.0 { turn = with_phase value me.0.turn }, me.1) else
+    (if is_epoch_note field value then with_pools me (letting_go slot me.0.pools) else with_pools me (storing Slots slot field value me.0.pools))
 stored_in Nodes node field value me = with_pools me (storing Nodes node field value me.0.pools)
 
 -- the kinds, as what they tell

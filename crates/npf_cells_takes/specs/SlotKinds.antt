@@ -52,3 +52,14 @@ pub record ClaimsSlot {S A R F : Type 0} (m : Meaning S A R) (digest : Key → �
   pub stood : StoodSo m digest layout me.0 (place_word layout Slots slot) found
   pub won : bit_at found (slot % 64) ≡ 0 → HasClaimed m n slot me next
   pub lost : bit_at found (slot % 64) ≢ 0 → HasSeenSlots m layout (slot / 64) found me next
+
+-- a slot may be given back that the pass reclaimed, whose first note it cleared, and that has a next incarnation
+pub record MayGiveSlotBack {S A R : Type 0} (v : CellView S A R) (id : ConnId) : Type 0 where
+  pub cleared : Contains v.pools.cleared id
+  pub further : id.inc < 2 ^ 64 - 1
+
+-- the pass after it: it has seen this history, which its Free of the connection ends
+pub record HasFreed {S A R F : Type 0} (m : Meaning S A R) (id : ConnId) (found : ℕ) (old now : Me F (CellView S A R)) : Type 0 where
+  pub adds : AddsOwn (cell_pass old.0) now.0.seats.history (entry_of (cell_pass old.0) (Free id) Nothing ∷ [])
+  pub legal : IsPass m (cell_pass old.0) → IsPass m (cell_pass now.0)
+  pub is : now ≡ (record old.0 { seats = record old.0.seats { history = now.0.seats.history }; pools = record old.0.pools { found = found; cleared = filter (λ (other : ConnId). not (is_id other id)) old.0.pools.cleared } }, old.1)

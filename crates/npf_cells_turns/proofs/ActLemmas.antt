@@ -18,6 +18,7 @@ use Rattle.npf_core.specs.NextState.{is_id, stepped, after_act}
 use Rattle.npf_core.specs.Replies.{step_answer}
 use Rattle.npf_core.proofs.EqualityLemmas.{is_id-Decides}
 use Rattle.npf_connections.specs.Answered.{without}
+use Rattle.npf_cells_lives.specs.Deaths.{is_dead}
 use Rattle.npf_cells_lives.specs.Pools.{claim_bit}
 use Rattle.npf_cells_lives.specs.Turns.{running, stage_phase, StaysAt}
 use Rattle.npf_cells_lives.proofs.ConnLemmas.{building_at}
@@ -43,6 +44,15 @@ stepped_bit m way arg (Building seat) = refl
 stepped_bit m way arg (Live flow steps) = refl
 stepped_bit m way arg Dead = refl
 
+pub stepped_death : {S A R : Type 0} (m : Meaning S A R) (way : Way) (arg : A) (stage : Stage S) → is_dead (stepped m way arg stage) ≡ is_dead stage
+stepped_death m way arg Vacant = refl
+stepped_death m way arg (Building seat) = refl
+stepped_death m way arg (Live flow steps) = refl
+stepped_death m way arg Dead = refl
+
+pub stepped_dead : {S A R : Type 0} (m : Meaning S A R) (way : Way) (arg : A) (stage : Stage S) → stage ≡ Dead → stepped m way arg stage ≡ Dead
+stepped_dead m way arg stage e = ap (stepped m way arg) e
+
 -- what is neither Live nor Dead answers a step that it isn't Live
 idle_answer : {S A R : Type 0} (m : Meaning S A R) (way : Way) (arg : A) (stage : Stage S) → stage_phase stage ≡ 0 → step_answer m way arg stage ≡ NotLive
 idle_answer m way arg Vacant e = refl
@@ -61,6 +71,12 @@ due_settled m now Vacant due = absurd due
 due_settled m now (Building seat) due = absurd due
 due_settled m now (Live flow steps) due = refl
 due_settled m now Dead due = absurd due
+
+pub due_alive : {S A R : Type 0} (m : Meaning S A R) (now : ℕ) (stage : Stage S) → IsDue m now stage → is_dead stage ≡ 0
+due_alive m now Vacant due = absurd due
+due_alive m now (Building seat) due = absurd due
+due_alive m now (Live flow steps) due = refl
+due_alive m now Dead due = absurd due
 
 module _ {S A R : Type 0} (m : Meaning S A R) (was now : Slot S) (stays : StaysAt was now) (way : Way) (arg : A) where
   -- a slot that is still at what it was answers a step and goes on as it would have

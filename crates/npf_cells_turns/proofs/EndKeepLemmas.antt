@@ -1,6 +1,6 @@
 -- Each act at the end of a turn keeps the rule, and makes its entry.
 use Rattle.std.specs.List.{Contains}
-use Rattle.std.proofs.Common.{◌≡◌, ◌≢◌, ℕ, ◌≤◌, true, Some, None, List, [], ◌∷◌, ◌++◌, cond, eq-eqb, set, length, refl, sym, ap, ◌∙◌, subst, ⊎_elim}
+use Rattle.std.proofs.Common.{◌≡◌, ◌≢◌, ℕ, ◌<◌, ◌≤◌, true, Some, None, List, [], ◌∷◌, ◌++◌, cond, eq-eqb, map, set, length, refl, sym, ap, ◌∙◌, subst, ⊎_elim, inl, arith}
 use mathlib.Core.Option.{some}
 use lib.ListN.{get_elem?}
 use denote.Bor.{Bor}
@@ -28,23 +28,29 @@ use Rattle.npf_connections.specs.Answered.{without}
 use Rattle.npf_connections.specs.Pass.{IsPass}
 use Rattle.npf_cells_words.specs.declared.layout.Layout.{Layout}
 use Rattle.npf_cells_words.specs.declared.layout.Pool.TheVariants.{Slots}
-use Rattle.npf_cells_words.specs.Layout.{turn_field, field_at}
+use Rattle.npf_cells_words.specs.Layout.{turn_field, field_at, epoch_word, reader_word}
+use Rattle.npf_cells_pins.specs.Epochs.{Epochs}
 use Rattle.npf_cells_lives.specs.declared.pools.PoolSide.{PoolSide}
 use Rattle.npf_cells_lives.specs.declared.turn.Turn.{Turn}
 use Rattle.npf_cells_lives.specs.Conns.{IsBuiltIn, FitsBuilds}
+use Rattle.npf_cells_lives.specs.Deaths.{is_dead, Deaths}
 use Rattle.npf_cells_lives.specs.Pools.{claim_bit}
 use Rattle.npf_cells_lives.specs.Stored.{FitsStored}
 use Rattle.npf_cells_lives.specs.Turns.{Running, running, stage_phase, StaysAt}
 use Rattle.npf_cells_lives.proofs.ConnLemmas.{one_builder}
-use Rattle.npf_cells_lives.proofs.StoredLemmas.{fits_but}
+use Rattle.npf_cells_lives.proofs.StoredLemmas.{own_same, stored_kept, fits_but}
 use Rattle.npf_cells_lives.proofs.TurnLemmas.{phase_stays, running_stays}
 use Rattle.npf_cells_rule.specs.declared.view.CellView.{CellView}
 use Rattle.npf_cells_rule.specs.Cells.{IsCells}
 use Rattle.npf_cells_rule.specs.Passes.{cell_pass}
+use Rattle.npf_cells_rule.specs.Views.{reader_view, death_side}
+use Rattle.npf_cells_rule.proofs.Frames.{epochs_apart}
+use Rattle.npf_cells_rule.proofs.TurnFrames.{below}
 use Rattle.npf_cells_turns.specs.declared.act.TurnAct.{TurnAct}
 use Rattle.npf_cells_turns.specs.declared.act.TurnAct.TheVariants.{Nothing, Start, Step as Steps, Abandoned, Expired}
-use Rattle.npf_cells_turns.specs.EndKinds.{stage_by, BuildsThere, KnowsThere, IsDueThere, MayAct, MayEndBy, act_entries, building_after, without_build, HasActed, TellsEnd, EndsTurn}
-use Rattle.npf_cells_turns.proofs.ActLemmas.{stepped_idle, stepped_bit, due_bit, due_settled, answer_stays, step_runs, step_phase, ActsOn, starts_on, steps_on, kills_on, still_building, building_in, not_without, in_without}
+use Rattle.npf_cells_turns.specs.EndKinds.{stage_by, BuildsThere, KnowsThere, IsDueThere, MayAct, MayEndBy, act_entries, without_build, acted, HasActed, TellsEnd, EndsTurn}
+use Rattle.npf_cells_turns.proofs.ActLemmas.{stepped_idle, stepped_bit, stepped_death, stepped_dead, due_bit, due_settled, due_alive, answer_stays, step_runs, step_phase, ActsOn, starts_on, steps_on, kills_on, still_building, building_in, not_without, in_without}
+use Rattle.npf_cells_turns.proofs.DeathEndLemmas.{deaths_stay, deaths_killed, epochs_unloaded}
 use Rattle.npf_cells_turns.proofs.EndLemmas.{ends_alone, ends_with, adds_act, legal_after}
 
 -- where a Building slot is stepped it stays so
@@ -73,6 +79,16 @@ module _ {S A R : Type 0} (m : Meaning S A R) (digest : Key → ℕ) (layout : L
       homes = set s.homes turn.slot (some (running (stage_by m act turn.was.stage)));
       views = set s.views id w;
     }) × TellsEnd m act (v, (turn.slot, running (stage_by m act turn.was.stage)) ∷ []) (w, [])
+
+    abbrev after_words : List ℕ
+    after_words = set s.words (field_at layout Slots turn.slot turn_field) 0
+
+    exists : turn.slot < layout.slots
+    exists = (kept.turns.each id v turn at has).exists
+
+    -- the part on epochs stays, where the seat knows of it what it knew
+    epochs_still : (w : CellView S A R) → reader_view w ≡ reader_view v → Epochs (epoch_word after_words) (reader_word after_words) (map reader_view (set s.views id w))
+    epochs_still w same = epochs_apart m digest layout s (field_at layout Slots turn.slot turn_field) 0 id v w kept at same (λ j h. below m digest layout s kept turn.slot turn_field 0 exists (inl refl) j (omega (arith, h)))
 
     -- a connection that the pass is building is started or killed
     module _ (conn : ConnId) (there : BuildsThere v turn conn) (entry : Entry S A R) (mine' : entry.seat ≡ id) (stage : Stage S) (acts : ActsOn k (after m k entry) turn.slot stage) where
@@ -117,51 +133,83 @@ module _ {S A R : Type 0} (m : Meaning S A R) (digest : Key → ℕ) (layout : L
       fewer : v.pools.builds ≡ [] → side.builds ≡ []
       fewer none = ap (without conn) none
 
-      module _ (value : Running S) (follows : MayFollow m layout.slots k entry) (freeless : (i : ConnId) → ¬ (entry.act ≡ Acts.Free i)) (bit : claim_bit stage ≡ 1) (runs : value ≡ running stage) (phase : turn.phase ≡ stage_phase stage) where
+      module _ (value : Running S) (follows : MayFollow m layout.slots k entry) (freeless : (i : ConnId) → ¬ (entry.act ≡ Acts.Free i)) (bit : claim_bit stage ≡ 1) (runs : value ≡ running stage) (phase : turn.phase ≡ stage_phase stage) (kills : List ConnId) (loaded : ℕ) (scanned behind : List ℕ) where
         abbrev pub builder : CellView S A R
-        builder = record v { seats = record v.seats { history = kept.log ++ entry ∷ [] }; pools = side; turn = None }
+        builder = record v { seats = record v.seats { history = kept.log ++ entry ∷ [] }; epochs = record v.epochs { loaded = loaded; scanned = scanned; behind = behind }; pools = record side { kills = kills }; turn = None }
 
-        pub built_ends : IsCells m digest layout (record { words = set s.words (field_at layout Slots turn.slot turn_field) 0; homes = set s.homes turn.slot (some value); views = set s.views id builder })
-        built_ends = ends_with m digest layout s kept id v turn at has value lives settled seated entry mine' follows freeless stage acts (bit ∙ sym is_claimed) runs phase side refl refl stored_left builds_left others_fit
+        stored_kills : FitsStored layout s.words (record side { kills = kills })
+        stored_kills = stored_kept layout s.words s.words side (record side { kills = kills }) stored_left refl (own_same layout side (record side { kills = kills }) refl refl) (λ pool place field own. refl)
 
-        pub built_acted : (act : TurnAct S A) → AddsOwn (cell_pass v) (kept.log ++ entry ∷ []) (act_entries m (cell_pass v) turn.was.stage act) → building_after act v.pools ≡ side → HasActed m act (v, (turn.slot, value) ∷ []) (builder, [])
+        pub built_ends : Epochs (epoch_word after_words) (reader_word after_words) (map reader_view (set s.views id builder)) → Deaths death_side layout (after m k entry) after_words (set s.views id builder) → IsCells m digest layout (record { words = set s.words (field_at layout Slots turn.slot turn_field) 0; homes = set s.homes turn.slot (some value); views = set s.views id builder })
+        built_ends = ends_with m digest layout s kept id v turn at has value lives settled seated entry mine' follows freeless stage acts (bit ∙ sym is_claimed) runs phase (record side { kills = kills }) refl refl stored_kills builds_left others_fit loaded scanned behind
+
+        pub built_acted : (act : TurnAct S A) → AddsOwn (cell_pass v) (kept.log ++ entry ∷ []) (act_entries m (cell_pass v) turn.was.stage act) → builder ≡ acted act v (kept.log ++ entry ∷ []) → HasActed m act (v, (turn.slot, value) ∷ []) (builder, [])
         built_acted act adds after' = record {
           turn = turn;
           has = has;
           adds = adds;
-          legal = legal_after m digest layout s kept id v turn at has value lives settled seated entry mine' follows freeless stage acts (bit ∙ sym is_claimed) runs phase side refl refl stored_left builds_left others_fit fewer;
-          is = ap (λ pools. (record v { seats = record v.seats { history = kept.log ++ entry ∷ [] }; pools = pools; turn = None }, [])) (sym after');
+          legal = legal_after m digest layout s kept id v turn at has value lives settled seated entry mine' follows freeless stage acts (bit ∙ sym is_claimed) runs phase (record side { kills = kills }) refl refl stored_kills builds_left others_fit loaded scanned behind fewer;
+          is = ap (λ (w : CellView S A R). (w, [])) after';
         }
 
         pub built_adds : AddsOwn (cell_pass v) (kept.log ++ entry ∷ []) (record entry { seat = v.seats.number } ∷ [])
-        built_adds = adds_act m digest layout s kept id v turn at has value lives settled seated entry mine' follows freeless stage acts (bit ∙ sym is_claimed) runs phase side refl refl stored_left builds_left others_fit
+        built_adds = adds_act m digest layout s kept id v turn at has value lives settled seated entry mine' follows freeless stage acts (bit ∙ sym is_claimed) runs phase (record side { kills = kills }) refl refl stored_kills builds_left others_fit loaded scanned behind
 
     starts : (conn : ConnId) (n : ℕ) (init : S) → BuildsThere v turn conn → turn.phase ≡ 1 → Ended (Start conn n init)
-    starts conn n init there phase =
-        let entry : Entry S A R = record { seat = id; act = Acts.Start conn n init; reply = Replies.Nothing } in
-        let acts = starts_on m k id conn turn.slot there.there n init in
-        let follows : MayFollow m layout.slots k entry = record { allowed = mine.building conn there.built; replied = refl } in
-        let value : Running S = running (Live init 1) in (
-          builder conn there entry refl (Live init 1) acts value follows (λ i e. absurd cc) refl refl phase,
-          built_ends conn there entry refl (Live init 1) acts value follows (λ i e. absurd cc) refl refl phase,
-          built_acted conn there entry refl (Live init 1) acts value follows (λ i e. absurd cc) refl refl phase (Start conn n init) (built_adds conn there entry refl (Live init 1) acts value follows (λ i e. absurd cc) refl refl phase) refl,
-        )
+    starts conn n init there phase = (
+      builder conn there entry refl (Live init 1) acts value follows (λ i e. absurd cc) refl refl phase v.pools.kills v.epochs.loaded v.epochs.scanned v.epochs.behind,
+      built_ends conn there entry refl (Live init 1) acts value follows (λ i e. absurd cc) refl refl phase v.pools.kills v.epochs.loaded v.epochs.scanned v.epochs.behind (epochs_still starter refl)
+          (deaths_stay m digest layout s kept id v at turn.slot exists (after m k entry) (Live init 1) acts (sym (ap is_dead building)) (λ dead. absurd (let no : Building id ≡ Dead = sym building ∙ dead in cc)) starter refl refl refl),
+      built_acted conn there entry refl (Live init 1) acts value follows (λ i e. absurd cc) refl refl phase v.pools.kills v.epochs.loaded v.epochs.scanned v.epochs.behind (Start conn n init)
+          (built_adds conn there entry refl (Live init 1) acts value follows (λ i e. absurd cc) refl refl phase v.pools.kills v.epochs.loaded v.epochs.scanned v.epochs.behind) refl,
+    )
+      where
+        entry : Entry S A R
+        entry = record { seat = id; act = Acts.Start conn n init; reply = Replies.Nothing }
+
+        acts : ActsOn k (after m k entry) turn.slot (Live init 1)
+        acts = starts_on m k id conn turn.slot there.there n init
+
+        follows : MayFollow m layout.slots k entry
+        follows = record { allowed = mine.building conn there.built; replied = refl }
+
+        value : Running S
+        value = running (Live init 1)
+
+        building : x.stage ≡ Building id
+        building = (building_in k turn.slot conn id (mine.building conn there.built) there.there).1
+
+        starter : CellView S A R
+        starter = builder conn there entry refl (Live init 1) acts value follows (λ i e. absurd cc) refl refl phase v.pools.kills v.epochs.loaded v.epochs.scanned v.epochs.behind
 
     abandons : (conn : ConnId) → BuildsThere v turn conn → turn.phase ≡ 2 → Ended (Abandoned conn)
-    abandons conn there phase =
-        let entry : Entry S A R = record { seat = id; act = Acts.Kill conn Reasons.Abandoned; reply = Replies.Nothing } in
-        let acts = kills_on m k id conn turn.slot there.there Reasons.Abandoned in
-        let follows : MayFollow m layout.slots k entry = record { allowed = mine.building conn there.built; replied = refl } in
-        let value : Running S = None in (
-          builder conn there entry refl Dead acts value follows (λ i e. absurd cc) refl refl phase,
-          built_ends conn there entry refl Dead acts value follows (λ i e. absurd cc) refl refl phase,
-          built_acted conn there entry refl Dead acts value follows (λ i e. absurd cc) refl refl phase (Abandoned conn) (built_adds conn there entry refl Dead acts value follows (λ i e. absurd cc) refl refl phase) refl,
-        )
+    abandons conn there phase = (
+      builder conn there entry refl Dead acts None follows (λ i e. absurd cc) refl refl phase (conn ∷ v.pools.kills) 0 [] [],
+      built_ends conn there entry refl Dead acts None follows (λ i e. absurd cc) refl refl phase (conn ∷ v.pools.kills) 0 [] [] (epochs_unloaded m digest layout s kept id v at turn.slot exists killer refl refl)
+          (deaths_killed m digest layout s kept id v at turn.slot exists (after m k entry) conn acts there.there building.0 (ap is_dead building.1) killer refl refl refl),
+      built_acted conn there entry refl Dead acts None follows (λ i e. absurd cc) refl refl phase (conn ∷ v.pools.kills) 0 [] [] (Abandoned conn)
+          (built_adds conn there entry refl Dead acts None follows (λ i e. absurd cc) refl refl phase (conn ∷ v.pools.kills) 0 [] []) refl,
+    )
+      where
+        entry : Entry S A R
+        entry = record { seat = id; act = Acts.Kill conn Reasons.Abandoned; reply = Replies.Nothing }
+
+        acts : ActsOn k (after m k entry) turn.slot Dead
+        acts = kills_on m k id conn turn.slot there.there Reasons.Abandoned
+
+        follows : MayFollow m layout.slots k entry
+        follows = record { allowed = mine.building conn there.built; replied = refl }
+
+        building : (x.inc ≡ conn.inc) × (x.stage ≡ Building id)
+        building = building_in k turn.slot conn id (mine.building conn there.built) there.there
+
+        killer : CellView S A R
+        killer = builder conn there entry refl Dead acts None follows (λ i e. absurd cc) refl refl phase (conn ∷ v.pools.kills) 0 [] []
 
     -- a connection that isn't Building is stepped or killed
     module _ (entry : Entry S A R) (mine' : entry.seat ≡ id) (stage : Stage S) (acts : ActsOn k (after m k entry) turn.slot stage)
         (leaves : (i : ConnId) (j : ℕ) → stage_of k i ≡ Building j → i.slot ≡ turn.slot → stage ≡ x.stage)
-        (value : Running S) (follows : MayFollow m layout.slots k entry) (freeless : (i : ConnId) → ¬ (entry.act ≡ Acts.Free i)) (bit : claim_bit stage ≡ claim_bit x.stage) (runs : value ≡ running stage) (phase : turn.phase ≡ stage_phase stage) where
+        (value : Running S) (follows : MayFollow m layout.slots k entry) (freeless : (i : ConnId) → ¬ (entry.act ≡ Acts.Free i)) (bit : claim_bit stage ≡ claim_bit x.stage) (runs : value ≡ running stage) (phase : turn.phase ≡ stage_phase stage) (kills : List ConnId) (loaded : ℕ) (scanned behind : List ℕ) where
       fits_on : (j : ℕ) (builds : List ConnId) (unstored : List ℕ) → FitsBuilds k j builds unstored → FitsBuilds (after m k entry) j builds unstored
       fits_on j builds unstored fits = record {
         building = λ i c. still_building k (after m k entry) turn.slot stage acts i j (fits.building i c) (leaves i j (fits.building i c));
@@ -173,16 +221,19 @@ module _ {S A R : Type 0} (m : Meaning S A R) (digest : Key → ℕ) (layout : L
       all_on j u ne e = fits_on j u.pools.builds u.pools.unstored (kept.connections.each j u e)
 
       abbrev pub stepper : CellView S A R
-      stepper = record v { seats = record v.seats { history = kept.log ++ entry ∷ [] }; turn = None }
+      stepper = record v { seats = record v.seats { history = kept.log ++ entry ∷ [] }; epochs = record v.epochs { loaded = loaded; scanned = scanned; behind = behind }; pools = record v.pools { kills = kills }; turn = None }
 
-      pub plain_ends : IsCells m digest layout (record { words = set s.words (field_at layout Slots turn.slot turn_field) 0; homes = set s.homes turn.slot (some value); views = set s.views id stepper })
-      plain_ends = ends_with m digest layout s kept id v turn at has value lives settled seated entry mine' follows freeless stage acts bit runs phase v.pools refl refl (kept.stored id v at) (fits_on id v.pools.builds v.pools.unstored mine) all_on
+      stored_on : FitsStored layout s.words (record v.pools { kills = kills })
+      stored_on = stored_kept layout s.words s.words v.pools (record v.pools { kills = kills }) (kept.stored id v at) refl (own_same layout v.pools (record v.pools { kills = kills }) refl refl) (λ pool place field own. refl)
+
+      pub plain_ends : Epochs (epoch_word after_words) (reader_word after_words) (map reader_view (set s.views id stepper)) → Deaths death_side layout (after m k entry) after_words (set s.views id stepper) → IsCells m digest layout (record { words = set s.words (field_at layout Slots turn.slot turn_field) 0; homes = set s.homes turn.slot (some value); views = set s.views id stepper })
+      plain_ends = ends_with m digest layout s kept id v turn at has value lives settled seated entry mine' follows freeless stage acts bit runs phase (record v.pools { kills = kills }) refl refl stored_on (fits_on id v.pools.builds v.pools.unstored mine) all_on loaded scanned behind
 
       pub plain_adds : AddsOwn (cell_pass v) (kept.log ++ entry ∷ []) (record entry { seat = v.seats.number } ∷ [])
-      plain_adds = adds_act m digest layout s kept id v turn at has value lives settled seated entry mine' follows freeless stage acts bit runs phase v.pools refl refl (kept.stored id v at) (fits_on id v.pools.builds v.pools.unstored mine) all_on
+      plain_adds = adds_act m digest layout s kept id v turn at has value lives settled seated entry mine' follows freeless stage acts bit runs phase (record v.pools { kills = kills }) refl refl stored_on (fits_on id v.pools.builds v.pools.unstored mine) all_on loaded scanned behind
 
       pub plain_legal : IsPass m (cell_pass v) → IsPass m (cell_pass stepper)
-      plain_legal = legal_after m digest layout s kept id v turn at has value lives settled seated entry mine' follows freeless stage acts bit runs phase v.pools refl refl (kept.stored id v at) (fits_on id v.pools.builds v.pools.unstored mine) all_on (λ none. none)
+      plain_legal = legal_after m digest layout s kept id v turn at has value lives settled seated entry mine' follows freeless stage acts bit runs phase (record v.pools { kills = kills }) refl refl stored_on (fits_on id v.pools.builds v.pools.unstored mine) all_on loaded scanned behind (λ none. none)
 
     -- the stage of a claimed identity is its slot's
     stage_there : (conn : ConnId) → conn.slot ≡ turn.slot → x.inc ≡ conn.inc → stage_of k conn ≡ x.stage
@@ -191,13 +242,14 @@ module _ {S A R : Type 0} (m : Meaning S A R) (digest : Key → ℕ) (layout : L
 
     steps : (conn : ConnId) (n : ℕ) (way : Way) (lent : Bor A) → KnowsThere v turn conn → turn.phase ≡ stage_phase (step_of m way lent.now turn.was.stage) → Ended (Steps conn n way lent)
     steps conn n way lent there phase =
-        let legal = plain_legal entry refl stage acts leaves value follows (λ i e. absurd cc) (stepped_bit m way arg x.stage) runs phased in (
-          stepper entry refl stage acts leaves value follows (λ i e. absurd cc) (stepped_bit m way arg x.stage) runs phased,
-          plain_ends entry refl stage acts leaves value follows (λ i e. absurd cc) (stepped_bit m way arg x.stage) runs phased,
+        let legal = plain_legal entry refl stage acts leaves value follows (λ i e. absurd cc) (stepped_bit m way arg x.stage) runs phased v.pools.kills v.epochs.loaded v.epochs.scanned v.epochs.behind in (
+          walker,
+          plain_ends entry refl stage acts leaves value follows (λ i e. absurd cc) (stepped_bit m way arg x.stage) runs phased v.pools.kills v.epochs.loaded v.epochs.scanned v.epochs.behind (epochs_still walker refl)
+              (deaths_stay m digest layout s kept id v at turn.slot exists (after m k entry) stage acts (stepped_death m way arg x.stage) (stepped_dead m way arg x.stage) walker refl refl refl),
           record {
             turn = turn;
             has = has;
-            adds = plain_adds entry refl stage acts leaves value follows (λ i e. absurd cc) (stepped_bit m way arg x.stage) runs phased;
+            adds = plain_adds entry refl stage acts leaves value follows (λ i e. absurd cc) (stepped_bit m way arg x.stage) runs phased v.pools.kills v.epochs.loaded v.epochs.scanned v.epochs.behind;
             legal = legal;
             is = refl;
           },
@@ -205,6 +257,9 @@ module _ {S A R : Type 0} (m : Meaning S A R) (digest : Key → ℕ) (layout : L
       where
         arg : A
         arg = lent.now
+
+        walker : CellView S A R
+        walker = stepper entry refl stage acts leaves value follows (λ i e. absurd cc) (stepped_bit m way arg x.stage) runs phased v.pools.kills v.epochs.loaded v.epochs.scanned v.epochs.behind
 
         entry : Entry S A R
         entry = record { seat = id; act = Acts.Step n conn way arg; reply = Replies.ToStep (step_answer m way arg turn.was.stage) }
@@ -244,13 +299,14 @@ module _ {S A R : Type 0} (m : Meaning S A R) (digest : Key → ℕ) (layout : L
 
     expires : (conn : ConnId) (now : ℕ) → IsDueThere m turn conn now → turn.phase ≡ 2 → Ended (Expired conn now)
     expires conn now there phase =
-        let legal = plain_legal entry refl Dead acts leaves None follows (λ i e. absurd cc) bit refl phase in (
-          stepper entry refl Dead acts leaves None follows (λ i e. absurd cc) bit refl phase,
-          plain_ends entry refl Dead acts leaves None follows (λ i e. absurd cc) bit refl phase,
+        let legal = plain_legal entry refl Dead acts leaves None follows (λ i e. absurd cc) bit refl phase (conn ∷ v.pools.kills) 0 [] [] in (
+          killer,
+          plain_ends entry refl Dead acts leaves None follows (λ i e. absurd cc) bit refl phase (conn ∷ v.pools.kills) 0 [] [] (epochs_unloaded m digest layout s kept id v at turn.slot exists killer refl refl)
+              (deaths_killed m digest layout s kept id v at turn.slot exists (after m k entry) conn acts there.there (ap (λ (y : Slot S). y.inc) same ∙ there.inc) (due_alive m now x.stage due) killer refl refl refl),
           record {
             turn = turn;
             has = has;
-            adds = plain_adds entry refl Dead acts leaves None follows (λ i e. absurd cc) bit refl phase;
+            adds = plain_adds entry refl Dead acts leaves None follows (λ i e. absurd cc) bit refl phase (conn ∷ v.pools.kills) 0 [] [];
             legal = legal;
             is = refl;
           },
@@ -277,6 +333,9 @@ module _ {S A R : Type 0} (m : Meaning S A R) (digest : Key → ℕ) (layout : L
 
         leaves : (i : ConnId) (j : ℕ) → stage_of k i ≡ Building j → i.slot ≡ turn.slot → Dead ≡ x.stage
         leaves i j built here = absurd (let no : 1 ≡ 0 = sym (due_settled m now x.stage due) ∙ ap stage_phase (building_in k turn.slot i j built here).1 in cc)
+
+        killer : CellView S A R
+        killer = stepper entry refl Dead acts leaves None follows (λ i e. absurd cc) bit refl phase (conn ∷ v.pools.kills) 0 [] []
 
     nothing : turn.phase ≡ stage_phase turn.was.stage → Ended Nothing
     nothing phase = (

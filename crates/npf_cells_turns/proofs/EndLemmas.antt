@@ -21,16 +21,18 @@ use Rattle.npf_connections.specs.Pass.{IsPass, all_places}
 use Rattle.npf_cells_words.specs.declared.layout.Layout.{Layout}
 use Rattle.npf_cells_words.specs.declared.layout.Pool.{Pool}
 use Rattle.npf_cells_words.specs.declared.layout.Pool.TheVariants.{Slots, Nodes}
-use Rattle.npf_cells_words.specs.Layout.{turn_field, phase_field, field_at}
+use Rattle.npf_cells_words.specs.Layout.{turn_field, phase_field, field_at, epoch_word, reader_word}
 use Rattle.npf_cells_words.proofs.WordLemmas.{field_reach}
 use Rattle.npf_seats.specs.Seats.{FitsSeats, Seats}
 use Rattle.npf_seats.proofs.SeatLemmas.{seats-adds}
 use Rattle.npf_seats.proofs.SumLemmas.{sum-set}
+use Rattle.npf_cells_pins.specs.Epochs.{Epochs}
 use Rattle.npf_cells_leaves.specs.Trie.{Trie}
 use Rattle.npf_cells_leaves.proofs.TrieLemmas.{knows_same, trie_same}
 use Rattle.npf_cells_lives.specs.declared.pools.PoolSide.{PoolSide}
 use Rattle.npf_cells_lives.specs.declared.turn.Turn.{Turn}
 use Rattle.npf_cells_lives.specs.Conns.{FitsBuilds, Conns, entry_seat}
+use Rattle.npf_cells_lives.specs.Deaths.{Deaths}
 use Rattle.npf_cells_lives.specs.Pools.{claim_bit, taken}
 use Rattle.npf_cells_lives.specs.Stored.{FitsStored}
 use Rattle.npf_cells_lives.specs.Turns.{Homes, Running, running, stage_phase, has_turn, turn_holders, FitsTurn, Turns}
@@ -41,9 +43,9 @@ use Rattle.npf_cells_lives.proofs.TurnLemmas.{has_once, has_none, turn_held, tur
 use Rattle.npf_cells_rule.specs.declared.view.CellView.{CellView}
 use Rattle.npf_cells_rule.specs.Cells.{IsCells}
 use Rattle.npf_cells_rule.specs.Passes.{cell_pass}
-use Rattle.npf_cells_rule.specs.Views.{seat_side, lock_side, pool_side, trie_side, turn_side}
+use Rattle.npf_cells_rule.specs.Views.{seat_side, reader_view, lock_side, pool_side, trie_side, turn_side, death_side}
 use Rattle.npf_cells_rule.proofs.EntryLemmas.{adds_entry, sole_entries}
-use Rattle.npf_cells_rule.proofs.Frames.{alone-set, alone_still, framed, epochs_apart}
+use Rattle.npf_cells_rule.proofs.Frames.{alone-set, alone_still, framed}
 use Rattle.npf_cells_rule.proofs.TurnFrames.{other_word, below, inc_else, lock_else, keeps_trie, stored_else, turn_step}
 use Rattle.npf_cells_turns.proofs.ActLemmas.{ActsOn, inc_stays, bit_stays}
 
@@ -106,7 +108,7 @@ module _ {S A R : Type 0} (m : Meaning S A R) (digest : Key → ℕ) (layout : L
     module _ (lives : v.seats.lives ≡ true) (settled : v.seats.theirs ≡ []) (seated : 1 ≤ length v.seats.readers) (entry : Entry S A R) (mine : entry.seat ≡ id) (follows : MayFollow m layout.slots k entry) (freeless : (i : ConnId) → ¬ (entry.act ≡ Free i))
         (stage : Stage S) (acts : ActsOn k (after m k entry) slot stage) (bit : claim_bit stage ≡ claim_bit (k.slot slot).stage) (runs : value ≡ running stage) (phase : turn.phase ≡ stage_phase stage)
         (side : PoolSide) (nodes : side.nodes ≡ v.pools.nodes) (unstored : side.unstored ≡ v.pools.unstored) (stored : FitsStored layout s.words side) (builds : FitsBuilds (after m k entry) id side.builds side.unstored)
-        (others : (j : ℕ) (u : CellView S A R) → j ≢ id → get_elem? s.views j ≡ some u → FitsBuilds (after m k entry) j u.pools.builds u.pools.unstored) where
+        (others : (j : ℕ) (u : CellView S A R) → j ≢ id → get_elem? s.views j ≡ some u → FitsBuilds (after m k entry) j u.pools.builds u.pools.unstored) (loaded : ℕ) (scanned behind : List ℕ) where
       abbrev k' : Machine S
       k' = after m k entry
 
@@ -114,7 +116,7 @@ module _ {S A R : Type 0} (m : Meaning S A R) (digest : Key → ℕ) (layout : L
       log' = kept.log ++ entry ∷ []
 
       abbrev pub actor : CellView S A R
-      actor = record v { seats = record v.seats { history = log' }; pools = side; turn = None }
+      actor = record v { seats = record v.seats { history = log' }; epochs = record v.epochs { loaded = loaded; scanned = scanned; behind = behind }; pools = side; turn = None }
 
       there : get_elem? (map seat_side s.views) id ≡ some v.seats
       there = at_map seat_side s.views id v at
@@ -153,10 +155,10 @@ module _ {S A R : Type 0} (m : Meaning S A R) (digest : Key → ℕ) (layout : L
           stage_is : (k'.slot slot).stage ≡ stage
           stage_is = ap (λ x. x.stage) acts.here
 
-      pub ends_with : IsCells m digest layout (record { words = ws; homes = homes'; views = set s.views id actor })
-      ends_with = framed m digest layout s (record { words = ws; homes = homes'; views = set s.views id actor }) kept kept.published log' (length-set s.words (field_at layout Slots slot turn_field) 0)
+      pub ends_with : Epochs (epoch_word ws) (reader_word ws) (map reader_view (set s.views id actor)) → Deaths death_side layout k' ws (set s.views id actor) → IsCells m digest layout (record { words = ws; homes = homes'; views = set s.views id actor })
+      ends_with epochs deaths = framed m digest layout s (record { words = ws; homes = homes'; views = set s.views id actor }) kept kept.published log' (length-set s.words (field_at layout Slots slot turn_field) 0)
           (subst (λ sides. Seats entry_seat layout.slots all_places log' sides) (sym (map-set seat_side s.views id actor)) (seats-adds entry_seat layout.slots all_places kept.log (map seat_side s.views) id v.seats kept.seats there lives seated entry mine))
-          (epochs_apart m digest layout s (field_at layout Slots slot turn_field) 0 id v actor kept at refl (λ j h. below m digest layout s kept slot turn_field 0 fits.exists (inl refl) j (omega (arith, h))))
+          epochs
           (pools-kept layout (taken pool_side kept.published k s.views) (taken pool_side kept.published (state_of m log') (set s.views id actor)) s.words ws kept.pools (length-set s.words (field_at layout Slots slot turn_field) 0)
           (below m digest layout s kept slot turn_field 0 fits.exists (inl refl)) (λ pool p. ap (λ x. taken pool_side kept.published x (set s.views id actor) pool p) state ∙ takes pool p))
           (subst (λ x. Trie trie_side digest layout kept.published x ws (set s.views id actor)) (sym state)
@@ -165,6 +167,7 @@ module _ {S A R : Type 0} (m : Meaning S A R) (digest : Key → ℕ) (layout : L
           (stored_else m digest layout s kept slot turn_field 0 fits.exists (inl refl) id actor stored)
           (locks-same lock_side layout s.words ws s.views (set s.views id actor) kept.locks (lock_else m digest layout s kept slot turn_field 0 fits.exists (inl refl)) (holders-set lock_side layout s.views id v actor at refl))
           (subst (λ x. Turns turn_side layout x ws homes' (set s.views id actor)) (sym state) turns_after)
+          (subst (λ x. Deaths death_side layout x ws (set s.views id actor)) (sym state) deaths)
           (alone-set s.views id actor (alone_still v actor (kept.alone id v at) seated refl (λ none. none)) kept.alone)
 
       -- the entry ends what the pass has then seen

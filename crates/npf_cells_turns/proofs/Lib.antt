@@ -1,4 +1,5 @@
 pub mod ActLemmas
+pub mod DeathEndLemmas
 pub mod EndKeepLemmas
 pub mod EndLemmas
 pub mod PassOnLemmas

@@ -1,5 +1,5 @@
 -- A pass of the table stays one through steps on turns.
-use Rattle.std.proofs.Common.{◌≡◌, ◌≢◌, ℕ, Option, Some, None, List, [], ◌∷◌, refl, sym, ap, ◌∙◌, subst, ⊎_elim}
+use Rattle.std.proofs.Common.{◌≡◌, ◌≢◌, ℕ, ◌≤◌, Option, Some, None, List, [], ◌∷◌, refl, sym, ap, ◌∙◌, subst, ⊎_elim, arith}
 use Rattle.std.proofs.lemmas.Bool.{cases_eq}
 use Rattle.atomic_table.specs.Seated.{TableId}
 use Rattle.atomic_table.specs.Table.{Me, Step, rest}
@@ -7,14 +7,30 @@ use Rattle.npf_types.specs.declared.key.Key.{Key}
 use Rattle.npf_core.specs.declared.entry.Entry.{Entry}
 use Rattle.npf_core.specs.Meaning.{Meaning}
 use Rattle.npf_cells_words.specs.declared.layout.Layout.{Layout}
+use Rattle.npf_cells_pins.specs.declared.pin.EpochSide.{EpochSide}
 use Rattle.npf_cells_lives.specs.declared.turn.Turn.{Turn}
 use Rattle.npf_cells_lives.specs.Turns.{Running, running}
 use Rattle.npf_cells_rule.specs.declared.view.CellView.{CellView}
 use Rattle.npf_cells_rule.specs.Passes.{CarriesByTurn, IsPassOf}
 use Rattle.npf_cells_turns.specs.declared.act.TurnAct.{TurnAct}
 use Rattle.npf_cells_turns.specs.declared.act.TurnAct.TheVariants.{Nothing, Start, Step as Steps, Abandoned, Expired}
-use Rattle.npf_cells_turns.specs.EndKinds.{acted, TellsEnd}
+use Rattle.npf_cells_turns.specs.EndKinds.{acted, epochs_after, TellsEnd}
 use Rattle.npf_cells_turns.specs.TurnKinds.{TriesTurn, HasSlotTurn}
+
+-- what an act makes of what the pass knows of the epoch: its pin stays, and it may forget what it loaded
+pin_after : {S A : Type 0} (act : TurnAct S A) (side : EpochSide) → (epochs_after act side).pin ≡ side.pin
+pin_after Nothing side = refl
+pin_after (Start id n init) side = refl
+pin_after (Steps id n way arg) side = refl
+pin_after (Abandoned id) side = refl
+pin_after (Expired id now) side = refl
+
+loaded_after : {S A : Type 0} (act : TurnAct S A) (side : EpochSide) → (epochs_after act side).loaded ≤ side.loaded
+loaded_after Nothing side = omega arith
+loaded_after (Start id n init) side = omega arith
+loaded_after (Steps id n way arg) side = omega arith
+loaded_after (Abandoned id) side = omega arith
+loaded_after (Expired id now) side = omega arith
 
 module _ {S A R : Type 0} (layout : Layout) (table seat : TableId) (readers : List ℕ) (me : Me (Running S) (CellView S A R)) where
   -- through one that changes its turn alone, and what it carries
@@ -50,9 +66,9 @@ module _ {S A R : Type 0} (layout : Layout) (table seat : TableId) (readers : Li
     place = own.place;
     most = own.most;
     reader = own.reader;
-    epoch = own.epoch;
-    unanswered = own.unanswered;
-    unlocked = own.unlocked;
+    epoch = (let was = own.epoch in let less = loaded_after act me.0.epochs in omega (arith, was, less));
+    unanswered = λ idle. own.unanswered (sym (pin_after act me.0.epochs) ∙ idle);
+    unlocked = λ idle. own.unlocked (sym (pin_after act me.0.epochs) ∙ idle);
   })
 
   -- a pass with a slot's turn carries its value

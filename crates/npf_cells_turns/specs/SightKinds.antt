@@ -16,10 +16,10 @@ use Rattle.npf_cells_rule.specs.Passes.{cell_pass}
 abbrev pub seeing : {S A R : Type 0} → CellView S A R → List (Entry S A R) → CellView S A R
 seeing v history = record v { seats = record v.seats { history = history } }
 
--- a slot whose turn the pass has is still at what it was when the pass got the turn, or its connection was neither Live nor Dead, and isn't
+-- a slot whose turn the pass has is still at what it was when the pass got the turn, or its connection was neither Live, nor Dead and not reclaimed, and isn't Live
 abbrev pub StaysByTurn : {S : Type 0} → Machine S → Option (Turn S) → Type 0
 StaysByTurn k None = Unit {0}
-StaysByTurn k (Some turn) = StaysAt turn.was (k.slot turn.slot)
+StaysByTurn k (Some turn) = (k.slot turn.slot ≡ turn.was) ⊎ ((stage_phase turn.was.stage ≡ 0) × ¬ (IsLive (k.slot turn.slot).stage))
 
 -- the pass has seen all of the history, to which it added nothing
 pub record HasSeen {S A R : Type 0} (m : Meaning S A R) (old now : Me (Running S) (CellView S A R)) : Type 0 where

@@ -1,5 +1,5 @@
 -- What is stored of a word after a further store.
-use Rattle.std.proofs.Common.{◌≡◌, ◌≢◌, ℕ, ◌+◌, ◌<◌, ◌≤◌, cond, eq-eqb, ne_eqb, Some, List, [], ◌∷◌, refl, sym, ap, ◌∙◌, subst, ⊎_elim, arith}
+use Rattle.std.proofs.Common.{◌≡◌, ◌≢◌, ℕ, ◌+◌, ◌<◌, ◌≤◌, ◌&&◌, cond, eqb, eq-eqb, ne_eqb, Some, List, [], ◌∷◌, refl, sym, ap, ◌∙◌, subst, ⊎_elim, arith}
 use Rattle.std.specs.Prelude.{Contains}
 use Rattle.std.proofs.lemmas.Bool.{cases_eq}
 use Rattle.atomic_table.specs.Table.{Me}
@@ -13,6 +13,7 @@ use Rattle.npf_paths.specs.declared.place.Place.{Place}
 use Rattle.npf_paths.specs.declared.place.Place.TheVariants.{Root, Node}
 use Rattle.npf_paths.specs.CellLaw.{WordsSayCells}
 use Rattle.npf_paths.specs.CellWords.{cell_of, cell_word}
+use Rattle.npf_cells_words.proofs.WordLemmas.{key_short}
 use Rattle.npf_cells_words.specs.declared.layout.Layout.{Layout}
 use Rattle.npf_cells_words.specs.declared.layout.Pool.TheVariants.{Slots, Nodes}
 use Rattle.npf_cells_rule.specs.declared.view.CellView.{CellView}
@@ -20,8 +21,9 @@ use Rattle.npf_cells_lives.specs.declared.pools.StoredWord.{StoredWord}
 use Rattle.npf_cells_words.specs.Layout.{key_field, field_at}
 use Rattle.npf_cells_rule.specs.Views.{with_pools}
 use Rattle.npf_seats.specs.Sums.{others_than}
-use Rattle.npf_cells_takes.specs.PrivateKinds.{MayStoreInSlot, storing, stored_in, with_phase}
+use Rattle.npf_cells_takes.specs.PrivateKinds.{MayStoreInSlot, storing, stored_in, with_phase, letting_go}
 use Rattle.npf_cells_holds.specs.PublishKinds.{cell_stored, stored_cell}
+use Rattle.npf_cells_lives.specs.Deaths.{has_epoch}
 use Rattle.npf_cells_lives.specs.Stored.{stored_value}
 use Rattle.npf_cells_words.specs.Places.{IsInTrie, place_at}
 use Rattle.npf_trie.specs.Stores.{MayStoreKey, LiesOutside, KeepsOutside}
@@ -68,12 +70,13 @@ module _ {S A R F : Type 0} where
       on ∙ ap (λ t. with_stored old t) (sym (ap (λ (y : Me F (CellView S A R)). y.0.pools.stored) more))
 
   -- a store in a field of a key is such a store
-  pub key_word_stored : (me next : Me F (CellView S A R)) (slot field value : ℕ) (way : Way) (word : ℕ) → field ≡ key_field way + word → next ≡ stored_in Slots slot field value me →
+  pub key_word_stored : (me next : Me F (CellView S A R)) (slot field value : ℕ) (way : Way) (word : ℕ) → word < 5 → field ≡ key_field way + word → next ≡ stored_in Slots slot field value me →
       next ≡ with_stored me ((record { pool = Slots; place = slot; field = field; value = value }) ∷ me.0.pools.stored)
-  key_word_stored me next slot field value way word at is =
+  key_word_stored me next slot field value way word low at is =
       let s : StoredWord = record { pool = Slots; place = slot; field = field; value = value } in
       let behind = behind_inc way in
-      is ∙ (ap (λ b. cond b (record me.0 { turn = with_phase value me.0.turn }, me.1) (with_pools me (storing Slots slot field value me.0.pools))) (ne_eqb field 2 (λ e. omega (arith, at, e, behind)))
+      is ∙ ((λ i. cond (ne_eqb field 2 (λ e. omega (arith, at, e, behind)) i) (record me.0 { turn = with_phase value me.0.turn }, me.1)
+      (cond (ne_eqb field 18 (λ e. (let near = key_short way word low in omega (arith, at, e, near))) i && eqb (has_epoch value) 1) (with_pools me (letting_go slot me.0.pools)) (with_pools me (storing Slots slot field value me.0.pools))))
       ∙ ap (λ b. with_pools me (record me.0.pools { unstored = cond b (others_than slot me.0.pools.unstored) me.0.pools.unstored; stored = s ∷ me.0.pools.stored })) (ne_eqb field 1 (λ e. omega (arith, at, e))))
 
 module _ {S A R : Type 0} (m : Meaning S A R) where
@@ -88,6 +91,7 @@ module _ {S A R : Type 0} (m : Meaning S A R) where
         turnless = omega arith;
         phaseless = λ e. absurd (omega (arith, at, e, behind));
         inc = λ e. absurd (omega (arith, at, e));
+        epochless = λ far. absurd (let near = key_short way word low in omega (arith, at, far, near));
         keyless = λ way' up down. subst (λ w. HoldsNone (state_of m v.seats.history) may.id w) (same_way way way' word low (omega arith) (omega arith)) may.hold.bare;
       }
 
@@ -124,10 +128,10 @@ module _ {S A R F : Type 0} (m : Meaning S A R) (layout : Layout) (slot : ℕ) (
     pub cells : (p : Place) → IsInTrie layout p → cell_stored layout now.0.pools.stored p ≡ cell_stored layout old.0.pools.stored p
 
   -- and then one more
-  pub one_word_more : (old now next : Me F (CellView S A R)) (field word : ℕ) → field ≡ key_field way + word → KeyStoredBelow old word now →
+  pub one_word_more : (old now next : Me F (CellView S A R)) (field word : ℕ) → word < 5 → field ≡ key_field way + word → KeyStoredBelow old word now →
       next ≡ stored_in Slots slot field (value word) now → KeyStoredBelow old (word + 1) next
-  one_word_more old now next field word at so is =
-      let on = key_word_stored now next slot field (value word) way word at is in
+  one_word_more old now next field word low at so is =
+      let on = key_word_stored now next slot field (value word) way word low at is in
       let stored = ap (λ (y : Me F (CellView S A R)). y.0.pools.stored) on in
       record {
         may = may_store_still m now next _ slot way on so.may;

@@ -1,1 +1,2 @@
+pub mod LetGoLemmas
 pub mod WorkLemmas

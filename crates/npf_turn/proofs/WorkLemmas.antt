@@ -1,5 +1,5 @@
 -- What a pass has while it works under a turn, and what is left when it has ended it.
-use Rattle.std.proofs.Common.{◌≡◌, ℕ, ◌+◌, ◌-◌, ◌^◌, min, Some, None, List, [], ◌∷◌, refl, sym, ap, ◌∙◌, subst, inr, IsTrue}
+use Rattle.std.proofs.Common.{◌≡◌, ℕ, ◌+◌, ◌-◌, ◌^◌, min, Some, None, List, [], ◌∷◌, refl, sym, ap, ◌∙◌, subst, inl, inr, IsTrue}
 use denote.Bor.{Bor}
 use Rattle.atomic_table.specs.Table.{Me}
 use Rattle.npf_types.specs.declared.key.Way.{Way}
@@ -77,7 +77,7 @@ module _ {S A R : Type 0} where
     exchanged next flow is = record { is = is ∙ ap (λ (y : Me (Running S) (CellView S A R)). (y.0, (slot, flow) ∷ [])) so.is }
 
     pub may_store : (m : Meaning S A R) (number : ℕ) → MayStore m now.0 Slots slot phase_field number
-    may_store m number = inr (record { turn = turn_of slot was phase; has = turn_is; there = refl; phase = refl })
+    may_store m number = inr (inl (record { turn = turn_of slot was phase; has = turn_is; there = refl; phase = refl }))
 
     pub phased : (next : Me (Running S) (CellView S A R)) (number : ℕ) → next ≡ stored_in Slots slot phase_field number now → Works old slot was number value next
     phased next number is = record { is = is ∙ ap (stored_in Slots slot phase_field number) so.is }

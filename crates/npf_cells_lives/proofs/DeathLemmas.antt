@@ -1,0 +1,163 @@
+-- The part on deaths stays through steps that spare the dead, and lets a pass kill and let go.
+use Rattle.std.specs.List.{Contains}
+use Rattle.std.proofs.Common.{◌≡◌, ◌≢◌, ◌⊎◌, ℕ, ◌+◌, ◌^◌, ◌<◌, ◌≤◌, nat_lt, Bool, true, false, cond, eqb, eq-eqb, Option, Some, None, List, [], ◌∷◌, ◌++◌, set, map, refl, sym, ap, ◌∙◌, subst, ⊎_elim, inl, inr, arith}
+use Rattle.std.proofs.lemmas.Bool.{cases_eq}
+use Rattle.std.proofs.lemmas.Bool.Decides.{Decides-eqb, not_from_Decides}
+use Rattle.std.proofs.lemmas.List.Sums.{sum_by_push}
+use mathlib.Core.Option.{some}
+use lib.ListN.{get_elem?}
+use Rattle.atomic_table.proofs.Lists.{at_set, at_snoc}
+use Rattle.npf_types.specs.declared.key.Key.{Key}
+use Rattle.npf_types.specs.declared.key.Way.{Way}
+use Rattle.npf_core.specs.declared.conn_id.ConnId.{ConnId}
+use Rattle.npf_core.specs.declared.slot.Slot.{Slot}
+use Rattle.npf_core.specs.declared.stage.Stage.{Stage}
+use Rattle.npf_core.specs.declared.stage.Stage.TheVariants.{Vacant, Building, Live, Dead}
+use Rattle.npf_core.specs.Machine.{Machine, stage_at, stage_of}
+use Rattle.npf_cells_words.specs.declared.layout.Layout.{Layout}
+use Rattle.npf_cells_words.specs.Layout.{epoch_word}
+use Rattle.npf_seats.specs.Sums.{occurs}
+use Rattle.npf_seats.proofs.PrefixLemmas.{none_listed}
+use Rattle.npf_seats.proofs.SumLemmas.{sum-set}
+use Rattle.npf_cells_lives.specs.Deaths.{DeathSide, Rests, IsProtectedBy, IsKeyless, is_dead, first_note, has_epoch, slots_named, killed_in, last_id, IsPast, FitsKill, IsLeft, Deaths}
+
+-- the number says whether a stage is Dead
+pub dead_stage : {S : Type 0} (stage : Stage S) → 1 ≤ is_dead stage → stage ≡ Dead
+dead_stage Vacant h = absurd (omega (arith, h))
+dead_stage (Building seat) h = absurd (omega (arith, h))
+dead_stage (Live flow steps) h = absurd (omega (arith, h))
+dead_stage Dead h = refl
+
+-- a note with an epoch has one
+pub epoch_note : (epoch : ℕ) → has_epoch (2 ^ 63 + epoch) ≡ 1
+epoch_note epoch = grind arith
+
+pub low_note : (note : ℕ) → note < 2 ^ 63 → has_epoch note ≡ 0
+low_note note h = grind (arith, h)
+
+-- a connection that is Dead is the last of its slot
+pub dead_at : {S : Type 0} (x : Slot S) (inc : ℕ) → stage_at x inc ≡ Dead → (x.inc ≡ inc) × (x.stage ≡ Dead)
+dead_at x inc e = by_test (eqb x.inc inc) refl e
+  where
+    by_test : (b : Bool) → eqb x.inc inc ≡ b → cond b x.stage Vacant ≡ Dead → (x.inc ≡ inc) × (x.stage ≡ Dead)
+    by_test true t e = ((Decides-eqb x.inc inc).0 t, e)
+    by_test false t e = absurd cc
+
+pub last_stage : {S : Type 0} (k : Machine S) (slot : ℕ) → stage_of k (last_id k slot) ≡ (k.slot slot).stage
+last_stage k slot = ap (λ b. cond b (k.slot slot).stage Vacant) (eq-eqb (k.slot slot).inc (k.slot slot).inc refl)
+
+-- what a step spares: the dead stay, and neither gain keys nor lose them
+pub record Spares {S : Type 0} (k k' : Machine S) : Type 0 where
+  pub slots : (slot : ℕ) → (k.slot slot).stage ≡ Dead → k'.slot slot ≡ k.slot slot
+  pub gain : (id : ConnId) → stage_of k id ≡ Dead → IsKeyless k id → IsKeyless k' id
+  pub lose : (id : ConnId) → stage_of k id ≡ Dead → IsKeyless k' id → IsKeyless k id
+
+pub spares_all : {S : Type 0} (k : Machine S) → Spares k k
+spares_all k = record { slots = λ slot e. refl; gain = λ id e h. h; lose = λ id e h. h }
+
+-- as one does that leaves the holders
+pub spares_held : {S : Type 0} (k k' : Machine S) → ((key : Key) → k'.holder key ≡ k.holder key) → ((slot : ℕ) → (k.slot slot).stage ≡ Dead → k'.slot slot ≡ k.slot slot) → Spares k k'
+spares_held k k' same slots = record {
+  slots = slots;
+  gain = λ id e h way key held. h way key (sym (same key) ∙ held);
+  lose = λ id e h way key held. h way key (same key ∙ held);
+}
+
+module _ {S : Type 0} (k k' : Machine S) (spares : Spares k k') where
+  -- who is Dead stays so
+  pub stays_dead : (id : ConnId) → stage_of k id ≡ Dead → stage_of k' id ≡ Dead
+  stays_dead id e = ap (λ (x : Slot S). stage_at x id.inc) (spares.slots id.slot (dead_at (k.slot id.slot) id.inc e).1) ∙ e
+
+-- what a step does to what one seat rests on: nothing is new that is Dead and without keys, and its protection stays while it rests on such
+pub record RestsNoMore {S : Type 0} (k : Machine S) (v w : DeathSide) : Type 0 where
+  pub rests : (id : ConnId) → stage_of k id ≡ Dead → IsKeyless k id → Rests w id → Rests v id × (w.protecting ≡ v.protecting)
+
+module _ {S V : Type 0} (side_of : V → DeathSide) (layout : Layout) where
+  module _ (k k' : Machine S) (words words' : List ℕ) (views : List V) (i : ℕ) (v w : V) (kept : Deaths side_of layout k words views) (at : get_elem? views i ≡ some v) (spares : Spares k k') (goes : epoch_word words ≤ epoch_word words') (less : RestsNoMore k (side_of v) (side_of w)) where
+    abbrev pub views' : List V
+    views' = set views i w
+
+    pub past_kept : (id : ConnId) (epoch : ℕ) → stage_of k id ≡ Dead → IsKeyless k id → IsPast side_of (epoch_word words) views id epoch → IsPast side_of (epoch_word words') views' id epoch
+    past_kept id epoch dead bare past = record {
+      reached = (let was = past.reached in omega (arith, was, goes));
+      rested = λ j u e rests. ⊎_elim
+          (λ (x : (j ≡ i) × (w ≡ u)).
+          let mine = less.rests id dead bare (subst (λ (y : V). Rests (side_of y) id) (sym x.1) rests) in
+          subst (λ (y : V). IsProtectedBy epoch (side_of y).protecting) x.1 (subst (IsProtectedBy epoch) (sym mine.1) (past.rested i v at mine.0)))
+          (λ (x : (j ≢ i) × (get_elem? views j ≡ some u)). past.rested j u x.1 rests)
+          (at_set views i j w u e);
+    }
+
+    -- a slot with an epoch in its first note is that of a Dead connection
+    pub left_dead : (slot epoch : ℕ) → slot < layout.slots → first_note layout words slot ≡ 2 ^ 63 + epoch → (k.slot slot).stage ≡ Dead
+    left_dead slot epoch h note = dead_stage (k.slot slot).stage (let sum = kept.counted slot h in let one = ap has_epoch note ∙ epoch_note epoch in omega (arith, sum, one))
+
+    -- what was said of a kill of the seat stays, where it loaded nothing else
+    pub kill_kept : (loaded : ℕ) (id : ConnId) → FitsKill side_of k (epoch_word words) views loaded id → FitsKill side_of k' (epoch_word words') views' loaded id
+    kill_kept loaded id fits = record {
+      dead = stays_dead k k' spares id fits.dead;
+      past = λ some' bare. (let was = spares.lose id fits.dead bare in past_kept id loaded fits.dead was (fits.past some' was));
+    }
+
+    left_kept : (slot epoch : ℕ) → slot < layout.slots → first_note layout words slot ≡ 2 ^ 63 + epoch → IsLeft side_of k' (epoch_word words') views' slot epoch
+    left_kept slot epoch h note =
+        let dead = left_dead slot epoch h note in
+        let was = kept.left slot epoch h note in
+        let stage : stage_of k (last_id k slot) ≡ Dead = last_stage k slot ∙ dead in
+        let same : last_id k slot ≡ last_id k' slot = ap (λ (x : Slot S). record { slot = slot; inc = x.inc }) (sym (spares.slots slot dead)) in
+        record {
+          keyless = subst (IsKeyless k') same (spares.gain (last_id k slot) stage was.keyless);
+          past = subst (λ (id : ConnId). IsPast side_of (epoch_word words') views' id epoch) same (past_kept (last_id k slot) epoch stage was.keyless was.past);
+        }
+
+    -- the part after such a step, where it is still counted, the seat's kills fit, and an epoch in a note was there before or is left now
+    pub deaths-set : ((slot : ℕ) → slot < layout.slots → killed_in side_of views' slot + has_epoch (first_note layout words' slot) ≡ is_dead (k'.slot slot).stage) →
+        ((id : ConnId) → Contains (side_of w).kills id → FitsKill side_of k' (epoch_word words') views' (side_of w).loaded id) →
+        ((slot epoch : ℕ) → slot < layout.slots → first_note layout words' slot ≡ 2 ^ 63 + epoch → (first_note layout words slot ≡ 2 ^ 63 + epoch) ⊎ IsLeft side_of k' (epoch_word words') views' slot epoch) →
+        Deaths side_of layout k' words' views'
+    deaths-set counted mine left = record {
+      counted = counted;
+      kills = λ j u id e c. ⊎_elim
+          (λ (x : (j ≡ i) × (w ≡ u)).
+          subst (λ (y : V). FitsKill side_of k' (epoch_word words') views' (side_of y).loaded id) x.1 (mine id (subst (λ (y : V). Contains (side_of y).kills id) (sym x.1) c)))
+          (λ (x : (j ≢ i) × (get_elem? views j ≡ some u)). kill_kept (side_of u).loaded id (kept.kills j u id x.1 c))
+          (at_set views i j w u e);
+      left = λ slot epoch h note. ⊎_elim (λ was. left_kept slot epoch h was) (λ now. now) (left slot epoch h note);
+    }
+
+    -- a step that leaves what seats killed, the first notes, and who is Dead
+    pub deaths-same : (side_of w).kills ≡ (side_of v).kills → ((id : ConnId) → Contains (side_of w).kills id → (side_of w).loaded ≡ (side_of v).loaded) → ((slot : ℕ) → slot < layout.slots → first_note layout words' slot ≡ first_note layout words slot) →
+        ((slot : ℕ) → slot < layout.slots → is_dead (k'.slot slot).stage ≡ is_dead (k.slot slot).stage) → Deaths side_of layout k' words' views'
+    deaths-same kills loaded notes dead = deaths-set
+        (λ slot h. (let more = sum-set (λ (u : V). occurs slot (slots_named (side_of u).kills)) views i v w at in
+        let one = ap (λ ids. occurs slot (slots_named ids)) kills in
+        let note = ap has_epoch (notes slot h) in
+        let was = kept.counted slot h in
+        let stage = dead slot h in
+        omega (arith, more, one, note, was, stage)))
+        (λ id c. subst (λ n. FitsKill side_of k' (epoch_word words') views' n id) (sym (loaded id c)) (kill_kept (side_of v).loaded id (kept.kills i v id at (subst (λ ids. Contains ids id) kills c))))
+        (λ slot epoch h note. inl (sym (notes slot h) ∙ note))
+
+  -- a view comes that killed nothing and rests on nothing
+  pub deaths-push : (k : Machine S) (words : List ℕ) (views : List V) (w : V) → Deaths side_of layout k words views → (side_of w).kills ≡ [] → ((id : ConnId) → ¬ (Rests (side_of w) id)) → Deaths side_of layout k words (views ++ w ∷ [])
+  deaths-push k words views w kept none free = record {
+    counted = λ slot h.
+        let more = sum_by_push (λ (u : V). occurs slot (slots_named (side_of u).kills)) views w in
+        let no : occurs slot (slots_named (side_of w).kills) ≡ 0 = ap (λ ids. occurs slot (slots_named ids)) none in
+        let was = kept.counted slot h in
+        omega (arith, more, no, was);
+    kills = λ j u id e c. ⊎_elim
+        (λ (there : get_elem? views j ≡ some u). let fits = kept.kills j u id there c in record { dead = fits.dead; past = λ some' bare. pushed id (side_of u).loaded (fits.past some' bare) })
+        (λ (x : w ≡ u). absurd (none_listed id (subst (λ ids. Contains ids id) none (subst (λ (y : V). Contains (side_of y).kills id) (sym x) c))))
+        (at_snoc views w u j e);
+    left = λ slot epoch h note. (let was = kept.left slot epoch h note in record { keyless = was.keyless; past = pushed (last_id k slot) epoch was.past });
+  }
+    where
+      pushed : (id : ConnId) (epoch : ℕ) → IsPast side_of (epoch_word words) views id epoch → IsPast side_of (epoch_word words) (views ++ w ∷ []) id epoch
+      pushed id epoch past = record {
+        reached = past.reached;
+        rested = λ j u e rests. ⊎_elim
+            (λ (there : get_elem? views j ≡ some u). past.rested j u there rests)
+            (λ (x : w ≡ u). absurd (free id (subst (λ (y : V). Rests (side_of y) id) (sym x) rests)))
+            (at_snoc views w u j e);
+      }
