@@ -1,13 +1,15 @@
 // Runs whose fragments are put together: what becomes of each packet, with one worker and with several. Headers are written by
 // digits, as RFC 791 section 3.1 and RFC 8200 section 4.5 lay them out, and data are zero bytes; sums of datagrams were reckoned by
 // hand. Each test gives the same answers whatever the schedule.
-ghost use Rattle.std.specs.Prelude.{◌≤◌};
+ghost use Rattle.std.specs.Prelude.{◌≤◌, All, IfOk};
+ghost use Rattle.npf_traffic.specs.Packet.{IsShortPacket};
 
 use anyhow::Result;
 use npf_pieces::DatagramBytes;
 use npf_reass_run::reassemble;
 use npf_traffic::{FragWhy, Packet, PacketBytes};
-use npf_types::{Dir, IfId, Link};
+use npf_types::limits::MAX_PACKET_BYTES;
+use npf_types::{Dir, IfId, Link, NoMemory};
 use std::alloc::Global;
 use std::fmt::Write;
 use std::sync::Wait;
@@ -322,6 +324,43 @@ fn bytes_of(alloc: Global, given: &[Given]) -> Result<Vec<Vec<u8>>> {
     Ok(all)
 }
 
+// Puts a packet behind the others, unless it is longer than one may be.
+fn add_if_short<'a>(
+    packets: &mut Vec<Packet<'a>>,
+    packet: Packet<'a>,
+) -> std::result::Result<(), NoMemory>
+    requires short { All IsShortPacket packets.old.items }
+    ensures short { IfOk result (λ _. All IsShortPacket packets.new.items) }
+{
+    if packet.bytes.as_slice().len() <= MAX_PACKET_BYTES {
+        packets.push(packet)?;
+    }
+    Ok(())
+}
+
+// The packets of these bytes.
+fn packets_of<'a>(
+    alloc: Global,
+    bytes: &'a mut [Vec<u8>],
+    given: &[Given],
+) -> std::result::Result<Vec<Packet<'a>>, NoMemory>
+    ensures { IfOk result (λ packets. All IsShortPacket packets.items) }
+{
+    let mut packets = Vec::new(alloc);
+    for (bytes, one) in bytes.iter_mut().zip(given) {
+        let packet = Packet {
+            time: one.time,
+            link: one.link,
+            ifid: one.ifid,
+            dir: one.dir,
+            held: None,
+            bytes: PacketBytes::of(bytes.as_mut_slice()),
+        };
+        add_if_short(&mut packets, packet)?;
+    }
+    Ok(packets)
+}
+
 fn tell_run<R: Threads + Wait + Sync>(
     rt: &R,
     alloc: Global,
@@ -332,17 +371,7 @@ fn tell_run<R: Threads + Wait + Sync>(
     requires { (1 ≤ workers) × (workers ≤ 64) }
 {
     let mut bytes = bytes_of(alloc, given)?;
-    let mut packets = Vec::new(alloc);
-    for (bytes, one) in bytes.iter_mut().zip(given) {
-        packets.push(Packet {
-            time: one.time,
-            link: one.link,
-            ifid: one.ifid,
-            dir: one.dir,
-            held: None,
-            bytes: PacketBytes::of(bytes.as_mut_slice()),
-        })?;
-    }
+    let packets = packets_of(alloc, bytes.as_mut_slice(), given)?;
     let mut keeper = DatagramBytes::new(alloc);
     let whole = reassemble(rt, alloc, packets, workers, &mut keeper)?;
     for packet in &whole {
@@ -368,11 +397,15 @@ fn tell_packet(alloc: Global, packet: &Packet<'_>, told: &mut String) -> Result<
 
 fn tell_bytes(alloc: Global, packet: &Packet<'_>, told: &mut String) -> Result<()> {
     let bytes = packet.bytes.as_slice();
-    let mut zeros = 0;
+    let mut zeros: usize = 0;
     for byte in bytes {
-        zeros = if *byte == 0 { zeros + 1 } else { 0 };
+        zeros = if *byte == 0 {
+            zeros.saturating_add(1)
+        } else {
+            0
+        };
     }
-    let digits = hex::encode(alloc, &bytes[..bytes.len() - zeros])?;
+    let digits = hex::encode(alloc, &bytes[..bytes.len().saturating_sub(zeros)])?;
     let link = if packet.link == Link::Raw {
         "raw"
     } else {
