@@ -18,7 +18,7 @@ use Rattle.npf_core.specs.Meaning.{Meaning}
 use Rattle.npf_paths.specs.declared.place.Lock.{Lock}
 use Rattle.npf_cells_words.specs.declared.layout.Layout.{Layout}
 use Rattle.npf_cells_words.specs.declared.layout.Pool.TheVariants.{Slots, Nodes}
-use Rattle.npf_cells_words.specs.Layout.{inc_field, parent_field, key_field, field_at, notes_field}
+use Rattle.npf_cells_words.specs.Layout.{inc_field, parent_field, key_field, field_at, notes_field, note_field}
 use Rattle.npf_cells_words.specs.Places.{lock_at, IsLockOf, place_at}
 use Rattle.npf_cells_words.proofs.WordLemmas.{lock_behind, lock_reach, not_place, not_slot, parent_unlocked}
 use Rattle.npf_seats.specs.Sums.{others_than, occurs}
@@ -34,13 +34,14 @@ use Rattle.npf_cells_lives.specs.Locks.{has_lock, lock_holders, Locks}
 use Rattle.npf_cells_lives.specs.Stored.{FitsStored}
 use Rattle.npf_cells_lives.proofs.ConnLemmas.{builds-kept, unstored-set, conns-same}
 use Rattle.npf_cells_lives.proofs.DeathLemmas.{RestsNoMore}
+use Rattle.npf_cells_lives.proofs.NoteLemmas.{same_ahead}
 use Rattle.npf_cells_lives.proofs.StoredLemmas.{no_lock, stored_kept, stored-set}
 use Rattle.npf_cells_rule.specs.declared.view.CellView.{CellView}
 use Rattle.npf_cells_rule.specs.Cells.{FitsAlone, IsCells}
 use Rattle.npf_cells_rule.specs.Passes.{IsPassOf, IsProtected}
 use Rattle.npf_cells_rule.specs.Views.{with_trie, lock_side, pool_side, trie_side, death_side}
 use Rattle.npf_cells_rule.proofs.DeathFrames.{deaths_on}
-use Rattle.npf_cells_rule.proofs.Frames.{alone_still, alone_within, private_step, turns_apart}
+use Rattle.npf_cells_rule.proofs.Frames.{alone_still, alone_within, private_step, turns_apart, notes_apart}
 use Rattle.npf_cells_rule.proofs.StoodLemmas.{stood_so}
 use Rattle.npf_cells_holds.specs.LockKinds.{locking, locks_but, unlocking, TriesLock, StoresState}
 use Rattle.npf_cells_holds.proofs.LookKeepLemmas.{load_step}
@@ -181,6 +182,13 @@ module _ {S A R : Type 0} (m : Meaning S A R) (digest : Key → ℕ) (layout : L
         (deaths_on m digest layout s word n id me.0 w kept at refl refl less
         (let same = get_or-set_other s.words word 0 n 0 (λ e. absurd (let far = lock_behind layout lock in omega (arith, e, far))) in omega (arith, same))
         (λ slot h. get_or-set_other s.words word (field_at layout Slots slot notes_field) n 0 (not_slot layout slot notes_field lock exists)))
+        (notes_apart m digest layout s (words' n) id me.0 w k kept at (same_ahead me.0.turn me.0.turn refl) refl (λ i c. c) (record {
+          cells = (keeps_trie n).cells;
+          notes = λ slot way. get_or-set_other s.words word (field_at layout Slots slot (note_field way)) n 0 (not_slot layout slot (note_field way) lock exists);
+          held = λ key found is. is;
+          back = λ key found is. is;
+          slots = λ slot. inl refl;
+        }))
       where
         on : (pools : PoolSide) → FitsStored layout s.words pools → FitsStored layout (words' n) pools
         on pools h = stored_kept layout s.words (words' n) pools pools h refl (λ pool place field own. own)

@@ -54,7 +54,7 @@ use Rattle.npf_cells_rule.specs.Passes.{IsProtected, cell_pass}
 use Rattle.npf_cells_rule.specs.Views.{seat_side, reader_view, with_trie, pool_side, trie_side, leaf_id, death_side}
 use Rattle.npf_cells_rule.proofs.DeathFrames.{rests_or_holds, holder_keyed, deaths_load}
 use Rattle.npf_cells_rule.proofs.EntryLemmas.{adds_entry, sole_entries}
-use Rattle.npf_cells_rule.proofs.Frames.{alone_still, alone_within, conns_apart, stored_apart, locks_apart, turns_behind, entry_step, private_step}
+use Rattle.npf_cells_rule.proofs.Frames.{notes_still, alone_still, alone_within, conns_apart, stored_apart, locks_apart, turns_behind, entry_step, private_step}
 use Rattle.npf_cells_rule.proofs.PassLemmas.{pinned_in}
 use Rattle.npf_cells_holds.specs.LookKinds.{StandsOnPath, level_of, level_at, descending, TellsHolder, looked, HasLooked, FitsLayout, LooksAt, LoadsPlace, reading, LoadsKey}
 use Rattle.npf_cells_lives.specs.Turns.{Running}
@@ -120,6 +120,7 @@ module _ {S A R : Type 0} (m : Meaning S A R) (digest : Key → ℕ) (layout : L
       (locks_apart m digest layout s i (slice_index s.words i) id v w kept at locks (λ j h. ap (λ ws. slice_index ws j) (set-get_or s.words i 0)))
       (turns_behind m digest layout s i (slice_index s.words i) id v w kept at refl (λ j h. ap (λ ws. slice_index ws j) (set-get_or s.words i 0)))
       (deaths_load m digest layout s i id v w kept at refl refl less)
+      (notes_still m digest layout s i (slice_index s.words i) id v w kept at refl refl refl (λ j h. ap (λ ws. slice_index ws j) (set-get_or s.words i 0)))
 
   module _ (s : State (Running S) (CellView S A R)) (id : ℕ) (me : Me (Running S) (CellView S A R)) (kept : IsCells m digest layout s) (at : get_elem? s.views id ≡ some me.0)
       (lives : me.0.seats.lives ≡ true) (settled : me.0.seats.theirs ≡ []) (place : 1 ≤ length me.0.seats.readers) (stays : IsProtected me.0.epochs.pin) (packet : ℕ) (key : Key) (p : Place) (stands : StandsOnPath digest me.0.trie key p) where
@@ -217,7 +218,7 @@ module _ {S A R : Type 0} (m : Meaning S A R) (digest : Key → ℕ) (layout : L
     pub ends : IsCells m digest layout (stepped s word (slice_index s.words word) id me.1 looker keeps)
     ends =
         let words = set-get_or s.words word 0 in
-        entry_step m digest layout s word (slice_index s.words word) id me.1 me.0 looker kept at lives place entry refl follows refl refl (kept.stored id me.0 at) refl refl (λ slot. inl refl) refl (spares_all k) (λ slot. refl) looker_rests (alone_within looker place stays)
+        entry_step m digest layout s word (slice_index s.words word) id me.1 me.0 looker kept at lives place entry refl follows refl refl (kept.stored id me.0 at) refl refl (λ slot. inl refl) (λ other. refl) refl (spares_all k) (λ slot. refl) looker_rests refl (λ i c. c) (alone_within looker place stays)
         (record { before = λ j h. ap (λ ws. slice_index ws j) words; behind = λ j h. ap (λ ws. slice_index ws j) words })
         (pools-same layout (taken pool_side kept.published k s.views) (taken pool_side kept.published k (set s.views id looker)) s.words (set s.words word (slice_index s.words word)) kept.pools
         (length-set s.words word (slice_index s.words word)) (λ j h. ap (λ ws. slice_index ws j) words) (taken-set pool_side kept.published k s.views id me.0 looker at refl))

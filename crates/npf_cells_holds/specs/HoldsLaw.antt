@@ -1,4 +1,5 @@
 -- That each of these steps keeps the rule, and tells what it says, whatever else passes do.
+use Rattle.npf_cells_leaves.specs.Sights.{SeesLocked}
 use Rattle.std.specs.List.{Contains}
 use Rattle.std.specs.Prelude.{[], eqb, length, true, ℕ, ◌+◌, ◌<◌, ◌≡◌, ◌≤◌}
 use prog.Atomic.{either}
@@ -21,7 +22,7 @@ use Rattle.npf_cells_rule.specs.Passes.{IsProtected}
 use Rattle.npf_cells_holds.specs.HoldKinds.{LoadsForHold, MayHoldSo}
 use Rattle.npf_cells_holds.specs.LockKinds.{StoresState, TriesLock}
 use Rattle.npf_cells_holds.specs.LookKinds.{LoadsKey, LoadsPlace, StandsOnPath}
-use Rattle.npf_cells_holds.specs.PublishKinds.{MayPublishFor, PublishesFor, SeesLocked, StoresAgain}
+use Rattle.npf_cells_holds.specs.PublishKinds.{MayPublishFor, PublishesFor, StoresAgain}
 use Rattle.npf_cells_lives.specs.Turns.{Running}
 
 -- the steps on the places of the trie, on locks and on keys keep the rule, and tell what they say

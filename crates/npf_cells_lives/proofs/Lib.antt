@@ -2,6 +2,7 @@ pub mod BuiltLemmas
 pub mod ConnLemmas
 pub mod DeathLemmas
 pub mod LockLemmas
+pub mod NoteLemmas
 pub mod PoolLemmas
 pub mod SlotLemmas
 pub mod StoredLemmas

@@ -10,6 +10,13 @@ pub struct StoredWord {
     pub value: u64,
 }
 
+/// A note of a connection that a pass is building, as it stored it, of a way of which the connection holds no key.
+pub struct Note {
+    pub slot: u32,
+    pub field: u32,
+    pub value: u64,
+}
+
 /// What a pass knows of the pools, and what it has of them.
 pub struct PoolSide {
     /// How often it loaded each word of the nodes in a row, all bits set.
@@ -28,4 +35,6 @@ pub struct PoolSide {
     pub stored: LinkedList<StoredWord>,
     /// The connections that it killed and hasn't let go yet.
     pub kills: LinkedList<ConnId>,
+    /// The notes that it stored of ways of which its connections hold no key.
+    pub notes: LinkedList<Note>,
 }

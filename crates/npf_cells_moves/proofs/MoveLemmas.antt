@@ -42,9 +42,12 @@ use Rattle.npf_cells_rule.specs.Cells.{FitsAlone, IsCells}
 use Rattle.npf_cells_rule.specs.Passes.{cell_pass, IsPassOf}
 use Rattle.npf_cells_rule.specs.Views.{seat_side, reader_view, nothing_left, lock_side, pool_side, trie_side, turn_side, death_side}
 use Rattle.npf_cells_rule.proofs.DeathFrames.{rests_none, rests_on_none}
-use Rattle.npf_cells_rule.proofs.Frames.{pushed_side, merged_side, framed, seats_step, alone-set, alone-push, alone_still}
+use Rattle.npf_cells_rule.proofs.Frames.{pushed_side, merged_side, framed, seats_step, alone-set, alone-push, alone_still, notes_apart}
 use Rattle.npf_cells_moves.specs.Moves.{gives_reader, given_view, joined_pools, joined_trie, takes_in, IsBorn, HasRead}
+use Rattle.npf_cells_lives.specs.Notes.{Notes}
 use Rattle.npf_cells_lives.specs.Turns.{Running, Turns}
+use Rattle.npf_cells_lives.proofs.NoteLemmas.{same_ahead, NotesStay, no_notes, notes-set, notes-push}
+use Rattle.npf_cells_rule.proofs.NoteFrames.{notes_behind}
 
 module _ {S A R : Type 0} (m : Meaning S A R) (digest : Key → ℕ) (layout : Layout) where
   keeps_all : (s : State (Running S) (CellView S A R)) (kept : IsCells m digest layout s) → KeepsTrie layout.slots (state_of m kept.log) (state_of m kept.log) (trie_words layout s.words) (trie_words layout s.words)
@@ -63,6 +66,15 @@ module _ {S A R : Type 0} (m : Meaning S A R) (digest : Key → ℕ) (layout : L
 
   nothing_walked : HasNoWalk unread_side
   nothing_walked = record { stands = refl; leaf = refl; seen = refl; meets = refl; answered = refl; locks = refl }
+
+  notes_same : (s : State (Running S) (CellView S A R)) (kept : IsCells m digest layout s) → NotesStay layout (state_of m kept.log) (state_of m kept.log) (trie_words layout s.words).cell (trie_words layout s.words).cell s.words s.words
+  notes_same s kept = notes_behind layout (state_of m kept.log) (state_of m kept.log) s.words s.words (λ j h. refl) (λ key. refl) (λ slot. inl refl)
+
+  -- one view changes, but neither its turn nor its notes
+  notes_moved : (s : State (Running S) (CellView S A R)) (id : ℕ) (v w : CellView S A R) (kept : IsCells m digest layout s) → get_elem? s.views id ≡ some v → w.turn ≡ v.turn → w.pools.notes ≡ v.pools.notes → w.pools.builds ≡ v.pools.builds →
+      Notes turn_side pool_side layout (trie_words layout s.words).cell (state_of m kept.log) s.words (set s.views id w)
+  notes_moved s id v w kept at turn notes builds =
+      notes_apart m digest layout s s.words id v w (state_of m kept.log) kept at (same_ahead v.turn w.turn turn) notes (λ conn c. subst (λ ids. Contains ids conn) (sym builds) c) (notes_same s kept)
 
   -- a seat is split so
   pub splits : (id : ℕ) (v : CellView S A R) → v.seats.lives ≡ true → v.epochs.pin ≡ Idle → 2 ≤ length v.seats.readers →
@@ -87,6 +99,8 @@ module _ {S A R : Type 0} (m : Meaning S A R) (digest : Key → ℕ) (layout : L
       (λ lock. holders-push lock_side layout (set s.views id (gives_reader v)) (given_view v) refl lock ∙ holders-set lock_side layout s.views id v (gives_reader v) at refl lock))
       (turns-push turn_side layout (state_of m kept.log) s.words s.homes (set s.views id (gives_reader v)) (given_view v) (turns_still s id v (gives_reader v) kept at refl) refl)
       (deaths-push death_side layout (state_of m kept.log) s.words (set s.views id (gives_reader v)) (given_view v) (deaths_still s id v (gives_reader v) kept at refl refl (record { rests = λ conn dead bare rests. (rests, refl) })) refl (rests_on_none (given_view v) nothing_walked))
+      (notes-push turn_side pool_side layout (state_of m kept.log) (state_of m kept.log) (trie_words layout s.words).cell (trie_words layout s.words).cell s.words s.words (set s.views id (gives_reader v)) (given_view v)
+      (notes_moved s id v (gives_reader v) kept at refl refl refl) refl refl (notes_same s kept))
       (alone-push (set s.views id (gives_reader v)) (given_view v) given_alone (alone-set s.views id (gives_reader v) (alone_still v (gives_reader v) (kept.alone id v at) some_left refl (λ none. none)) kept.alone))
     where
       some_left : 1 ≤ length (gives_reader v).seats.readers
@@ -127,6 +141,10 @@ module _ {S A R : Type 0} (m : Meaning S A R) (digest : Key → ℕ) (layout : L
       (deaths-same death_side layout (state_of m kept.log) (state_of m kept.log) s.words s.words (set s.views id (takes_in v w)) other w nothing_left
       (deaths_still s id v (takes_in v w) kept at refl refl (record { rests = λ conn dead bare rests. (rests, refl) })) there (spares_all (state_of m kept.log)) (omega arith) (rests_none (state_of m kept.log) w nothing_left nothing_walked)
       (sym w-kills) (λ conn c. absurd (none_listed conn c)) (λ slot h. refl) (λ slot h. refl))
+      (notes-set turn_side pool_side layout (state_of m kept.log) (state_of m kept.log) (trie_words layout s.words).cell (trie_words layout s.words).cell s.words s.words (set s.views id (takes_in v w)) other w nothing_left
+      (notes_moved s id v (takes_in v w) kept at refl refl refl) there (same_ahead w.turn None (sym w-turn))
+      (sym (no_notes layout (state_of m kept.log) s.words w.pools.builds w.pools.notes w-builds (λ note c. kept.notes.each other w note was c)))
+      (λ conn c. absurd (none_listed conn (subst (λ ids. Contains ids conn) w-builds c))) (notes_same s kept))
       (alone-set (set s.views id (takes_in v w)) other nothing_left (record { out = λ _. record { stands = refl; leaf = refl; seen = refl; meets = refl; answered = refl; locks = refl }; spent = λ _. refl })
       (alone-set s.views id (takes_in v w) (alone_still v (takes_in v w) (kept.alone id v at) some_left refl (λ none. record { stands = none.stands; leaf = none.leaf; seen = none.seen; meets = none.meets; answered = none.answered; locks = none.locks })) kept.alone))
     where

@@ -4,6 +4,8 @@ pub mod EntryLemmas
 pub mod Frames
 pub mod LawLemmas
 pub mod MetLemmas
+pub mod NoteFrames
+pub mod NoteLawLemmas
 pub mod OpenLemmas
 pub mod PassLemmas
 pub mod ReaderLemmas

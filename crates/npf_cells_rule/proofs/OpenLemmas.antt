@@ -32,7 +32,10 @@ use Rattle.npf_cells_pins.specs.Epochs.{ReaderView, pin_place, FitsEpochs, all_r
 use Rattle.npf_cells_pins.proofs.EpochLemmas.{idle_holds}
 use Rattle.npf_cells_leaves.specs.Trie.{trie_words, holder_at, FitsTrie}
 use Rattle.npf_cells_leaves.proofs.TrieLemmas.{fits_unread}
+use Rattle.npf_cells_lives.specs.declared.pools.Note.{Note}
+use Rattle.npf_cells_lives.specs.declared.turn.Ahead.{Ahead}
 use Rattle.npf_cells_lives.specs.declared.turn.Turn.{Turn}
+use Rattle.npf_cells_lives.specs.Notes.{FitsAhead, FitsNote, Notes}
 use Rattle.npf_cells_lives.specs.Conns.{FitsBuilds, inc_word, unstored_by, entry_seat}
 use Rattle.npf_cells_lives.specs.Deaths.{first_note, has_epoch, slots_named, FitsKill, Deaths}
 use Rattle.npf_cells_lives.specs.Locks.{has_lock, lock_holders}
@@ -102,6 +105,7 @@ module _ {S A R : Type 0} (layout : Layout) where
     locks = record { says = λ lock h. behind layout (lock_at layout lock) (lock_behind layout lock) ∙ sym (unheld lock); alone = λ lock h. (let none = unheld lock in omega (arith, none)) };
     turns = first_turns;
     deaths = first_deaths;
+    notes = first_notes;
     alone = alone;
   })
     where
@@ -180,6 +184,22 @@ module _ {S A R : Type 0} (layout : Layout) where
           no_kills : (j : ℕ) (v : CellView S A R) (id : ConnId) → get_elem? (view ∷ []) j ≡ some v → Contains v.pools.kills id → FitsKill {S = S} death_side opening (epoch_word (opening_words layout)) (view ∷ []) v.epochs.loaded id
           no_kills zero v id e c = absurd (none_listed id (subst (λ (u : CellView S A R). Contains u.pools.kills id) (sym (some-injective _ _ e)) c))
           no_kills (suc j) v id e c = absurd (some-ne-none v (sym e))
+
+      first_notes : Notes {S = S} turn_side pool_side layout (trie_words layout (opening_words layout)).cell opening (opening_words layout) (view ∷ [])
+      first_notes = record {
+        named = λ digits level p slot way are on e none. absurd (let no : Empty ≡ Leaf slot way = sym (blank p) ∙ e in cc);
+        bare = λ slot way within live none. absurd (let no : 0 ≡ 1 = live in cc);
+        ahead = aheadless;
+        each = noteless;
+      }
+        where
+          aheadless : (j : ℕ) (v : CellView S A R) (turn : Turn S) (note : Ahead) → get_elem? (view ∷ []) j ≡ some v → v.turn ≡ Some turn → turn.ahead ≡ Some note → FitsAhead {S = S} layout opening (opening_words layout) turn.slot note
+          aheadless zero v turn note e has is = absurd (let no : None ≡ Some turn = ap (λ (u : CellView S A R). u.turn) (some-injective _ _ e) ∙ has in cc)
+          aheadless (suc j) v turn note e has is = absurd (some-ne-none v (sym e))
+
+          noteless : (j : ℕ) (v : CellView S A R) (note : Note) → get_elem? (view ∷ []) j ≡ some v → Contains v.pools.notes note → FitsNote {S = S} layout opening (opening_words layout) v.pools.builds note
+          noteless zero v note e c = absurd (none_listed note (subst (λ (u : CellView S A R). Contains u.pools.notes note) (sym (some-injective _ _ e)) c))
+          noteless (suc j) v note e c = absurd (some-ne-none v (sym e))
 
       alone : (j : ℕ) (v : CellView S A R) → get_elem? (view ∷ []) j ≡ some v → FitsAlone v
       alone zero v e = subst (λ (u : CellView S A R). FitsAlone u) (some-injective _ _ e)

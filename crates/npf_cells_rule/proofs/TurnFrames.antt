@@ -1,5 +1,6 @@
 -- A step on the word of a slot's turn or of its phase leaves all parts but that on turns.
-use Rattle.std.proofs.Common.{◌≡◌, ◌≢◌, ℕ, ◌+◌, ◌<◌, ◌≤◌, List, [], ◌∷◌, set, slice_index, refl, sym, ap, subst, ⊎_elim, arith, length-set}
+use Rattle.std.proofs.Common.{◌≡◌, ◌≢◌, ℕ, ◌+◌, ◌<◌, ◌≤◌, List, [], ◌∷◌, set, slice_index, refl, sym, ap, subst, ⊎_elim, arith, length-set, inl, ◌∙◌}
+use Rattle.std.specs.List.{Contains}
 use Rattle.std.proofs.lemmas.List.{get_or-set_other}
 use mathlib.Core.Option.{some}
 use lib.ListN.{get_elem?}
@@ -15,9 +16,9 @@ use Rattle.npf_paths.specs.declared.place.Lock.{Lock}
 use Rattle.npf_cells_words.specs.declared.layout.Layout.{Layout}
 use Rattle.npf_cells_words.specs.declared.layout.Pool.{Pool}
 use Rattle.npf_cells_words.specs.declared.layout.Pool.TheVariants.{Slots, Nodes}
-use Rattle.npf_cells_words.specs.Layout.{root_at, turn_field, inc_field, parent_field, phase_field, key_field, field_at, notes_field}
+use Rattle.npf_cells_words.specs.Layout.{root_at, turn_field, inc_field, parent_field, phase_field, key_field, field_at, notes_field, note_field}
 use Rattle.npf_cells_words.specs.Places.{lock_at, IsLockOf, place_at}
-use Rattle.npf_cells_words.proofs.WordLemmas.{field_behind, key_far, key_short, not_slot, slot_apart}
+use Rattle.npf_cells_words.proofs.WordLemmas.{field_behind, note_late, note_soon, key_far, key_short, not_slot, slot_apart}
 use Rattle.npf_seats.specs.Seats.{Seats}
 use Rattle.npf_seats.proofs.SumLemmas.{side_same}
 use Rattle.npf_cells_pins.specs.declared.pin.EpochSide.{EpochSide}
@@ -27,16 +28,17 @@ use Rattle.npf_cells_lives.specs.declared.pools.PoolSide.{PoolSide}
 use Rattle.npf_cells_lives.specs.Conns.{inc_word, entry_seat}
 use Rattle.npf_cells_lives.specs.Pools.{taken}
 use Rattle.npf_cells_lives.specs.Stored.{IsOwnField, FitsStored, StoredWords}
-use Rattle.npf_cells_lives.specs.Turns.{Homes, IsTurnField, Running, Turns}
+use Rattle.npf_cells_lives.specs.Turns.{Homes, IsTurnField, Running, StaysAt, Turns}
 use Rattle.npf_cells_lives.proofs.ConnLemmas.{builds-kept, unstored-set, conns-same}
 use Rattle.npf_cells_lives.proofs.LockLemmas.{locks-same, holders-set}
+use Rattle.npf_cells_lives.proofs.NoteLemmas.{SameAhead, NotesStay}
 use Rattle.npf_cells_lives.proofs.PoolLemmas.{pools-kept, taken-set}
 use Rattle.npf_cells_lives.proofs.StoredLemmas.{stored_kept, stored-set, no_turn}
 use Rattle.npf_cells_rule.specs.declared.view.CellView.{CellView}
 use Rattle.npf_cells_rule.specs.Cells.{FitsAlone, IsCells}
 use Rattle.npf_cells_rule.specs.Views.{seat_side, lock_side, pool_side, trie_side, turn_side}
 use Rattle.npf_cells_rule.proofs.DeathFrames.{rests_less, deaths_on}
-use Rattle.npf_cells_rule.proofs.Frames.{alone-set, framed, epochs_apart}
+use Rattle.npf_cells_rule.proofs.Frames.{alone-set, framed, epochs_apart, notes_apart}
 
 module _ {S A R : Type 0} (m : Meaning S A R) (digest : Key → ℕ) (layout : Layout) where
   module _ (s : State (Running S) (CellView S A R)) (kept : IsCells m digest layout s) (slot field n : ℕ) (within : slot < layout.slots) (is : IsTurnField field) where
@@ -88,6 +90,16 @@ module _ {S A R : Type 0} (m : Meaning S A R) (digest : Key → ℕ) (layout : L
             let low = short in
             other_word (field_at layout Slots p (key_field way + place)) (λ e. absurd (omega (arith, far, near, low, e)))
 
+    -- and the notes
+    pub notes_stay : (k' : Machine S) → ((key : Key) → k'.holder key ≡ k.holder key) → ((p : ℕ) → StaysAt (k.slot p) (k'.slot p)) → NotesStay layout k k' (trie_words layout s.words).cell (trie_words layout words').cell s.words words'
+    notes_stay k' holder slots = record {
+      cells = λ digits are level p on. cell_kept layout s.words words' p (λ there. other_word (place_at layout p) (λ e. slot_apart layout p slot field there (sym e)));
+      notes = λ p way. other_word (field_at layout Slots p (note_field way)) (λ e. let low = short in let late = note_late way in let soon = note_soon way in absurd (omega (arith, low, late, soon, e)));
+      held = λ key found holds. holder key ∙ holds;
+      back = λ key found holds. sym (holder key) ∙ holds;
+      slots = slots;
+    }
+
     -- what passes stored stays, where the seat's fits
     pub stored_else : (id : ℕ) (w : CellView S A R) → FitsStored layout s.words w.pools → StoredWords pool_side layout words' (set s.views id w)
     stored_else id w fits = stored-set pool_side layout words' s.views id w (on w.pools fits) (λ j u ne there. on u.pools (kept.stored j u there))
@@ -96,9 +108,9 @@ module _ {S A R : Type 0} (m : Meaning S A R) (digest : Key → ℕ) (layout : L
         on side h = stored_kept layout s.words words' side side h refl (λ pool place f own. own) (own_else side)
 
     -- the rule, where the part on turns holds
-    pub turn_step : (id : ℕ) (v w : CellView S A R) (homes : Homes S) → get_elem? s.views id ≡ some v → w.seats ≡ v.seats → w.epochs ≡ v.epochs → w.pools ≡ v.pools → w.trie ≡ v.trie → FitsAlone w →
+    pub turn_step : (id : ℕ) (v w : CellView S A R) (homes : Homes S) → get_elem? s.views id ≡ some v → w.seats ≡ v.seats → w.epochs ≡ v.epochs → w.pools ≡ v.pools → w.trie ≡ v.trie → SameAhead v.turn w.turn → FitsAlone w →
         Turns turn_side layout k words' homes (set s.views id w) → IsCells m digest layout (record { words = words'; homes = homes; views = set s.views id w })
-    turn_step id v w homes at seats epochs pools trie alone turns = framed m digest layout s (record { words = words'; homes = homes; views = set s.views id w }) kept kept.published kept.log (length-set s.words word n)
+    turn_step id v w homes at seats epochs pools trie ahead alone turns = framed m digest layout s (record { words = words'; homes = homes; views = set s.views id w }) kept kept.published kept.log (length-set s.words word n)
         (subst (λ sides. Seats entry_seat layout.slots all_places kept.log sides) (sym (side_same seat_side s.views id v w at seats)) kept.seats)
         (epochs_apart m digest layout s word n id v w kept at (λ i. record { places = (seats i).readers; side = epochs i }) (λ j h. below j (omega (arith, h))))
         (pools-kept layout (taken pool_side kept.published k s.views) (taken pool_side kept.published k (set s.views id w)) s.words words' kept.pools (length-set s.words word n) below
@@ -112,4 +124,5 @@ module _ {S A R : Type 0} (m : Meaning S A R) (digest : Key → ℕ) (layout : L
         (deaths_on m digest layout s word n id v w kept at (ap (λ (p : PoolSide). p.kills) pools) (ap (λ (e : EpochSide). e.loaded) epochs)
         (rests_less k v w (subst (λ side. KnowsNoMore v.trie side) (sym trie) (knows_same v.trie)) (ap (λ (e : EpochSide). e.pin) epochs))
         (let same = below 0 (omega arith) in omega (arith, same)) (λ p h. other_word (field_at layout Slots p notes_field) (λ e. absurd (let low = short in omega (arith, e, low)))))
+        (notes_apart m digest layout s words' id v w k kept at ahead (ap (λ (p : PoolSide). p.notes) pools) (λ conn c. subst (λ (p : PoolSide). Contains p.builds conn) (sym pools) c) (notes_stay k (λ key. refl) (λ p. inl refl)))
         (alone-set s.views id w alone kept.alone)

@@ -1,25 +1,25 @@
--- What stores in a pass's own words make of deaths: those of who builds there leave them, and an epoch in the first note of a connection that the pass killed lets it go.
+-- An epoch in the first note of a connection that the pass killed lets it go.
 use Rattle.std.specs.List.{Contains, filter}
-use Rattle.std.proofs.Common.{◌≡◌, ◌≢◌, ◌⊎◌, ℕ, ◌+◌, ◌^◌, ◌<◌, ◌≤◌, Bool, true, false, cond, eqb, eq-eqb, List, [], ◌∷◌, map, set, length, slice_index, refl, sym, ap, ◌∙◌, subst, ⊎_elim, inl, inr, arith, length-set}
+use Rattle.std.proofs.Common.{◌≡◌, ◌≢◌, ◌⊎◌, ℕ, ◌+◌, ◌^◌, ◌<◌, ◌≤◌, Bool, true, false, cond, eqb, eq-eqb, Some, None, List, [], ◌∷◌, map, set, length, slice_index, refl, sym, ap, ◌∙◌, subst, ⊎_elim, inl, inr, arith, length-set}
 use Rattle.std.proofs.lemmas.Bool.{cases_eq}
 use Rattle.std.proofs.lemmas.List.{get_or-set_same, get_or-set_other}
 use mathlib.Core.Option.{some}
 use lib.ListN.{get_elem?}
 use Rattle.atomic_table.specs.Table.{State, Me, stepped, keeps}
-use Rattle.atomic_table.proofs.Lists.{at_map}
+use Rattle.atomic_table.proofs.Lists.{at_map, at_set}
 use Rattle.npf_types.specs.declared.key.Key.{Key}
 use Rattle.npf_types.specs.declared.key.Way.{Way}
 use Rattle.npf_core.specs.declared.conn_id.ConnId.{ConnId}
 use Rattle.npf_core.specs.declared.slot.Slot.{Slot}
 use Rattle.npf_core.specs.declared.stage.Stage.TheVariants.{Building, Dead}
 use Rattle.npf_core.specs.History.{state_of}
-use Rattle.npf_core.specs.Machine.{Machine, stage_at, stage_of}
+use Rattle.npf_core.specs.Machine.{Machine, HoldsSome, stage_at, stage_of}
 use Rattle.npf_core.specs.Meaning.{Meaning}
 use Rattle.npf_core.proofs.EqualityLemmas.{same_conn_id}
 use Rattle.npf_cells_words.specs.declared.layout.Layout.{Layout}
 use Rattle.npf_cells_words.specs.declared.layout.Pool.{Pool}
 use Rattle.npf_cells_words.specs.declared.layout.Pool.TheVariants.{Slots, Nodes}
-use Rattle.npf_cells_words.specs.Layout.{turn_field, phase_field, inc_field, parent_field, notes_field, key_field, field_at, field_count, pool_places, epoch_word}
+use Rattle.npf_cells_words.specs.Layout.{turn_field, phase_field, inc_field, parent_field, notes_field, note_field, key_field, field_at, field_count, pool_places, epoch_word}
 use Rattle.npf_cells_words.specs.Places.{lock_at, place_at}
 use Rattle.npf_cells_words.proofs.WordLemmas.{field_behind, field_reach, key_short, not_slot, slot_apart}
 use Rattle.npf_seats.specs.Sums.{occurs, others_than}
@@ -35,18 +35,23 @@ use Rattle.npf_cells_lives.specs.Conns.{Conns}
 use Rattle.npf_cells_lives.specs.Deaths.{IsKeyless, is_dead, has_epoch, first_note, slots_named, killed_in, last_id, IsPast, FitsKill, IsLeft, Deaths}
 use Rattle.npf_cells_lives.specs.Locks.{Locks}
 use Rattle.npf_cells_lives.specs.Stored.{IsOwnField, StoredWords}
-use Rattle.npf_cells_lives.specs.Turns.{IsTurnField, Running, Turns}
+use Rattle.npf_cells_lives.specs.Turns.{stage_phase, IsTurnField, Running, Turns}
 use Rattle.npf_cells_lives.proofs.ConnLemmas.{building_at, builds-kept, unstored-set, conns-same}
 use Rattle.npf_cells_lives.proofs.DeathLemmas.{spares_all, RestsNoMore, dead_at, epoch_note, low_note, past_kept, kill_kept, deaths-set}
 use Rattle.npf_cells_lives.proofs.LockLemmas.{locks-same, holders-set}
 use Rattle.npf_cells_lives.proofs.StoredLemmas.{filter_has, own_same, stored_kept, stored-set}
 use Rattle.npf_cells_rule.specs.declared.view.CellView.{CellView}
 use Rattle.npf_cells_rule.specs.Cells.{IsCells}
-use Rattle.npf_cells_rule.specs.Views.{seat_side, lock_side, pool_side, trie_side, turn_side, death_side}
+use Rattle.npf_cells_rule.specs.Views.{turn_side, seat_side, lock_side, pool_side, trie_side, turn_side, death_side}
 use Rattle.npf_cells_rule.proofs.DeathFrames.{deaths_on}
 use Rattle.npf_cells_rule.proofs.Frames.{alone_still, private_step, turns_apart}
 use Rattle.npf_cells_takes.specs.PrivateKinds.{MayStoreInSlot, MayLetGo, letting_go}
 use Rattle.npf_cells_takes.proofs.BareLemmas.{still_bare}
+use Rattle.npf_types.specs.declared.key.Way.TheVariants.{Forward}
+use Rattle.npf_paths.specs.declared.cell.Cell.TheVariants.{Leaf}
+use Rattle.npf_cells_lives.specs.Notes.{note_word, FitsNote, Notes}
+use Rattle.npf_cells_lives.proofs.NoteLemmas.{ahead_fits, note_stays, nobody_before}
+use Rattle.npf_cells_takes.proofs.NoteKeepLemmas.{other_note, note_cases, holds_last, leaf_held, was_on}
 
 -- what is left of connections without those of a slot, and their slots
 abbrev but_slot : ℕ → List ConnId → List ConnId
@@ -73,72 +78,6 @@ slot_listed id (x ∷ xs) c =
 module _ {S A R : Type 0} (m : Meaning S A R) (digest : Key → ℕ) (layout : Layout) (s : State (Running S) (CellView S A R)) (id : ℕ) (me : Me (Running S) (CellView S A R)) (kept : IsCells m digest layout s) (at : get_elem? s.views id ≡ some me.0) where
   abbrev k : Machine S
   k = state_of m kept.log
-
-  -- no note but this one is in such a word, and the epoch isn't
-  module _ (slot field value : ℕ) (within : slot < layout.slots) (short : field < 21) where
-    abbrev word : ℕ
-    word = field_at layout Slots slot field
-
-    abbrev words' : List ℕ
-    words' = set s.words word value
-
-    other : (j : ℕ) → j ≢ word → slice_index words' j ≡ slice_index s.words j
-    other j ne = get_or-set_other s.words word j value 0 ne
-
-    there : word < length s.words
-    there = let reach = field_reach layout Slots slot field within short in let long = kept.connections.reach in omega (arith, reach, long)
-
-    same_epoch : epoch_word s.words ≤ epoch_word words'
-    same_epoch = let same = other 0 (λ e. absurd (let far = field_behind layout Slots slot field in omega (arith, e, far))) in omega (arith, same)
-
-    note_else : (p : ℕ) → p ≢ slot → first_note layout words' p ≡ first_note layout s.words p
-    note_else p ne = other (field_at layout Slots p notes_field) (λ e. ne (omega (arith, e, short)))
-
-    -- a store of who builds in the slot
-    pub deaths_built : (w : CellView S A R) → w.pools.kills ≡ me.0.pools.kills → w.epochs ≡ me.0.epochs → w.trie ≡ me.0.trie → MayStoreInSlot m me.0 slot field value → Deaths death_side layout k words' (set s.views id w)
-    deaths_built w kills epochs trie may = ⊎_elim at_note elsewhere (cases_eq field notes_field)
-      where
-        less : RestsNoMore k (death_side me.0) (death_side w)
-        less = subst (λ (y : EpochSide × TrieSide). RestsNoMore k (death_side me.0) (death_side (record w { epochs = y.0; trie = y.1 }))) (λ i. (sym epochs i, sym trie i)) (record { rests = λ i dead bare rests. (rests, refl) })
-
-        alive : is_dead (k.slot slot).stage ≡ 0
-        alive = ap is_dead (building_at (k.slot slot) may.id.inc id (subst (λ p. stage_at (k.slot p) may.id.inc ≡ Building id) may.there ((kept.connections.each id me.0 at).building may.id may.built))).1
-
-        elsewhere : field ≢ notes_field → Deaths death_side layout k words' (set s.views id w)
-        elsewhere ne = deaths_on m digest layout s word value id me.0 w kept at kills (ap (λ (e : EpochSide). e.loaded) epochs) less same_epoch (λ p h. other (field_at layout Slots p notes_field) (λ e. absurd (ne (omega (arith, e, short)))))
-
-        at_note : field ≡ notes_field → Deaths death_side layout k words' (set s.views id w)
-        at_note is = deaths-set death_side layout k k s.words words' s.views id me.0 w kept.deaths at (spares_all k) same_epoch less counted
-            (λ i c. subst (λ n. FitsKill death_side k (epoch_word words') (set s.views id w) n i) (sym (ap (λ (e : EpochSide). e.loaded) epochs))
-            (kill_kept death_side layout k k s.words words' s.views id me.0 w kept.deaths at (spares_all k) same_epoch less me.0.epochs.loaded i (kept.deaths.kills id me.0 i at (subst (λ ids. Contains ids i) kills c))))
-            (λ p epoch h note. ⊎_elim
-            (λ (e : p ≡ slot). absurd (let low = may.epochless (omega (arith, is)) in let now : first_note layout words' p ≡ value = here p e in omega (arith, low, now, note)))
-            (λ ne. inl (sym (note_else p ne) ∙ note))
-            (cases_eq p slot))
-          where
-            here : (p : ℕ) → p ≡ slot → first_note layout words' p ≡ value
-            here p e = let same : field_at layout Slots p notes_field ≡ word = omega (arith, e, is) in ap (slice_index words') same ∙ get_or-set_same s.words word value 0 there
-
-            counted : (p : ℕ) → p < layout.slots → killed_in death_side (set s.views id w) p + has_epoch (first_note layout words' p) ≡ is_dead (k.slot p).stage
-            counted p h =
-                let more = sum-set (λ (u : CellView S A R). occurs p (slots_named u.pools.kills)) s.views id me.0 w at in
-                let same = ap (λ ids. occurs p (slots_named ids)) kills in
-                let was = kept.deaths.counted p h in
-                ⊎_elim
-                (λ (e : p ≡ slot).
-                let none : is_dead (k.slot p).stage ≡ 0 = ap (λ q. is_dead (k.slot q).stage) e ∙ alive in
-                let now : has_epoch (first_note layout words' p) ≡ 0 = ap has_epoch (here p e) ∙ low_note value (may.epochless (omega (arith, is))) in
-                omega (arith, more, same, was, none, now))
-                (λ (ne : p ≢ slot). let note = ap has_epoch (note_else p ne) in omega (arith, more, same, was, note))
-                (cases_eq p slot)
-
-  -- a store in a node is in no note
-  pub deaths_in_node : (node field value : ℕ) (w : CellView S A R) → node < layout.nodes → field < 18 → w.pools.kills ≡ me.0.pools.kills → w.epochs ≡ me.0.epochs → w.trie ≡ me.0.trie →
-      Deaths death_side layout k (set s.words (field_at layout Nodes node field) value) (set s.views id w)
-  deaths_in_node node field value w within short kills epochs trie = deaths_on m digest layout s (field_at layout Nodes node field) value id me.0 w kept at kills (ap (λ (e : EpochSide). e.loaded) epochs)
-      (subst (λ (y : EpochSide × TrieSide). RestsNoMore k (death_side me.0) (death_side (record w { epochs = y.0; trie = y.1 }))) (λ i. (sym epochs i, sym trie i)) (record { rests = λ i dead bare rests. (rests, refl) }))
-      (let same = get_or-set_other s.words (field_at layout Nodes node field) 0 value 0 (λ e. absurd (let far = field_behind layout Nodes node field in omega (arith, e, far))) in omega (arith, same))
-      (λ slot h. get_or-set_other s.words (field_at layout Nodes node field) (field_at layout Slots slot notes_field) value 0 (λ e. absurd (omega (arith, e, within, short))))
 
   -- a connection is let go
   module _ (slot value : ℕ) (within : slot < layout.slots) (may : MayLetGo m me.0 slot notes_field value) where
@@ -248,6 +187,53 @@ module _ {S A R : Type 0} (m : Meaning S A R) (digest : Key → ℕ) (layout : L
             omega (arith, more, now, was, same, note'))
             (cases_eq p slot)
 
+    -- no leaf and no stored note is of the connection
+    conn_last : conn ≡ last_id k slot
+    conn_last = same_conn_id conn (last_id k slot) (may.there, sym dead_there.0)
+
+    none_holds : (way : Way) → HoldsSome k (last_id k slot) way → ⊥
+    none_holds way some' = bare way some'.0 (subst (λ (i : ConnId). k.holder some'.0 ≡ Some (record { id = i; way = way })) (sym conn_last) some'.1)
+
+    unbuilt : (j : ℕ) (u : CellView S A R) (i : ConnId) → get_elem? s.views j ≡ some u → Contains u.pools.builds i → i.slot ≡ slot → ⊥
+    unbuilt j u i e built there =
+        let stage = building_at (k.slot i.slot) i.inc j ((kept.connections.each j u e).building i built) in
+        let no : Building j ≡ Dead = sym stage.1 ∙ (ap (λ p. (k.slot p).stage) there ∙ dead_there.1) in
+        cc
+
+    notes_after : 1 ≤ length me.0.seats.readers → Notes turn_side pool_side layout (trie_words layout ws).cell k ws (set s.views id w)
+    notes_after seated = record {
+      named = λ digits level p p' way are on is none. ⊎_elim
+          (λ (e : (p' ≡ slot) × (way ≡ Forward)). absurd (none_holds Forward (leaf_held m digest layout s kept id me.0 at slot Forward value within seated digits level p are (was_on m digest layout s kept id me.0 at slot Forward value within seated digits level p are on)
+          (sym (keeps_trie.cells digits are level p (was_on m digest layout s kept id me.0 at slot Forward value within seated digits level p are on)) ∙ (is ∙ (λ i. Leaf (e.0 i) (e.1 i)))))))
+          (λ apart. else_note seated p' way apart ∙ kept.notes.named digits level p p' way are (was_on m digest layout s kept id me.0 at slot Forward value within seated digits level p are on)
+          (sym (keeps_trie.cells digits are level p (was_on m digest layout s kept id me.0 at slot Forward value within seated digits level p are on)) ∙ is)
+          (nobody_before turn_side s.views id me.0 w p' (note_field way) at (λ a. a) none))
+          (note_cases m digest layout s kept id me.0 at slot Forward value within seated p' way);
+      bare = λ p way h live none. ⊎_elim
+          (λ (e : (p ≡ slot) × (way ≡ Forward)). absurd (let no : 2 ≡ 1 = sym (ap stage_phase dead_there.1) ∙ (ap (λ n. stage_phase (k.slot n).stage) (sym e.0) ∙ live) in cc))
+          (λ apart. else_note seated p way apart ∙ kept.notes.bare p way h live none)
+          (note_cases m digest layout s kept id me.0 at slot Forward value within seated p way);
+      ahead = λ j u turn ahead e has is.
+          let was = before j u e in
+          let fits = kept.notes.ahead j was.0 turn ahead was.1 (was.2 ∙ has) is in
+          ahead_fits layout k k s.words ws turn.slot ahead fits
+          (else_note seated turn.slot fits.way (λ a b. none_holds fits.way (holds_last m digest layout s kept id me.0 at slot Forward value within seated fits.id fits.way (fits.id_there ∙ a) fits.held))) (λ key found x. x);
+      each = λ j u stored e c.
+          let was = before j u e in
+          let fits = kept.notes.each j was.0 stored was.1 (subst (λ ns. Contains ns stored) (sym was.3) c) in
+          subst (λ ids. FitsNote layout k ws ids stored) was.4
+          (note_stays layout k k s.words ws was.0.pools.builds was.0.pools.builds stored (λ way is. else_note seated stored.slot way (λ a b. unbuilt j was.0 fits.id was.1 fits.built (fits.there ∙ a))) (λ key i way a b d holds. holds) (λ i e' c'. c') fits);
+    }
+      where
+        else_note : 1 ≤ length me.0.seats.readers → (p : ℕ) (way : Way) → (p ≡ slot → way ≡ Forward → ⊥) → note_word layout ws p way ≡ note_word layout s.words p way
+        else_note seated p way apart = other_note m digest layout s kept id me.0 at slot Forward value within seated p way apart
+
+        before : (j : ℕ) (u : CellView S A R) → get_elem? (set s.views id w) j ≡ some u → (y : CellView S A R) × (get_elem? s.views j ≡ some y) × (y.turn ≡ u.turn) × (y.pools.notes ≡ u.pools.notes) × (y.pools.builds ≡ u.pools.builds)
+        before j u e = ⊎_elim
+            (λ (x : (j ≡ id) × (w ≡ u)). (me.0, ap (get_elem? s.views) x.0 ∙ at, ap (λ (y : CellView S A R). y.turn) x.1, ap (λ (y : CellView S A R). y.pools.notes) x.1, ap (λ (y : CellView S A R). y.pools.builds) x.1))
+            (λ (x : (j ≢ id) × (get_elem? s.views j ≡ some u)). (u, x.1, refl, refl, refl))
+            (at_set s.views id j w u e)
+
     pub lets_go : 1 ≤ length me.0.seats.readers → IsCells m digest layout (stepped s note value id me.1 w keeps)
     lets_go seated = private_step m digest layout s note value id me.1 me.0 w kept at (field_behind layout Slots slot notes_field) refl refl refl refl (alone_still me.0 w (kept.alone id me.0 at) seated refl (λ none. none))
         (trie_same trie_side digest layout kept.published k k s.words ws s.views id me.0 w kept.trie at (knows_same me.0.trie) keeps_trie)
@@ -256,3 +242,4 @@ module _ {S A R : Type 0} (m : Meaning S A R) (digest : Key → ℕ) (layout : L
         (locks-same lock_side layout s.words ws s.views (set s.views id w) kept.locks (λ lock h. else' (lock_at layout lock) (λ e. not_slot layout slot notes_field lock h (sym e))) (holders-set lock_side layout s.views id me.0 w at refl))
         (turns_apart m digest layout s note value id me.0 w k kept at refl (λ p field h is. else' (field_at layout Slots p field) (λ e. absurd (⊎_elim (λ (turn : field ≡ turn_field). omega (arith, turn, e)) (λ (phase : field ≡ phase_field). omega (arith, phase, e)) is))) (λ p. inl refl))
         deaths_after
+        (notes_after seated)

@@ -1,5 +1,7 @@
 pub mod BareLemmas
+pub mod DeathKeepLemmas
 pub mod LetGoLemmas
+pub mod NoteKeepLemmas
 pub mod PhaseKeepLemmas
 pub mod PoolKeepLemmas
 pub mod PrivateKeepLemmas

@@ -1,5 +1,5 @@
 -- A store of a phase under the turn of its slot keeps the rule.
-use Rattle.std.proofs.Common.{◌≡◌, ◌≢◌, ℕ, ◌≤◌, Some, List, set, length, slice_index, refl, sym, ap, ◌∙◌, subst, inl, inr, arith}
+use Rattle.std.proofs.Common.{◌≡◌, ◌≢◌, ℕ, ◌≤◌, Option, Some, None, List, set, length, slice_index, refl, sym, ap, ◌∙◌, subst, inl, inr, arith}
 use Rattle.std.proofs.lemmas.List.{get_or-set_same}
 use mathlib.Core.Option.{some}
 use lib.ListN.{get_elem?}
@@ -15,6 +15,7 @@ use Rattle.npf_cells_words.proofs.WordLemmas.{field_reach}
 use Rattle.npf_seats.proofs.SumLemmas.{sum-set}
 use Rattle.npf_cells_lives.specs.declared.turn.Turn.{Turn}
 use Rattle.npf_cells_lives.specs.Turns.{Running, has_turn, turn_holders, FitsTurn, Turns}
+use Rattle.npf_cells_lives.proofs.NoteLemmas.{SameAhead, same_ahead}
 use Rattle.npf_cells_lives.proofs.TurnLemmas.{turn_held, turns_alone, turns-changed}
 use Rattle.npf_cells_rule.specs.declared.view.CellView.{CellView}
 use Rattle.npf_cells_rule.specs.Cells.{IsCells}
@@ -72,5 +73,17 @@ module _ {S A R : Type 0} (m : Meaning S A R) (digest : Key → ℕ) (layout : L
           });
     })
 
+    -- the pass is ahead of what it was
+    phase_ahead : (turn' : Option (Turn S)) → SameAhead turn' (with_phase value turn')
+    phase_ahead None = same_ahead None None refl
+    phase_ahead (Some t) = record {
+      on = λ slot field is.
+          let same : t ≡ is.mine = (let e = is.has in cc) in
+          record { mine = record t { phase = value }; has = refl; there = ap (λ (y : Turn S). y.slot) same ∙ is.there; note = is.note; ahead = ap (λ (y : Turn S). y.ahead) same ∙ is.ahead; field_is = is.field_is };
+      was = λ turn' note has' ahead.
+          let same : record t { phase = value } ≡ turn' = cc in
+          (t, refl, ap (λ (y : Turn S). y.slot) same, ap (λ (y : Turn S). y.ahead) same ∙ ahead);
+    }
+
     pub phase_stored : 1 ≤ length v.seats.readers → IsCells m digest layout (record { words = ws; homes = s.homes; views = set s.views id w })
-    phase_stored seated = turn_step m digest layout s kept turn.slot phase_field value fits.exists (inr refl) id v w s.homes at refl refl refl refl (alone_still v w (kept.alone id v at) seated refl (λ none. none)) turns
+    phase_stored seated = turn_step m digest layout s kept turn.slot phase_field value fits.exists (inr refl) id v w s.homes at refl refl refl refl (phase_ahead v.turn) (alone_still v w (kept.alone id v at) seated refl (λ none. none)) turns

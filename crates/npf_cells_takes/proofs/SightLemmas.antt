@@ -1,5 +1,5 @@
 -- What a pass has seen once it found a word of the slots.
-use Rattle.std.proofs.Common.{◌≡◌, ℕ, ◌+◌, ◌/◌, ◌%◌, ◌≤◌, true, List, [], map, length, slice_index, refl, sym, ap, ◌∙◌, subst}
+use Rattle.std.proofs.Common.{◌≡◌, ℕ, ◌+◌, ◌/◌, ◌%◌, ◌≤◌, true, Option, Some, None, List, [], map, length, slice_index, refl, sym, ap, ◌∙◌, subst}
 use Rattle.std.specs.Int.{bit_at}
 use mathlib.Core.Option.{some}
 use lib.ListN.{get_elem?}
@@ -21,7 +21,11 @@ use Rattle.npf_cells_lives.specs.Stored.{FitsStored}
 use Rattle.npf_cells_lives.proofs.StoredLemmas.{own_same, stored_kept}
 use Rattle.npf_cells_rule.specs.declared.view.CellView.{CellView}
 use Rattle.npf_cells_rule.specs.Cells.{IsCells}
-use Rattle.npf_cells_rule.specs.Passes.{IsPassOf}
+use Rattle.npf_cells_rule.specs.Passes.{CarriesByTurn, IsPassOf}
+use Rattle.npf_cells_takes.specs.PrivateKinds.{leading}
+use Rattle.npf_cells_lives.specs.declared.turn.Ahead.{Ahead}
+use Rattle.npf_cells_lives.specs.declared.turn.Turn.{Turn}
+use Rattle.npf_cells_lives.specs.Notes.{with_ahead}
 use Rattle.npf_cells_rule.specs.Views.{seat_side, with_pools}
 use Rattle.npf_cells_rule.proofs.EntryLemmas.{sees_nothing, sole_seen}
 use Rattle.npf_cells_rule.proofs.PassLemmas.{pools_on}
@@ -81,3 +85,26 @@ pub swept_on : {S A R : Type 0} (m : Meaning S A R) (layout : Layout) (table sea
     IsPassOf layout table seat readers me → seat' ≡ seat → (pool ≡ Nodes → next ≡ with_pools me side) → (pool ≡ Slots → HasSeenSlots m layout word found me next) → IsPassOf layout table seat' readers next
 swept_on m layout table seat seat' readers word found me next side Nodes own same nodes slots = pools_on layout table seat seat' readers me next side own same (nodes refl)
 swept_on m layout table seat seat' readers word found me next side Slots own same nodes slots = sees_on m layout table seat seat' readers word found me next own same (slots refl)
+
+-- so it does where only what it is ahead of changes
+pub led_carries : {S F : Type 0} (ahead : Option Ahead) (turn : Option (Turn S)) (carried : List (ℕ × F)) → CarriesByTurn turn carried → CarriesByTurn (with_ahead ahead turn) carried
+led_carries ahead None carried carries = carries
+led_carries ahead (Some turn) carried carries = carries
+
+pub led_on : {S A R : Type 0} (layout : Layout) (table seat seat' : TableId) (readers : List ℕ) (field value : ℕ) (me next : Me (Running S) (CellView S A R)) → IsPassOf layout table seat readers me → seat' ≡ seat → next ≡ leading field value me →
+    IsPassOf layout table seat' readers next
+led_on layout table seat seat' readers field value me next own same is = rw is (record {
+  same = same ∙ own.same;
+  words = own.words;
+  carries = led_carries (Some (record { field = field; value = value })) me.0.turn me.1 own.carries;
+  sized = own.sized;
+  lives = own.lives;
+  theirs = own.theirs;
+  owns = own.owns;
+  place = own.place;
+  most = own.most;
+  reader = own.reader;
+  epoch = own.epoch;
+  unanswered = own.unanswered;
+  unlocked = own.unlocked;
+})

@@ -5,14 +5,17 @@ use mathlib.Core.Option.{some}
 use lib.ListN.{get_elem?}
 use Rattle.atomic_table.specs.Table.{State}
 use Rattle.atomic_table.proofs.Lists.{at_map, at_set, set_here, set_else}
+use Rattle.std.specs.List.{Contains}
 use Rattle.npf_types.specs.declared.key.Key.{Key}
+use Rattle.npf_types.specs.declared.key.Way.{Way}
 use Rattle.npf_core.specs.declared.act.Act.TheVariants.{Free}
 use Rattle.npf_core.specs.declared.conn_id.ConnId.{ConnId}
 use Rattle.npf_core.specs.declared.entry.Entry.{Entry}
+use Rattle.npf_core.specs.declared.slot.Slot.{Slot}
 use Rattle.npf_core.specs.declared.stage.Stage.{Stage}
 use Rattle.npf_core.specs.declared.stage.Stage.TheVariants.{Building}
 use Rattle.npf_core.specs.History.{MayFollow, Legal, after, state_of}
-use Rattle.npf_core.specs.Machine.{Machine, stage_of, IsClaimed}
+use Rattle.npf_core.specs.Machine.{Machine, stage_of, IsClaimed, HoldsNone}
 use Rattle.npf_core.specs.Meaning.{Meaning}
 use Rattle.npf_core.proofs.HistoryLemmas.{state_of-append, Legal-append}
 use Rattle.npf_core.proofs.HolderLemmas.{claimed_by}
@@ -27,17 +30,20 @@ use Rattle.npf_seats.specs.Seats.{FitsSeats, Seats}
 use Rattle.npf_seats.proofs.SeatLemmas.{seats-adds}
 use Rattle.npf_seats.proofs.SumLemmas.{sum-set}
 use Rattle.npf_cells_pins.specs.Epochs.{Epochs}
-use Rattle.npf_cells_leaves.specs.Trie.{Trie}
+use Rattle.npf_cells_leaves.specs.Trie.{Trie, trie_words}
 use Rattle.npf_cells_leaves.proofs.TrieLemmas.{knows_same, trie_same}
+use Rattle.npf_cells_lives.specs.declared.pools.Note.{Note}
 use Rattle.npf_cells_lives.specs.declared.pools.PoolSide.{PoolSide}
 use Rattle.npf_cells_lives.specs.declared.turn.Turn.{Turn}
 use Rattle.npf_cells_lives.specs.Conns.{FitsBuilds, Conns, entry_seat}
-use Rattle.npf_cells_lives.specs.Deaths.{Deaths}
+use Rattle.npf_cells_lives.specs.Deaths.{Deaths, last_id}
+use Rattle.npf_cells_lives.specs.Notes.{note_word, FitsNote, Notes}
 use Rattle.npf_cells_lives.specs.Pools.{claim_bit, taken}
 use Rattle.npf_cells_lives.specs.Stored.{FitsStored}
 use Rattle.npf_cells_lives.specs.Turns.{Homes, Running, running, stage_phase, has_turn, turn_holders, FitsTurn, Turns}
 use Rattle.npf_cells_lives.proofs.ConnLemmas.{BuildsIn, unstored-set}
 use Rattle.npf_cells_lives.proofs.LockLemmas.{locks-same, holders-set}
+use Rattle.npf_cells_lives.proofs.NoteLemmas.{SameAhead, ahead_of_none, notes-acted}
 use Rattle.npf_cells_lives.proofs.PoolLemmas.{pools-kept, taken-set}
 use Rattle.npf_cells_lives.proofs.TurnLemmas.{has_once, has_none, turn_held, turns_alone, turns-changed}
 use Rattle.npf_cells_rule.specs.declared.view.CellView.{CellView}
@@ -45,12 +51,12 @@ use Rattle.npf_cells_rule.specs.Cells.{IsCells}
 use Rattle.npf_cells_rule.specs.Passes.{cell_pass}
 use Rattle.npf_cells_rule.specs.Views.{seat_side, reader_view, lock_side, pool_side, trie_side, turn_side, death_side}
 use Rattle.npf_cells_rule.proofs.EntryLemmas.{adds_entry, sole_entries}
-use Rattle.npf_cells_rule.proofs.Frames.{alone-set, alone_still, framed}
-use Rattle.npf_cells_rule.proofs.TurnFrames.{other_word, below, inc_else, lock_else, keeps_trie, stored_else, turn_step}
+use Rattle.npf_cells_rule.proofs.Frames.{alone-set, alone_still, framed, epochs_apart}
+use Rattle.npf_cells_rule.proofs.TurnFrames.{other_word, below, inc_else, lock_else, keeps_trie, stored_else, turn_step, notes_stay}
 use Rattle.npf_cells_turns.proofs.ActLemmas.{ActsOn, inc_stays, bit_stays}
 
 module _ {S A R : Type 0} (m : Meaning S A R) (digest : Key → ℕ) (layout : Layout) where
-  module _ (s : State (Running S) (CellView S A R)) (kept : IsCells m digest layout s) (id : ℕ) (v : CellView S A R) (turn : Turn S) (at : get_elem? s.views id ≡ some v) (has : v.turn ≡ Some turn) (value : Running S) where
+  module _ (s : State (Running S) (CellView S A R)) (kept : IsCells m digest layout s) (id : ℕ) (v : CellView S A R) (turn : Turn S) (at : get_elem? s.views id ≡ some v) (has : v.turn ≡ Some turn) (value : Running S) (quiet : turn.ahead ≡ None) where
     abbrev k : Machine S
     k = state_of m kept.log
 
@@ -98,17 +104,22 @@ module _ {S A R : Type 0} (m : Meaning S A R) (digest : Key → ℕ) (layout : L
       mine = λ turn' is. absurd (let no : None ≡ Some turn' = sym none ∙ is in cc);
     })
 
+    -- and so it is ahead of no note
+    ahead_none : SameAhead v.turn None
+    ahead_none = ahead_of_none v.turn None (λ t is. let same : t ≡ turn = (let e : Some t ≡ Some turn = sym is ∙ has in cc) in ap (λ (y : Turn S). y.ahead) same ∙ quiet) (λ t is. absurd cc)
+
     -- nothing was done
     pub ends_alone : 1 ≤ length v.seats.readers → value ≡ running (k.slot slot).stage → turn.phase ≡ stage_phase (k.slot slot).stage →
         IsCells m digest layout (record { words = ws; homes = homes'; views = set s.views id (record v { turn = None }) })
-    ends_alone seated runs phase = turn_step m digest layout s kept slot turn_field 0 fits.exists (inl refl) id v (record v { turn = None }) homes' at refl refl refl refl
+    ends_alone seated runs phase = turn_step m digest layout s kept slot turn_field 0 fits.exists (inl refl) id v (record v { turn = None }) homes' at refl refl refl refl ahead_none
         (alone_still v (record v { turn = None }) (kept.alone id v at) seated refl (λ none. none)) (turns_end k (record v { turn = None }) refl (λ p ne. refl) runs phase)
 
     -- an act was done, which changes the stage of this slot alone, and what the pass builds and stored
     module _ (lives : v.seats.lives ≡ true) (settled : v.seats.theirs ≡ []) (seated : 1 ≤ length v.seats.readers) (entry : Entry S A R) (mine : entry.seat ≡ id) (follows : MayFollow m layout.slots k entry) (freeless : (i : ConnId) → ¬ (entry.act ≡ Free i))
         (stage : Stage S) (acts : ActsOn k (after m k entry) slot stage) (bit : claim_bit stage ≡ claim_bit (k.slot slot).stage) (runs : value ≡ running stage) (phase : turn.phase ≡ stage_phase stage)
         (side : PoolSide) (nodes : side.nodes ≡ v.pools.nodes) (unstored : side.unstored ≡ v.pools.unstored) (stored : FitsStored layout s.words side) (builds : FitsBuilds (after m k entry) id side.builds side.unstored)
-        (others : (j : ℕ) (u : CellView S A R) → j ≢ id → get_elem? s.views j ≡ some u → FitsBuilds (after m k entry) j u.pools.builds u.pools.unstored) (loaded : ℕ) (scanned behind : List ℕ) where
+        (others : (j : ℕ) (u : CellView S A R) → j ≢ id → get_elem? s.views j ≡ some u → FitsBuilds (after m k entry) j u.pools.builds u.pools.unstored)
+        (noted : (note : Note) → Contains side.notes note → FitsNote layout k s.words side.builds note) (fresh : stage_phase stage ≡ 1 → (way : Way) → HoldsNone k (last_id k slot) way → note_word layout s.words slot way ≡ 0) (loaded : ℕ) (scanned behind : List ℕ) where
       abbrev k' : Machine S
       k' = after m k entry
 
@@ -155,6 +166,13 @@ module _ {S A R : Type 0} (m : Meaning S A R) (digest : Key → ℕ) (layout : L
           stage_is : (k'.slot slot).stage ≡ stage
           stage_is = ap (λ x. x.stage) acts.here
 
+      notes_after : Notes turn_side pool_side layout (trie_words layout ws).cell k' ws (set s.views id actor)
+      notes_after =
+          let stay = notes_stay m digest layout s kept slot turn_field 0 fits.exists (inl refl) k (λ key. refl) (λ p. inl refl) in
+          notes-acted turn_side pool_side layout k k' (trie_words layout s.words).cell (trie_words layout ws).cell s.words ws s.views id v actor slot kept.notes at ahead_none noted stay.cells stay.notes acts.holder acts.elsewhere
+          (λ live way none. fresh (ap (λ (x : Slot S). stage_phase x.stage) (sym acts.here) ∙ live) way
+          (λ key holds. none key (acts.holder key ∙ subst (λ n. k.holder key ≡ Some (record { id = record { slot = slot; inc = n }; way = way })) (ap (λ (x : Slot S). x.inc) (sym acts.here)) holds)))
+
       pub ends_with : Epochs (epoch_word ws) (reader_word ws) (map reader_view (set s.views id actor)) → Deaths death_side layout k' ws (set s.views id actor) → IsCells m digest layout (record { words = ws; homes = homes'; views = set s.views id actor })
       ends_with epochs deaths = framed m digest layout s (record { words = ws; homes = homes'; views = set s.views id actor }) kept kept.published log' (length-set s.words (field_at layout Slots slot turn_field) 0)
           (subst (λ sides. Seats entry_seat layout.slots all_places log' sides) (sym (map-set seat_side s.views id actor)) (seats-adds entry_seat layout.slots all_places kept.log (map seat_side s.views) id v.seats kept.seats there lives seated entry mine))
@@ -168,6 +186,7 @@ module _ {S A R : Type 0} (m : Meaning S A R) (digest : Key → ℕ) (layout : L
           (locks-same lock_side layout s.words ws s.views (set s.views id actor) kept.locks (lock_else m digest layout s kept slot turn_field 0 fits.exists (inl refl)) (holders-set lock_side layout s.views id v actor at refl))
           (subst (λ x. Turns turn_side layout x ws homes' (set s.views id actor)) (sym state) turns_after)
           (subst (λ x. Deaths death_side layout x ws (set s.views id actor)) (sym state) deaths)
+          (subst (λ x. Notes turn_side pool_side layout (trie_words layout ws).cell x ws (set s.views id actor)) (sym state) notes_after)
           (alone-set s.views id actor (alone_still v actor (kept.alone id v at) seated refl (λ none. none)) kept.alone)
 
       -- the entry ends what the pass has then seen

@@ -17,6 +17,7 @@ use Rattle.npf_cells_words.proofs.WordLemmas.{field_reach}
 use Rattle.npf_seats.proofs.SumLemmas.{sum-set, one_of_sum}
 use Rattle.npf_cells_lives.specs.declared.turn.Turn.{Turn}
 use Rattle.npf_cells_lives.specs.Turns.{Homes, Running, running, has_turn, turn_holders, FitsTurn, IsAtHome, Turns}
+use Rattle.npf_cells_lives.proofs.NoteLemmas.{SameAhead, ahead_of_none}
 use Rattle.npf_cells_lives.proofs.TurnLemmas.{has_once, has_none, turns-changed}
 use Rattle.npf_cells_rule.specs.declared.view.CellView.{CellView}
 use Rattle.npf_cells_rule.specs.Cells.{IsCells}
@@ -88,8 +89,11 @@ module _ {S A R : Type 0} (m : Meaning S A R) (digest : Key → ℕ) (layout : L
           });
     })
 
+    ahead_none : SameAhead v.turn (Some turn)
+    ahead_none = ahead_of_none v.turn (Some turn) (λ t is. absurd (let no : None ≡ Some t = sym turnless ∙ is in cc)) (λ t is. let same : turn ≡ t = cc in ap (λ (y : Turn S). y.ahead) (sym same))
+
     pub got : 1 ≤ length v.seats.readers → IsCells m digest layout (record { words = ws; homes = homes'; views = set s.views id taker })
-    got seated = turn_step m digest layout s kept slot turn_field 1 within (inl refl) id v taker homes' at refl refl refl refl (alone_still v taker (kept.alone id v at) seated refl (λ none'. none')) turns
+    got seated = turn_step m digest layout s kept slot turn_field 1 within (inl refl) id v taker homes' at refl refl refl refl ahead_none (alone_still v taker (kept.alone id v at) seated refl (λ none'. none')) turns
 
   -- a try that makes the word of the turn this
   abbrev TurnTry : (st : Step (Running S)) (id slot : ℕ) (v : CellView S A R) (s : State (Running S) (CellView S A R)) → ℕ → Type 0

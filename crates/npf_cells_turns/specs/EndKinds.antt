@@ -1,6 +1,7 @@
 -- What the end of a turn asks and tells, by what it does.
 use Rattle.std.specs.Prelude.{◌≡◌, ℕ, Some, None, List, [], ◌∷◌, Contains}
 use Rattle.atomic_table.specs.Table.{Me, Step}
+use Rattle.npf_types.specs.declared.key.Way.{Way}
 use Rattle.npf_core.specs.declared.act.Act.TheVariants as Acts
 use Rattle.npf_core.specs.declared.act.Why.TheVariants as Reasons
 use Rattle.npf_core.specs.declared.conn_id.ConnId.{ConnId}
@@ -9,6 +10,8 @@ use Rattle.npf_core.specs.declared.reply.Reply.TheVariants as Replies
 use Rattle.npf_core.specs.declared.stage.Stage.{Stage}
 use Rattle.npf_core.specs.declared.stage.Stage.TheVariants.{Live, Dead}
 use Rattle.npf_core.specs.Allowed.{IsDue}
+use Rattle.npf_core.specs.History.{state_of}
+use Rattle.npf_core.specs.Machine.{HoldsNone}
 use Rattle.npf_core.specs.Meaning.{Meaning}
 use Rattle.npf_core.specs.NextState.{stepped}
 use Rattle.npf_core.specs.Replies.{step_answer}
@@ -17,6 +20,8 @@ use Rattle.npf_connections.specs.Answered.{without}
 use Rattle.npf_connections.specs.Entries.{entry_of}
 use Rattle.npf_connections.specs.Pass.{Pass, IsPass, Knows}
 use Rattle.npf_cells_pins.specs.declared.pin.EpochSide.{EpochSide}
+use Rattle.npf_cells_words.specs.Layout.{note_field}
+use Rattle.npf_cells_lives.specs.Notes.{notes_elsewhere}
 use Rattle.npf_cells_lives.specs.declared.pools.PoolSide.{PoolSide}
 use Rattle.npf_cells_lives.specs.declared.turn.Turn.{Turn}
 use Rattle.npf_cells_lives.specs.Stored.{stored_but}
@@ -40,6 +45,10 @@ pub record BuildsThere {S A R : Type 0} (v : CellView S A R) (turn : Turn S) (id
   pub there : id.slot ≡ turn.slot
   pub stored : ¬ Contains v.pools.unstored id.slot
 
+-- it has stored 0 as the note of each way of which the connection holds no key
+abbrev pub HasBareNotes : {S A R : Type 0} → Meaning S A R → CellView S A R → ConnId → Type 0
+HasBareNotes m v id = (way : Way) → HoldsNone (state_of m v.seats.history) id way → Contains v.pools.notes (record { slot = id.slot; field = note_field way; value = 0 })
+
 -- the pass was answered the slot's connection in this stay, or is building it
 pub record KnowsThere {S A R : Type 0} (v : CellView S A R) (turn : Turn S) (id : ConnId) : Type 0 where
   pub known : Knows (cell_pass v) id
@@ -54,12 +63,13 @@ pub record IsDueThere {S A R : Type 0} (m : Meaning S A R) (turn : Turn S) (id :
 -- what each act asks of who does it
 abbrev pub MayAct : {S A R : Type 0} → Meaning S A R → CellView S A R → Turn S → TurnAct S A → Type 0
 MayAct m v turn Nothing = Unit {0}
-MayAct m v turn (Start id n init) = BuildsThere v turn id
+MayAct m v turn (Start id n init) = BuildsThere v turn id × HasBareNotes m v id
 MayAct m v turn (Steps id n way arg) = KnowsThere v turn id
 MayAct m v turn (Abandoned id) = BuildsThere v turn id
 MayAct m v turn (Expired id now) = IsDueThere m turn id now
 
--- a turn may be ended with an act where the pass may do it, carries the flow and count that it leaves, and has stored the phase that it leaves
+-- a turn may be ended with an act where the pass may do it, carries the flow and count that it leaves, and has stored the phase that it leaves; it is
+-- ahead of no note
 pub record MayEndBy {S A R : Type 0} (m : Meaning S A R) (act : TurnAct S A) (slot : ℕ) (me : Me (Running S) (CellView S A R)) : Type 0 where
   pub turn : Turn S
   pub has : me.0.turn ≡ Some turn
@@ -67,6 +77,7 @@ pub record MayEndBy {S A R : Type 0} (m : Meaning S A R) (act : TurnAct S A) (sl
   pub may : MayAct m me.0 turn act
   pub carries : me.1 ≡ (turn.slot, running (stage_by m act turn.was.stage)) ∷ []
   pub phase : turn.phase ≡ stage_phase (stage_by m act turn.was.stage)
+  pub settled : turn.ahead ≡ None
 
 -- the entry of an act on a slot that was at this
 abbrev pub act_entries : {S A R : Type 0} → Meaning S A R → Pass (Entry S A R) → Stage S → TurnAct S A → List (Entry S A R)
@@ -78,7 +89,7 @@ act_entries m pass was (Expired id now) = entry_of pass (Acts.Kill id (Reasons.E
 
 -- a connection that isn't built any more, and the words of its slot
 abbrev pub without_build : ConnId → PoolSide → PoolSide
-without_build id side = record side { builds = without id side.builds; stored = stored_but id.slot side.stored }
+without_build id side = record side { builds = without id side.builds; stored = stored_but id.slot side.stored; notes = notes_elsewhere id.slot side.notes }
 
 -- one that the pass killed, and hasn't let go
 abbrev pub with_kill : ConnId → PoolSide → PoolSide

@@ -70,8 +70,8 @@ module _ {S A R F : Type 0} (m : Meaning S A R) (n slot before : ℕ) (old now :
     there = has.slot_is;
     turnless = omega arith;
     phaseless = λ e. absurd (omega (arith, e));
+    noteless = omega arith;
     inc = λ _. next_inc;
-    epochless = λ far. absurd (omega (arith, far));
     keyless = λ way _ _. bare m n slot old now has way;
   }
 

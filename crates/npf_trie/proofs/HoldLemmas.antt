@@ -34,7 +34,7 @@ use Rattle.npf_trie.specs.declared.step.Point.{Point}
 use Rattle.npf_trie.specs.declared.step.Step.{Step}
 use Rattle.npf_trie.specs.declared.step.Step.TheVariants.{Ends, Leads, Again}
 use Rattle.npf_trie.specs.declared.step.Wanted.{Wanted}
-use Rattle.npf_trie.specs.HoldKey.{CanHold, HoldsOn, SettlesHold, IsAtPlace, StepsSo, having_held}
+use Rattle.npf_trie.specs.HoldKey.{CanHold, HoldsOn, SettlesHold, IsAtPlace, StepsSo, having_held, noted_after}
 
 -- a place on the path stays one while the pass stands where it stood
 path_stays : (digest : Key → ℕ) (side side' : TrieSide) (key : Key) (p : Place) → side'.stands ≡ side.stands → StandsOnPath digest side key p → StandsOnPath digest side' key p
@@ -88,6 +88,7 @@ module _ {S A R F : Type 0} where
     pub keeps : KeepsPass old now
     pub history : now.0.seats.history ≡ old.0.seats.history
     pub published : now.0.trie.published ≡ old.0.trie.published
+    pub notes : now.0.pools.notes ≡ old.0.pools.notes
 
   pub keeps_after : (a b c : Me F (CellView S A R)) → KeepsPass a b → KeepsPass b c → KeepsPass a c
   keeps_after a b c ab bc = record {
@@ -103,7 +104,7 @@ module _ {S A R F : Type 0} where
   }
 
   pub stays_after : (a b c : Me F (CellView S A R)) → StaysOn a b → StaysOn b c → StaysOn a c
-  stays_after a b c ab bc = record { keeps = keeps_after a b c ab.keeps bc.keeps; history = bc.history ∙ ab.history; published = bc.published ∙ ab.published }
+  stays_after a b c ab bc = record { keeps = keeps_after a b c ab.keeps bc.keeps; history = bc.history ∙ ab.history; published = bc.published ∙ ab.published; notes = bc.notes ∙ ab.notes }
 
   -- steps that change only what the pass knows of the trie, or what it stored
   pub stays_trie : (old now : Me F (CellView S A R)) (side : TrieSide) → now ≡ with_trie old side → side.published ≡ old.0.trie.published → StaysOn old now
@@ -111,6 +112,7 @@ module _ {S A R F : Type 0} where
     keeps = record { seats = refl; epochs = refl; nodes = refl; builds = refl; unstored = refl; kills = refl; turn = refl; rest = refl; sweeps = omega arith };
     history = refl;
     published = same;
+    notes = refl;
   })
 
   pub stays_stored : (old now : Me F (CellView S A R)) (words : List StoredWord) → now ≡ with_pools old (record old.0.pools { stored = words }) → StaysOn old now
@@ -118,6 +120,7 @@ module _ {S A R F : Type 0} where
     keeps = record { seats = refl; epochs = refl; nodes = refl; builds = refl; unstored = refl; kills = refl; turn = refl; rest = refl; sweeps = omega arith };
     history = refl;
     published = refl;
+    notes = refl;
   })
 
   -- with the same locks, what a step keeps is what a hold changes
@@ -134,7 +137,7 @@ module _ {S A R F : Type 0} where
   )
 
   pub holds_on : (old now : Me F (CellView S A R)) → StaysOn old now → now.0.trie.locks ≡ old.0.trie.locks → HoldsOn old now
-  holds_on old now stays locks = record { is = held_so old now stays.keeps locks; history = stays.history; sweeps = stays.keeps.sweeps; unpublished = stays.published }
+  holds_on old now stays locks = record { is = held_so old now stays.keeps locks; history = stays.history; sweeps = stays.keeps.sweeps; unpublished = stays.published; noted = stays.notes }
 
   keeps_held : (old now : Me F (CellView S A R)) → now ≡ (having_held old.0 now.0, old.1) → old.0.pools.sweeps ≤ now.0.pools.sweeps → KeepsPass old now
   keeps_held old now is sweeps = record {
@@ -150,7 +153,7 @@ module _ {S A R F : Type 0} where
   }
 
   pub on_stays : (old now : Me F (CellView S A R)) → HoldsOn old now → StaysOn old now
-  on_stays old now on = record { keeps = keeps_held old now on.is on.sweeps; history = on.history; published = on.unpublished }
+  on_stays old now on = record { keeps = keeps_held old now on.is on.sweeps; history = on.history; published = on.unpublished; notes = on.noted }
 
   pub same_locks : (old now : Me F (CellView S A R)) → now ≡ (having_held old.0 now.0, old.1) → now.0.trie.locks ≡ old.0.trie.locks
   same_locks old now is = ap (λ (y : Me F (CellView S A R)). y.0.trie.locks) is
@@ -184,6 +187,7 @@ module _ {S A R F : Type 0} (m : Meaning S A R) where
     stored = λ inside. can.stored (subst (λ slots. Contains slots id.slot) stays.keeps.unstored inside);
     nodes = stays.keeps.nodes ∙ can.nodes;
     locks = locks ∙ can.locks;
+    turnless = stays.keeps.turn ∙ can.turnless;
   }
 
   -- the hold ended with this answer, Done or Taken
@@ -192,6 +196,7 @@ module _ {S A R F : Type 0} (m : Meaning S A R) where
     pub adds : AddsOwn (cell_pass old.0) now.0.seats.history (hold_entries (cell_pass old.0) id key way held)
     pub legal : IsPass m (cell_pass now.0)
     pub answered : now.0.trie.answered ≡ taken_ids held
+    pub noted : now.0.pools.notes ≡ noted_after held id way old.0.pools.notes
     pub keeps : KeepsPass old now
 
   adds_after : (a b : Me F (CellView S A R)) (new : List (Entry S A R)) (id : ConnId) (key : Key) (way : Way) (held : Held) → StaysOn a b → AddsOwn (cell_pass b.0) new (hold_entries (cell_pass b.0) id key way held) →
@@ -204,6 +209,7 @@ module _ {S A R F : Type 0} (m : Meaning S A R) where
     adds = adds_after a b c.0.seats.history id key way held stays ends.adds;
     legal = ends.legal;
     answered = ends.answered;
+    noted = ends.noted ∙ ap (noted_after held id way) stays.notes;
     keeps = keeps_after a b c stays.keeps ends.keeps;
   }
 
@@ -213,6 +219,7 @@ module _ {S A R F : Type 0} (m : Meaning S A R) where
     adds = ends.adds;
     legal = subst (λ (ids : List ConnId). IsPass m (record (cell_pass b.0) { answered = ids })) (sym same) ends.legal;
     answered = same ∙ ends.answered;
+    noted = ends.noted;
     keeps = keeps_after a b (with_trie b side) ends.keeps (record { seats = refl; epochs = refl; nodes = refl; builds = refl; unstored = refl; kills = refl; turn = refl; rest = refl; sweeps = omega arith });
   })
 
@@ -227,6 +234,7 @@ module _ {S A R F : Type 0} (m : Meaning S A R) where
     swept = λ none. absurd (ends.some none);
     met = λ none. absurd (ends.some none);
     unpublished = λ none. absurd (ends.some none);
+    noted = ends.noted;
   }
 
   pub answers_after : (layout : Layout) (a b c : Me F (CellView S A R)) (id : ConnId) (key : Key) (way : Way) (held : Held) → HoldsOn a b → SettlesHold m layout id key way held b c → SettlesHold m layout id key way held a c
@@ -244,6 +252,7 @@ module _ {S A R F : Type 0} (m : Meaning S A R) where
         swept = λ none one. let more = ans.swept none one in omega arith;
         met = ans.met;
         unpublished = λ none. ans.unpublished none ∙ on.unpublished;
+        noted = ans.noted ∙ ap (noted_after held id way) on.noted;
       }
 
   module _ (digest : Key → ℕ) (layout : Layout) (wanted : Wanted) (point : Point) where
@@ -290,7 +299,7 @@ at_next digest layout v key level next node hash hashed is at =
     subst (λ (p : Point). IsAtPlace digest layout v key p) (sym (is ∙ ap (λ h. let p : Point = record { place = Places.Node node (digit_of h key (level + 1)); level = level + 1 } in p) hashed)) at
 
 pub holds_self : {S A R F : Type 0} (a : Me F (CellView S A R)) → HoldsOn a a
-holds_self a = record { is = refl; history = refl; sweeps = omega arith; unpublished = refl }
+holds_self a = record { is = refl; history = refl; sweeps = omega arith; unpublished = refl; noted = refl }
 
 pub can_on : {S A R F : Type 0} (m : Meaning S A R) (layout : Layout) (a b : Me F (CellView S A R)) (id : ConnId) (way : Way) → HoldsOn a b → CanHold m layout a.0 id way → CanHold m layout b.0 id way
 can_on m layout a b id way on can = can_after m layout a b id way (on_stays a b on) (same_locks a b on.is) can

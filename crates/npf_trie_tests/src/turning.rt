@@ -8,6 +8,7 @@ use crate::by_protocol::ByProtocol;
 use crate::keys::Draws;
 use crate::works::untold;
 use npf_cells::{CellPass, Cells, PHASE, Pool};
+use npf_cells_words::note_field;
 use npf_core::{ConnId, Held, Stepped};
 use npf_epoch::enter;
 use npf_flow::{Flow, FlowArg, FlowKind, FlowLaw, FlowReply};
@@ -68,6 +69,9 @@ fn open(
     let id = begin(rt, cells, pass)?;
     match hold(rt, cells, pass, id, key, Way::Forward) {
         Held::Done => {
+            // The notes of the ways without a key.
+            cells.store_private(pass, Pool::Slots, id.slot, note_field(Way::Backward), 0);
+            cells.store_private(pass, Pool::Slots, id.slot, note_field(Way::Port), 0);
             start(rt, cells, pass, id, 7, FLOW);
             Some(id)
         }
