@@ -77,6 +77,7 @@ module _ {S A R : Type 0} (m : Meaning S A R) (digest : Key → ℕ) (layout : L
         (trie_same trie_side digest layout kept.published k k s.words words s.views id me.0 w kept.trie at (publishes_less me.0.trie) (record {
           holder = λ key. refl;
           claimed = λ identity c. c;
+          dead = λ identity e. e;
           cells = λ digits _ level q on. same_cell cell there.is q;
           parents = λ digits level q node are on is. parent_else m digest layout s kept p inside (cell_word cell) node;
           keys = λ slot way right. key_else m digest layout s kept p inside (cell_word cell) slot way;

@@ -124,8 +124,8 @@ module _ {S A R : Type 0} (m : Meaning S A R) (digest : Key → ℕ) (layout : L
       right : IsRightLeaf layout.slots k.holder t slot leaf_way
       right = kept.trie.leaves (digits_of digest key) level p slot leaf_way (are_digits digest key) here is
 
-      leaf_stays : (x : LoadedLeaf) → Some leaf ≡ Some x → StaysLeaf layout.slots k.holder t x
-      leaf_stays x e = subst (StaysLeaf layout.slots k.holder t) (some_same _ _ e) (record { right = right; key = refl; inc = refl })
+      leaf_stays : (x : LoadedLeaf) → Some leaf ≡ Some x → StaysLeaf layout.slots k t x
+      leaf_stays x e = subst (StaysLeaf layout.slots k t) (some_same _ _ e) (record { right = inl right; key = refl; inc = refl })
 
       leaf_keyed : (i : ConnId) → leaf_id (Some leaf) ≡ Some i → ¬ (IsKeyless k i)
       leaf_keyed i e = subst (λ (x : ConnId). ¬ (IsKeyless k x)) (some_same _ _ e) (holder_keyed k (t.key slot leaf_way) (leaf_found t slot leaf_way) right.held)
@@ -172,6 +172,7 @@ module _ {S A R : Type 0} (m : Meaning S A R) (digest : Key → ℕ) (layout : L
         keeps_trie = keeps_words layout k k' s.words s.words
             (λ other. holder_stays k key (leaf_holder leaf) (record { id = conn; way = way }) held other (is_key key other) refl)
             (λ i c. claimed_by m layout.slots k entry i follows (λ e. absurd cc) c)
+            (λ i e. e)
             (λ j h. refl)
 
         asker_fits : FitsTrie digest layout.slots k' t asker.trie

@@ -71,6 +71,7 @@ lock_keeps : {S : Type 0} (layout : Layout) (k : Machine S) (words : List ℕ) (
 lock_keeps layout k words lock n exists = record {
   holder = λ key. refl;
   claimed = λ identity c. c;
+  dead = λ identity e. e;
   cells = λ digits are level p on. cell_kept layout words _ p (λ h. other (place_at layout p) (not_place layout p lock h exists));
   parents = λ digits level p node are on is. other (field_at layout Nodes node parent_field) (parent_unlocked layout lock node exists);
   keys = λ slot way right. λ i. record { 0 = key_same slot way 0 i ∷ key_same slot way 1 i ∷ key_same slot way 2 i ∷ key_same slot way 3 i ∷ key_same slot way 4 i ∷ [] };

@@ -171,11 +171,11 @@ module _ {S A R : Type 0} (m : Meaning S A R) (digest : Key → ℕ) (layout : L
     }) refl refl (record { rests = λ i dead bare rests. (rests, refl) }) (alone_within (record me.0 { trie = descending digest key p level node me.0.trie }) place stays)
 
     -- the leaf that is then known stays
-    leaf_fits : (cell : Cell) → t.cell p ≡ cell → (leaf : LoadedLeaf) → leaf_after t cell me.0.trie.leaf ≡ Some leaf → StaysLeaf layout.slots k.holder t leaf
+    leaf_fits : (cell : Cell) → t.cell p ≡ cell → (leaf : LoadedLeaf) → leaf_after t cell me.0.trie.leaf ≡ Some leaf → StaysLeaf layout.slots k t leaf
     leaf_fits Empty is leaf e = (kept.trie.each id me.0 at).leaf leaf e
     leaf_fits (Leaf slot way) is leaf e =
         let right = kept.trie.leaves (digits_of digest key) level p slot way (are_digits digest key) on is in
-        subst (StaysLeaf layout.slots k.holder t) (some_same _ _ e) (record { right = right; key = refl; inc = refl })
+        subst (StaysLeaf layout.slots k t) (some_same _ _ e) (record { right = inl right; key = refl; inc = refl })
     leaf_fits (Node node) is leaf e = (kept.trie.each id me.0 at).leaf leaf e
     leaf_fits Mark is leaf e = (kept.trie.each id me.0 at).leaf leaf e
 

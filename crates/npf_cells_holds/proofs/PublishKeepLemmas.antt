@@ -196,6 +196,7 @@ module _ {S A R : Type 0} (m : Meaning S A R) (digest : Key → ℕ) (layout : L
       free = free;
       holder = λ other. refl;
       claimed = λ identity c. c;
+      dead = λ identity e. e;
       keys = key_else m digest layout s kept p inside (cell_word cell);
       incs = inc_else m digest layout s kept p inside (cell_word cell);
       key_is = key_stands;
@@ -393,7 +394,7 @@ module _ {S A R : Type 0} (m : Meaning S A R) (digest : Key → ℕ) (layout : L
       stood : t.cell p ≡ Leaf leaf.slot leaf.way
       stood = (stands_there m digest layout s id me kept at p inside (Leaf leaf.slot leaf.way) sees).is
 
-      leaf_stays : StaysLeaf layout.slots k.holder t leaf
+      leaf_stays : StaysLeaf layout.slots k t leaf
       leaf_stays = (kept.trie.each id me.0 at).leaf leaf known
 
       free_other : k.holder key ≡ None
@@ -493,7 +494,7 @@ module _ {S A R : Type 0} (m : Meaning S A R) (digest : Key → ℕ) (layout : L
       held_by_growing : IsCells m digest layout (stepped s word (cell_word cell) id me.1 (holding nodes) keeps)
       held_by_growing =
           held_so nodes free_other named_grown (taken_moved m digest layout s kept id me.0 at k k' (holding nodes) nodes news.apart news.owned refl (λ slot. refl))
-          (trie_grown trie_side digest layout kept.published k k' s.words words' s.views (set s.views id (holding nodes)) conn key way leaf p level first nodes kept.trie (gives free_other) leaf_stays other_key stood grows_branch news.apart
+          (trie_grown trie_side digest layout kept.published k k' s.words words' s.views (set s.views id (holding nodes)) conn key way leaf p level first nodes kept.trie (gives free_other) leaf_stays (kept.trie.leaves mine level p leaf.slot leaf.way (are_digits digest key) on stood) other_key stood grows_branch news.apart
           (λ node has. owns_there m digest layout s kept id me.0 at node (news.owned node has)) may.key_stored.five (parent_else m digest layout s kept p inside (cell_word cell)) named
           (let sums = all_after nodes in omega (arith, sums))
           (all_fit free_other nodes sees.locked grown_paths.old_places (λ digits l q are on' ne. cell_else m digest layout s kept p inside (cell_word cell) q ne)))

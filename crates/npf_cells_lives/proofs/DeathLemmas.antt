@@ -13,7 +13,12 @@ use Rattle.npf_core.specs.declared.conn_id.ConnId.{ConnId}
 use Rattle.npf_core.specs.declared.slot.Slot.{Slot}
 use Rattle.npf_core.specs.declared.stage.Stage.{Stage}
 use Rattle.npf_core.specs.declared.stage.Stage.TheVariants.{Vacant, Building, Live, Dead}
+use Rattle.npf_core.specs.declared.act.Act.TheVariants.{Free}
+use Rattle.npf_core.specs.declared.entry.Entry.{Entry}
+use Rattle.npf_core.specs.History.{MayFollow, after}
 use Rattle.npf_core.specs.Machine.{Machine, stage_at, stage_of}
+use Rattle.npf_core.specs.Meaning.{Meaning}
+use Rattle.npf_core.proofs.LifeLemmas.{Life, stage_in, stage_of-is, Moves, keeps, claims, starts, steps, abandons, expires, frees as is_freed, entry_moves}
 use Rattle.npf_cells_words.specs.declared.layout.Layout.{Layout}
 use Rattle.npf_cells_words.specs.Layout.{epoch_word}
 use Rattle.npf_seats.specs.Sums.{occurs}
@@ -25,7 +30,7 @@ use Rattle.npf_cells_lives.specs.Deaths.{DeathSide, Rests, IsProtectedBy, IsKeyl
 pub dead_stage : {S : Type 0} (stage : Stage S) → 1 ≤ is_dead stage → stage ≡ Dead
 dead_stage Vacant h = absurd (omega (arith, h))
 dead_stage (Building seat) h = absurd (omega (arith, h))
-dead_stage (Live flow steps) h = absurd (omega (arith, h))
+dead_stage (Live flow count) h = absurd (omega (arith, h))
 dead_stage Dead h = refl
 
 -- a note with an epoch has one
@@ -67,6 +72,19 @@ module _ {S : Type 0} (k k' : Machine S) (spares : Spares k k') where
   -- who is Dead stays so
   pub stays_dead : (id : ConnId) → stage_of k id ≡ Dead → stage_of k' id ≡ Dead
   stays_dead id e = ap (λ (x : Slot S). stage_at x id.inc) (spares.slots id.slot (dead_at (k.slot id.slot) id.inc e).1) ∙ e
+
+-- an entry that frees nobody leaves the dead
+dead_moves : {S A R : Type 0} (m : Meaning S A R) (entry : Entry S A R) (id : ConnId) (x y : Life S) → Moves m entry.seat entry.act entry.reply id x y → ¬ (entry.act ≡ Free id) → stage_in x ≡ Dead → stage_in y ≡ Dead
+dead_moves m entry id _ _ (keeps silent) free e = e
+dead_moves m entry id _ _ (claims packet act reply) free e = absurd cc
+dead_moves m entry id _ _ (starts packet init act answer) free e = absurd cc
+dead_moves m entry id _ _ (steps packet way arg flow n act reply) free e = absurd cc
+dead_moves m entry id _ _ (abandons act answer) free e = refl
+dead_moves m entry id _ _ (expires now flow n act answer due) free e = refl
+dead_moves m entry id _ _ (is_freed act answer) free e = absurd (free act)
+
+pub dead_by : {S A R : Type 0} (m : Meaning S A R) (slots : ℕ) (k : Machine S) (entry : Entry S A R) (id : ConnId) → MayFollow m slots k entry → ¬ (entry.act ≡ Free id) → stage_of k id ≡ Dead → stage_of (after m k entry) id ≡ Dead
+dead_by m slots k entry id follows free e = rw stage_of-is (dead_moves m entry id _ _ (entry_moves m slots k entry id follows) free (sym (stage_of-is k id) ∙ e))
 
 -- what a step does to what one seat rests on: nothing is new that is Dead and without keys, and its protection stays while it rests on such
 pub record RestsNoMore {S : Type 0} (k : Machine S) (v w : DeathSide) : Type 0 where

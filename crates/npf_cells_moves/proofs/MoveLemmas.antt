@@ -51,7 +51,7 @@ use Rattle.npf_cells_rule.proofs.NoteFrames.{notes_behind}
 
 module _ {S A R : Type 0} (m : Meaning S A R) (digest : Key → ℕ) (layout : Layout) where
   keeps_all : (s : State (Running S) (CellView S A R)) (kept : IsCells m digest layout s) → KeepsTrie layout.slots (state_of m kept.log) (state_of m kept.log) (trie_words layout s.words) (trie_words layout s.words)
-  keeps_all s kept = keeps_words layout (state_of m kept.log) (state_of m kept.log) s.words s.words (λ key. refl) (λ identity c. c) (λ j h. refl)
+  keeps_all s kept = keeps_words layout (state_of m kept.log) (state_of m kept.log) s.words s.words (λ key. refl) (λ identity c. c) (λ identity e. e) (λ j h. refl)
 
   turns_same : (k : Machine S) (words : List ℕ) → TurnsStay {V = CellView S A R} turn_side layout k k words words
   turns_same k words = record { turn = λ slot h. refl; phase = λ slot h. refl; slots = λ slot. inl refl }

@@ -118,7 +118,7 @@ module _ {S A R : Type 0} (m : Meaning S A R) (digest : Key → ℕ) (layout : L
       ((j : ℕ) → root_at layout ≤ j → slice_index (set s.words i n) j ≡ slice_index s.words j) → Trie trie_side digest layout kept.published (state_of m kept.log) (set s.words i n) (set s.views id w)
   trie_apart s i n id v w kept at less words =
       trie_same trie_side digest layout kept.published (state_of m kept.log) (state_of m kept.log) s.words (set s.words i n) s.views id v w kept.trie at less
-      (keeps_words layout (state_of m kept.log) (state_of m kept.log) s.words (set s.words i n) (λ key. refl) (λ identity c. c) words)
+      (keeps_words layout (state_of m kept.log) (state_of m kept.log) s.words (set s.words i n) (λ key. refl) (λ identity c. c) (λ identity e. e) words)
 
   -- so do what passes stored and the locks, where the seat fits
   pub stored_apart : (s : State (Running S) (CellView S A R)) (i n id : ℕ) (w : CellView S A R) → IsCells m digest layout s → FitsStored layout s.words w.pools →

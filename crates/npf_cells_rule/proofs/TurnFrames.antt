@@ -9,6 +9,7 @@ use Rattle.npf_types.specs.declared.key.Key.{Key}
 use Rattle.npf_types.specs.declared.key.Way.{Way}
 use Rattle.npf_core.specs.declared.conn_id.ConnId.{ConnId}
 use Rattle.npf_core.specs.History.{state_of}
+use Rattle.npf_core.specs.declared.stage.Stage.TheVariants.{Dead}
 use Rattle.npf_core.specs.Machine.{Machine, stage_of, IsClaimed}
 use Rattle.npf_core.specs.Meaning.{Meaning}
 use Rattle.npf_connections.specs.Pass.{all_places}
@@ -73,10 +74,11 @@ module _ {S A R : Type 0} (m : Meaning S A R) (digest : Key → ℕ) (layout : L
     own_else side pool place f own = other_word (field_at layout pool place f) (λ e. no_turn layout side pool place f slot field own within is (sym e))
 
     -- the trie stays where the holders do, and what is claimed
-    pub keeps_trie : (k' : Machine S) → ((key : Key) → k'.holder key ≡ k.holder key) → ((id : ConnId) → IsClaimed (stage_of k id) → IsClaimed (stage_of k' id)) → KeepsTrie layout.slots k k' (trie_words layout s.words) (trie_words layout words')
-    keeps_trie k' holder claimed = record {
+    pub keeps_trie : (k' : Machine S) → ((key : Key) → k'.holder key ≡ k.holder key) → ((id : ConnId) → IsClaimed (stage_of k id) → IsClaimed (stage_of k' id)) → ((id : ConnId) → stage_of k id ≡ Dead → stage_of k' id ≡ Dead) → KeepsTrie layout.slots k k' (trie_words layout s.words) (trie_words layout words')
+    keeps_trie k' holder claimed dead = record {
       holder = holder;
       claimed = claimed;
+      dead = dead;
       cells = λ digits are level p on. cell_kept layout s.words words' p (λ there. other_word (place_at layout p) (λ e. slot_apart layout p slot field there (sym e)));
       parents = λ digits level p node are on is. other_word (field_at layout Nodes node parent_field) (λ e. absurd (let in' = (kept.trie.nodes digits level p node are on is).exists in omega (arith, in', e)));
       keys = λ p way right. λ i. record { 0 = key_same p way 0 (omega arith) i ∷ key_same p way 1 (omega arith) i ∷ key_same p way 2 (omega arith) i ∷ key_same p way 3 (omega arith) i ∷ key_same p way 4 (omega arith) i ∷ [] };
@@ -115,7 +117,7 @@ module _ {S A R : Type 0} (m : Meaning S A R) (digest : Key → ℕ) (layout : L
         (epochs_apart m digest layout s word n id v w kept at (λ i. record { places = (seats i).readers; side = epochs i }) (λ j h. below j (omega (arith, h))))
         (pools-kept layout (taken pool_side kept.published k s.views) (taken pool_side kept.published k (set s.views id w)) s.words words' kept.pools (length-set s.words word n) below
         (taken-set pool_side kept.published k s.views id v w at (ap (λ (p : PoolSide). p.nodes) pools)))
-        (trie_same trie_side digest layout kept.published k k s.words words' s.views id v w kept.trie at (subst (λ side. KnowsNoMore v.trie side) (sym trie) (knows_same v.trie)) (keeps_trie k (λ key. refl) (λ identity c. c)))
+        (trie_same trie_side digest layout kept.published k k s.words words' s.views id v w kept.trie at (subst (λ side. KnowsNoMore v.trie side) (sym trie) (knows_same v.trie)) (keeps_trie k (λ key. refl) (λ identity c. c) (λ identity e. e)))
         (conns-same pool_side m layout kept.log s.words words' s.views (set s.views id w) kept.connections (length-set s.words word n) (λ p h. inc_else p)
         (builds-kept pool_side k s.views id v w at (ap (λ (p : PoolSide). p.builds) pools) (ap (λ (p : PoolSide). p.unstored) pools) kept.connections.each) (unstored-set pool_side s.views id v w at (ap (λ (p : PoolSide). p.unstored) pools)))
         (stored_else id w (subst (FitsStored layout s.words) (sym pools) (kept.stored id v at)))

@@ -15,14 +15,14 @@ use Rattle.npf_core.proofs.LifeLemmas.{Life, to_come, built, lives, killed, gone
 use Rattle.npf_cells_lives.specs.Deaths.{IsKeyless}
 
 -- killed, or freed
-abbrev IsOver : {S : Type 0} → Life S → Type 0
+abbrev pub IsOver : {S : Type 0} → Life S → Type 0
 IsOver to_come = ⊥
 IsOver (built seat) = ⊥
 IsOver (lives flow n) = ⊥
 IsOver killed = Unit {0}
 IsOver gone = Unit {0}
 
-over_dead : {S : Type 0} (x : Life S) → stage_in x ≡ Dead → IsOver x
+pub over_dead : {S : Type 0} (x : Life S) → stage_in x ≡ Dead → IsOver x
 over_dead to_come e = absurd cc
 over_dead (built seat) e = absurd cc
 over_dead (lives flow n) e = absurd cc
@@ -57,7 +57,7 @@ module _ {S A R : Type 0} (m : Meaning S A R) (slots : ℕ) (id : ConnId) where
       over_unbuilt (life_of k id) entry.seat over (sym (stage_of-is k id) ∙ mine)
   none_given k entry follows over bare way key _ _ (loses lost act) was now = absurd cc
 
-  bare_after : (k : Machine S) (entries : List (Entry S A R)) → LegalFrom m slots k entries → IsOver (life_of k id) → IsKeyless k id → IsKeyless (state_from m k entries) id
+  pub bare_after : (k : Machine S) (entries : List (Entry S A R)) → LegalFrom m slots k entries → IsOver (life_of k id) → IsKeyless k id → IsKeyless (state_from m k entries) id
   bare_after k [] legal over bare = bare
   bare_after k (entry ∷ entries) legal over bare = bare_after (after m k entry) entries legal.1
       (over_moves entry (life_of k id) (life_of (after m k entry) id) (entry_moves m slots k entry id legal.0) over)

@@ -125,6 +125,7 @@ module _ {S A R : Type 0} (m : Meaning S A R) (digest : Key → ℕ) (layout : L
     keeps_trie = record {
       holder = λ key. refl;
       claimed = λ i c. c;
+      dead = λ i e. e;
       cells = λ digits are level p on. cell_kept layout s.words ws p (λ inside. else' (place_at layout p) (λ e. slot_apart layout p slot notes_field inside (sym e)));
       parents = λ digits level p node are on is. else' (field_at layout Nodes node parent_field) (λ e. absurd (let in' = (kept.trie.nodes digits level p node are on is).exists in omega (arith, in', e)));
       keys = λ p way right. λ i. record { 0 = key_same p way 0 (omega arith) i ∷ key_same p way 1 (omega arith) i ∷ key_same p way 2 (omega arith) i ∷ key_same p way 3 (omega arith) i ∷ key_same p way 4 (omega arith) i ∷ [] };

@@ -40,7 +40,7 @@ use Rattle.npf_cells_lives.specs.Deaths.{is_dead}
 use Rattle.npf_cells_lives.specs.Pools.{taken}
 use Rattle.npf_cells_lives.specs.Stored.{IsOwnField, FitsStored}
 use Rattle.npf_cells_lives.proofs.ConnLemmas.{BuildsIn}
-use Rattle.npf_cells_lives.proofs.DeathLemmas.{Spares, spares_held, RestsNoMore, dead_at}
+use Rattle.npf_cells_lives.proofs.DeathLemmas.{Spares, spares_held, stays_dead, RestsNoMore, dead_at}
 use Rattle.npf_cells_lives.proofs.PoolLemmas.{pools-set, taken-set}
 use Rattle.npf_cells_lives.proofs.SlotLemmas.{clear_vacant, claimed, now_taken, now_building, slot_else, taken_else, builds_more, incs_more}
 use Rattle.npf_cells_lives.proofs.StoredLemmas.{stored_kept}
@@ -137,7 +137,7 @@ module _ {S A R : Type 0} (m : Meaning S A R) (digest : Key → ℕ) (layout : L
 
     -- the claim leaves the holders, and what was claimed
     keeps_claim : (n : ℕ) → bit_at found (slot % 64) ≡ 0 → KeepsTrie layout.slots k (claimed m k id packet slot) (trie_words layout s.words) (trie_words layout (set s.words word n))
-    keeps_claim n clear = keeps_words layout k (claimed m k id packet slot) s.words (set s.words word n) (λ key. refl) (λ identity c. claimed_by m layout.slots k entry identity (follows clear) (λ e. absurd cc) c)
+    keeps_claim n clear = keeps_words layout k (claimed m k id packet slot) s.words (set s.words word n) (λ key. refl) (λ identity c. claimed_by m layout.slots k entry identity (follows clear) (λ e. absurd cc) c) (λ identity e. stays_dead k (claimed m k id packet slot) (claim_spares (follows clear)) identity e)
         (pool_step layout s.words Slots slot n within).behind
 
     -- and the pass was answered the new connection

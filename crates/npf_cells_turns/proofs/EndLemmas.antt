@@ -42,6 +42,7 @@ use Rattle.npf_cells_lives.specs.Pools.{claim_bit, taken}
 use Rattle.npf_cells_lives.specs.Stored.{FitsStored}
 use Rattle.npf_cells_lives.specs.Turns.{Homes, Running, running, stage_phase, has_turn, turn_holders, FitsTurn, Turns}
 use Rattle.npf_cells_lives.proofs.ConnLemmas.{BuildsIn, unstored-set}
+use Rattle.npf_cells_lives.proofs.DeathLemmas.{dead_by}
 use Rattle.npf_cells_lives.proofs.LockLemmas.{locks-same, holders-set}
 use Rattle.npf_cells_lives.proofs.NoteLemmas.{SameAhead, ahead_of_none, notes-acted}
 use Rattle.npf_cells_lives.proofs.PoolLemmas.{pools-kept, taken-set}
@@ -180,7 +181,7 @@ module _ {S A R : Type 0} (m : Meaning S A R) (digest : Key → ℕ) (layout : L
           (pools-kept layout (taken pool_side kept.published k s.views) (taken pool_side kept.published (state_of m log') (set s.views id actor)) s.words ws kept.pools (length-set s.words (field_at layout Slots slot turn_field) 0)
           (below m digest layout s kept slot turn_field 0 fits.exists (inl refl)) (λ pool p. ap (λ x. taken pool_side kept.published x (set s.views id actor) pool p) state ∙ takes pool p))
           (subst (λ x. Trie trie_side digest layout kept.published x ws (set s.views id actor)) (sym state)
-          (trie_same trie_side digest layout kept.published k k' s.words ws s.views id v actor kept.trie at (knows_same v.trie) (keeps_trie m digest layout s kept slot turn_field 0 fits.exists (inl refl) k' acts.holder claimed)))
+          (trie_same trie_side digest layout kept.published k k' s.words ws s.views id v actor kept.trie at (knows_same v.trie) (keeps_trie m digest layout s kept slot turn_field 0 fits.exists (inl refl) k' acts.holder claimed (λ i e. dead_by m layout.slots k entry i follows (freeless i) e))))
           connected
           (stored_else m digest layout s kept slot turn_field 0 fits.exists (inl refl) id actor stored)
           (locks-same lock_side layout s.words ws s.views (set s.views id actor) kept.locks (lock_else m digest layout s kept slot turn_field 0 fits.exists (inl refl)) (holders-set lock_side layout s.views id v actor at refl))

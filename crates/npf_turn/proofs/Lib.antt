@@ -1,2 +1,3 @@
+pub mod KillLemmas
 pub mod LetGoLemmas
 pub mod WorkLemmas

@@ -5,10 +5,12 @@
 // and after. It may wait for a turn that another pass has.
 #![tactic(auto)]
 
+mod laws;
 mod letting_go;
 mod turn;
 mod working;
 
+pub use laws::kill_law;
 pub use letting_go::let_go;
 pub use turn::wait_turn;
 pub use working::{expire, kill, start, step};
