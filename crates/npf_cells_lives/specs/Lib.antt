@@ -1,5 +1,6 @@
 pub mod Conns
 pub mod Deaths
+pub mod Known
 pub mod LivesLaw
 pub mod Locks
 pub mod Notes

@@ -8,4 +8,4 @@ mod turn;
 
 pub use laws::lives_law;
 pub use pools::{Note, PoolSide, StoredWord};
-pub use turn::{Ahead, Turn};
+pub use turn::{Ahead, Said, Turn};

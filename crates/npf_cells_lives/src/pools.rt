@@ -1,5 +1,5 @@
 use npf_cells_words::Pool;
-use npf_core::ConnId;
+use npf_core::{ConnId, Found};
 use std::collections::LinkedList;
 
 /// A word that a pass stored in one of its own places.
@@ -35,6 +35,12 @@ pub struct PoolSide {
     pub stored: LinkedList<StoredWord>,
     /// The connections that it killed and hasn't let go yet.
     pub kills: LinkedList<ConnId>,
+    /// The ways of those of which it gave the key up.
+    pub gave_up: LinkedList<Found>,
+    /// The connections that it reclaimed, whose first note still has its epoch.
+    pub reclaims: LinkedList<ConnId>,
+    /// Those whose first note it has set to 0 since.
+    pub cleared: LinkedList<ConnId>,
     /// The notes that it stored of ways of which its connections hold no key.
     pub notes: LinkedList<Note>,
 }

@@ -6,6 +6,12 @@ pub struct Ahead {
     pub value: u64,
 }
 
+/// What a note said when the pass loaded it under a slot's turn.
+pub struct Said {
+    pub field: u32,
+    pub value: u64,
+}
+
 /// A slot's turn that a pass has. While it has it, no other pass steps, starts or kills a connection there.
 pub struct Turn<S> {
     pub slot: u32,
@@ -15,4 +21,6 @@ pub struct Turn<S> {
     pub phase: u64,
     /// The note of which it is ahead, if any.
     pub ahead: Option<Ahead>,
+    /// What the note said that it loaded last under this turn, if any.
+    pub said: Option<Said>,
 }

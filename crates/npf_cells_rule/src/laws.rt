@@ -1,6 +1,6 @@
 // What holds of every table between any two steps. The functions do nothing: each is a theorem.
 ghost use Rattle.npf_cells_words.specs.declared.layout.Layout.{Layout};
-ghost use Rattle.npf_cells_rule.specs.DeathLaw.{RestsHoldBack};
+ghost use Rattle.npf_cells_rule.specs.DeathLaw.{RestsHoldBack, SoleFindsLeft};
 ghost use Rattle.npf_cells_rule.specs.TableLaw.{OwnsAlone, BuildsAlone, HoldsBack, CountsRaises, SoleRaises};
 ghost use Rattle.npf_cells_rule.specs.Readers.{ReadersStandApart};
 ghost use Rattle.npf_cells_rule.specs.NoteLaw.{BareNotesAreZero, NotesNameKeys};
@@ -34,8 +34,10 @@ pub fn trie_law<L: Law>()
 {}
 
 /// The death law: while a pass may speak of a connection that was let go, the table's epoch is at most one more than that in its first note.
+/// And where a pass owns all reader places, the first note of each Dead connection that isn't its own has an epoch of the table.
 pub fn death_law<L: Law>()
     ensures rests { (layout : Layout) → RestsHoldBack L.meaning layout }
+    ensures sole { (layout : Layout) → SoleFindsLeft L.meaning layout }
 {}
 
 /// The note law: while nobody has a slot's turn, the note of each way of which its connection holds a key names the place where that key's

@@ -4,6 +4,7 @@ use Rattle.atomic_table.specs.Table.{Me, Step}
 use Rattle.npf_types.specs.declared.key.Key.{Key}
 use Rattle.npf_types.specs.declared.key.Way.{Way}
 use Rattle.npf_core.specs.declared.conn_id.ConnId.{ConnId}
+use Rattle.npf_core.specs.declared.found.Found.{Found}
 use Rattle.npf_core.specs.declared.stage.Stage.TheVariants.{Dead}
 use Rattle.npf_core.specs.History.{state_of}
 use Rattle.npf_core.specs.Machine.{HoldsNone, stage_of}
@@ -21,7 +22,7 @@ use Rattle.npf_cells_leaves.specs.declared.trie.LoadedLeaf.{LoadedLeaf}
 use Rattle.npf_cells_leaves.specs.declared.trie.TrieSide.{TrieSide}
 use Rattle.npf_cells_lives.specs.declared.pools.PoolSide.{PoolSide}
 use Rattle.npf_cells_lives.specs.declared.turn.Turn.{Turn}
-use Rattle.npf_cells_lives.specs.Deaths.{IsKeyless, has_epoch}
+use Rattle.npf_cells_lives.specs.Deaths.{IsKeyless, has_epoch, ids_elsewhere}
 use Rattle.npf_cells_lives.specs.Notes.{notes_but, with_ahead}
 use Rattle.npf_cells_lives.specs.Turns.{stage_phase}
 use Rattle.npf_cells_rule.specs.declared.view.CellView.{CellView}
@@ -112,6 +113,10 @@ pub record MayStoreAhead {S A R : Type 0} (v : CellView S A R) (slot : ℕ) (way
   pub names : value ≡ place_code to
   pub low : value < 2 ^ 63
 
+-- the first note of a connection that the pass reclaimed may be set to 0
+abbrev pub MayClear : {S A R : Type 0} → CellView S A R → ConnId → Type 0
+MayClear v id = Contains v.pools.reclaims id
+
 -- in a place of either pool
 abbrev pub MayStore : {S A R : Type 0} → Meaning S A R → CellView S A R → Pool → ℕ → ℕ → ℕ → Type 0
 MayStore m v Slots slot field value = MayStoreInSlot m v slot field value ⊎ (MayStorePhase v slot field ⊎ (MayStoreNote m v slot field value ⊎ MayLetGo m v slot field value))
@@ -134,9 +139,13 @@ abbrev pub with_phase : {S : Type 0} → ℕ → Option (Turn S) → Option (Tur
 with_phase value None = None
 with_phase value (Some turn) = Some (record turn { phase = value })
 
--- the connection of the slot isn't the pass's any more
+-- the connection of the slot isn't the pass's any more, nor is it remembered which of its keys it gave up
 abbrev pub letting_go : ℕ → PoolSide → PoolSide
-letting_go slot side = record side { kills = filter (λ (id : ConnId). if id.slot == slot then false else true) side.kills }
+letting_go slot side = record side { kills = ids_elsewhere slot side.kills; gave_up = filter (λ (g : Found). if g.id.slot == slot then false else true) side.gave_up }
+
+-- its first note has no epoch any more
+abbrev pub clearing : ConnId → PoolSide → PoolSide
+clearing id side = record side { reclaims = ids_elsewhere id.slot side.reclaims; cleared = id ∷ side.cleared }
 
 -- a note that has an epoch
 abbrev pub is_epoch_note : ℕ → ℕ → Bool
@@ -170,3 +179,6 @@ pub record StoresPrivate {S A R F : Type 0} (m : Meaning S A R) (digest : Key �
 
 pub record StoresAhead {S A R F : Type 0} (way : Way) (step : Step F) (me : Me F (CellView S A R)) (value : ℕ) (next : Me F (CellView S A R)) : Type 0 where
   pub is : next ≡ leading (note_field way) value me
+
+pub record ClearsNote {S A R F : Type 0} (conn : ConnId) (step : Step F) (me : Me F (CellView S A R)) (value : ℕ) (next : Me F (CellView S A R)) : Type 0 where
+  pub is : next ≡ with_pools me (clearing conn me.0.pools)

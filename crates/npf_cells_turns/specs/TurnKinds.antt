@@ -14,7 +14,7 @@ use Rattle.npf_cells_rule.specs.Stood.{StoodSo}
 
 -- the turn of a slot that is at this
 abbrev pub turn_at : {S : Type 0} → ℕ → Slot S → Turn S
-turn_at slot x = record { slot = slot; was = x; phase = stage_phase x.stage; ahead = None }
+turn_at slot x = record { slot = slot; was = x; phase = stage_phase x.stage; ahead = None; said = None }
 
 -- the pass got the turn, and carries what the slot held
 pub record HasTaken {S A R : Type 0} (slot : ℕ) (old now : Me (Running S) (CellView S A R)) : Type 0 where
