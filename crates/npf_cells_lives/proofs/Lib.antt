@@ -1,6 +1,8 @@
 pub mod BuiltLemmas
 pub mod ConnLemmas
 pub mod DeathLemmas
+pub mod FreedLemmas
+pub mod KnownLemmas
 pub mod LockLemmas
 pub mod NoteLemmas
 pub mod PoolLemmas

@@ -1,6 +1,6 @@
 -- The part on notes stays through steps that leave its words, what the paths meet, and the holders.
 use Rattle.std.specs.List.{Contains}
-use Rattle.std.proofs.Common.{◌≡◌, ◌≢◌, ℕ, true, false, not, ◌&&◌, eq-eqb, Option, Some, None, List, [], ◌∷◌, ◌++◌, set, refl, sym, ap, ◌∙◌, subst, ⊎_elim}
+use Rattle.std.proofs.Common.{◌≡◌, ◌≢◌, ℕ, true, false, not, ◌&&◌, eq-eqb, Option, Some, None, List, [], ◌∷◌, ◌++◌, set, refl, sym, ap, ◌∙◌, subst, ⊎_elim, inl, inr}
 use mathlib.Core.Option.{some, some-injective}
 use lib.ListN.{get_elem?}
 use Rattle.std.proofs.lemmas.Bool.{cases_eq}
@@ -12,6 +12,7 @@ use Rattle.npf_types.specs.declared.key.Way.{Way}
 use Rattle.npf_core.specs.declared.conn_id.ConnId.{ConnId}
 use Rattle.npf_core.specs.declared.found.Found.{Found}
 use Rattle.npf_core.specs.declared.slot.Slot.{Slot}
+use Rattle.npf_core.specs.declared.stage.Stage.TheVariants.{Dead}
 use Rattle.npf_core.specs.Machine.{Machine, HoldsNone}
 use Rattle.npf_paths.specs.declared.cell.Cell.{Cell}
 use Rattle.npf_paths.specs.declared.place.Place.{Place}
@@ -24,21 +25,25 @@ use Rattle.npf_seats.proofs.PrefixLemmas.{none_listed}
 use Rattle.npf_cells_lives.specs.declared.pools.Note.{Note}
 use Rattle.npf_cells_lives.specs.declared.pools.PoolSide.{PoolSide}
 use Rattle.npf_cells_lives.specs.declared.turn.Ahead.{Ahead}
+use Rattle.npf_cells_lives.specs.declared.turn.Said.{Said}
 use Rattle.npf_cells_lives.specs.declared.turn.Turn.{Turn}
-use Rattle.npf_cells_lives.specs.Deaths.{last_id}
-use Rattle.npf_cells_lives.specs.Notes.{note_word, IsAheadOf, NobodyAhead, with_ahead, FitsAhead, FitsNote, is_note_of, notes_but, Notes}
+use Rattle.npf_cells_lives.specs.Conns.{IsBuiltIn}
+use Rattle.npf_cells_lives.specs.Deaths.{has_epoch, last_id}
+use Rattle.npf_cells_lives.specs.Notes.{note_word, IsAheadOf, NobodyAhead, with_ahead, IsFirm, FitsAhead, FitsNote, is_note_of, notes_but, Notes}
 use Rattle.npf_cells_lives.proofs.StoredLemmas.{filter_has}
 use Rattle.npf_cells_lives.specs.Turns.{has_turn, stage_phase, StaysAt}
 
--- who has a turn is ahead of the same notes of its slot
+-- who has a turn is ahead of the same notes of its slot, and was told no more
 pub record SameAhead {S : Type 0} (old now : Option (Turn S)) : Type 0 where
   pub on : (slot field : ℕ) → IsAheadOf old slot field → IsAheadOf now slot field
   pub was : (turn : Turn S) (note : Ahead) → now ≡ Some turn → turn.ahead ≡ Some note → (before : Turn S) × (old ≡ Some before) × (before.slot ≡ turn.slot) × (before.ahead ≡ Some note)
+  pub told : (turn : Turn S) (said : Said) → now ≡ Some turn → turn.said ≡ Some said → (before : Turn S) × (old ≡ Some before) × (before.slot ≡ turn.slot) × (before.was ≡ turn.was) × (before.said ≡ Some said)
 
 pub same_ahead : {S : Type 0} (old now : Option (Turn S)) → now ≡ old → SameAhead old now
 same_ahead old now same = record {
   on = λ slot field is. record { mine = is.mine; has = same ∙ is.has; there = is.there; note = is.note; ahead = is.ahead; field_is = is.field_is };
   was = λ turn note has ahead. (turn, sym same ∙ has, refl, ahead);
+  told = λ turn said has is. (turn, sym same ∙ has, refl, refl, is);
 }
 
 -- a turn of which only what it is ahead of is another
@@ -59,11 +64,12 @@ no_notes layout k words builds (note ∷ notes) none each =
     let fits = each note (Contains-append_left (note ∷ []) notes note (Contains-push [] note)) in
     absurd (none_listed fits.id (subst (λ ids. Contains ids fits.id) none fits.built))
 
--- ahead of nothing before and after
-pub ahead_of_none : {S : Type 0} (old now : Option (Turn S)) → ((turn : Turn S) → old ≡ Some turn → turn.ahead ≡ None) → ((turn : Turn S) → now ≡ Some turn → turn.ahead ≡ None) → SameAhead old now
-ahead_of_none old now before after = record {
+-- ahead of nothing before and after, and told nothing
+pub ahead_of_none : {S : Type 0} (old now : Option (Turn S)) → ((turn : Turn S) → old ≡ Some turn → turn.ahead ≡ None) → ((turn : Turn S) → now ≡ Some turn → turn.ahead ≡ None) → ((turn : Turn S) → now ≡ Some turn → turn.said ≡ None) → SameAhead old now
+ahead_of_none old now before after untold = record {
   on = λ slot field is. absurd (let no : None ≡ Some is.note = sym (before is.mine is.has) ∙ is.ahead in cc);
   was = λ turn note has ahead. absurd (let no : None ≡ Some note = sym (after turn has) ∙ ahead in cc);
+  told = λ turn said has is. absurd (let no : None ≡ Some said = sym (untold turn has) ∙ is in cc);
 }
 
 module _ {S : Type 0} (layout : Layout) where
@@ -117,12 +123,37 @@ nobody_before turn_of views i v w slot field at on none j u e is = ⊎_elim
     (λ (ne : j ≢ i). none j u (set_else views i j w ne ∙ e) is)
     (cases_eq j i)
 
+-- what was firm stays so where the slot and what it was at are the same
+pub firm_on : {S : Type 0} (kills kills' : List ConnId) (turn before : Turn S) (said : Said) → before.slot ≡ turn.slot → before.was ≡ turn.was → ((id : ConnId) → Contains kills' id → Contains kills id) → IsFirm kills' turn said → IsFirm kills before said
+firm_on {S} kills kills' turn before said slots was more firm = ⊎_elim
+    (λ (mine : IsBuiltIn kills' turn.slot). inl (record { id = mine.id; built = more mine.id mine.built; there = mine.there ∙ sym slots }))
+    (λ (epoch : (turn.was.stage ≡ Dead) × (has_epoch said.value ≡ 1)). inr (ap (λ (x : Slot S). x.stage) was ∙ epoch.0, epoch.1))
+    firm
+
+module _ {S V : Type 0} (turn_of : V → Option (Turn S)) (side_of : V → PoolSide) (layout : Layout) (k : Machine S) (words : List ℕ) where
+  -- what two clauses say of one view, over these words
+  abbrev pub IsGiven : V → Type 0
+  IsGiven v = (id : ConnId) (way : Way) → Contains (side_of v).kills id → ¬ Contains (side_of v).gave_up (record { id = id; way = way }) → HoldsNone k id way → note_word layout words id.slot way ≡ 0
+
+  abbrev pub IsToldSo : V → Type 0
+  IsToldSo v = (turn : Turn S) (said : Said) (way : Way) → turn_of v ≡ Some turn → turn.said ≡ Some said → IsFirm (side_of v).kills turn said → said.field ≡ note_field way → note_word layout words turn.slot way ≡ said.value
+
+  -- they hold of a view with the same kills, that was told no more
+  pub given_same : (v w : V) → (side_of w).kills ≡ (side_of v).kills → (side_of w).gave_up ≡ (side_of v).gave_up → IsGiven v → IsGiven w
+  given_same v w kills gave kept id way c not = kept id way (subst (λ ids. Contains ids id) kills c) (λ d. not (subst (λ gs. Contains gs (record { id = id; way = way })) (sym gave) d))
+
+  pub told_same : (v w : V) → ((id : ConnId) → Contains (side_of w).kills id → Contains (side_of v).kills id) → SameAhead (turn_of v) (turn_of w) → IsToldSo v → IsToldSo w
+  told_same v w kills same kept turn said way has is firm field =
+      let before = same.told turn said has is in
+      ap (λ slot. note_word layout words slot way) (sym before.2) ∙ kept before.0 said way before.1 before.4 (firm_on (side_of v).kills (side_of w).kills turn before.0 said before.2 before.3 kills firm) field
+
 module _ {S V : Type 0} (turn_of : V → Option (Turn S)) (side_of : V → PoolSide) (layout : Layout) (k k' : Machine S) (cell cell' : Place → Cell) (words words' : List ℕ) where
   -- the part after such a step
   pub notes_so : (views views' : List V) → Notes turn_of side_of layout cell k words views → NotesStay layout k k' cell cell' words words' → ((slot field : ℕ) → NobodyAhead turn_of views' slot field → NobodyAhead turn_of views slot field) →
+      ((j : ℕ) (v : V) → get_elem? views' j ≡ some v → IsGiven turn_of side_of layout k words v × IsToldSo turn_of side_of layout k words v) →
       ((j : ℕ) (v : V) (turn : Turn S) (note : Ahead) → get_elem? views' j ≡ some v → turn_of v ≡ Some turn → turn.ahead ≡ Some note → FitsAhead layout k words turn.slot note) →
       ((j : ℕ) (v : V) (note : Note) → get_elem? views' j ≡ some v → Contains (side_of v).notes note → FitsNote layout k words (side_of v).builds note) → Notes turn_of side_of layout cell' k' words' views'
-  notes_so views views' kept same nobody ahead each = record {
+  notes_so views views' kept same nobody both ahead each = record {
     named = λ digits level p slot way are on is none.
         let agree = same.cells digits are in
         let before = same_places agree on in
@@ -131,15 +162,27 @@ module _ {S V : Type 0} (turn_of : V → Option (Turn S)) (side_of : V → PoolS
         let now = live_before layout k k' slot (same.slots slot) live in
         same.notes slot way ∙ kept.bare slot way within (sym (ap (λ (x : Slot S). stage_phase x.stage) now) ∙ live)
         (λ key holds. none key (subst (λ (x : Slot S). k'.holder key ≡ Some (record { id = record { slot = slot; inc = x.inc }; way = way })) (sym now) (same.held key (record { id = last_id k slot; way = way }) holds)));
+    given = λ j v id way there c not none. same.notes id.slot way ∙ (both j v there).0 id way c not (λ key holds. none key (same.held key (record { id = id; way = way }) holds));
+    said = λ j v turn said way there has is firm field. same.notes turn.slot way ∙ (both j v there).1 turn said way has is firm field;
     ahead = λ j v turn note there has is. (let fits = ahead j v turn note there has is in ahead_fits layout k k' words words' turn.slot note fits (same.notes turn.slot fits.way) same.held);
     each = λ j v note there c. note_stays layout k k' words words' (side_of v).builds (side_of v).builds note (λ way e. same.notes note.slot way) (λ key id way built e e' holds. same.back key (record { id = id; way = way }) holds) (λ id e c'. c') (each j v note there c);
   }
 
   -- one view changes, which is ahead of the same, stored the same notes, and builds what it built
-  pub notes-set : (views : List V) (i : ℕ) (v w : V) → Notes turn_of side_of layout cell k words views → get_elem? views i ≡ some v → SameAhead (turn_of v) (turn_of w) → (side_of w).notes ≡ (side_of v).notes → ((id : ConnId) → Contains (side_of v).builds id → Contains (side_of w).builds id) →
+  pub notes-set : (views : List V) (i : ℕ) (v w : V) → Notes turn_of side_of layout cell k words views → get_elem? views i ≡ some v → SameAhead (turn_of v) (turn_of w) → (side_of w).kills ≡ (side_of v).kills → (side_of w).gave_up ≡ (side_of v).gave_up → (side_of w).notes ≡ (side_of v).notes → ((id : ConnId) → Contains (side_of v).builds id → Contains (side_of w).builds id) →
       NotesStay layout k k' cell cell' words words' → Notes turn_of side_of layout cell' k' words' (set views i w)
-  notes-set views i v w kept at same notes builds stay = notes_so views (set views i w) kept stay nobody aheads each
+  notes-set views i v w kept at same kills gave notes builds stay = notes_so views (set views i w) kept stay nobody both aheads each
     where
+      both : (j : ℕ) (u : V) → get_elem? (set views i w) j ≡ some u → IsGiven turn_of side_of layout k words u × IsToldSo turn_of side_of layout k words u
+      both j u e = ⊎_elim
+          (λ (x : (j ≡ i) × (w ≡ u)).
+          subst (λ (y : V). IsGiven turn_of side_of layout k words y × IsToldSo turn_of side_of layout k words y) x.1 (
+          given_same turn_of side_of layout k words v w kills gave (λ id way. kept.given i v id way at),
+          told_same turn_of side_of layout k words v w (λ id c. subst (λ ids. Contains ids id) kills c) same (λ turn said way. kept.said i v turn said way at),
+          ))
+          (λ (x : (j ≢ i) × (get_elem? views j ≡ some u)). (λ id way. kept.given j u id way x.1, λ turn said way. kept.said j u turn said way x.1))
+          (at_set views i j w u e)
+
       nobody : (slot field : ℕ) → NobodyAhead turn_of (set views i w) slot field → NobodyAhead turn_of views slot field
       nobody slot field none = nobody_before turn_of views i v w slot field at (same.on slot field) none
 
@@ -161,12 +204,12 @@ module _ {S V : Type 0} (turn_of : V → Option (Turn S)) (side_of : V → PoolS
           (λ (x : (j ≢ i) × (get_elem? views j ≡ some u)). kept.each j u note x.1 c)
           (at_set views i j w u e)
 
-  -- one slot changes: a Live connection has bare notes there, and a view may have fewer notes
-  pub notes-acted : (views : List V) (i : ℕ) (v w : V) (slot : ℕ) → Notes turn_of side_of layout cell k words views → get_elem? views i ≡ some v → SameAhead (turn_of v) (turn_of w) →
+  -- one slot changes: a Live connection has bare notes there, and a view may have fewer notes, and other kills of which what is said holds
+  pub notes-acted : (views : List V) (i : ℕ) (v w : V) (slot : ℕ) → Notes turn_of side_of layout cell k words views → get_elem? views i ≡ some v → SameAhead (turn_of v) (turn_of w) → IsGiven turn_of side_of layout k' words w → IsToldSo turn_of side_of layout k' words w →
       ((note : Note) → Contains (side_of w).notes note → FitsNote layout k words (side_of w).builds note) → ((digits : ℕ → ℕ) → AreDigits digits → AgreesOnPath digits cell cell') →
       ((p : ℕ) (way : Way) → note_word layout words' p way ≡ note_word layout words p way) → ((key : Key) → k'.holder key ≡ k.holder key) → ((p : ℕ) → p ≢ slot → k'.slot p ≡ k.slot p) →
       (stage_phase (k'.slot slot).stage ≡ 1 → (way : Way) → HoldsNone k' (last_id k' slot) way → note_word layout words slot way ≡ 0) → Notes turn_of side_of layout cell' k' words' (set views i w)
-  notes-acted views i v w slot kept at same mine agrees same_words holder elsewhere fresh = record {
+  notes-acted views i v w slot kept at same given told mine agrees same_words holder elsewhere fresh = record {
     named = λ digits level p q way are on is none.
         let agree = agrees digits are in
         let before = same_places agree on in
@@ -176,6 +219,14 @@ module _ {S V : Type 0} (turn_of : V → Option (Turn S)) (side_of : V → PoolS
         (λ (ne : p ≢ slot). kept.bare p way within (ap (λ (x : Slot S). stage_phase x.stage) (sym (elsewhere p ne)) ∙ live)
         (λ key holds. none key (subst (λ (x : Slot S). k'.holder key ≡ Some (record { id = record { slot = p; inc = x.inc }; way = way })) (sym (elsewhere p ne)) (holder key ∙ holds))))
         (cases_eq p slot);
+    given = λ j u id way e c not none. same_words id.slot way ∙ ⊎_elim
+        (λ (x : (j ≡ i) × (w ≡ u)). subst (λ (y : V). IsGiven turn_of side_of layout k' words y) x.1 given id way c not none)
+        (λ (x : (j ≢ i) × (get_elem? views j ≡ some u)). kept.given j u id way x.1 c not (λ key holds. none key (holder key ∙ holds)))
+        (at_set views i j w u e);
+    said = λ j u turn said way e has is firm field. same_words turn.slot way ∙ ⊎_elim
+        (λ (x : (j ≡ i) × (w ≡ u)). subst (λ (y : V). IsToldSo turn_of side_of layout k' words y) x.1 told turn said way has is firm field)
+        (λ (x : (j ≢ i) × (get_elem? views j ≡ some u)). kept.said j u turn said way x.1 has is firm field)
+        (at_set views i j w u e);
     ahead = λ j u turn note e has is. ⊎_elim
         (λ (x : (j ≡ i) × (w ≡ u)).
         let before = same.was turn note (ap turn_of x.1 ∙ has) is in
@@ -194,9 +245,16 @@ module _ {S V : Type 0} (turn_of : V → Option (Turn S)) (side_of : V → PoolS
   }
 
   -- a view comes that has no turn and stored no note
-  pub notes-push : (views : List V) (w : V) → Notes turn_of side_of layout cell k words views → turn_of w ≡ None → (side_of w).notes ≡ [] → NotesStay layout k k' cell cell' words words' → Notes turn_of side_of layout cell' k' words' (views ++ w ∷ [])
-  notes-push views w kept none bare stay = notes_so views (views ++ w ∷ []) kept stay
+  pub notes-push : (views : List V) (w : V) → Notes turn_of side_of layout cell k words views → turn_of w ≡ None → (side_of w).kills ≡ [] → (side_of w).notes ≡ [] → NotesStay layout k k' cell cell' words words' → Notes turn_of side_of layout cell' k' words' (views ++ w ∷ [])
+  notes-push views w kept none killless bare stay = notes_so views (views ++ w ∷ []) kept stay
       (λ slot field nobody j u e. nobody j u (at_longer views (w ∷ []) j u e))
+      (λ j u e. ⊎_elim
+      (λ (there : get_elem? views j ≡ some u). (λ id way. kept.given j u id way there, λ turn said way. kept.said j u turn said way there))
+      (λ (x : w ≡ u). (
+      λ id way c not n. absurd (none_listed id (subst (λ ids. Contains ids id) (ap (λ (y : V). (side_of y).kills) (sym x) ∙ killless) c)),
+      λ turn said way has is firm field. absurd (let no : None ≡ Some turn = sym none ∙ (ap turn_of x ∙ has) in cc),
+      ))
+      (at_snoc views w u j e))
       (λ j u turn note e has is. ⊎_elim
       (λ (there : get_elem? views j ≡ some u). kept.ahead j u turn note there has is)
       (λ (x : w ≡ u). absurd (let no : None ≡ Some turn = sym none ∙ (ap turn_of x ∙ has) in cc))
