@@ -20,6 +20,8 @@ use Rattle.npf_cells_words.specs.declared.layout.Pool.TheVariants.{Slots, Nodes}
 use Rattle.npf_cells_words.specs.Layout.{root_at, turn_field, inc_field, parent_field, phase_field, key_field, field_at, notes_field, note_field}
 use Rattle.npf_cells_words.specs.Places.{lock_at, IsLockOf, place_at}
 use Rattle.npf_cells_words.proofs.WordLemmas.{field_behind, note_late, note_soon, key_far, key_short, not_slot, slot_apart}
+use Rattle.npf_core.specs.declared.entry.Entry.{Entry}
+use Rattle.npf_seats.specs.declared.side.SeatSide.{SeatSide}
 use Rattle.npf_seats.specs.Seats.{Seats}
 use Rattle.npf_seats.proofs.SumLemmas.{side_same}
 use Rattle.npf_cells_pins.specs.declared.pin.EpochSide.{EpochSide}
@@ -27,19 +29,21 @@ use Rattle.npf_cells_leaves.specs.Trie.{key_word, trie_words}
 use Rattle.npf_cells_leaves.proofs.TrieLemmas.{KeepsTrie, KnowsNoMore, cell_kept, knows_same, trie_same}
 use Rattle.npf_cells_lives.specs.declared.pools.PoolSide.{PoolSide}
 use Rattle.npf_cells_lives.specs.Conns.{inc_word, entry_seat}
+use Rattle.npf_cells_lives.specs.Deaths.{unreclaimed}
 use Rattle.npf_cells_lives.specs.Pools.{taken}
 use Rattle.npf_cells_lives.specs.Stored.{IsOwnField, FitsStored, StoredWords}
 use Rattle.npf_cells_lives.specs.Turns.{Homes, IsTurnField, Running, StaysAt, Turns}
 use Rattle.npf_cells_lives.proofs.ConnLemmas.{builds-kept, unstored-set, conns-same}
+use Rattle.npf_cells_lives.proofs.DeathLemmas.{spares_all}
 use Rattle.npf_cells_lives.proofs.LockLemmas.{locks-same, holders-set}
 use Rattle.npf_cells_lives.proofs.NoteLemmas.{SameAhead, NotesStay}
 use Rattle.npf_cells_lives.proofs.PoolLemmas.{pools-kept, taken-set}
 use Rattle.npf_cells_lives.proofs.StoredLemmas.{stored_kept, stored-set, no_turn}
 use Rattle.npf_cells_rule.specs.declared.view.CellView.{CellView}
 use Rattle.npf_cells_rule.specs.Cells.{FitsAlone, IsCells}
-use Rattle.npf_cells_rule.specs.Views.{seat_side, lock_side, pool_side, trie_side, turn_side}
-use Rattle.npf_cells_rule.proofs.DeathFrames.{rests_less, deaths_on}
-use Rattle.npf_cells_rule.proofs.Frames.{alone-set, framed, epochs_apart, notes_apart}
+use Rattle.npf_cells_rule.specs.Views.{seat_side, lock_side, pool_side, trie_side, turn_side, dead_hand, death_side}
+use Rattle.npf_cells_rule.proofs.DeathFrames.{rests_less, deaths_on, known_apart}
+use Rattle.npf_cells_rule.proofs.Frames.{alone-set, framed, epochs_apart, notes_apart, same_kills}
 
 module _ {S A R : Type 0} (m : Meaning S A R) (digest : Key → ℕ) (layout : Layout) where
   module _ (s : State (Running S) (CellView S A R)) (kept : IsCells m digest layout s) (slot field n : ℕ) (within : slot < layout.slots) (is : IsTurnField field) where
@@ -111,7 +115,7 @@ module _ {S A R : Type 0} (m : Meaning S A R) (digest : Key → ℕ) (layout : L
 
     -- the rule, where the part on turns holds
     pub turn_step : (id : ℕ) (v w : CellView S A R) (homes : Homes S) → get_elem? s.views id ≡ some v → w.seats ≡ v.seats → w.epochs ≡ v.epochs → w.pools ≡ v.pools → w.trie ≡ v.trie → SameAhead v.turn w.turn → FitsAlone w →
-        Turns turn_side layout k words' homes (set s.views id w) → IsCells m digest layout (record { words = words'; homes = homes; views = set s.views id w })
+        Turns turn_side layout (unreclaimed death_side (set s.views id w) k) words' homes (set s.views id w) → IsCells m digest layout (record { words = words'; homes = homes; views = set s.views id w })
     turn_step id v w homes at seats epochs pools trie ahead alone turns = framed m digest layout s (record { words = words'; homes = homes; views = set s.views id w }) kept kept.published kept.log (length-set s.words word n)
         (subst (λ sides. Seats entry_seat layout.slots all_places kept.log sides) (sym (side_same seat_side s.views id v w at seats)) kept.seats)
         (epochs_apart m digest layout s word n id v w kept at (λ i. record { places = (seats i).readers; side = epochs i }) (λ j h. below j (omega (arith, h))))
@@ -123,8 +127,9 @@ module _ {S A R : Type 0} (m : Meaning S A R) (digest : Key → ℕ) (layout : L
         (stored_else id w (subst (FitsStored layout s.words) (sym pools) (kept.stored id v at)))
         (locks-same lock_side layout s.words words' s.views (set s.views id w) kept.locks lock_else (holders-set lock_side layout s.views id v w at (ap (λ t. t.locks) trie)))
         turns
-        (deaths_on m digest layout s word n id v w kept at (ap (λ (p : PoolSide). p.kills) pools) (ap (λ (e : EpochSide). e.loaded) epochs)
+        (deaths_on m digest layout s word n id v w kept at (ap dead_hand pools) (ap (λ (e : EpochSide). e.loaded) epochs)
         (rests_less k v w (subst (λ side. KnowsNoMore v.trie side) (sym trie) (knows_same v.trie)) (ap (λ (e : EpochSide). e.pin) epochs))
         (let same = below 0 (omega arith) in omega (arith, same)) (λ p h. other_word (field_at layout Slots p notes_field) (λ e. absurd (let low = short in omega (arith, e, low)))))
-        (notes_apart m digest layout s words' id v w k kept at ahead (ap (λ (p : PoolSide). p.notes) pools) (λ conn c. subst (λ (p : PoolSide). Contains p.builds conn) (sym pools) c) (notes_stay k (λ key. refl) (λ p. inl refl)))
+        (known_apart m digest layout s id v w k kept at (same_kills m digest layout v w (ap dead_hand pools)) (ap (λ (x : SeatSide ℕ (Entry S A R)). x.history) seats) (spares_all k))
+        (notes_apart m digest layout s words' id v w k kept at ahead (ap dead_hand pools) (ap (λ (p : PoolSide). p.notes) pools) (λ conn c. subst (λ (p : PoolSide). Contains p.builds conn) (sym pools) c) (notes_stay k (λ key. refl) (λ p. inl refl)))
         (alone-set s.views id w alone kept.alone)
