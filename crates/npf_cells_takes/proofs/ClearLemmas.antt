@@ -1,14 +1,13 @@
 -- The first note of a connection that the pass reclaimed is set to 0.
 use Rattle.std.specs.List.{Contains}
-use Rattle.std.proofs.Common.{◌≡◌, ◌≢◌, ◌⊎◌, ℕ, ◌+◌, ◌^◌, ◌<◌, ◌≤◌, cond, Some, List, [], ◌∷◌, eqb, eq-eqb, ne_eqb, set, length, refl, sym, ap, ◌∙◌, subst, ⊎_elim, inl, inr, arith}
+use Rattle.std.proofs.Common.{◌≡◌, ◌≢◌, ◌⊎◌, ℕ, ◌+◌, ◌<◌, ◌≤◌, Some, List, eqb, eq-eqb, ne_eqb, set, length, refl, sym, ap, ◌∙◌, subst, ⊎_elim, inl, inr, arith}
 use Rattle.std.proofs.lemmas.Bool.{cases_eq}
 use mathlib.Core.Option.{some}
 use lib.ListN.{get_elem?}
 use Rattle.atomic_table.specs.Table.{State, Me, Step, Allows, stepped, keeps}
 use Rattle.npf_types.specs.declared.key.Key.{Key}
 use Rattle.npf_core.specs.declared.conn_id.ConnId.{ConnId}
-use Rattle.npf_core.specs.declared.slot.Slot.{Slot}
-use Rattle.npf_core.specs.declared.stage.Stage.TheVariants.{Vacant, Dead}
+use Rattle.npf_core.specs.declared.stage.Stage.TheVariants.{Dead}
 use Rattle.npf_core.specs.History.{state_of}
 use Rattle.npf_core.specs.Machine.{Machine}
 use Rattle.npf_core.specs.Meaning.{Meaning}
@@ -23,13 +22,13 @@ use Rattle.npf_cells_lives.specs.declared.turn.Said.{Said}
 use Rattle.npf_cells_lives.specs.declared.turn.Turn.{Turn}
 use Rattle.npf_cells_lives.specs.Deaths.{is_dead, has_epoch, first_note, slots_named, killed_in, reclaimed_in, cleared_in, FitsReclaim, Deaths}
 use Rattle.npf_cells_lives.specs.Turns.{stage_phase, Running}
-use Rattle.npf_cells_lives.proofs.DeathLemmas.{spares_all, RestsNoMore, dead_once, kill_kept, reclaim_kept, deaths-changed}
+use Rattle.npf_cells_lives.proofs.DeathLemmas.{spares_all, RestsNoMore, kill_kept, reclaim_kept, deaths-changed}
 use Rattle.npf_cells_lives.proofs.FreedLemmas.{gone_in, still_there}
 use Rattle.npf_cells_rule.specs.declared.view.CellView.{CellView}
 use Rattle.npf_cells_rule.specs.Cells.{IsCells}
 use Rattle.npf_cells_rule.specs.Views.{death_side}
 use Rattle.npf_cells_takes.specs.PrivateKinds.{MayClear, clearing, ClearsNote}
-use Rattle.npf_cells_takes.proofs.DeadNoteLemmas.{ws, same_epoch, note_else, note_here, dead_noted}
+use Rattle.npf_cells_takes.proofs.DeadNoteLemmas.{ws, dead_one, same_epoch, note_else, note_here, dead_noted}
 use Rattle.npf_cells_takes.proofs.HandLemmas.{none_here, as_many, was_elsewhere, slot_listed}
 
 module _ {S A R : Type 0} (m : Meaning S A R) (digest : Key → ℕ) (layout : Layout) where
@@ -84,7 +83,7 @@ module _ {S A R : Type 0} (m : Meaning S A R) (digest : Key → ℕ) (layout : L
     counts p h e =
         let all = kept.deaths.counted p h in
         let part = kept.deaths.reclaimed p h in
-        let once = dead_once (k.slot p).stage in
+        let once = dead_one m digest layout s id me kept at conn.slot 0 within conn refl gone.dead gone.keyless p e in
         let mine = one_of_sum (λ (u : CellView S A R). occurs p (slots_named u.pools.reclaims)) s.views id me.0 at in
         let has = listed p e in
         let none = none_here conn.slot p me.0.pools.reclaims e in

@@ -1,7 +1,6 @@
 -- A store in the first note of a slot whose connection is Dead and holds no key keeps the rule, where the part on deaths holds after it.
 use Rattle.std.specs.List.{Contains}
-use Rattle.std.proofs.Common.{◌≡◌, ◌≢◌, ◌⊎◌, ℕ, ◌+◌, ◌<◌, ◌≤◌, Some, [], ◌∷◌, set, length, slice_index, refl, sym, ap, ◌∙◌, subst, ⊎_elim, inl, inr, arith, length-set}
-use Rattle.std.proofs.lemmas.Bool.{cases_eq}
+use Rattle.std.proofs.Common.{◌≡◌, ◌≢◌, ℕ, ◌+◌, ◌<◌, ◌≤◌, Some, List, [], ◌∷◌, set, length, slice_index, refl, sym, ap, ◌∙◌, subst, ⊎_elim, inl, arith, length-set}
 use Rattle.std.proofs.lemmas.List.{get_or-set_same, get_or-set_other}
 use mathlib.Core.Option.{some}
 use lib.ListN.{get_elem?}
@@ -32,10 +31,10 @@ use Rattle.npf_cells_lives.specs.declared.pools.PoolSide.{PoolSide}
 use Rattle.npf_cells_lives.specs.declared.turn.Said.{Said}
 use Rattle.npf_cells_lives.specs.declared.turn.Turn.{Turn}
 use Rattle.npf_cells_lives.specs.Conns.{Conns, IsBuiltIn}
-use Rattle.npf_cells_lives.specs.Deaths.{IsKeyless, has_epoch, first_note, slots_named, killed_in, last_id, unreclaimed, Deaths}
+use Rattle.npf_cells_lives.specs.Deaths.{IsKeyless, is_dead, has_epoch, first_note, slots_named, killed_in, last_id, unreclaimed, Deaths}
 use Rattle.npf_cells_lives.specs.Notes.{note_word, IsFirm, FitsNote, Notes}
 use Rattle.npf_cells_lives.specs.Stored.{IsOwnField, StoredWords}
-use Rattle.npf_cells_lives.specs.Turns.{stage_phase, IsTurnField, Running, Turns}
+use Rattle.npf_cells_lives.specs.Turns.{stage_phase, Running, Turns}
 use Rattle.npf_cells_lives.proofs.ConnLemmas.{building_at, builds-kept, unstored-set, conns-same}
 use Rattle.npf_cells_lives.proofs.DeathLemmas.{RestsNoMore, dead_at}
 use Rattle.npf_cells_lives.proofs.FreedLemmas.{gone_in, freed_stays}
@@ -66,6 +65,9 @@ module _ {S A R : Type 0} (m : Meaning S A R) (digest : Key → ℕ) (layout : L
 
     pub dead_there : ((k.slot slot).inc ≡ conn.inc) × ((k.slot slot).stage ≡ Dead)
     dead_there = subst (λ p. ((k.slot p).inc ≡ conn.inc) × ((k.slot p).stage ≡ Dead)) there (dead_at (k.slot conn.slot) conn.inc dead)
+
+    pub dead_one : (p : ℕ) → p ≡ slot → is_dead (k.slot p).stage ≡ 1
+    dead_one p e = ap (λ q. is_dead (k.slot q).stage) e ∙ ap is_dead dead_there.1
 
     -- nobody builds there
     nobody : (j : ℕ) (u : CellView S A R) → get_elem? s.views j ≡ some u → (pool : Pool) (place field : ℕ) → IsOwnField layout u.pools pool place field → field_at layout pool place field ≢ note
@@ -149,16 +151,16 @@ module _ {S A R : Type 0} (m : Meaning S A R) (digest : Key → ℕ) (layout : L
         -- what each pass had
         before : (j : ℕ) (u : CellView S A R) → get_elem? (set s.views id w) j ≡ some u →
             (y : CellView S A R) × (get_elem? s.views j ≡ some y) × (y.turn ≡ u.turn) × (y.pools.notes ≡ u.pools.notes) × (y.pools.builds ≡ u.pools.builds) × ((i : ConnId) → Contains u.pools.kills i → Contains y.pools.kills i)
-                × ((g : Found) → Contains y.pools.gave_up g → g.id.slot ≢ slot → Contains u.pools.gave_up g)
+            × ((g : Found) → Contains y.pools.gave_up g → g.id.slot ≢ slot → Contains u.pools.gave_up g)
         before j u e = ⊎_elim
             (λ (x : (j ≡ id) × (w ≡ u)). (
-            me.0,
-            ap (get_elem? s.views) x.0 ∙ at,
-            ap (λ (y : CellView S A R). y.turn) x.1,
-            sym notes ∙ ap (λ (y : CellView S A R). y.pools.notes) x.1,
-            sym builds ∙ ap (λ (y : CellView S A R). y.pools.builds) x.1,
-            λ i c. kills i (subst (λ (y : CellView S A R). Contains y.pools.kills i) (sym x.1) c),
-            λ g c ne. subst (λ (y : CellView S A R). Contains y.pools.gave_up g) x.1 (gave g c ne),
+              me.0,
+              ap (get_elem? s.views) x.0 ∙ at,
+              ap (λ (y : CellView S A R). y.turn) x.1,
+              sym notes ∙ ap (λ (y : CellView S A R). y.pools.notes) x.1,
+              sym builds ∙ ap (λ (y : CellView S A R). y.pools.builds) x.1,
+              λ i c. kills i (subst (λ (y : CellView S A R). Contains y.pools.kills i) (sym x.1) c),
+              λ g c ne. subst (λ (y : CellView S A R). Contains y.pools.gave_up g) x.1 (gave g c ne),
             ))
             (λ (x : (j ≢ id) × (get_elem? s.views j ≡ some u)). (u, x.1, refl, refl, refl, λ i c. c, λ g c ne. c))
             (at_set s.views id j w u e)

@@ -1,52 +1,33 @@
 -- What stores in a pass's own words make of deaths: another word, or a value below any epoch where none stood, leaves them.
-use Rattle.std.specs.List.{Contains, filter}
-use Rattle.std.proofs.Common.{◌≡◌, ◌≢◌, ◌⊎◌, ℕ, ◌+◌, ◌-◌, ◌^◌, ◌<◌, ◌≤◌, Bool, true, false, cond, eqb, eq-eqb, List, [], ◌∷◌, map, set, length, slice_index, refl, sym, ap, ◌∙◌, subst, ⊎_elim, inl, inr, arith, length-set}
+use Rattle.std.specs.List.{Contains}
+use Rattle.std.proofs.Common.{◌≡◌, ◌≢◌, ℕ, ◌+◌, ◌-◌, ◌^◌, ◌<◌, ◌≤◌, List, set, length, slice_index, refl, sym, ap, ◌∙◌, subst, ⊎_elim, inl, arith}
 use Rattle.std.proofs.lemmas.Bool.{cases_eq, cases_lt}
 use Rattle.std.proofs.lemmas.List.{get_or-set_same, get_or-set_other}
 use mathlib.Core.Option.{some}
 use lib.ListN.{get_elem?}
-use Rattle.atomic_table.specs.Table.{State, Me, stepped, keeps}
-use Rattle.atomic_table.proofs.Lists.{at_map}
+use Rattle.atomic_table.specs.Table.{State, Me}
 use Rattle.npf_types.specs.declared.key.Key.{Key}
 use Rattle.npf_types.specs.declared.key.Way.{Way}
 use Rattle.npf_core.specs.declared.conn_id.ConnId.{ConnId}
-use Rattle.npf_core.specs.declared.slot.Slot.{Slot}
-use Rattle.npf_core.specs.declared.stage.Stage.TheVariants.{Building, Dead}
 use Rattle.npf_core.specs.History.{state_of}
-use Rattle.npf_core.specs.Machine.{Machine, HoldsSome, stage_at, stage_of}
+use Rattle.npf_core.specs.Machine.{Machine, HoldsSome}
 use Rattle.npf_core.specs.Meaning.{Meaning}
-use Rattle.npf_core.proofs.EqualityLemmas.{same_conn_id}
 use Rattle.npf_cells_words.specs.declared.layout.Layout.{Layout}
-use Rattle.npf_cells_words.specs.declared.layout.Pool.{Pool}
 use Rattle.npf_cells_words.specs.declared.layout.Pool.TheVariants.{Slots, Nodes}
-use Rattle.npf_cells_words.specs.Layout.{turn_field, phase_field, inc_field, parent_field, notes_field, key_field, field_at, field_count, pool_places, epoch_word}
-use Rattle.npf_cells_words.specs.Places.{lock_at, place_at}
-use Rattle.npf_cells_words.proofs.WordLemmas.{field_behind, field_reach, key_short, not_slot, slot_apart}
-use Rattle.npf_seats.specs.Sums.{occurs, others_than}
-use Rattle.npf_seats.proofs.ListLemmas.{one_where, occurs-cons, left_same, left_others}
-use Rattle.npf_seats.proofs.PrefixLemmas.{none_listed, cons_cases}
-use Rattle.npf_seats.proofs.SumLemmas.{sum-set, one_of_sum}
+use Rattle.npf_cells_words.specs.Layout.{notes_field, field_at, epoch_word}
+use Rattle.npf_cells_words.proofs.WordLemmas.{field_behind, field_reach}
+use Rattle.npf_seats.specs.Sums.{occurs}
+use Rattle.npf_seats.proofs.SumLemmas.{sum-set}
 use Rattle.npf_cells_pins.specs.declared.pin.EpochSide.{EpochSide}
 use Rattle.npf_cells_leaves.specs.declared.trie.TrieSide.{TrieSide}
-use Rattle.npf_cells_leaves.specs.Trie.{key_word, trie_words}
-use Rattle.npf_cells_leaves.proofs.TrieLemmas.{KeepsTrie, cell_kept, knows_same, trie_same}
-use Rattle.npf_cells_lives.specs.declared.pools.PoolSide.{PoolSide}
-use Rattle.npf_cells_lives.specs.Conns.{Conns}
-use Rattle.npf_cells_lives.specs.Deaths.{IsKeyless, is_dead, has_epoch, first_note, slots_named, killed_in, reclaimed_in, cleared_in, last_id, IsPast, FitsKill, IsLeft, Deaths}
-use Rattle.npf_cells_lives.specs.Locks.{Locks}
-use Rattle.npf_cells_lives.specs.Stored.{IsOwnField, StoredWords}
-use Rattle.npf_cells_lives.specs.Turns.{IsTurnField, Running, Turns}
-use Rattle.npf_cells_lives.proofs.ConnLemmas.{building_at, builds-kept, unstored-set, conns-same}
-use Rattle.npf_cells_lives.proofs.DeathLemmas.{spares_all, RestsNoMore, dead_at, epoch_note, low_note, past_kept, kill_kept, deaths-set}
-use Rattle.npf_cells_lives.proofs.LockLemmas.{locks-same, holders-set}
-use Rattle.npf_cells_lives.proofs.StoredLemmas.{filter_has, own_same, stored_kept, stored-set}
+use Rattle.npf_cells_lives.specs.Deaths.{is_dead, has_epoch, first_note, slots_named, killed_in, reclaimed_in, cleared_in, last_id, FitsKill, Deaths}
+use Rattle.npf_cells_lives.specs.Turns.{Running}
+use Rattle.npf_cells_lives.proofs.ConnLemmas.{building_at}
+use Rattle.npf_cells_lives.proofs.DeathLemmas.{spares_all, RestsNoMore, low_note, kill_kept, deaths-set}
 use Rattle.npf_cells_rule.specs.declared.view.CellView.{CellView}
 use Rattle.npf_cells_rule.specs.Cells.{IsCells}
 use Rattle.npf_cells_rule.specs.Views.{DeadHand, dead_hand, death_side}
 use Rattle.npf_cells_rule.proofs.DeathFrames.{deaths_on}
-use Rattle.npf_cells_rule.proofs.Frames.{alone_still, private_step, turns_apart}
-use Rattle.npf_cells_takes.specs.PrivateKinds.{MayStoreInSlot, MayLetGo, letting_go}
-use Rattle.npf_cells_takes.proofs.BareLemmas.{still_bare}
 
 module _ {S A R : Type 0} (m : Meaning S A R) (digest : Key → ℕ) (layout : Layout) (s : State (Running S) (CellView S A R)) (id : ℕ) (me : Me (Running S) (CellView S A R)) (kept : IsCells m digest layout s) (at : get_elem? s.views id ≡ some me.0) where
   abbrev k : Machine S

@@ -1,7 +1,7 @@
 -- A slot that is given back keeps the rule, and makes the Free of its connection.
 use Rattle.std.specs.Int.{bit_at, bit_not, w64}
 use Rattle.std.specs.List.{Contains}
-use Rattle.std.proofs.Common.{◌≡◌, ◌≢◌, ◌⊎◌, ◌+◌, ℕ, true, ◌*◌, ◌%◌, ◌^◌, ◌<◌, ◌≤◌, Some, [], ◌∷◌, ◌++◌, List, map, set, length, slice_index, refl, sym, ap, ◌∙◌, subst, ⊎_elim, inl, inr, arith, bit_and, length-set}
+use Rattle.std.proofs.Common.{◌≡◌, ◌≢◌, ◌+◌, ℕ, true, ◌*◌, ◌%◌, ◌^◌, ◌<◌, ◌≤◌, Some, [], ◌∷◌, ◌++◌, List, map, set, length, slice_index, refl, sym, ap, ◌∙◌, subst, ⊎_elim, inl, inr, arith, bit_and, length-set}
 use Rattle.std.proofs.lemmas.Bool.{cases_eq}
 use Rattle.std.proofs.lemmas.List.{map-set}
 use Rattle.std.proofs.lemmas.Nat.Bits.{bit_at_clear_same, bit_at_clear_other}
@@ -16,7 +16,7 @@ use Rattle.npf_core.specs.declared.entry.Entry.{Entry}
 use Rattle.npf_core.specs.declared.reply.Reply.TheVariants.{Nothing}
 use Rattle.npf_core.specs.declared.slot.Slot.{Slot}
 use Rattle.npf_core.specs.declared.stage.Stage.TheVariants.{Building}
-use Rattle.npf_core.specs.History.{MayFollow, Legal, after, state_of}
+use Rattle.npf_core.specs.History.{MayFollow, Legal, state_of}
 use Rattle.npf_core.specs.Machine.{Machine, stage_of, IsClaimed}
 use Rattle.npf_core.specs.Meaning.{Meaning}
 use Rattle.npf_core.proofs.HistoryLemmas.{state_of-append, Legal-append}
@@ -49,7 +49,7 @@ use Rattle.npf_cells_lives.proofs.TurnLemmas.{turns-kept}
 use Rattle.npf_cells_rule.specs.declared.view.CellView.{CellView}
 use Rattle.npf_cells_rule.specs.Cells.{IsCells}
 use Rattle.npf_cells_rule.specs.Passes.{cell_pass}
-use Rattle.npf_cells_rule.specs.Views.{seat_side, reader_view, pool_side, trie_side, turn_side, leaf_id, death_side, seen_side}
+use Rattle.npf_cells_rule.specs.Views.{seat_side, pool_side, trie_side, turn_side, leaf_id, death_side, seen_side}
 use Rattle.npf_cells_rule.proofs.EntryLemmas.{adds_entry, sole_entries}
 use Rattle.npf_cells_rule.proofs.Frames.{alone-set, alone_still, IsPoolStep, framed, stored_apart, locks_apart, epochs_apart}
 use Rattle.npf_cells_rule.proofs.StoodLemmas.{stood_so}
@@ -258,4 +258,4 @@ module _ {S A R : Type 0} (m : Meaning S A R) (digest : Key → ℕ) (layout : L
       here = bit_at_clear_same w64 number (conn.slot % 64) (omega arith)
 
       else' : (i : ℕ) → i < 64 → i ≢ conn.slot % 64 → bit_at after' i ≡ bit_at number i
-      else' i h ne = bit_at_clear_other w64 number (conn.slot % 64) (omega arith) i ne
+      else' i h ne = bit_at_clear_other w64 number (conn.slot % 64) (omega arith) i h ne

@@ -1,6 +1,6 @@
 -- What a Free of a Dead connection leaves: its slot is vacant, and all else is as it was.
 use Rattle.std.specs.List.{Contains}
-use Rattle.std.proofs.Common.{◌≡◌, ◌≢◌, ◌⊎◌, ℕ, ◌+◌, ◌<◌, ◌≤◌, cond, eq-eqb, ne_eqb, List, set, refl, sym, ap, ◌∙◌, subst, ⊎_elim, inl, inr, arith}
+use Rattle.std.proofs.Common.{◌≡◌, ◌≢◌, ◌⊎◌, ℕ, ◌+◌, ◌^◌, ◌<◌, ◌≤◌, cond, eq-eqb, ne_eqb, List, set, refl, sym, ap, ◌∙◌, subst, ⊎_elim, inl, inr, arith}
 use Rattle.std.proofs.lemmas.Bool.{cases_eq}
 use mathlib.Core.Option.{some}
 use lib.ListN.{get_elem?}
@@ -8,7 +8,7 @@ use Rattle.atomic_table.proofs.Lists.{at_set}
 use Rattle.npf_core.specs.declared.act.Act.TheVariants.{Free}
 use Rattle.npf_core.specs.declared.conn_id.ConnId.{ConnId}
 use Rattle.npf_core.specs.declared.slot.Slot.{Slot}
-use Rattle.npf_core.specs.declared.stage.Stage.TheVariants.{Vacant, Building, Dead}
+use Rattle.npf_core.specs.declared.stage.Stage.TheVariants.{Building, Dead}
 use Rattle.npf_core.specs.Machine.{Machine, IsClaimed, stage_at, stage_of}
 use Rattle.npf_core.specs.Meaning.{Meaning}
 use Rattle.npf_core.specs.NextState.{after_act}
@@ -21,7 +21,7 @@ use Rattle.npf_seats.proofs.SumLemmas.{sum-set, one_of_sum, two_of_sum}
 use Rattle.npf_cells_lives.specs.declared.pools.PoolSide.{PoolSide}
 use Rattle.npf_cells_lives.specs.Deaths.{DeathSide, Rests, IsProtectedBy, IsKeyless, is_dead, has_epoch, first_note, slots_named, killed_in, reclaimed_in, cleared_in, ids_elsewhere, freed_slot, last_id, IsPast, FitsKill, IsLeft, FitsReclaim, Deaths}
 use Rattle.npf_cells_lives.proofs.ConnLemmas.{BuildsIn, building_at, builds-kept}
-use Rattle.npf_cells_lives.proofs.DeathLemmas.{dead_once, dead_at, epoch_note}
+use Rattle.npf_cells_lives.proofs.DeathLemmas.{dead_at}
 use Rattle.npf_cells_lives.proofs.FreedLemmas.{gone_in}
 use Rattle.npf_cells_takes.proofs.HandLemmas.{none_here, as_many, was_elsewhere, slot_listed}
 
@@ -110,7 +110,7 @@ module _ {S A R V : Type 0} (side_of : V → DeathSide) (layout : Layout) (m : M
       let h = subst (λ q. q < layout.slots) (sym e) within in
       let all = kept.counted p h in
       let part = kept.reclaimed p h in
-      let once = dead_once (k.slot p).stage in
+      let once = ap (λ q. is_dead (k.slot q).stage) e ∙ ap is_dead (dead_at (k.slot id.slot) id.inc frees.dead).1 in
       let one = one_of_sum (λ (u : V). occurs p (slots_named (side_of u).cleared)) views j v at in
       let has = listed p e in
       let none = none_here id.slot p (side_of v).cleared e in
@@ -210,7 +210,7 @@ module _ {S A R V : Type 0} (side_of : V → DeathSide) (layout : Layout) (m : M
         rests = λ i c. c;
         protecting = refl;
       })
-      (at_set views j w n u e)
+      (at_set views j n w u e)
 
   past_on : (i : ConnId) (since : ℕ) → IsPast side_of (epoch_word words) views i since → IsPast side_of (epoch_word words') views' i since
   past_on i since past = record {

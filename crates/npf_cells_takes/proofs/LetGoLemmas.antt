@@ -1,5 +1,4 @@
 -- An epoch in the first note of a connection that the pass killed lets it go.
-use Rattle.std.specs.List.{Contains}
 use Rattle.std.proofs.Common.{◌≡◌, ◌≢◌, ℕ, ◌+◌, ◌^◌, ◌<◌, ◌≤◌, Some, List, set, length, refl, sym, ap, ◌∙◌, subst, ⊎_elim, inl, inr, arith}
 use Rattle.std.proofs.lemmas.Bool.{cases_eq}
 use mathlib.Core.Option.{some}
@@ -22,13 +21,14 @@ use Rattle.npf_cells_lives.specs.declared.turn.Said.{Said}
 use Rattle.npf_cells_lives.specs.declared.turn.Turn.{Turn}
 use Rattle.npf_cells_lives.specs.Deaths.{IsKeyless, is_dead, has_epoch, first_note, slots_named, killed_in, reclaimed_in, cleared_in, last_id, IsPast, FitsKill, Deaths}
 use Rattle.npf_cells_lives.specs.Turns.{Running}
-use Rattle.npf_cells_lives.proofs.DeathLemmas.{spares_all, RestsNoMore, dead_once, epoch_note, past_kept, kill_kept, deaths-set}
+use Rattle.npf_cells_lives.proofs.DeathLemmas.{spares_all, RestsNoMore, epoch_note, past_kept, kill_kept, deaths-set}
+use Rattle.npf_cells_lives.proofs.FreedLemmas.{gone_in}
 use Rattle.npf_cells_rule.specs.declared.view.CellView.{CellView}
 use Rattle.npf_cells_rule.specs.Cells.{IsCells}
 use Rattle.npf_cells_rule.specs.Views.{seat_side, death_side}
 use Rattle.npf_cells_takes.specs.PrivateKinds.{MayLetGo, letting_go}
 use Rattle.npf_cells_takes.proofs.BareLemmas.{still_bare}
-use Rattle.npf_cells_takes.proofs.DeadNoteLemmas.{ws, dead_there, same_epoch, note_else, note_here, conn_last, dead_noted}
+use Rattle.npf_cells_takes.proofs.DeadNoteLemmas.{ws, dead_one, same_epoch, note_else, note_here, conn_last, dead_noted}
 use Rattle.npf_cells_takes.proofs.HandLemmas.{none_here, as_many, was_elsewhere, given_elsewhere, slot_listed}
 
 module _ {S A R : Type 0} (m : Meaning S A R) (digest : Key → ℕ) (layout : Layout) (s : State (Running S) (CellView S A R)) (id : ℕ) (me : Me (Running S) (CellView S A R)) (kept : IsCells m digest layout s) (at : get_elem? s.views id ≡ some me.0)
@@ -71,7 +71,7 @@ module _ {S A R : Type 0} (m : Meaning S A R) (digest : Key → ℕ) (layout : L
   unmarked =
       let mine = one_of_sum (λ (u : CellView S A R). occurs slot (slots_named u.pools.kills)) s.views id me.0 at in
       let was = kept.deaths.counted slot within in
-      let once = dead_once (k.slot slot).stage in
+      let once = dead_one m digest layout s id me kept at slot value within conn may.there killed.dead bare slot refl in
       let has = listed in
       omega (arith, mine, was, once, has)
 
@@ -85,7 +85,7 @@ module _ {S A R : Type 0} (m : Meaning S A R) (digest : Key → ℕ) (layout : L
       ⊎_elim
       (λ (e : p ≡ slot).
       let mine = one_of_sum (λ (u : CellView S A R). occurs p (slots_named u.pools.kills)) s.views id me.0 at in
-      let once = dead_once (k.slot p).stage in
+      let once = dead_one m digest layout s id me kept at slot value within conn may.there killed.dead bare p e in
       let none = none_here slot p me.0.pools.kills e in
       let has = subst (λ q. 1 ≤ occurs q (slots_named me.0.pools.kills)) (sym e) listed in
       let epoch : has_epoch (first_note layout words' p) ≡ 1 = ap has_epoch (here p e) ∙ epoch_note me.0.epochs.loaded in
@@ -123,7 +123,7 @@ module _ {S A R : Type 0} (m : Meaning S A R) (digest : Key → ℕ) (layout : L
   nobodys : killed_in death_side (set s.views id w) slot ≡ 0
   nobodys =
       let now = counted slot within in
-      let once = dead_once (k.slot slot).stage in
+      let once = dead_one m digest layout s id me kept at slot value within conn may.there killed.dead bare slot refl in
       let epoch : has_epoch (first_note layout words' slot) ≡ 1 = ap has_epoch (here slot refl) ∙ epoch_note me.0.epochs.loaded in
       omega (arith, now, once, epoch)
 
@@ -134,6 +134,13 @@ module _ {S A R : Type 0} (m : Meaning S A R) (digest : Key → ℕ) (layout : L
       let none = unmarked in
       omega (arith, one, none)
 
+  -- it reclaims nothing
+  gone_same : (p : ℕ) → gone_in death_side (set s.views id w) p ≡ gone_in death_side s.views p
+  gone_same p =
+      let one = sum-set (λ (u : CellView S A R). occurs p (slots_named u.pools.reclaims)) s.views id me.0 w at in
+      let two = sum-set (λ (u : CellView S A R). occurs p (slots_named u.pools.cleared)) s.views id me.0 w at in
+      omega (arith, one, two)
+
   pub lets_go : 1 ≤ length me.0.seats.readers → IsCells m digest layout (stepped s (field_at layout Slots slot notes_field) value id me.1 w keeps)
   lets_go seated = dead_noted m digest layout s id me kept at slot value within conn may.there killed.dead bare w.pools refl refl refl refl refl
-      (λ i c. (was_elsewhere slot me.0.pools.kills i c).0) (λ g c ne. given_elsewhere slot me.0.pools.gave_up g c ne) (λ p. refl) nobodys untold seated deaths_after
+      (λ i c. (was_elsewhere slot me.0.pools.kills i c).0) (λ g c ne. given_elsewhere slot me.0.pools.gave_up g c ne) gone_same nobodys untold seated deaths_after
