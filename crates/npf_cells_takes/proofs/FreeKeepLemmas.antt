@@ -53,13 +53,13 @@ use Rattle.npf_cells_rule.specs.Views.{seat_side, pool_side, trie_side, turn_sid
 use Rattle.npf_cells_rule.proofs.EntryLemmas.{adds_entry, sole_entries}
 use Rattle.npf_cells_rule.proofs.Frames.{alone-set, alone_still, IsPoolStep, framed, stored_apart, locks_apart, epochs_apart}
 use Rattle.npf_cells_rule.proofs.StoodLemmas.{stood_so}
-use Rattle.npf_cells_takes.specs.SlotKinds.{MayFree, freeing, HasFreed, FreesSlot}
+use Rattle.npf_cells_takes.specs.SlotKinds.{MayGiveBack, freeing, HasFreed, FreesSlot}
 use Rattle.npf_cells_takes.proofs.FreeLemmas.{freed, freed_here, freed_else, same_inc, still_claimed, still_dead, builds_freed, gone_here, gone_else, deaths_freed}
 use Rattle.npf_cells_takes.proofs.PoolKeepLemmas.{pool_step}
 
 module _ {S A R : Type 0} (m : Meaning S A R) (digest : Key → ℕ) (layout : Layout) where
   module _ (s : State (Running S) (CellView S A R)) (id : ℕ) (me : Me (Running S) (CellView S A R)) (kept : IsCells m digest layout s) (at : get_elem? s.views id ≡ some me.0)
-      (lives : me.0.seats.lives ≡ true) (place : 1 ≤ length me.0.seats.readers) (conn : ConnId) (within : conn.slot < layout.slots) (may : MayFree me.0 conn) where
+      (lives : me.0.seats.lives ≡ true) (place : 1 ≤ length me.0.seats.readers) (conn : ConnId) (within : conn.slot < layout.slots) (may : MayGiveBack me.0 conn) where
     abbrev word : ℕ
     word = place_word layout Slots conn.slot
 
@@ -238,7 +238,7 @@ module _ {S A R : Type 0} (m : Meaning S A R) (digest : Key → ℕ) (layout : L
           number : me.0.seats.number ≡ id
           number = (fits.lives lives).number
 
-  pub may_free_slot : (st : Step (Running S)) (id n mask : ℕ) (conn : ConnId) (me : Me (Running S) (CellView S A R)) → me.0.seats.lives ≡ true → me.0.seats.theirs ≡ [] → 1 ≤ length me.0.seats.readers → conn.slot < layout.slots → MayFree me.0 conn → mask ≡ bit_not w64 (1 * 2 ^ (conn.slot % 64) % 2 ^ 64) →
+  pub may_free_slot : (st : Step (Running S)) (id n mask : ℕ) (conn : ConnId) (me : Me (Running S) (CellView S A R)) → me.0.seats.lives ≡ true → me.0.seats.theirs ≡ [] → 1 ≤ length me.0.seats.readers → conn.slot < layout.slots → MayGiveBack me.0 conn → mask ≡ bit_not w64 (1 * 2 ^ (conn.slot % 64) % 2 ^ 64) →
       Allows (IsCells m digest layout) n id me (place_word layout Slots conn.slot) (λ k. bit_and k mask) (FreesSlot m digest layout conn st me)
   may_free_slot st id n mask conn me lives settled place within may is s kept homes at bound = rw is (
     w s id me kept at lives place conn within may,
