@@ -6,3 +6,5 @@ pub mod OwnedLemmas
 pub mod PlaceLemmas
 pub mod PublishKeepLemmas
 pub mod SpareLemmas
+pub mod StandingLemmas
+pub mod UnheldLemmas

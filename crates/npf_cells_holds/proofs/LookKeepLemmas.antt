@@ -113,14 +113,14 @@ module _ {S A R : Type 0} (m : Meaning S A R) (digest : Key → ℕ) (layout : L
       IsCells m digest layout (stepped s i (slice_index s.words i) id c (record v { trie = side }) keeps)
   load_step s i id c v side kept at behind fits locks grown less alone =
       let w : CellView S A R = record v { trie = side } in
-      private_step m digest layout s i (slice_index s.words i) id c v w kept at behind refl refl refl refl alone
+      private_step m digest layout s i (slice_index s.words i) id c v w kept at behind refl refl refl refl (λ conn killed. killed) alone
       (subst (λ ws. Trie trie_side digest layout kept.published (state_of m kept.log) ws (set s.views id w)) (sym (set-get_or s.words i 0)) (trie_moved trie_side digest layout kept.published (state_of m kept.log) s.words s.views id v w kept.trie at grown fits))
       (conns_apart m digest layout s i (slice_index s.words i) id v w kept at refl refl (λ j h. ap (λ ws. slice_index ws j) (set-get_or s.words i 0)))
       (stored_apart m digest layout s i (slice_index s.words i) id w kept (kept.stored id v at) (λ j h. ap (λ ws. slice_index ws j) (set-get_or s.words i 0)))
       (locks_apart m digest layout s i (slice_index s.words i) id v w kept at locks (λ j h. ap (λ ws. slice_index ws j) (set-get_or s.words i 0)))
-      (turns_behind m digest layout s i (slice_index s.words i) id v w kept at refl (λ j h. ap (λ ws. slice_index ws j) (set-get_or s.words i 0)))
+      (turns_behind m digest layout s i (slice_index s.words i) id v w kept at refl refl (λ j h. ap (λ ws. slice_index ws j) (set-get_or s.words i 0)))
       (deaths_load m digest layout s i id v w kept at refl refl less)
-      (notes_still m digest layout s i (slice_index s.words i) id v w kept at refl refl refl (λ j h. ap (λ ws. slice_index ws j) (set-get_or s.words i 0)))
+      (notes_still m digest layout s i (slice_index s.words i) id v w kept at refl refl refl refl (λ j h. ap (λ ws. slice_index ws j) (set-get_or s.words i 0)))
 
   module _ (s : State (Running S) (CellView S A R)) (id : ℕ) (me : Me (Running S) (CellView S A R)) (kept : IsCells m digest layout s) (at : get_elem? s.views id ≡ some me.0)
       (lives : me.0.seats.lives ≡ true) (settled : me.0.seats.theirs ≡ []) (place : 1 ≤ length me.0.seats.readers) (stays : IsProtected me.0.epochs.pin) (packet : ℕ) (key : Key) (p : Place) (stands : StandsOnPath digest me.0.trie key p) where

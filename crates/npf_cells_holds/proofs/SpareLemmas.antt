@@ -38,6 +38,6 @@ module _ {S A R : Type 0} (m : Meaning S A R) (k : Machine S) (seat : ℕ) (conn
   pub hold_spares : Spares k k'
   hold_spares = record {
     slots = λ slot dead. refl;
-    gain = λ i dead bare w other held. bare w other (held_before i w other (k.holder other) (k'.holder other) dead (passes act other (k.holder other)) held);
-    lose = λ i dead bare w other held. bare w other (held_after (record { id = i; way = w }) other (k.holder other) (k'.holder other) (passes act other (k.holder other)) held);
+    held = λ i dead w other holds. held_after (record { id = i; way = w }) other (k.holder other) (k'.holder other) (passes act other (k.holder other)) holds;
+    back = λ i dead w other holds. held_before i w other (k.holder other) (k'.holder other) dead (passes act other (k.holder other)) holds;
   }
