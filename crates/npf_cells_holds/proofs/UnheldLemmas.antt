@@ -1,6 +1,6 @@
 -- A Dead connection gives a key up: what is held stays but for that key, and so do the parts on deaths, on what killers know and on notes.
 use Rattle.std.specs.List.{Contains}
-use Rattle.std.proofs.Common.{◌≡◌, ◌≢◌, ◌⊎◌, ℕ, ◌+◌, ◌<◌, ◌≤◌, Bool, true, false, cond, Option, Some, None, List, [], ◌∷◌, ◌++◌, set, map, sum_by, refl, sym, ap, ◌∙◌, subst, ⊎_elim, inl, inr, arith}
+use Rattle.std.proofs.Common.{◌≡◌, ◌≢◌, ℕ, ◌<◌, ◌≤◌, Bool, true, false, cond, Option, Some, None, List, [], ◌∷◌, set, sum_by, refl, sym, ap, ◌∙◌, subst, ⊎_elim, inl, inr, arith}
 use Rattle.std.proofs.lemmas.List.{length-map, get_or-map}
 use Rattle.std.proofs.lemmas.List.Elements.{Contains-append_left, Contains-append_right, Contains-push}
 use mathlib.Core.Option.{some}
@@ -10,32 +10,29 @@ use Rattle.npf_types.specs.declared.key.Key.{Key}
 use Rattle.npf_types.specs.declared.key.Way.{Way}
 use Rattle.npf_core.specs.declared.conn_id.ConnId.{ConnId}
 use Rattle.npf_core.specs.declared.found.Found.{Found}
-use Rattle.npf_core.specs.declared.slot.Slot.{Slot}
 use Rattle.npf_core.specs.declared.stage.Stage.{Stage}
 use Rattle.npf_core.specs.declared.stage.Stage.TheVariants.{Dead}
-use Rattle.npf_core.specs.Machine.{Machine, stage_of, Holds, HoldsNone}
+use Rattle.npf_core.specs.Machine.{Machine, stage_of}
 use Rattle.npf_core.specs.NextState.{is_found, given_up}
 use Rattle.npf_core.proofs.EqualityLemmas.{is_found-Decides}
 use Rattle.npf_paths.specs.declared.cell.Cell.{Cell}
 use Rattle.npf_paths.specs.declared.cell.Cell.TheVariants.{Leaf}
 use Rattle.npf_paths.specs.declared.place.Place.{Place}
-use Rattle.npf_paths.specs.Paths.{AreDigits, IsOnPath}
+use Rattle.npf_paths.specs.Paths.{IsOnPath}
 use Rattle.npf_cells_words.specs.declared.layout.Layout.{Layout}
 use Rattle.npf_cells_words.specs.Layout.{epoch_word, note_field}
 use Rattle.npf_seats.specs.Sums.{occurs}
 use Rattle.npf_seats.proofs.ListLemmas.{stands_once}
 use Rattle.npf_seats.proofs.SumLemmas.{sum-set, two_of_sum}
-use Rattle.npf_cells_lives.specs.declared.pools.Note.{Note}
 use Rattle.npf_cells_lives.specs.declared.pools.PoolSide.{PoolSide}
-use Rattle.npf_cells_lives.specs.declared.turn.Ahead.{Ahead}
 use Rattle.npf_cells_lives.specs.declared.turn.Turn.{Turn}
-use Rattle.npf_cells_lives.specs.Deaths.{DeathSide, Rests, IsProtectedBy, IsKeyless, is_dead, first_note, has_epoch, slots_named, killed_in, reclaimed_in, cleared_in, last_id, IsPast, FitsKill, FitsReclaim, Deaths}
+use Rattle.npf_cells_lives.specs.Deaths.{DeathSide, Rests, IsProtectedBy, IsKeyless, is_dead, first_note, has_epoch, slots_named, last_id, IsPast, FitsReclaim, Deaths}
 use Rattle.npf_cells_lives.specs.Known.{FitsKnown, Known}
-use Rattle.npf_cells_lives.specs.Notes.{note_word, IsAheadOf, NobodyAhead, IsFirm, FitsAhead, FitsNote, Notes}
+use Rattle.npf_cells_lives.specs.Notes.{note_word, IsAheadOf, IsFirm, FitsNote, Notes}
 use Rattle.npf_cells_lives.specs.Turns.{stage_phase}
 use Rattle.npf_cells_lives.proofs.DeathLemmas.{dead_at}
 use Rattle.npf_cells_lives.proofs.KnownLemmas.{known-set}
-use Rattle.npf_cells_lives.proofs.NoteLemmas.{ahead_fits, note_stays, nobody_before}
+use Rattle.npf_cells_lives.proofs.NoteLemmas.{note_stays, nobody_before}
 
 -- another holder keeps its key
 pub other_keeps : (x gone : Found) → x ≢ gone → given_up (Some x) gone ≡ Some x
@@ -122,10 +119,10 @@ module _ {S : Type 0} (k : Machine S) (conn : ConnId) (way : Way) where
         rested : (j : ℕ) (u : V) (id : ConnId) → get_elem? views' j ≡ some u → Rests (side_of u) id → (x : V) × (get_elem? views j ≡ some x) × Rests (side_of x) id × ((side_of u).protecting ≡ (side_of x).protecting)
         rested j u id e r = ⊎_elim
             (λ (x : (j ≡ i) × (w ≡ u)). (
-            v,
-            ap (get_elem? views) x.0 ∙ at,
-            rests id (subst (λ (y : V). Rests (side_of y) id) (sym x.1) r),
-            ap (λ (y : V). (side_of y).protecting) (sym x.1) ∙ protecting,
+              v,
+              ap (get_elem? views) x.0 ∙ at,
+              rests id (subst (λ (y : V). Rests (side_of y) id) (sym x.1) r),
+              ap (λ (y : V). (side_of y).protecting) (sym x.1) ∙ protecting,
             ))
             (λ (x : (j ≢ i) × (get_elem? views j ≡ some u)). (u, x.1, r, refl))
             (at_set views i j w u e)
