@@ -168,17 +168,17 @@ module _ {S V : Type 0} (turn_of : V → Option (Turn S)) (side_of : V → PoolS
     each = λ j v note there c. note_stays layout k k' words words' (side_of v).builds (side_of v).builds note (λ way e. same.notes note.slot way) (λ key id way built e e' holds. same.back key (record { id = id; way = way }) holds) (λ id e c'. c') (each j v note there c);
   }
 
-  -- one view changes, which is ahead of the same, stored the same notes, and builds what it built
-  pub notes-set : (views : List V) (i : ℕ) (v w : V) → Notes turn_of side_of layout cell k words views → get_elem? views i ≡ some v → SameAhead (turn_of v) (turn_of w) → (side_of w).kills ≡ (side_of v).kills → (side_of w).gave_up ≡ (side_of v).gave_up → (side_of w).notes ≡ (side_of v).notes → ((id : ConnId) → Contains (side_of v).builds id → Contains (side_of w).builds id) →
+  -- one view changes, which is ahead of the same, stored the same notes, builds what it built, and killed no more
+  pub notes-less : (views : List V) (i : ℕ) (v w : V) → Notes turn_of side_of layout cell k words views → get_elem? views i ≡ some v → SameAhead (turn_of v) (turn_of w) → IsGiven turn_of side_of layout k words w → ((id : ConnId) → Contains (side_of w).kills id → Contains (side_of v).kills id) → (side_of w).notes ≡ (side_of v).notes → ((id : ConnId) → Contains (side_of v).builds id → Contains (side_of w).builds id) →
       NotesStay layout k k' cell cell' words words' → Notes turn_of side_of layout cell' k' words' (set views i w)
-  notes-set views i v w kept at same kills gave notes builds stay = notes_so views (set views i w) kept stay nobody both aheads each
+  notes-less views i v w kept at same given kills notes builds stay = notes_so views (set views i w) kept stay nobody both aheads each
     where
       both : (j : ℕ) (u : V) → get_elem? (set views i w) j ≡ some u → IsGiven turn_of side_of layout k words u × IsToldSo turn_of side_of layout k words u
       both j u e = ⊎_elim
           (λ (x : (j ≡ i) × (w ≡ u)).
           subst (λ (y : V). IsGiven turn_of side_of layout k words y × IsToldSo turn_of side_of layout k words y) x.1 (
-          given_same turn_of side_of layout k words v w kills gave (λ id way. kept.given i v id way at),
-          told_same turn_of side_of layout k words v w (λ id c. subst (λ ids. Contains ids id) kills c) same (λ turn said way. kept.said i v turn said way at),
+          given,
+          told_same turn_of side_of layout k words v w kills same (λ turn said way. kept.said i v turn said way at),
           ))
           (λ (x : (j ≢ i) × (get_elem? views j ≡ some u)). (λ id way. kept.given j u id way x.1, λ turn said way. kept.said j u turn said way x.1))
           (at_set views i j w u e)
@@ -203,6 +203,12 @@ module _ {S V : Type 0} (turn_of : V → Option (Turn S)) (side_of : V → PoolS
           (note_stays layout k k words words (side_of v).builds (side_of w).builds note (λ way e'. refl) (λ key id way built a b holds. holds) (λ id e' c'. builds id c') was))
           (λ (x : (j ≢ i) × (get_elem? views j ≡ some u)). kept.each j u note x.1 c)
           (at_set views i j w u e)
+
+  -- one view changes, and it killed the same
+  pub notes-set : (views : List V) (i : ℕ) (v w : V) → Notes turn_of side_of layout cell k words views → get_elem? views i ≡ some v → SameAhead (turn_of v) (turn_of w) → (side_of w).kills ≡ (side_of v).kills → (side_of w).gave_up ≡ (side_of v).gave_up → (side_of w).notes ≡ (side_of v).notes → ((id : ConnId) → Contains (side_of v).builds id → Contains (side_of w).builds id) →
+      NotesStay layout k k' cell cell' words words' → Notes turn_of side_of layout cell' k' words' (set views i w)
+  notes-set views i v w kept at same kills gave notes builds stay = notes-less views i v w kept at same
+      (given_same turn_of side_of layout k words v w kills gave (λ id way. kept.given i v id way at)) (λ id c. subst (λ ids. Contains ids id) kills c) notes builds stay
 
   -- one slot changes: a Live connection has bare notes there, and a view may have fewer notes, and other kills of which what is said holds
   pub notes-acted : (views : List V) (i : ℕ) (v w : V) (slot : ℕ) → Notes turn_of side_of layout cell k words views → get_elem? views i ≡ some v → SameAhead (turn_of v) (turn_of w) → IsGiven turn_of side_of layout k' words w → IsToldSo turn_of side_of layout k' words w →

@@ -59,7 +59,7 @@ module _ {S V : Type 0} (turn_of : V → Option (Turn S)) (layout : Layout) wher
   }
 
   -- the part after such a step, where who has a turn is the same
-  turns_so : (k k' : Machine S) (words words' : List ℕ) (homes : Homes S) (views views' : List V) → Turns turn_of layout k words homes views → TurnsStay k k' words words' →
+  pub turns_so : (k k' : Machine S) (words words' : List ℕ) (homes : Homes S) (views views' : List V) → Turns turn_of layout k words homes views → TurnsStay k k' words words' →
       ((slot : ℕ) → turn_holders turn_of views' slot ≡ turn_holders turn_of views slot) → ((j : ℕ) (v : V) (turn : Turn S) → get_elem? views' j ≡ some v → turn_of v ≡ Some turn → FitsTurn layout k words turn) →
       Turns turn_of layout k' words' homes views'
   turns_so k k' words words' homes views views' kept same holders each = record {

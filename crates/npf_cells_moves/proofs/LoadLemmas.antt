@@ -59,7 +59,8 @@ module _ {S A R : Type 0} (m : Meaning S A R) (digest : Key → ℕ) (layout : L
 
   pub deaths_loading : Deaths death_side layout (state_of m kept.log) (set s.words 0 (epoch_word s.words)) (set s.views id loader)
   deaths_loading = subst (λ ws. Deaths death_side layout (state_of m kept.log) ws (set s.views id loader)) (sym (set-get_or s.words 0 0))
-      (deaths-set death_side layout (state_of m kept.log) (state_of m kept.log) s.words s.words s.views id v loader kept.deaths at (spares_all (state_of m kept.log)) (omega arith) (rests_less (state_of m kept.log) v loader (knows_same v.trie) refl)
+      (deaths-set death_side layout (state_of m kept.log) (state_of m kept.log) s.words s.words s.views id v loader kept.deaths at (spares_all (state_of m kept.log)) (omega arith) (rests_less (state_of m kept.log) v loader (knows_same v.trie) refl) refl refl
       (λ slot h. (let more = sum-set (λ (u : CellView S A R). occurs slot (slots_named u.pools.kills)) s.views id v loader at in let was = kept.deaths.counted slot h in omega (arith, more, was)))
+      kept.deaths.reclaimed
       (λ conn c. record { dead = (kept.deaths.kills id v conn at c).dead; past = λ some' bare. past_now conn })
       (λ slot epoch h note. inl note))

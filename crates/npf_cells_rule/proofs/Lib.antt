@@ -7,6 +7,7 @@ pub mod MetLemmas
 pub mod NoteFrames
 pub mod NoteLawLemmas
 pub mod OpenLemmas
+pub mod OverLemmas
 pub mod PassLemmas
 pub mod ReaderLemmas
 pub mod SoleLemmas

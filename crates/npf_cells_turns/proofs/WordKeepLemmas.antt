@@ -15,12 +15,13 @@ use Rattle.npf_cells_words.specs.declared.layout.Pool.{Pool}
 use Rattle.npf_cells_words.specs.declared.layout.Pool.TheVariants.{Slots, Nodes}
 use Rattle.npf_cells_words.specs.Layout.{phase_field, notes_field, note_field, field_at, field_count}
 use Rattle.npf_cells_lives.specs.declared.turn.Turn.{Turn}
-use Rattle.npf_cells_lives.specs.Deaths.{last_id}
+use Rattle.npf_cells_lives.specs.Deaths.{unreclaimed, last_id}
+use Rattle.npf_cells_lives.proofs.FreedLemmas.{still_there}
 use Rattle.npf_cells_lives.specs.Notes.{note_word, NobodyAhead}
 use Rattle.npf_cells_lives.specs.Turns.{Running, stage_phase}
 use Rattle.npf_cells_lives.proofs.TurnLemmas.{turns_alone}
 use Rattle.npf_cells_rule.specs.NoteLaw.{NamesEnd}
-use Rattle.npf_cells_rule.specs.Views.{seat_side, turn_side}
+use Rattle.npf_cells_rule.specs.Views.{seat_side, turn_side, death_side}
 use Rattle.npf_cells_rule.proofs.NoteLawLemmas.{code_above, names_end}
 use Rattle.npf_cells_rule.specs.declared.view.CellView.{CellView}
 use Rattle.npf_cells_rule.specs.Cells.{IsCells}
@@ -44,27 +45,27 @@ module _ {S A R : Type 0} (m : Meaning S A R) (digest : Key → ℕ) (layout : L
   shows_phase s id v kept at Slots slot field = λ turn has there phase. ap (slice_index s.words) (λ i. field_at layout Slots (sym there i) (phase i)) ∙ (kept.turns.each id v turn at has).phase
   shows_phase s id v kept at Nodes node field = tt
 
-  shows_note : (s : State (Running S) (CellView S A R)) (id : ℕ) (v : CellView S A R) (kept : IsCells m digest layout s) → get_elem? s.views id ≡ some v → (pool : Pool) (place field : ℕ) →
+  pub shows_note : (s : State (Running S) (CellView S A R)) (id : ℕ) (v : CellView S A R) (kept : IsCells m digest layout s) → get_elem? s.views id ≡ some v → (pool : Pool) (place field : ℕ) →
       ShowsNote v.pools.notes pool place field (slice_index s.words (field_at layout pool place field))
   shows_note s id v kept at Slots slot field = λ value c. let fits = kept.notes.each id v (record { slot = slot; field = field; value = value }) at c in ap (λ f. slice_index s.words (field_at layout Slots slot f)) fits.field_is ∙ fits.stands
   shows_note s id v kept at Nodes node field = tt
 
   -- while a pass that has a slot's turn is ahead of none of its notes, nobody is
-  own_alone : (s : State (Running S) (CellView S A R)) (id : ℕ) (v : CellView S A R) (turn : Turn S) (kept : IsCells m digest layout s) → get_elem? s.views id ≡ some v → v.turn ≡ Some turn → turn.ahead ≡ None → (slot field : ℕ) → turn.slot ≡ slot →
+  pub own_alone : (s : State (Running S) (CellView S A R)) (id : ℕ) (v : CellView S A R) (turn : Turn S) (kept : IsCells m digest layout s) → get_elem? s.views id ≡ some v → v.turn ≡ Some turn → turn.ahead ≡ None → (slot field : ℕ) → turn.slot ≡ slot →
       NobodyAhead turn_side s.views slot field
   own_alone s id v turn kept at has settled slot field there j u e a =
-      let same : j ≡ id = turns_alone turn_side layout (state_of m kept.log) s.words s.homes s.views j id u v a.mine turn kept.turns e at a.has has (a.there ∙ sym there) in
+      let same : j ≡ id = turns_alone turn_side layout (unreclaimed death_side s.views (state_of m kept.log)) s.words s.homes s.views j id u v a.mine turn kept.turns e at a.has has (a.there ∙ sym there) in
       let one : u ≡ v = some-injective u v (sym e ∙ (ap (get_elem? s.views) same ∙ at)) in
       let turns : a.mine ≡ turn = (let d : Some a.mine ≡ Some turn = sym a.has ∙ (ap (λ (y : CellView S A R). y.turn) one ∙ has) in cc) in
       let no : None ≡ Some a.note = sym settled ∙ (ap (λ (t : Turn S). t.ahead) (sym turns) ∙ a.ahead) in
       cc
 
-  shows_by_turn : (s : State (Running S) (CellView S A R)) (id : ℕ) (v : CellView S A R) (kept : IsCells m digest layout s) → get_elem? s.views id ≡ some v → v.seats.lives ≡ true → (pool : Pool) (place field : ℕ) →
+  pub shows_by_turn : (s : State (Running S) (CellView S A R)) (id : ℕ) (v : CellView S A R) (kept : IsCells m digest layout s) → get_elem? s.views id ≡ some v → v.seats.lives ≡ true → (pool : Pool) (place field : ℕ) →
       ShowsByTurn m digest layout v pool place field (slice_index s.words (field_at layout pool place field))
   shows_by_turn s id v kept at lives Slots slot field = λ turn way has there settled live is.
       let k : Machine S = state_of m kept.log in
       let fits = kept.turns.each id v turn at has in
-      let same : k.slot turn.slot ≡ turn.was = ⊎_elim (λ e. e) (λ (idle : (stage_phase turn.was.stage ≡ 0) × (stage_phase (k.slot turn.slot).stage ≡ 0)). absurd (let no : 1 ≡ 0 = sym live ∙ idle.0 in cc)) fits.stays in
+      let same : k.slot turn.slot ≡ turn.was = (still_there death_side s.views k turn.slot turn.was fits.stays (λ idle. absurd (let no : 1 ≡ 0 = sym live ∙ idle in cc))).0 in
       let now : stage_phase (k.slot slot).stage ≡ 1 = ap (λ p. stage_phase (k.slot p).stage) (sym there) ∙ (ap (λ (x : Slot S). stage_phase x.stage) same ∙ live) in
       let nobody : NobodyAhead turn_side s.views slot (note_field way) = own_alone s id v turn kept at has settled slot (note_field way) there in
       let noted : slice_index s.words (field_at layout Slots slot field) ≡ note_word layout s.words slot way = ap (λ f. slice_index s.words (field_at layout Slots slot f)) is in

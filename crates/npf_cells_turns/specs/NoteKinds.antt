@@ -1,5 +1,5 @@
 -- What a load of a note under its slot's turn changes in the pass's own view, and what it tells.
-use Rattle.std.specs.Prelude.{◌≡◌, ℕ, ◌↔◌, Some, Contains}
+use Rattle.std.specs.Prelude.{◌≡◌, ℕ, ◌↔◌, Some, None, Contains}
 use Rattle.atomic_table.specs.Table.{Me, Step}
 use Rattle.npf_types.specs.declared.key.Key.{Key}
 use Rattle.npf_types.specs.declared.key.Way.{Way}
@@ -10,6 +10,7 @@ use Rattle.npf_core.specs.Meaning.{Meaning}
 use Rattle.npf_cells_words.specs.declared.layout.Layout.{Layout}
 use Rattle.npf_cells_words.specs.declared.layout.Pool.TheVariants.{Slots}
 use Rattle.npf_cells_words.specs.Layout.{note_field, field_at}
+use Rattle.npf_cells_lives.specs.declared.turn.Turn.{Turn}
 use Rattle.npf_cells_lives.specs.Notes.{with_said}
 use Rattle.npf_cells_lives.specs.Turns.{Running}
 use Rattle.npf_cells_rule.specs.declared.view.CellView.{CellView}
@@ -20,10 +21,10 @@ use Rattle.npf_cells_turns.specs.WordKinds.{ShowsNote, ShowsByTurn}
 abbrev pub noting : {S A R F : Type 0} → ℕ → ℕ → Me F (CellView S A R) → Me F (CellView S A R)
 noting field value me = (record me.0 { turn = with_said (Some (record { field = field; value = value })) me.0.turn }, me.1)
 
--- of a connection that the pass killed, and a way of which it didn't give the key up, the note is 0 exactly where by what the pass has seen the
--- connection holds no key of that way
+-- under a turn by which the pass is ahead of no note, that of a way of a connection that it killed, of which it didn't give the key up, is 0 exactly
+-- where by what the pass has seen the connection holds no key of that way
 abbrev pub ShowsKill : {S A R : Type 0} → Meaning S A R → CellView S A R → ℕ → Way → ℕ → Type 0
-ShowsKill m v slot way found = (id : ConnId) → Contains v.pools.kills id → id.slot ≡ slot → ¬ Contains v.pools.gave_up (record { id = id; way = way }) → (found ≡ 0) ↔ HoldsNone (state_of m v.seats.history) id way
+ShowsKill {S} m v slot way found = (turn : Turn S) (id : ConnId) → v.turn ≡ Some turn → turn.slot ≡ slot → turn.ahead ≡ None → Contains v.pools.kills id → id.slot ≡ slot → ¬ Contains v.pools.gave_up (record { id = id; way = way }) → (found ≡ 0) ↔ HoldsNone (state_of m v.seats.history) id way
 
 -- the kind, as what it tells
 pub record LoadsNote {S A R : Type 0} (m : Meaning S A R) (digest : Key → ℕ) (layout : Layout) (slot : ℕ) (way : Way) (step : Step (Running S)) (me : Me (Running S) (CellView S A R)) (found : ℕ) (next : Me (Running S) (CellView S A R)) : Type 0 where
