@@ -30,9 +30,10 @@ use Rattle.npf_cells_leaves.specs.declared.trie.PathPlace.{PathPlace}
 use Rattle.npf_cells_leaves.specs.declared.trie.TrieSide.{TrieSide}
 use Rattle.npf_cells_leaves.specs.Trie.{digits_of}
 use Rattle.npf_cells_lives.specs.declared.pools.StoredWord.{StoredWord}
+use Rattle.npf_cells_lives.specs.declared.turn.Turn.{Turn}
 use Rattle.npf_cells_lives.specs.Deaths.{last_id}
 use Rattle.npf_cells_lives.specs.Stored.{stored_value}
-use Rattle.npf_cells_lives.specs.Turns.{Running}
+use Rattle.npf_cells_lives.specs.Turns.{Running, stage_phase}
 use Rattle.npf_cells_rule.specs.declared.view.CellView.{CellView}
 use Rattle.npf_cells_rule.specs.Cells.{IsCells}
 use Rattle.npf_cells_rule.specs.Passes.{cell_pass}
@@ -114,6 +115,10 @@ pub record LoadsPlace {S A R F : Type 0} (m : Meaning S A R) (digest : Key → �
 -- the leaf that the pass loaded last is of this way of the slot's connection
 abbrev pub IsLeafOf : TrieSide → ℕ → Way → Type 0
 IsLeafOf side slot way = (leaf : LoadedLeaf) × (side.leaf ≡ Some leaf) × (leaf.slot ≡ slot) × (leaf.way ≡ way)
+
+-- the pass has the slot's turn, and got it while the slot's connection was Live
+abbrev pub HasLiveTurn : {S : Type 0} → Option (Turn S) → ℕ → Type 0
+HasLiveTurn {S} turn slot = (t : Turn S) × (turn ≡ Some t) × (t.slot ≡ slot) × (stage_phase t.was.stage ≡ 1)
 
 -- a load of a word of a key
 abbrev pub reading : TrieSide → TrieSide
