@@ -27,6 +27,7 @@ mod sight;
 mod slots;
 mod told;
 mod turns;
+mod unlink;
 mod words;
 
 pub use cells::{CellPass, Cells};
