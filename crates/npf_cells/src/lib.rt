@@ -19,6 +19,7 @@ mod hold;
 mod kinds;
 mod locks;
 mod look;
+mod notes;
 mod passing;
 mod pools;
 mod private;
