@@ -13,11 +13,13 @@
 #![tactic(auto)]
 
 mod cells;
+mod free;
 mod hints;
 mod hold;
 mod kinds;
 mod locks;
 mod look;
+mod notes;
 mod passing;
 mod pools;
 mod private;

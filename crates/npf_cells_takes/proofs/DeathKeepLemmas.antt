@@ -1,52 +1,33 @@
 -- What stores in a pass's own words make of deaths: another word, or a value below any epoch where none stood, leaves them.
-use Rattle.std.specs.List.{Contains, filter}
-use Rattle.std.proofs.Common.{◌≡◌, ◌≢◌, ◌⊎◌, ℕ, ◌+◌, ◌-◌, ◌^◌, ◌<◌, ◌≤◌, Bool, true, false, cond, eqb, eq-eqb, List, [], ◌∷◌, map, set, length, slice_index, refl, sym, ap, ◌∙◌, subst, ⊎_elim, inl, inr, arith, length-set}
+use Rattle.std.specs.List.{Contains}
+use Rattle.std.proofs.Common.{◌≡◌, ◌≢◌, ℕ, ◌+◌, ◌-◌, ◌^◌, ◌<◌, ◌≤◌, List, set, length, slice_index, refl, sym, ap, ◌∙◌, subst, ⊎_elim, inl, arith}
 use Rattle.std.proofs.lemmas.Bool.{cases_eq, cases_lt}
 use Rattle.std.proofs.lemmas.List.{get_or-set_same, get_or-set_other}
 use mathlib.Core.Option.{some}
 use lib.ListN.{get_elem?}
-use Rattle.atomic_table.specs.Table.{State, Me, stepped, keeps}
-use Rattle.atomic_table.proofs.Lists.{at_map}
+use Rattle.atomic_table.specs.Table.{State, Me}
 use Rattle.npf_types.specs.declared.key.Key.{Key}
 use Rattle.npf_types.specs.declared.key.Way.{Way}
 use Rattle.npf_core.specs.declared.conn_id.ConnId.{ConnId}
-use Rattle.npf_core.specs.declared.slot.Slot.{Slot}
-use Rattle.npf_core.specs.declared.stage.Stage.TheVariants.{Building, Dead}
 use Rattle.npf_core.specs.History.{state_of}
-use Rattle.npf_core.specs.Machine.{Machine, HoldsSome, stage_at, stage_of}
+use Rattle.npf_core.specs.Machine.{Machine, HoldsSome}
 use Rattle.npf_core.specs.Meaning.{Meaning}
-use Rattle.npf_core.proofs.EqualityLemmas.{same_conn_id}
 use Rattle.npf_cells_words.specs.declared.layout.Layout.{Layout}
-use Rattle.npf_cells_words.specs.declared.layout.Pool.{Pool}
 use Rattle.npf_cells_words.specs.declared.layout.Pool.TheVariants.{Slots, Nodes}
-use Rattle.npf_cells_words.specs.Layout.{turn_field, phase_field, inc_field, parent_field, notes_field, key_field, field_at, field_count, pool_places, epoch_word}
-use Rattle.npf_cells_words.specs.Places.{lock_at, place_at}
-use Rattle.npf_cells_words.proofs.WordLemmas.{field_behind, field_reach, key_short, not_slot, slot_apart}
-use Rattle.npf_seats.specs.Sums.{occurs, others_than}
-use Rattle.npf_seats.proofs.ListLemmas.{one_where, occurs-cons, left_same, left_others}
-use Rattle.npf_seats.proofs.PrefixLemmas.{none_listed, cons_cases}
-use Rattle.npf_seats.proofs.SumLemmas.{sum-set, one_of_sum}
+use Rattle.npf_cells_words.specs.Layout.{notes_field, field_at, epoch_word}
+use Rattle.npf_cells_words.proofs.WordLemmas.{field_behind, field_reach}
+use Rattle.npf_seats.specs.Sums.{occurs}
+use Rattle.npf_seats.proofs.SumLemmas.{sum-set}
 use Rattle.npf_cells_pins.specs.declared.pin.EpochSide.{EpochSide}
 use Rattle.npf_cells_leaves.specs.declared.trie.TrieSide.{TrieSide}
-use Rattle.npf_cells_leaves.specs.Trie.{key_word, trie_words}
-use Rattle.npf_cells_leaves.proofs.TrieLemmas.{KeepsTrie, cell_kept, knows_same, trie_same}
-use Rattle.npf_cells_lives.specs.declared.pools.PoolSide.{PoolSide}
-use Rattle.npf_cells_lives.specs.Conns.{Conns}
-use Rattle.npf_cells_lives.specs.Deaths.{IsKeyless, is_dead, has_epoch, first_note, slots_named, killed_in, last_id, IsPast, FitsKill, IsLeft, Deaths}
-use Rattle.npf_cells_lives.specs.Locks.{Locks}
-use Rattle.npf_cells_lives.specs.Stored.{IsOwnField, StoredWords}
-use Rattle.npf_cells_lives.specs.Turns.{IsTurnField, Running, Turns}
-use Rattle.npf_cells_lives.proofs.ConnLemmas.{building_at, builds-kept, unstored-set, conns-same}
-use Rattle.npf_cells_lives.proofs.DeathLemmas.{spares_all, RestsNoMore, dead_at, epoch_note, low_note, past_kept, kill_kept, deaths-set}
-use Rattle.npf_cells_lives.proofs.LockLemmas.{locks-same, holders-set}
-use Rattle.npf_cells_lives.proofs.StoredLemmas.{filter_has, own_same, stored_kept, stored-set}
+use Rattle.npf_cells_lives.specs.Deaths.{is_dead, has_epoch, first_note, slots_named, killed_in, reclaimed_in, cleared_in, last_id, FitsKill, Deaths}
+use Rattle.npf_cells_lives.specs.Turns.{Running}
+use Rattle.npf_cells_lives.proofs.ConnLemmas.{building_at}
+use Rattle.npf_cells_lives.proofs.DeathLemmas.{spares_all, RestsNoMore, low_note, kill_kept, deaths-set}
 use Rattle.npf_cells_rule.specs.declared.view.CellView.{CellView}
 use Rattle.npf_cells_rule.specs.Cells.{IsCells}
-use Rattle.npf_cells_rule.specs.Views.{seat_side, lock_side, pool_side, trie_side, turn_side, death_side}
+use Rattle.npf_cells_rule.specs.Views.{DeadHand, dead_hand, death_side}
 use Rattle.npf_cells_rule.proofs.DeathFrames.{deaths_on}
-use Rattle.npf_cells_rule.proofs.Frames.{alone_still, private_step, turns_apart}
-use Rattle.npf_cells_takes.specs.PrivateKinds.{MayStoreInSlot, MayLetGo, letting_go}
-use Rattle.npf_cells_takes.proofs.BareLemmas.{still_bare}
 
 module _ {S A R : Type 0} (m : Meaning S A R) (digest : Key → ℕ) (layout : Layout) (s : State (Running S) (CellView S A R)) (id : ℕ) (me : Me (Running S) (CellView S A R)) (kept : IsCells m digest layout s) (at : get_elem? s.views id ≡ some me.0) where
   abbrev k : Machine S
@@ -72,22 +53,22 @@ module _ {S A R : Type 0} (m : Meaning S A R) (digest : Key → ℕ) (layout : L
     note_else : (p : ℕ) → p ≢ slot → first_note layout words' p ≡ first_note layout s.words p
     note_else p ne = other (field_at layout Slots p notes_field) (λ e. ne (omega (arith, e, short)))
 
-    module _ (w : CellView S A R) (kills : w.pools.kills ≡ me.0.pools.kills) (epochs : w.epochs ≡ me.0.epochs) (trie : w.trie ≡ me.0.trie) where
+    module _ (w : CellView S A R) (hand : dead_hand w.pools ≡ dead_hand me.0.pools) (epochs : w.epochs ≡ me.0.epochs) (trie : w.trie ≡ me.0.trie) where
       less : RestsNoMore k (death_side me.0) (death_side w)
       less = subst (λ (y : EpochSide × TrieSide). RestsNoMore k (death_side me.0) (death_side (record w { epochs = y.0; trie = y.1 }))) (λ i. (sym epochs i, sym trie i)) (record { rests = λ i dead bare rests. (rests, refl) })
 
       -- a store in another word
       pub deaths_elsewhere : field ≢ notes_field → Deaths death_side layout k words' (set s.views id w)
-      deaths_elsewhere ne = deaths_on m digest layout s word value id me.0 w kept at kills (ap (λ (e : EpochSide). e.loaded) epochs) less same_epoch (λ p h. other (field_at layout Slots p notes_field) (λ e. absurd (ne (omega (arith, e, short)))))
+      deaths_elsewhere ne = deaths_on m digest layout s word value id me.0 w kept at hand (ap (λ (e : EpochSide). e.loaded) epochs) less same_epoch (λ p h. other (field_at layout Slots p notes_field) (λ e. absurd (ne (omega (arith, e, short)))))
 
       -- and one of less than an epoch, where no epoch stood
       pub deaths_noted : has_epoch (first_note layout s.words slot) ≡ 0 → value < 2 ^ 63 → Deaths death_side layout k words' (set s.views id w)
       deaths_noted unmarked low = ⊎_elim at_note deaths_elsewhere (cases_eq field notes_field)
         where
           at_note : field ≡ notes_field → Deaths death_side layout k words' (set s.views id w)
-          at_note is = deaths-set death_side layout k k s.words words' s.views id me.0 w kept.deaths at (spares_all k) same_epoch less counted
+          at_note is = deaths-set death_side layout k k s.words words' s.views id me.0 w kept.deaths at (spares_all k) same_epoch less (ap (λ (h : DeadHand). h.reclaims) hand) (ap (λ (h : DeadHand). h.cleared) hand) counted reclaimed
               (λ i c. subst (λ n. FitsKill death_side k (epoch_word words') (set s.views id w) n i) (sym (ap (λ (e : EpochSide). e.loaded) epochs))
-              (kill_kept death_side layout k k s.words words' s.views id me.0 w kept.deaths at (spares_all k) same_epoch less me.0.epochs.loaded i (kept.deaths.kills id me.0 i at (subst (λ ids. Contains ids i) kills c))))
+              (kill_kept death_side layout k k s.words words' s.views id me.0 w kept.deaths at (spares_all k) same_epoch less me.0.epochs.loaded i (kept.deaths.kills id me.0 i at (subst (λ (h : DeadHand). Contains h.kills i) hand c))))
               (λ p epoch h note. ⊎_elim
               (λ (e : p ≡ slot). absurd (let small = low in let now : first_note layout words' p ≡ value = here p e in omega (arith, small, now, note)))
               (λ ne. inl (sym (note_else p ne) ∙ note))
@@ -96,10 +77,10 @@ module _ {S A R : Type 0} (m : Meaning S A R) (digest : Key → ℕ) (layout : L
               here : (p : ℕ) → p ≡ slot → first_note layout words' p ≡ value
               here p e = let same : field_at layout Slots p notes_field ≡ word = omega (arith, e, is) in ap (slice_index words') same ∙ get_or-set_same s.words word value 0 there
 
-              counted : (p : ℕ) → p < layout.slots → killed_in death_side (set s.views id w) p + has_epoch (first_note layout words' p) ≡ is_dead (k.slot p).stage
+              counted : (p : ℕ) → p < layout.slots → killed_in death_side (set s.views id w) p + has_epoch (first_note layout words' p) + cleared_in death_side s.views p ≡ is_dead (k.slot p).stage
               counted p h =
                   let more = sum-set (λ (u : CellView S A R). occurs p (slots_named u.pools.kills)) s.views id me.0 w at in
-                  let same = ap (λ ids. occurs p (slots_named ids)) kills in
+                  let same = ap (λ (d : DeadHand). occurs p (slots_named d.kills)) hand in
                   let was = kept.deaths.counted p h in
                   ⊎_elim
                   (λ (e : p ≡ slot).
@@ -109,10 +90,18 @@ module _ {S A R : Type 0} (m : Meaning S A R) (digest : Key → ℕ) (layout : L
                   (λ (ne : p ≢ slot). let note = ap has_epoch (note_else p ne) in omega (arith, more, same, was, note))
                   (cases_eq p slot)
 
+              reclaimed : (p : ℕ) → p < layout.slots → reclaimed_in death_side s.views p ≤ has_epoch (first_note layout words' p)
+              reclaimed p h =
+                  let was = kept.deaths.reclaimed p h in
+                  ⊎_elim
+                  (λ (e : p ≡ slot). let before : has_epoch (first_note layout s.words p) ≡ 0 = ap (λ q. has_epoch (first_note layout s.words q)) e ∙ unmarked in omega (arith, was, before))
+                  (λ (ne : p ≢ slot). let note = ap has_epoch (note_else p ne) in omega (arith, was, note))
+                  (cases_eq p slot)
+
   -- a store in a node is in no note
-  pub deaths_in_node : (node field value : ℕ) (w : CellView S A R) → node < layout.nodes → field < 18 → w.pools.kills ≡ me.0.pools.kills → w.epochs ≡ me.0.epochs → w.trie ≡ me.0.trie →
+  pub deaths_in_node : (node field value : ℕ) (w : CellView S A R) → node < layout.nodes → field < 18 → dead_hand w.pools ≡ dead_hand me.0.pools → w.epochs ≡ me.0.epochs → w.trie ≡ me.0.trie →
       Deaths death_side layout k (set s.words (field_at layout Nodes node field) value) (set s.views id w)
-  deaths_in_node node field value w within short kills epochs trie = deaths_on m digest layout s (field_at layout Nodes node field) value id me.0 w kept at kills (ap (λ (e : EpochSide). e.loaded) epochs)
+  deaths_in_node node field value w within short hand epochs trie = deaths_on m digest layout s (field_at layout Nodes node field) value id me.0 w kept at hand (ap (λ (e : EpochSide). e.loaded) epochs)
       (subst (λ (y : EpochSide × TrieSide). RestsNoMore k (death_side me.0) (death_side (record w { epochs = y.0; trie = y.1 }))) (λ i. (sym epochs i, sym trie i)) (record { rests = λ i dead bare rests. (rests, refl) }))
       (let same = get_or-set_other s.words (field_at layout Nodes node field) 0 value 0 (λ e. absurd (let far = field_behind layout Nodes node field in omega (arith, e, far))) in omega (arith, same))
       (λ slot h. get_or-set_other s.words (field_at layout Nodes node field) (field_at layout Slots slot notes_field) value 0 (λ e. absurd (omega (arith, e, within, short))))

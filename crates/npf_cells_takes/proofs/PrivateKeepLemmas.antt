@@ -27,11 +27,12 @@ use Rattle.npf_cells_leaves.specs.Trie.{trie_words}
 use Rattle.npf_cells_leaves.proofs.TrieLemmas.{KeepsTrie, knows_same, trie_same}
 use Rattle.npf_cells_lives.specs.declared.pools.StoredWord.{StoredWord}
 use Rattle.npf_cells_lives.specs.Conns.{inc_word, unstored_by, Conns}
-use Rattle.npf_cells_lives.specs.Deaths.{has_epoch, Deaths}
+use Rattle.npf_cells_lives.specs.Deaths.{has_epoch, unreclaimed, Deaths}
 use Rattle.npf_cells_lives.specs.Locks.{Locks}
 use Rattle.npf_cells_lives.specs.Stored.{stored_value, IsOwnField, FitsStored, StoredWords}
 use Rattle.npf_cells_lives.proofs.ConnLemmas.{building_at, builds-kept, unstored-set, conns-same, inc_shown, conns-stored}
 use Rattle.npf_cells_lives.proofs.DeathLemmas.{epoch_note, low_note}
+use Rattle.npf_cells_lives.proofs.FreedLemmas.{still_there}
 use Rattle.npf_cells_lives.proofs.LockLemmas.{locks-same, holders-set}
 use Rattle.npf_cells_lives.proofs.NoteLemmas.{same_ahead}
 use Rattle.npf_cells_lives.proofs.StoredLemmas.{own_same, stored_kept, stored-set, no_lock, no_note, no_turn}
@@ -133,7 +134,7 @@ module _ {S A R : Type 0} (m : Meaning S A R) (digest : Key → ℕ) (layout : L
   shows_turn_inc : (s : State (Running S) (CellView S A R)) (kept : IsCells m digest layout s) (id : ℕ) (v : CellView S A R) → get_elem? s.views id ≡ some v → (slot : ℕ) → ShowsTurnInc v.turn slot (inc_word layout s.words slot)
   shows_turn_inc s kept id v at slot turn has there settled =
       let fits = kept.turns.each id v turn at has in
-      let same : (state_of m kept.log).slot turn.slot ≡ turn.was = ⊎_elim (λ e. e) (λ idle. absurd (settled idle.0)) fits.stays in
+      let same = (still_there death_side s.views (state_of m kept.log) turn.slot turn.was fits.stays settled).0 in
       let none = none_owes s kept id v at turn.slot (λ idle. settled (ap (λ (x : Slot S). stage_phase x.stage) (sym same) ∙ idle)) in
       let word = kept.connections.incs turn.slot fits.exists in
       let last = ap (λ (x : Slot S). x.inc) same in
@@ -147,14 +148,14 @@ module _ {S A R : Type 0} (m : Meaning S A R) (digest : Key → ℕ) (layout : L
         me.0,
         keeps,
         tt,
-        private_step m digest layout s i (slice_index s.words i) id me.1 me.0 me.0 kept at (field_behind layout Slots slot inc_field) refl refl refl refl (kept.alone id me.0 at)
+        private_step m digest layout s i (slice_index s.words i) id me.1 me.0 me.0 kept at (field_behind layout Slots slot inc_field) refl refl refl refl (λ i' c. c) (kept.alone id me.0 at)
             (trie_apart m digest layout s i (slice_index s.words i) id me.0 me.0 kept at (knows_same me.0.trie) (λ j h. ap (λ ws. slice_index ws j) (set-get_or s.words i 0)))
             (conns_else s i (slice_index s.words i) id me.0 kept at (λ p h. ap (λ ws. slice_index ws (field_at layout Slots p inc_field)) (set-get_or s.words i 0)))
             (stored_apart m digest layout s i (slice_index s.words i) id me.0 kept (kept.stored id me.0 at) (λ j h. ap (λ ws. slice_index ws j) (set-get_or s.words i 0)))
             (locks_apart m digest layout s i (slice_index s.words i) id me.0 me.0 kept at refl (λ j h. ap (λ ws. slice_index ws j) (set-get_or s.words i 0)))
-            (turns_behind m digest layout s i (slice_index s.words i) id me.0 me.0 kept at refl (λ j h. ap (λ ws. slice_index ws j) (set-get_or s.words i 0)))
+            (turns_behind m digest layout s i (slice_index s.words i) id me.0 me.0 kept at refl refl (λ j h. ap (λ ws. slice_index ws j) (set-get_or s.words i 0)))
             (deaths_load m digest layout s i id me.0 me.0 kept at refl refl (record { rests = λ j dead bare rests. (rests, refl) }))
-            (notes_still m digest layout s i (slice_index s.words i) id me.0 me.0 kept at refl refl refl (λ j h. ap (λ ws. slice_index ws j) (set-get_or s.words i 0))),
+            (notes_still m digest layout s i (slice_index s.words i) id me.0 me.0 kept at refl refl refl refl (λ j h. ap (λ ws. slice_index ws j) (set-get_or s.words i 0))),
         record { is = refl; shows = shows_inc s id slot me.0 kept at within; leaf = λ leaf e there. ap (λ p. inc_word layout s.words p) (sym there) ∙ ((kept.trie.each id me.0 at).leaf leaf e).inc; turn = shows_turn_inc s kept id me.0 at slot },
       )
 
@@ -217,8 +218,8 @@ module _ {S A R : Type 0} (m : Meaning S A R) (digest : Key → ℕ) (layout : L
     locks_stay pool unstored own = locks-same lock_side layout s.words (words' pool) s.views (set s.views id (with_stored pool unstored)) kept.locks
         (λ lock h. get_or-set_other s.words (field_at layout pool place field) (lock_at layout lock) value 0 (no_lock layout me.0.pools pool place field lock own h)) (holders-set lock_side layout s.views id me.0 (with_stored pool unstored) at refl)
 
-    turns_stay : (pool : Pool) (unstored : List ℕ) → IsOwnField layout me.0.pools pool place field → Turns turn_side layout (state_of m kept.log) (words' pool) s.homes (set s.views id (with_stored pool unstored))
-    turns_stay pool unstored own = turns_apart m digest layout s (field_at layout pool place field) value id me.0 (with_stored pool unstored) (state_of m kept.log) kept at refl
+    turns_stay : (pool : Pool) (unstored : List ℕ) → IsOwnField layout me.0.pools pool place field → Turns turn_side layout (unreclaimed death_side (set s.views id (with_stored pool unstored)) (state_of m kept.log)) (words' pool) s.homes (set s.views id (with_stored pool unstored))
+    turns_stay pool unstored own = turns_apart m digest layout s (field_at layout pool place field) value id me.0 (with_stored pool unstored) (state_of m kept.log) kept at refl refl
         (λ slot f h is. get_or-set_other s.words (field_at layout pool place field) (field_at layout Slots slot f) value 0 (no_turn layout me.0.pools pool place field slot f own h is)) (λ slot. inl refl)
 
     deaths_stay : (pool : Pool) (unstored : List ℕ) → place < pool_places layout pool → field < field_count pool → MayStoreOwn m me.0 pool place field value → Deaths death_side layout (state_of m kept.log) (words' pool) (set s.views id (with_stored pool unstored))
@@ -229,7 +230,7 @@ module _ {S A R : Type 0} (m : Meaning S A R) (digest : Key → ℕ) (layout : L
     notes_stay : me.0.seats.lives ≡ true → (pool : Pool) (unstored : List ℕ) → place < pool_places layout pool → field < field_count pool → MayStoreOwn m me.0 pool place field value →
         Notes turn_side pool_side layout (trie_words layout (words' pool)).cell (state_of m kept.log) (words' pool) (set s.views id (with_stored pool unstored))
     notes_stay lives pool unstored within exists may =
-        notes_apart m digest layout s (words' pool) id me.0 (with_stored pool unstored) (state_of m kept.log) kept at (same_ahead me.0.turn me.0.turn refl) refl (λ conn c. c) (record {
+        notes_apart m digest layout s (words' pool) id me.0 (with_stored pool unstored) (state_of m kept.log) kept at (same_ahead me.0.turn me.0.turn refl) refl refl (λ conn c. c) (record {
           cells = (trie_stays lives pool within exists may).cells;
           notes = λ slot way. get_or-set_other s.words (field_at layout pool place field) (field_at layout Slots slot (note_field way)) value 0 (no_note layout me.0.pools pool place field slot way (owns pool within exists may));
           held = λ key found is. is;
@@ -242,7 +243,7 @@ module _ {S A R : Type 0} (m : Meaning S A R) (digest : Key → ℕ) (layout : L
         Conns pool_side m layout kept.log (words' pool) (set s.views id (with_stored pool unstored)) → Stored pool (with_stored pool unstored)
     stored_step lives seated pool unstored within exists may connections =
         let own = owns pool within exists may in
-        private_step m digest layout s (field_at layout pool place field) value id me.1 me.0 (with_stored pool unstored) kept at (field_behind layout pool place field) refl refl refl refl (alone_still me.0 (with_stored pool unstored) (kept.alone id me.0 at) seated refl (λ none. none))
+        private_step m digest layout s (field_at layout pool place field) value id me.1 me.0 (with_stored pool unstored) kept at (field_behind layout pool place field) refl refl refl refl (λ i c. c) (alone_still me.0 (with_stored pool unstored) (kept.alone id me.0 at) seated refl (λ none. none))
         (trie_same trie_side digest layout kept.published (state_of m kept.log) (state_of m kept.log) s.words (words' pool) s.views id me.0 (with_stored pool unstored) kept.trie at (knows_same me.0.trie) (trie_stays lives pool within exists may))
         connections (stored_stay pool unstored own (reaches pool within exists)) (locks_stay pool unstored own) (turns_stay pool unstored own)
         (deaths_stay pool unstored within exists may) (notes_stay lives pool unstored within exists may)

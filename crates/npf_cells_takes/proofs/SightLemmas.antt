@@ -7,6 +7,7 @@ use Rattle.atomic_table.specs.Seated.{TableId}
 use Rattle.atomic_table.specs.Table.{State, Me}
 use Rattle.atomic_table.proofs.Lists.{at_map}
 use Rattle.npf_types.specs.declared.key.Key.{Key}
+use Rattle.npf_core.specs.declared.conn_id.ConnId.{ConnId}
 use Rattle.npf_core.specs.declared.stage.Stage.TheVariants.{Building}
 use Rattle.npf_core.specs.History.{Legal}
 use Rattle.npf_core.specs.Meaning.{Meaning}
@@ -29,7 +30,7 @@ use Rattle.npf_cells_lives.specs.Notes.{with_ahead}
 use Rattle.npf_cells_rule.specs.Views.{seat_side, with_pools}
 use Rattle.npf_cells_rule.proofs.EntryLemmas.{sees_nothing, sole_seen}
 use Rattle.npf_cells_rule.proofs.PassLemmas.{pools_on}
-use Rattle.npf_cells_takes.specs.SlotKinds.{seeing_slots, HasSeenSlots}
+use Rattle.npf_cells_takes.specs.SlotKinds.{seeing_slots, HasFreed, HasSeenSlots}
 use Rattle.npf_cells_lives.specs.Turns.{Running}
 
 module _ {S A R : Type 0} (m : Meaning S A R) (digest : Key → ℕ) (layout : Layout) (s : State (Running S) (CellView S A R)) (id : ℕ) (me : Me (Running S) (CellView S A R)) (kept : IsCells m digest layout s) (at : get_elem? s.views id ≡ some me.0)
@@ -85,6 +86,25 @@ pub swept_on : {S A R : Type 0} (m : Meaning S A R) (layout : Layout) (table sea
     IsPassOf layout table seat readers me → seat' ≡ seat → (pool ≡ Nodes → next ≡ with_pools me side) → (pool ≡ Slots → HasSeenSlots m layout word found me next) → IsPassOf layout table seat' readers next
 swept_on m layout table seat seat' readers word found me next side Nodes own same nodes slots = pools_on layout table seat seat' readers me next side own same (nodes refl)
 swept_on m layout table seat seat' readers word found me next side Slots own same nodes slots = sees_on m layout table seat seat' readers word found me next own same (slots refl)
+
+-- so it does through a Free
+pub freed_on : {S A R : Type 0} (m : Meaning S A R) (layout : Layout) (table seat seat' : TableId) (readers : List ℕ) (conn : ConnId) (found : ℕ) (me next : Me (Running S) (CellView S A R)) →
+    IsPassOf layout table seat readers me → seat' ≡ seat → HasFreed m conn found me next → IsPassOf layout table seat' readers next
+freed_on m layout table seat seat' readers conn found me next own same freed = rw freed.is (record {
+  same = same ∙ own.same;
+  words = own.words;
+  carries = own.carries;
+  sized = own.sized;
+  lives = own.lives;
+  theirs = own.theirs;
+  owns = own.owns;
+  place = own.place;
+  most = own.most;
+  reader = own.reader;
+  epoch = own.epoch;
+  unanswered = own.unanswered;
+  unlocked = own.unlocked;
+})
 
 -- so it does where only what it is ahead of changes
 pub led_carries : {S F : Type 0} (ahead : Option Ahead) (turn : Option (Turn S)) (carried : List (ℕ × F)) → CarriesByTurn turn carried → CarriesByTurn (with_ahead ahead turn) carried

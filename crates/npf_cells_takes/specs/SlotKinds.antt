@@ -55,7 +55,7 @@ pub record ClaimsSlot {S A R F : Type 0} (m : Meaning S A R) (digest : Key → �
   pub lost : bit_at found (slot % 64) ≢ 0 → HasSeenSlots m layout (slot / 64) found me next
 
 -- a slot may be given back that the pass reclaimed, whose first note it set to 0 since, and that has a next incarnation
-pub record MayFree {S A R : Type 0} (v : CellView S A R) (id : ConnId) : Type 0 where
+pub record MayGiveBack {S A R : Type 0} (v : CellView S A R) (id : ConnId) : Type 0 where
   pub cleared : Contains v.pools.cleared id
   pub further : id.inc < 2 ^ 64 - 1
 

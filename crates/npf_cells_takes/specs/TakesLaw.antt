@@ -16,7 +16,7 @@ use Rattle.npf_cells_rule.specs.Cells.{IsCells}
 use Rattle.npf_cells_rule.specs.Passes.{IsProtected}
 use Rattle.npf_cells_takes.specs.PoolKinds.{ClaimsNode, GivesNodeBack, Sweeps}
 use Rattle.npf_cells_takes.specs.PrivateKinds.{ClearsNote, LoadsInc, MayClear, MayStore, MayStoreAhead, StoresAhead, StoresPrivate}
-use Rattle.npf_cells_takes.specs.SlotKinds.{ClaimsSlot, FreesSlot, MayFree}
+use Rattle.npf_cells_takes.specs.SlotKinds.{ClaimsSlot, FreesSlot, MayGiveBack}
 use Rattle.npf_cells_lives.specs.Turns.{Running}
 
 -- the steps on the pools' words and on a pass's own words keep the rule, and tell what they say
@@ -29,4 +29,4 @@ pub record KeepsTakes {S A R : Type 0} (m : Meaning S A R) (digest : Key → ℕ
   pub stores : (st : Step (Running S)) (id n : ℕ) (pool : Pool) (place field value : ℕ) (me : Me (Running S) (CellView S A R)) → me.0.seats.lives ≡ true → 1 ≤ length me.0.seats.readers → place < pool_places layout pool → field < field_count pool → MayStore m me.0 pool place field value → Allows (IsCells m digest layout) n id me (field_at layout pool place field) (λ _. value) (λ _. StoresPrivate m digest layout pool place field st me value)
   pub stores_ahead : (st : Step (Running S)) (id n slot : ℕ) (way : Way) (value : ℕ) (me : Me (Running S) (CellView S A R)) → 1 ≤ length me.0.seats.readers → slot < layout.slots → MayStoreAhead me.0 slot way value → Allows (IsCells m digest layout) n id me (field_at layout Slots slot (note_field way)) (λ _. value) (λ _. StoresAhead way st me value)
   pub clears : (st : Step (Running S)) (id n : ℕ) (conn : ConnId) (me : Me (Running S) (CellView S A R)) → 1 ≤ length me.0.seats.readers → conn.slot < layout.slots → MayClear me.0 conn → Allows (IsCells m digest layout) n id me (field_at layout Slots conn.slot notes_field) (λ _. 0) (λ _. ClearsNote conn st me 0)
-  pub frees_slot : (st : Step (Running S)) (id n mask : ℕ) (conn : ConnId) (me : Me (Running S) (CellView S A R)) → me.0.seats.lives ≡ true → me.0.seats.theirs ≡ [] → 1 ≤ length me.0.seats.readers → conn.slot < layout.slots → MayFree me.0 conn → mask ≡ bit_not w64 (1 * 2 ^ (conn.slot % 64) % 2 ^ 64) → Allows (IsCells m digest layout) n id me (place_word layout Slots conn.slot) (λ k. bit_and k mask) (FreesSlot m digest layout conn st me)
+  pub frees_slot : (st : Step (Running S)) (id n mask : ℕ) (conn : ConnId) (me : Me (Running S) (CellView S A R)) → me.0.seats.lives ≡ true → me.0.seats.theirs ≡ [] → 1 ≤ length me.0.seats.readers → conn.slot < layout.slots → MayGiveBack me.0 conn → mask ≡ bit_not w64 (1 * 2 ^ (conn.slot % 64) % 2 ^ 64) → Allows (IsCells m digest layout) n id me (place_word layout Slots conn.slot) (λ k. bit_and k mask) (FreesSlot m digest layout conn st me)
