@@ -1,1 +1,2 @@
 mod PublishedLemmas
+mod UnlinkedLemmas

@@ -170,6 +170,8 @@ impl<L: Law, H: KeyHash> Cells<L, H> {
         requires other_done { other.seat.me.0.pools.builds ≡ [] }
         requires other_nodes { other.seat.me.0.pools.nodes ≡ [] }
         requires other_kills { other.seat.me.0.pools.kills ≡ [] }
+        requires other_reclaims { other.seat.me.0.pools.reclaims ≡ [] }
+        requires other_cleared { other.seat.me.0.pools.cleared ≡ [] }
         requires other_turn { other.seat.me.0.turn ≡ None }
         ensures own { IsPassIn self.now pass.new }
         ensures idle { pass.new.seat.me.0.epochs.pin ≡ Idle }

@@ -19,6 +19,7 @@ mod hold;
 mod kinds;
 mod locks;
 mod look;
+mod notes;
 mod passing;
 mod pools;
 mod private;
@@ -28,6 +29,7 @@ mod sight;
 mod slots;
 mod told;
 mod turns;
+mod unlink;
 mod words;
 
 pub use cells::{CellPass, Cells};

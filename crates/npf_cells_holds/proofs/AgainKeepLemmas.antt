@@ -72,7 +72,7 @@ module _ {S A R : Type 0} (m : Meaning S A R) (digest : Key → ℕ) (layout : L
         let there = stands_there cell sees in
         let w : CellView S A R = record me.0 { trie = publishing me.0.trie } in
         let are = are_digits digest there.key in
-        private_step m digest layout s (place_at layout p) (cell_word cell) id me.1 me.0 w kept at (place_behind layout p) refl refl refl refl
+        private_step m digest layout s (place_at layout p) (cell_word cell) id me.1 me.0 w kept at (place_behind layout p) refl refl refl refl (λ conn c. c)
         (alone_still me.0 w (kept.alone id me.0 at) place refl (λ none. absurd (none_listed (lock_of p) (subst (λ locks. Contains locks (lock_of p)) none.locks sees.locked))))
         (trie_same trie_side digest layout kept.published k k s.words words s.views id me.0 w kept.trie at (publishes_less me.0.trie) (record {
           holder = λ key. refl;
@@ -89,11 +89,11 @@ module _ {S A R : Type 0} (m : Meaning S A R) (digest : Key → ℕ) (layout : L
         (stored_kept layout s.words words me.0.pools w.pools (kept.stored id me.0 at) refl (λ pool place field own. own) (own_else m digest layout s kept p inside (cell_word cell) (digits_of digest there.key) there.level are there.on_path id me.0 at))
         (λ j u ne e. stored_kept layout s.words words u.pools u.pools (kept.stored j u e) refl (λ pool place field own. own) (own_else m digest layout s kept p inside (cell_word cell) (digits_of digest there.key) there.level are there.on_path j u e)))
         (locks-same lock_side layout s.words words s.views (set s.views id w) kept.locks (lock_else m digest layout s kept p inside (cell_word cell)) (holders-set lock_side layout s.views id me.0 w at refl))
-        (turns_apart m digest layout s (place_at layout p) (cell_word cell) id me.0 w k kept at refl (λ slot field h f. turn_else m digest layout s kept p inside (cell_word cell) slot field) (λ slot. inl refl))
+        (turns_apart m digest layout s (place_at layout p) (cell_word cell) id me.0 w k kept at refl refl (λ slot field h f. turn_else m digest layout s kept p inside (cell_word cell) slot field) (λ slot. inl refl))
         (deaths_on m digest layout s (place_at layout p) (cell_word cell) id me.0 w kept at refl refl (record { rests = λ i dead bare rests. (rests, refl) })
         (let same = get_or-set_other s.words (place_at layout p) 0 (cell_word cell) 0 (λ e. absurd (let far = place_behind layout p in omega (arith, e, far))) in omega (arith, same))
         (λ slot h. turn_else m digest layout s kept p inside (cell_word cell) slot notes_field))
-        (notes_apart m digest layout s words id me.0 w k kept at (same_ahead me.0.turn me.0.turn refl) refl (λ i c. c) (record {
+        (notes_apart m digest layout s words id me.0 w k kept at (same_ahead me.0.turn me.0.turn refl) refl refl (λ i c. c) (record {
           cells = λ digits _ level q on. same_cell cell there.is q;
           notes = note_else m digest layout s kept p inside (cell_word cell);
           held = λ key found is. is;

@@ -172,18 +172,18 @@ module _ {S A R : Type 0} (m : Meaning S A R) (digest : Key → ℕ) (layout : L
         ((other : Lock) → lock_at layout other ≢ word → has_lock layout other side.locks ≡ has_lock layout other me.0.trie.locks) → IsCells m digest layout (stepped s word n id me.1 (having side) keeps)
     lock_step n side grown less alone fits here most others =
         let w = having side in
-        private_step m digest layout s word n id me.1 me.0 w kept at (lock_behind layout lock) refl refl refl refl alone
+        private_step m digest layout s word n id me.1 me.0 w kept at (lock_behind layout lock) refl refl refl refl (λ conn c. c) alone
         (trie_kept trie_side digest layout kept.published k k s.words (words' n) s.views (set s.views id w) kept.trie (keeps_trie n) (grown-set trie_side s.views id me.0 w at grown)
         (fits-set trie_side digest layout.slots k (t' n) s.views id w fits (fits_all trie_side digest layout.slots k k (trie_words layout s.words) (t' n) s.views (keeps_trie n) kept.trie.each)))
         (conns-same pool_side m layout kept.log s.words (words' n) s.views (set s.views id w) kept.connections (length-set s.words word n)
         (λ slot h. get_or-set_other s.words word (field_at layout Slots slot inc_field) n 0 (not_slot layout slot inc_field lock exists)) (builds-kept pool_side k s.views id me.0 w at refl refl kept.connections.each) (unstored-set pool_side s.views id me.0 w at refl))
         (stored-set pool_side layout (words' n) s.views id w (on me.0.pools (kept.stored id me.0 at)) (λ j u ne there. on u.pools (kept.stored j u there)))
         (locks-set layout s.words s.views id me.0 w lock n kept.locks at (let reach = lock_reach layout lock exists in let long = kept.connections.reach in omega (arith, reach, long)) here most others)
-        (turns_apart m digest layout s word n id me.0 w k kept at refl (λ slot field h f. get_or-set_other s.words word (field_at layout Slots slot field) n 0 (not_slot layout slot field lock exists)) (λ slot. inl refl))
+        (turns_apart m digest layout s word n id me.0 w k kept at refl refl (λ slot field h f. get_or-set_other s.words word (field_at layout Slots slot field) n 0 (not_slot layout slot field lock exists)) (λ slot. inl refl))
         (deaths_on m digest layout s word n id me.0 w kept at refl refl less
         (let same = get_or-set_other s.words word 0 n 0 (λ e. absurd (let far = lock_behind layout lock in omega (arith, e, far))) in omega (arith, same))
         (λ slot h. get_or-set_other s.words word (field_at layout Slots slot notes_field) n 0 (not_slot layout slot notes_field lock exists)))
-        (notes_apart m digest layout s (words' n) id me.0 w k kept at (same_ahead me.0.turn me.0.turn refl) refl (λ i c. c) (record {
+        (notes_apart m digest layout s (words' n) id me.0 w k kept at (same_ahead me.0.turn me.0.turn refl) refl refl (λ i c. c) (record {
           cells = (keeps_trie n).cells;
           notes = λ slot way. get_or-set_other s.words word (field_at layout Slots slot (note_field way)) n 0 (not_slot layout slot (note_field way) lock exists);
           held = λ key found is. is;

@@ -64,12 +64,14 @@ use Rattle.npf_cells_leaves.proofs.GrowLemmas.{branch_seen, trie_grown}
 use Rattle.npf_cells_leaves.proofs.ParentLemmas.{names_so, mine_foot, theirs_foot}
 use Rattle.npf_cells_leaves.proofs.TrieLemmas.{said, knows_same, are_digits, cell_there}
 use Rattle.npf_cells_lives.specs.Conns.{Conns, entry_seat}
-use Rattle.npf_cells_lives.specs.Deaths.{Deaths, last_id}
+use Rattle.npf_cells_lives.specs.Deaths.{Deaths, last_id, unreclaimed}
+use Rattle.npf_cells_lives.specs.Known.{Known}
 use Rattle.npf_cells_lives.specs.Locks.{Locks}
 use Rattle.npf_cells_lives.specs.Pools.{taken, Pools}
 use Rattle.npf_cells_lives.specs.Stored.{stored_value, StoredWords}
 use Rattle.npf_cells_lives.proofs.BuiltLemmas.{bare_in_log}
 use Rattle.npf_cells_lives.proofs.ConnLemmas.{BuildsIn, builds-kept, unstored-set, inc_shown}
+use Rattle.npf_cells_lives.proofs.FreedLemmas.{freed_stays}
 use Rattle.npf_cells_lives.proofs.LockLemmas.{locks-same, holders-set, locks_alone}
 use Rattle.npf_cells_lives.proofs.NoteLemmas.{ahead_turns, ahead_fits, note_stays, notes_left, nobody_before}
 use Rattle.npf_cells_lives.proofs.TurnLemmas.{turns-like}
@@ -79,8 +81,8 @@ use Rattle.npf_cells_lives.proofs.StoredLemmas.{fits_unstored, stored_kept, stor
 use Rattle.npf_cells_rule.specs.declared.view.CellView.{CellView}
 use Rattle.npf_cells_rule.specs.Cells.{IsCells, FitsAlone}
 use Rattle.npf_cells_rule.specs.Passes.{IsProtected, cell_pass}
-use Rattle.npf_cells_rule.specs.Views.{seat_side, reader_view, lock_side, pool_side, trie_side, turn_side, leaf_id, death_side}
-use Rattle.npf_cells_rule.proofs.DeathFrames.{rests_or_holds, deaths_spared}
+use Rattle.npf_cells_rule.specs.Views.{seat_side, reader_view, lock_side, pool_side, trie_side, turn_side, leaf_id, death_side, seen_side}
+use Rattle.npf_cells_rule.proofs.DeathFrames.{rests_or_holds, deaths_spared, gone_same, known_seen}
 use Rattle.npf_cells_rule.proofs.EntryLemmas.{adds_entry, sole_entries}
 use Rattle.npf_cells_rule.proofs.Frames.{alone-set, alone_within, framed, epochs_apart}
 use Rattle.npf_cells_rule.proofs.MetLemmas.{unowned}
@@ -96,6 +98,7 @@ use Rattle.npf_cells_holds.proofs.SpareLemmas.{hold_spares}
 use Rattle.npf_cells_holds.specs.PublishKinds.PutsFor.{fills, grows}
 use Rattle.npf_cells_lives.specs.declared.pools.Note.{Note}
 use Rattle.npf_cells_lives.specs.declared.turn.Ahead.{Ahead}
+use Rattle.npf_cells_lives.specs.declared.turn.Said.{Said}
 use Rattle.npf_cells_lives.specs.declared.turn.Turn.{Turn}
 use Rattle.npf_cells_lives.specs.Notes.{note_word, IsAheadOf, NobodyAhead, FitsNote, notes_but, with_ahead, Notes}
 use Rattle.npf_cells_lives.specs.Turns.{Running, FitsTurn, Turns}
@@ -105,9 +108,9 @@ module _ {S A R : Type 0} (m : Meaning S A R) (digest : Key → ℕ) (layout : L
   publish_step : (s : State (Running S) (CellView S A R)) (i n id : ℕ) (v w : CellView S A R) (kept : IsCells m digest layout s) (published : List ℕ) → get_elem? s.views id ≡ some v → root_at layout ≤ i → v.seats.lives ≡ true → 1 ≤ length v.seats.readers →
       (entry : Entry S A R) → entry.seat ≡ id → MayFollow m layout.slots (state_of m kept.log) entry → w.seats ≡ record v.seats { history = kept.log ++ entry ∷ [] } → reader_view w ≡ reader_view v →
       ((pool : Pool) (place : ℕ) → taken pool_side published (after m (state_of m kept.log) entry) (set s.views id w) pool place ≡ taken pool_side kept.published (state_of m kept.log) s.views pool place) →
-      Trie trie_side digest layout published (after m (state_of m kept.log) entry) (set s.words i n) (set s.views id w) → Conns pool_side m layout (kept.log ++ entry ∷ []) (set s.words i n) (set s.views id w) → StoredWords pool_side layout (set s.words i n) (set s.views id w) → Locks lock_side layout (set s.words i n) (set s.views id w) → Turns turn_side layout (after m (state_of m kept.log) entry) (set s.words i n) s.homes (set s.views id w) → Deaths death_side layout (after m (state_of m kept.log) entry) (set s.words i n) (set s.views id w) → Notes turn_side pool_side layout (trie_words layout (set s.words i n)).cell (after m (state_of m kept.log) entry) (set s.words i n) (set s.views id w) → FitsAlone w →
+      Trie trie_side digest layout published (after m (state_of m kept.log) entry) (set s.words i n) (set s.views id w) → Conns pool_side m layout (kept.log ++ entry ∷ []) (set s.words i n) (set s.views id w) → StoredWords pool_side layout (set s.words i n) (set s.views id w) → Locks lock_side layout (set s.words i n) (set s.views id w) → Turns turn_side layout (unreclaimed death_side (set s.views id w) (after m (state_of m kept.log) entry)) (set s.words i n) s.homes (set s.views id w) → Deaths death_side layout (after m (state_of m kept.log) entry) (set s.words i n) (set s.views id w) → Known (seen_side m) pool_side (after m (state_of m kept.log) entry) (set s.views id w) → Notes turn_side pool_side layout (trie_words layout (set s.words i n)).cell (after m (state_of m kept.log) entry) (set s.words i n) (set s.views id w) → FitsAlone w →
       (c : List (ℕ × Running S)) → IsCells m digest layout (stepped s i n id c w keeps)
-  publish_step s i n id v w kept published at behind lives place entry mine follows seats reads takes trie connections stored locks turns deaths notes alone c =
+  publish_step s i n id v w kept published at behind lives place entry mine follows seats reads takes trie connections stored locks turns deaths known notes alone c =
       let log = kept.log ++ entry ∷ [] in
       let state = state_of-append m kept.log entry in
       framed m digest layout s (stepped s i n id c w keeps) kept published log (length-set s.words i n)
@@ -120,8 +123,9 @@ module _ {S A R : Type 0} (m : Meaning S A R) (digest : Key → ℕ) (layout : L
       connections
       stored
       locks
-      (subst (λ k. Turns turn_side layout k (set s.words i n) s.homes (set s.views id w)) (sym state) turns)
+      (subst (λ k. Turns turn_side layout (unreclaimed death_side (set s.views id w) k) (set s.words i n) s.homes (set s.views id w)) (sym state) turns)
       (subst (λ k. Deaths death_side layout k (set s.words i n) (set s.views id w)) (sym state) deaths)
+      (subst (λ k. Known (seen_side m) pool_side k (set s.views id w)) (sym state) known)
       (subst (λ k. Notes turn_side pool_side layout (trie_words layout (set s.words i n)).cell k (set s.words i n) (set s.views id w)) (sym state) notes)
       (alone-set s.views id w alone kept.alone)
     where
@@ -246,23 +250,31 @@ module _ {S A R : Type 0} (m : Meaning S A R) (digest : Key → ℕ) (layout : L
         (let same = get_or-set_other s.words word 0 (cell_word cell) 0 (λ e. absurd (let far = place_behind layout p in omega (arith, e, far))) in omega (arith, same))
         (λ slot h. turn_else m digest layout s kept p inside (cell_word cell) slot notes_field)
 
-    -- a turn that the pass has fits still, and is ahead of nothing
-    turn_fits : (t : Option (Turn S)) → me.0.turn ≡ t → (turn : Turn S) → with_ahead None t ≡ Some turn → FitsTurn layout k s.words turn
+    -- the pass knows what its kills hold, since it has seen all
+    known_held : (nodes : List ℕ) → Known (seen_side m) pool_side k' (set s.views id (holding nodes))
+    known_held nodes = known_seen m digest layout s id me.0 (holding nodes) k' kept at (λ i c. c) (state_of-append m kept.log entry) (hold_spares m k id conn key way built)
+
+    -- a turn that the pass has fits still, is ahead of nothing, and was told nothing
+    turn_fits : (t : Option (Turn S)) → me.0.turn ≡ t → (turn : Turn S) → with_ahead None t ≡ Some turn → FitsTurn layout (unreclaimed death_side s.views k) s.words turn
     turn_fits None has turn is = absurd cc
     turn_fits (Some mine) has turn is =
-        let same : record mine { ahead = None } ≡ turn = cc in
+        let same : record mine { ahead = None; said = None } ≡ turn = cc in
         let fits = kept.turns.each id me.0 mine at has in
-        subst (FitsTurn layout k s.words) same (record { exists = fits.exists; phase = fits.phase; stays = fits.stays })
+        subst (FitsTurn layout (unreclaimed death_side s.views k) s.words) same (record { exists = fits.exists; phase = fits.phase; stays = fits.stays })
 
     settled_after : (t : Option (Turn S)) (turn : Turn S) (note : Ahead) → with_ahead None t ≡ Some turn → turn.ahead ≡ Some note → ⊥
     settled_after None turn note is ahead = cc
-    settled_after (Some mine) turn note is ahead = let same : record mine { ahead = None } ≡ turn = cc in let no : None ≡ Some note = ap (λ (y : Turn S). y.ahead) same ∙ ahead in cc
+    settled_after (Some mine) turn note is ahead = let same : record mine { ahead = None; said = None } ≡ turn = cc in let no : None ≡ Some note = ap (λ (y : Turn S). y.ahead) same ∙ ahead in cc
 
-    turns_after : (nodes : List ℕ) → Turns turn_side layout k' words' s.homes (set s.views id (holding nodes))
-    turns_after nodes = turns-like turn_side layout k k' s.words words' s.homes s.views id me.0 (holding nodes) kept.turns at (λ slot. ahead_turns None me.0.turn slot) (λ turn is. turn_fits me.0.turn refl turn is) (record {
+    untold_after : (t : Option (Turn S)) (turn : Turn S) (said : Said) → with_ahead None t ≡ Some turn → turn.said ≡ Some said → ⊥
+    untold_after None turn said is told = cc
+    untold_after (Some mine) turn said is told = let same : record mine { ahead = None; said = None } ≡ turn = cc in let no : None ≡ Some said = ap (λ (y : Turn S). y.said) same ∙ told in cc
+
+    turns_after : (nodes : List ℕ) → Turns turn_side layout (unreclaimed death_side (set s.views id (holding nodes)) k') words' s.homes (set s.views id (holding nodes))
+    turns_after nodes = turns-like turn_side layout (unreclaimed death_side s.views k) (unreclaimed death_side (set s.views id (holding nodes)) k') s.words words' s.homes s.views id me.0 (holding nodes) kept.turns at (λ slot. ahead_turns None me.0.turn slot) (λ turn is. turn_fits me.0.turn refl turn is) (record {
       turn = λ slot h. turn_else m digest layout s kept p inside (cell_word cell) slot turn_field;
       phase = λ slot h. turn_else m digest layout s kept p inside (cell_word cell) slot phase_field;
-      slots = λ slot. inl refl;
+      slots = λ slot. freed_stays death_side s.views (set s.views id (holding nodes)) k k' slot (gone_same m digest layout s.views id me.0 (holding nodes) at refl slot) (inl refl);
     })
 
     abbrev taker : Found
@@ -291,6 +303,16 @@ module _ {S A R : Type 0} (m : Meaning S A R) (digest : Key → ℕ) (layout : L
     notes_after nodes free names = record {
       named = λ digits l q slot w are on' is none. note_else m digest layout s kept p inside (cell_word cell) slot w ∙ names digits l q slot w are on' is none;
       bare = λ slot w within live none. note_else m digest layout s kept p inside (cell_word cell) slot w ∙ kept.notes.bare slot w within live (λ other holds. none other (held_on free other (record { id = last_id k slot; way = w }) holds));
+      given = λ j u i w e c not none. note_else m digest layout s kept p inside (cell_word cell) i.slot w ∙ ⊎_elim
+          (λ (x : (j ≡ id) × (holding nodes ≡ u)).
+          kept.notes.given id me.0 i w at (subst (λ (y : CellView S A R). Contains y.pools.kills i) (sym x.1) c) (λ d. not (subst (λ (y : CellView S A R). Contains y.pools.gave_up (record { id = i; way = w })) x.1 d))
+          (λ other holds. none other (held_on free other (record { id = i; way = w }) holds)))
+          (λ (x : (j ≢ id) × (get_elem? s.views j ≡ some u)). kept.notes.given j u i w x.1 c not (λ other holds. none other (held_on free other (record { id = i; way = w }) holds)))
+          (at_set s.views id j (holding nodes) u e);
+      said = λ j u turn said w e has is firm field. note_else m digest layout s kept p inside (cell_word cell) turn.slot w ∙ ⊎_elim
+          (λ (x : (j ≡ id) × (holding nodes ≡ u)). absurd (untold_after me.0.turn turn said (ap (λ (y : CellView S A R). y.turn) x.1 ∙ has) is))
+          (λ (x : (j ≢ id) × (get_elem? s.views j ≡ some u)). kept.notes.said j u turn said w x.1 has is firm field)
+          (at_set s.views id j (holding nodes) u e);
       ahead = λ j u turn note e has is. ⊎_elim
           (λ (x : (j ≡ id) × (holding nodes ≡ u)). absurd (settled_after me.0.turn turn note (ap (λ (y : CellView S A R). y.turn) x.1 ∙ has) is))
           (λ (x : (j ≢ id) × (get_elem? s.views j ≡ some u)).
@@ -327,7 +349,7 @@ module _ {S A R : Type 0} (m : Meaning S A R) (digest : Key → ℕ) (layout : L
         ((pool : Pool) (x : ℕ) → taken pool_side (nodes ++ kept.published) k' (set s.views id (holding nodes)) pool x ≡ taken pool_side kept.published k s.views pool x) →
         Trie trie_side digest layout (nodes ++ kept.published) k' words' (set s.views id (holding nodes)) → IsCells m digest layout (stepped s word (cell_word cell) id me.1 (holding nodes) keeps)
     held_so nodes free names takes trie = publish_step s word (cell_word cell) id me.0 (holding nodes) kept (nodes ++ kept.published) at (place_behind layout p) lives place entry refl (follows free) refl refl takes trie (connected nodes free) (stored_stays nodes) (locks_stay nodes)
-        (turns_after nodes) (deaths_held nodes) (notes_after nodes free names) (alone_within (holding nodes) place stays) me.1
+        (turns_after nodes) (deaths_held nodes) (known_held nodes) (notes_after nodes free names) (alone_within (holding nodes) place stays) me.1
 
     -- the hold ends what the pass has then seen
     pub has_held : (nodes : List ℕ) → PutsFor digest layout me.0 conn key way p cell nodes → k.holder key ≡ None → HasHeld m digest layout conn key way p cell me (holding nodes, me.1)

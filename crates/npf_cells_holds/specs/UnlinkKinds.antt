@@ -1,11 +1,14 @@
 -- What it takes to give up a key of a killed connection, and what that changes in the pass's own view and tells.
-use Rattle.std.specs.Prelude.{◌≡◌, ℕ, Some, None, List, [], ◌∷◌, Contains}
+use Rattle.std.specs.Prelude.{◌≡◌, ◌≢◌, ◌↔◌, ℕ, Some, None, List, [], ◌∷◌, Contains}
 use Rattle.atomic_table.specs.Table.{Me, Step}
+use Rattle.npf_types.specs.declared.key.Key.{Key}
 use Rattle.npf_types.specs.declared.key.Way.{Way}
 use Rattle.npf_core.specs.declared.act.Act.TheVariants.{Unhold}
 use Rattle.npf_core.specs.declared.conn_id.ConnId.{ConnId}
 use Rattle.npf_core.specs.declared.entry.Entry.{Entry}
 use Rattle.npf_core.specs.declared.reply.Reply.TheVariants.{Nothing}
+use Rattle.npf_core.specs.History.{state_of}
+use Rattle.npf_core.specs.Machine.{Holds, HoldsSome}
 use Rattle.npf_core.specs.Meaning.{Meaning}
 use Rattle.npf_connections.specs.Adding.{AddsOwn}
 use Rattle.npf_connections.specs.Entries.{entry_of}
@@ -46,8 +49,11 @@ unlinked v history id way = record v {
   trie = publishing v.trie;
 }
 
--- the pass gave the key up: this ends its history
+-- the pass gave the key up: this ends its history. By what it had seen the connection held a key of that way; and by what it has now seen it holds its
+-- other keys as before
 pub record HasUnlinked {S A R F : Type 0} (m : Meaning S A R) (id : ConnId) (way : Way) (old now : Me F (CellView S A R)) : Type 0 where
+  pub held : HoldsSome (state_of m old.0.seats.history) id way
+  pub others : (other : Way) (key : Key) → other ≢ way → Holds (state_of m old.0.seats.history) id other key ↔ Holds (state_of m now.0.seats.history) id other key
   pub adds : AddsOwn (cell_pass old.0) now.0.seats.history (entry_of (cell_pass old.0) (Unhold id way) Nothing ∷ [])
   pub legal : IsPass m (cell_pass old.0) → IsPass m (cell_pass now.0)
   pub is : now ≡ (unlinked old.0 now.0.seats.history id way, old.1)

@@ -420,11 +420,11 @@ module _ {S A R : Type 0} (m : Meaning S A R) (digest : Key → ℕ) (layout : L
         phased : turn.phase ≡ stage_phase (slot_by gone (record x { stage = Dead })).stage
         phased = phase ∙ ap stage_phase (sym (seen_at Dead there_still.1))
 
-        killed_given : (i : ConnId) (way : Way) → Contains (conn ∷ v.pools.kills) i → ¬ Contains v.pools.gave_up (record { id = i; way = way }) → HoldsNone k i way → note_word layout s.words i.slot way ≡ 0
-        killed_given = given_killed conn (λ i. record { slot = there.there i; inc = sym (ap (λ (y : Slot S). y.inc) same ∙ there.inc) i }) (λ way none. kept.notes.bare turn.slot way exists (due_settled m now x.stage due) none)
-
         due : IsDue m now x.stage
         due = subst (λ (y : Slot S). IsDue m now y.stage) (sym same) there.due
+
+        killed_given : (i : ConnId) (way : Way) → Contains (conn ∷ v.pools.kills) i → ¬ Contains v.pools.gave_up (record { id = i; way = way }) → HoldsNone k i way → note_word layout s.words i.slot way ≡ 0
+        killed_given = given_killed conn (λ i. record { slot = there.there i; inc = sym (ap (λ (y : Slot S). y.inc) same ∙ there.inc) i }) (λ way none. kept.notes.bare turn.slot way exists (due_settled m now x.stage due) none)
 
         follows : MayFollow m layout.slots k entry
         follows = record { allowed = subst (IsDue m now) (sym (stage_there conn there.there (ap (λ (y : Slot S). y.inc) same ∙ there.inc))) due; replied = refl }

@@ -1,6 +1,6 @@
 -- A load of a note under its slot's turn keeps the rule: the pass knows what the note says.
 use Rattle.std.specs.List.{Contains}
-use Rattle.std.proofs.Common.{◌≡◌, ◌≢◌, ℕ, ◌<◌, ◌≤◌, true, ◌↔◌, Option, Some, None, List, set, length, slice_index, refl, sym, ap, ◌∙◌, subst, ⊎_elim, inl, arith, length-set}
+use Rattle.std.proofs.Common.{◌≡◌, ◌≢◌, ℕ, ◌<◌, ◌≤◌, Bool, true, false, cond, ◌↔◌, Option, Some, None, List, set, length, slice_index, refl, sym, ap, ◌∙◌, subst, ⊎_elim, inl, arith, length-set}
 use Rattle.std.proofs.lemmas.List.{set-get_or}
 use mathlib.Core.Option.{some}
 use lib.ListN.{get_elem?}
@@ -13,13 +13,19 @@ use Rattle.npf_core.specs.History.{state_of}
 use Rattle.npf_core.specs.Machine.{Machine, Holds, HoldsNone}
 use Rattle.npf_core.specs.Meaning.{Meaning}
 use Rattle.npf_connections.specs.Pass.{all_places}
+use Rattle.npf_core.specs.declared.found.Found.{Found}
+use Rattle.npf_paths.specs.declared.cell.Cell.TheVariants.{Empty}
+use Rattle.npf_paths.specs.declared.place.Place.{Place}
+use Rattle.npf_paths.specs.CellWords.{cell_of}
+use Rattle.npf_paths.specs.Paths.{EndsAt}
 use Rattle.npf_cells_words.specs.declared.layout.Layout.{Layout}
 use Rattle.npf_cells_words.specs.declared.layout.Pool.TheVariants.{Slots}
 use Rattle.npf_cells_words.specs.Layout.{note_field, field_at}
-use Rattle.npf_cells_words.proofs.WordLemmas.{same_note}
+use Rattle.npf_cells_words.specs.Places.{IsInTrie, is_in_trie, place_at}
+use Rattle.npf_cells_words.proofs.WordLemmas.{in_trie, same_note}
 use Rattle.npf_seats.specs.Seats.{Seats}
 use Rattle.npf_seats.proofs.SumLemmas.{side_same}
-use Rattle.npf_cells_leaves.specs.Trie.{trie_words}
+use Rattle.npf_cells_leaves.specs.Trie.{digits_of, holder_at, trie_words}
 use Rattle.npf_cells_leaves.proofs.TrieLemmas.{knows_same}
 use Rattle.npf_cells_lives.specs.declared.pools.Note.{Note}
 use Rattle.npf_cells_lives.specs.declared.turn.Ahead.{Ahead}
@@ -40,10 +46,11 @@ use Rattle.npf_cells_rule.specs.Cells.{IsCells}
 use Rattle.npf_cells_rule.specs.Views.{seat_side, pool_side, turn_side, death_side}
 use Rattle.npf_cells_rule.proofs.DeathFrames.{deaths_load, known_apart, gone_same}
 use Rattle.npf_cells_rule.proofs.Frames.{alone-set, alone_still, framed, epochs_apart, trie_apart, conns_apart, stored_apart, locks_apart}
+use Rattle.npf_cells_rule.specs.NoteLaw.{NamesEnd}
 use Rattle.npf_cells_rule.proofs.NoteFrames.{notes_behind}
 use Rattle.npf_cells_rule.proofs.NoteLawLemmas.{code_above, names_end}
 use Rattle.npf_cells_rule.proofs.StoodLemmas.{stood_so}
-use Rattle.npf_cells_turns.specs.NoteKinds.{noting, ShowsKill, LoadsNote}
+use Rattle.npf_cells_turns.specs.NoteKinds.{noting, NamesPlace, ShowsKill, LoadsNote}
 use Rattle.npf_cells_turns.specs.TurnKinds.{HasSlotTurn}
 use Rattle.npf_cells_turns.proofs.WordKeepLemmas.{own_alone, shows_by_turn, shows_note}
 
@@ -148,8 +155,8 @@ module _ {S A R : Type 0} (m : Meaning S A R) (digest : Key → ℕ) (layout : L
         (alone-set s.views id teller (alone_still v teller (kept.alone id v at) seated refl (λ none. none)) kept.alone)
 
     -- of a kill the note says whether a key is held
-    pub shows_kill : ShowsKill m v turn.slot way found
-    shows_kill t conn is there settled killed slots not = (zero, given)
+    pub shows_kill : ShowsKill m layout v turn.slot way found
+    shows_kill t conn is there settled killed slots not = record { zero = (zero, given); named = λ some'. names some'.0 some'.1 }
       where
         last : conn ≡ last_id k turn.slot
         last = λ i. record { slot = slots i; inc = (sym (dead_at (k.slot conn.slot) conn.inc (kept.deaths.kills id v conn at killed).dead).0 ∙ ap (λ p. (k.slot p).inc) slots) i }
@@ -157,13 +164,30 @@ module _ {S A R : Type 0} (m : Meaning S A R) (digest : Key → ℕ) (layout : L
         nobody : NobodyAhead turn_side s.views turn.slot (note_field way)
         nobody = own_alone m digest layout s id v t kept at is settled turn.slot (note_field way) there
 
+        ends_there : (key : Key) → Holds (state_of m v.seats.history) conn way key → NamesEnd digest layout s.words key found
+        ends_there key held = names_end m layout digest s kept turn.slot way key nobody (subst (λ (i : ConnId). Holds k i way key) last ((kept.known id v conn at killed).held way key held))
+
         zero : found ≡ 0 → HoldsNone (state_of m v.seats.history) conn way
         zero none key held =
-            let holds = (kept.known id v conn at killed).held way key held in
-            let end = names_end m layout digest s kept turn.slot way key nobody (subst (λ (i : ConnId). Holds k i way key) last holds) in
+            let end = ends_there key held in
             let some' = code_above end.place in
             let names = end.names in
             absurd (omega (arith, none, names, some'))
+
+        -- a key's path ends in a place that the table has, where its leaf stands
+        within : (key : Key) (level : ℕ) (p : Place) → Holds k conn way key → EndsAt (digits_of digest key) (trie_words layout s.words).cell level p → IsInTrie layout p
+        within key level p holds end = by_place (is_in_trie layout p) refl
+          where
+            by_place : (b : Bool) → is_in_trie layout p ≡ b → IsInTrie layout p
+            by_place true is = in_trie layout p is
+            by_place false is =
+                let blank : (trie_words layout s.words).cell p ≡ Empty = ap (λ b. cond b (cell_of (slice_index s.words (place_at layout p))) Empty) is in
+                let asked : Found = record { id = conn; way = way } in
+                let no : None ≡ Some asked = sym (kept.trie.ends key level p end ∙ ap (λ c. holder_at (trie_words layout s.words) c key) blank) ∙ holds in
+                absurd cc
+
+        names : (key : Key) → Holds (state_of m v.seats.history) conn way key → NamesPlace layout found
+        names key held = (let end = ends_there key held in record { place = end.place; within = within key end.level end.place ((kept.known id v conn at killed).held way key held) end.ends; names = end.names })
 
         given : HoldsNone (state_of m v.seats.history) conn way → found ≡ 0
         given none = ap (λ p. note_word layout s.words p way) (sym slots) ∙ kept.notes.given id v conn way at killed not (λ key holds. none key ((kept.known id v conn at killed).back way key holds))
