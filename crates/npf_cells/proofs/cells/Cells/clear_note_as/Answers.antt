@@ -2,7 +2,7 @@ use Rattle.std.proofs.Common.{◌≡◌, ◌∙◌, sym, ap, arith}
 use Rattle.npf_types.specs.declared.key.Way.TheVariants.{Forward}
 use Rattle.npf_core.specs.declared.conn_id.ConnId.{ConnId}
 use Rattle.npf_cells_words.specs.declared.layout.Pool.TheVariants.{Slots}
-use Rattle.npf_cells_words.specs.Layout.{notes_field, note_field, field_at}
+use Rattle.npf_cells_words.specs.Layout.{notes_field, field_at}
 use Rattle.npf_cells_words.proofs.WordLemmas.{field_reach, note_soon}
 use Rattle.npf_cells_rule.specs.Views.{with_pools}
 use Rattle.npf_cells_rule.proofs.PassLemmas.{pools_on}
