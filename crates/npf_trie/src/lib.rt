@@ -19,7 +19,6 @@ mod fill;
 mod grow;
 mod holding;
 mod keys;
-mod lock;
 mod looking;
 mod meet;
 mod nodes;

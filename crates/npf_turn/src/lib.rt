@@ -5,12 +5,18 @@
 // and after. It may wait for a turn that another pass has.
 #![tactic(auto)]
 
+mod ending;
 mod laws;
 mod letting_go;
+mod lock;
+mod reclaiming;
 mod turn;
 mod working;
 
+pub use ending::{end_key, end_keys};
 pub use laws::kill_law;
 pub use letting_go::let_go;
+pub use lock::{lock, unlock};
+pub use reclaiming::reclaim;
 pub use turn::wait_turn;
 pub use working::{expire, kill, start, step};
