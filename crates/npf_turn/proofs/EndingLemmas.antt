@@ -32,7 +32,7 @@ use Rattle.npf_cells_holds.specs.LockKinds.{locking}
 use Rattle.npf_cells_holds.specs.UnlinkKinds.{MayUnlink, HasUnlinked}
 use Rattle.npf_cells_turns.specs.declared.act.TurnAct.TheVariants.{Nothing}
 use Rattle.npf_cells_turns.specs.EndKinds.{MayEndBy}
-use Rattle.npf_cells_turns.specs.NoteKinds.{noting, TellsKeys, ShowsKill}
+use Rattle.npf_cells_turns.specs.NoteKinds.{noting, TellsKilledKey, ShowsKill}
 use Rattle.npf_cells_turns.specs.TurnKinds.{HasTaken, HasSlotTurn, turn_at}
 use Rattle.npf_turn.specs.Ending.{without_key, GivesUpKey, HasNoKey}
 
@@ -42,7 +42,7 @@ lock_there layout (Places.Root digit) within = within
 lock_there layout (Places.Node node digit) within = within.0
 
 -- a note that isn't 0 is the number of a place that the table has
-pub names_within : {S A R : Type 0} (m : Meaning S A R) (layout : Layout) (v : CellView S A R) (id : ConnId) (way : Way) (found : ℕ) → TellsKeys m layout v id way found → found ≢ 0 → (1 ≤ found) × (found < 65 + 16 * layout.nodes)
+pub names_within : {S A R : Type 0} (m : Meaning S A R) (layout : Layout) (v : CellView S A R) (id : ConnId) (way : Way) (found : ℕ) → TellsKilledKey m layout v id way found → found ≢ 0 → (1 ≤ found) × (found < 65 + 16 * layout.nodes)
 names_within m layout v id way found tells some' = (
   ⊎_elim (λ (low : found < 1). absurd (some' (omega (arith, low)))) (λ h. h) (cases_lt found 1),
   ⊎_elim (λ h. h) (λ (high : 65 + 16 * layout.nodes ≤ found). absurd (some' (tells.zero.1 (λ key held. (let n = tells.named (key, held) in beyond n.place n.within n.names high))))) (cases_lt found (65 + 16 * layout.nodes)),
@@ -73,7 +73,7 @@ module _ {S A R : Type 0} (m : Meaning S A R) (layout : Layout) (old : Me (Runni
   pub told_so : (taken noted : Me (Running S) (CellView S A R)) → taken_so taken → noted ≡ noting (note_field way) note taken → noted ≡ told
   told_so taken noted is loads = loads ∙ ap (noting (note_field way) note) is
 
-  pub tells_keys : (taken : Me (Running S) (CellView S A R)) → taken_so taken → Contains old.0.pools.kills id → ¬ Contains old.0.pools.gave_up (record { id = id; way = way }) → ShowsKill m layout taken.0 id.slot way note → TellsKeys m layout old.0 id way note
+  pub tells_keys : (taken : Me (Running S) (CellView S A R)) → taken_so taken → Contains old.0.pools.kills id → ¬ Contains old.0.pools.gave_up (record { id = id; way = way }) → ShowsKill m layout taken.0 id.slot way note → TellsKilledKey m layout old.0 id way note
   tells_keys taken is killed held shows =
       let tells = subst (λ (y : Me (Running S) (CellView S A R)). ShowsKill m layout y.0 id.slot way note) is shows (turn_at id.slot was) id refl refl refl killed refl held in
       record { zero = tells.zero; named = tells.named }
@@ -128,5 +128,5 @@ module _ {S A R : Type 0} (m : Meaning S A R) (layout : Layout) (old : Me (Runni
   pub may_end_idle : (noted : Me (Running S) (CellView S A R)) → noted ≡ told → MayEndBy m Nothing id.slot noted
   may_end_idle noted is = subst (λ (y : Me (Running S) (CellView S A R)). MayEndBy m Nothing id.slot y) (sym is) (record { turn = turn_told; has = refl; there = refl; may = tt; carries = refl; phase = refl; settled = refl })
 
-  pub has_none : (noted now : Me (Running S) (CellView S A R)) → noted ≡ told → TellsKeys m layout old.0 id way note → note ≡ 0 → now ≡ (record noted.0 { turn = None }, []) → HasNoKey m id way old now
+  pub has_none : (noted now : Me (Running S) (CellView S A R)) → noted ≡ told → TellsKilledKey m layout old.0 id way note → note ≡ 0 → now ≡ (record noted.0 { turn = None }, []) → HasNoKey m id way old now
   has_none noted now is tells none ended = record { none = tells.zero.0 none; is = ended ∙ ap (λ (y : Me (Running S) (CellView S A R)). (record y.0 { turn = None }, [])) is }

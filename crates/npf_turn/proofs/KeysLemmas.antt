@@ -26,7 +26,7 @@ use Rattle.npf_seats.proofs.PrefixLemmas.{cons_cases}
 use Rattle.npf_cells_lives.specs.Turns.{Running}
 use Rattle.npf_cells_rule.specs.declared.view.CellView.{CellView}
 use Rattle.npf_cells_rule.specs.Passes.{cell_pass, IsProtected}
-use Rattle.npf_turn.specs.Ending.{without_key, HasEndedKey, HasEndedKeys, ended_by, seen_with, unhold_entries}
+use Rattle.npf_turn.specs.Ending.{without_key, HasEndedKey, HasEndedKeys, key_ended, seen_with, unhold_entries}
 
 -- what gave a key up doesn't hold it
 never_back : (x : Option Found) (found : Found) → given_up x found ≢ Some found
@@ -59,7 +59,7 @@ module _ {S A R : Type 0} (m : Meaning S A R) (id : ConnId) where
     pub others : (other : Way) (key : Key) → other ≢ way → Holds (state_of m old.0.seats.history) id other key ↔ Holds (state_of m now.0.seats.history) id other key
     pub legal : IsPass m (cell_pass old.0) → IsPass m (cell_pass now.0)
     pub same : gave ≡ false → now.0.seats.history ≡ old.0.seats.history
-    pub is : now ≡ (seen_with (ended_by gave id way old.0) now.0.seats.history, [])
+    pub is : now ≡ (seen_with (key_ended gave id way old.0) now.0.seats.history, [])
 
   ends_so : (way : Way) (gave : Bool) (old now : Me (Running S) (CellView S A R)) → HasEndedKey m id way gave old now → Ends way gave old now
   ends_so way true old now so = record {
@@ -122,15 +122,15 @@ module _ {S A R : Type 0} (m : Meaning S A R) (id : ConnId) where
   }
 
   -- what is seen between is overwritten
-  seen_on : (gave : Bool) (way : Way) (v : CellView S A R) (h h' : List (Entry S A R)) → seen_with (ended_by gave id way (seen_with v h)) h' ≡ seen_with (ended_by gave id way v) h'
+  seen_on : (gave : Bool) (way : Way) (v : CellView S A R) (h h' : List (Entry S A R)) → seen_with (key_ended gave id way (seen_with v h)) h' ≡ seen_with (key_ended gave id way v) h'
   seen_on true way v h h' = refl
   seen_on false way v h h' = refl
 
-  number_on : (gave : Bool) (way : Way) (v : CellView S A R) (h : List (Entry S A R)) → (seen_with (ended_by gave id way v) h).seats.number ≡ v.seats.number
+  number_on : (gave : Bool) (way : Way) (v : CellView S A R) (h : List (Entry S A R)) → (seen_with (key_ended gave id way v) h).seats.number ≡ v.seats.number
   number_on true way v h = refl
   number_on false way v h = refl
 
-  joined_on : (gave : Bool) (way : Way) (v : CellView S A R) (h : List (Entry S A R)) → (seen_with (ended_by gave id way v) h).seats.joined ≡ v.seats.joined
+  joined_on : (gave : Bool) (way : Way) (v : CellView S A R) (h : List (Entry S A R)) → (seen_with (key_ended gave id way v) h).seats.joined ≡ v.seats.joined
   joined_on true way v h = refl
   joined_on false way v h = refl
 
@@ -160,11 +160,11 @@ module _ {S A R : Type 0} (m : Meaning S A R) (id : ConnId) where
     c : Ends Port three second now
     c = ends_so Port three second now c'
 
-    view_first : first.0 ≡ seen_with (ended_by one id Forward old.0) first.0.seats.history
+    view_first : first.0 ≡ seen_with (key_ended one id Forward old.0) first.0.seats.history
     view_first = ap (λ (y : Me (Running S) (CellView S A R)). y.0) a.is
 
-    view_second : second.0 ≡ seen_with (ended_by two id Backward (ended_by one id Forward old.0)) second.0.seats.history
-    view_second = ap (λ (y : Me (Running S) (CellView S A R)). y.0) b.is ∙ (ap (λ v. seen_with (ended_by two id Backward v) second.0.seats.history) view_first ∙ seen_on two Backward (ended_by one id Forward old.0) first.0.seats.history second.0.seats.history)
+    view_second : second.0 ≡ seen_with (key_ended two id Backward (key_ended one id Forward old.0)) second.0.seats.history
+    view_second = ap (λ (y : Me (Running S) (CellView S A R)). y.0) b.is ∙ (ap (λ v. seen_with (key_ended two id Backward v) second.0.seats.history) view_first ∙ seen_on two Backward (key_ended one id Forward old.0) first.0.seats.history second.0.seats.history)
 
     number_first : first.0.seats.number ≡ old.0.seats.number
     number_first = ap (λ (v : CellView S A R). v.seats.number) view_first ∙ number_on one Forward old.0 first.0.seats.history
@@ -172,7 +172,7 @@ module _ {S A R : Type 0} (m : Meaning S A R) (id : ConnId) where
     joined_first : first.0.seats.joined ≡ old.0.seats.joined
     joined_first = ap (λ (v : CellView S A R). v.seats.joined) view_first ∙ joined_on one Forward old.0 first.0.seats.history
 
-    view_b : second.0 ≡ seen_with (ended_by two id Backward first.0) second.0.seats.history
+    view_b : second.0 ≡ seen_with (key_ended two id Backward first.0) second.0.seats.history
     view_b = ap (λ (y : Me (Running S) (CellView S A R)). y.0) b.is
 
     number_second : second.0.seats.number ≡ old.0.seats.number
@@ -220,5 +220,5 @@ module _ {S A R : Type 0} (m : Meaning S A R) (id : ConnId) where
       adds = adds_all;
       legal = λ pass. c.legal (b.legal (a.legal pass));
       keyless = keyless;
-      is = c.is ∙ ap (λ v. (v, [])) (ap (λ v. seen_with (ended_by three id Port v) now.0.seats.history) view_second ∙ seen_on three Port (ended_by two id Backward (ended_by one id Forward old.0)) second.0.seats.history now.0.seats.history);
+      is = c.is ∙ ap (λ v. (v, [])) (ap (λ v. seen_with (key_ended three id Port v) now.0.seats.history) view_second ∙ seen_on three Port (key_ended two id Backward (key_ended one id Forward old.0)) second.0.seats.history now.0.seats.history);
     }

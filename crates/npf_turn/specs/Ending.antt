@@ -56,9 +56,9 @@ abbrev pub seen_with : {S A R : Type 0} → CellView S A R → List (Entry S A R
 seen_with v history = record v { seats = record v.seats { history = history } }
 
 -- the pass after both: only in what a key that was given up changes
-abbrev pub ended_by : {S A R : Type 0} → Bool → ConnId → Way → CellView S A R → CellView S A R
-ended_by true id way v = without_key v v.seats.history id way
-ended_by false id way v = record v { turn = None }
+abbrev pub key_ended : {S A R : Type 0} → Bool → ConnId → Way → CellView S A R → CellView S A R
+key_ended true id way v = without_key v v.seats.history id way
+key_ended false id way v = record v { turn = None }
 
 -- the entries by which keys of these ways are given up
 abbrev pub unhold_entries : {S A R : Type 0} → Pass (Entry S A R) → ConnId → (Way → Bool) → List (Entry S A R)
@@ -71,4 +71,4 @@ pub record HasEndedKeys {S A R : Type 0} (m : Meaning S A R) (id : ConnId) (old 
   pub adds : AddsOwn (cell_pass old.0) now.0.seats.history (unhold_entries (cell_pass old.0) id held)
   pub legal : IsPass m (cell_pass old.0) → IsPass m (cell_pass now.0)
   pub keyless : IsKeyless (state_of m now.0.seats.history) id
-  pub is : now ≡ (seen_with (ended_by (held Port) id Port (ended_by (held Backward) id Backward (ended_by (held Forward) id Forward old.0))) now.0.seats.history, [])
+  pub is : now ≡ (seen_with (key_ended (held Port) id Port (key_ended (held Backward) id Backward (key_ended (held Forward) id Forward old.0))) now.0.seats.history, [])
