@@ -31,13 +31,13 @@ pub record NamesPlace (layout : Layout) (found : ℕ) : Type 0 where
   pub names : found ≡ place_code place
 
 -- by what a pass has seen the connection holds a key of that way where the note isn't 0, and the note names a place
-pub record TellsKeys {S A R : Type 0} (m : Meaning S A R) (layout : Layout) (v : CellView S A R) (id : ConnId) (way : Way) (found : ℕ) : Type 0 where
+pub record TellsKilledKey {S A R : Type 0} (m : Meaning S A R) (layout : Layout) (v : CellView S A R) (id : ConnId) (way : Way) (found : ℕ) : Type 0 where
   pub zero : (found ≡ 0) ↔ HoldsNone (state_of m v.seats.history) id way
   pub named : HoldsSome (state_of m v.seats.history) id way → NamesPlace layout found
 
 -- a note tells that under a turn by which the pass is ahead of none, of a connection that it killed and a way of which it didn't give the key up
 abbrev pub ShowsKill : {S A R : Type 0} → Meaning S A R → Layout → CellView S A R → ℕ → Way → ℕ → Type 0
-ShowsKill {S} m layout v slot way found = (turn : Turn S) (id : ConnId) → v.turn ≡ Some turn → turn.slot ≡ slot → turn.ahead ≡ None → Contains v.pools.kills id → id.slot ≡ slot → ¬ Contains v.pools.gave_up (record { id = id; way = way }) → TellsKeys m layout v id way found
+ShowsKill {S} m layout v slot way found = (turn : Turn S) (id : ConnId) → v.turn ≡ Some turn → turn.slot ≡ slot → turn.ahead ≡ None → Contains v.pools.kills id → id.slot ≡ slot → ¬ Contains v.pools.gave_up (record { id = id; way = way }) → TellsKilledKey m layout v id way found
 
 -- the kind, as what it tells
 pub record LoadsNote {S A R : Type 0} (m : Meaning S A R) (digest : Key → ℕ) (layout : Layout) (slot : ℕ) (way : Way) (step : Step (Running S)) (me : Me (Running S) (CellView S A R)) (found : ℕ) (next : Me (Running S) (CellView S A R)) : Type 0 where

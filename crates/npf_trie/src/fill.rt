@@ -4,12 +4,12 @@ ghost use Rattle.npf_cells_rule.specs.Passes.{IsProtected};
 ghost use Rattle.npf_trie.specs.HoldKey.{CanHold, IsAtPlace, StepsSo};
 
 use crate::keys::{leaf_note, store_key, store_note};
-use crate::lock::{lock, unlock};
 use crate::meet::meet;
 use crate::step::{Met, Point, Step, Wanted};
 use npf_cells::{CellPass, Cells};
 use npf_core::{Held, Law};
 use npf_paths::{Cell, KeyHash};
+use npf_turn::{lock, unlock};
 use std::sync::Wait;
 
 /// Puts the connection's leaf in the place, if nothing stands there under its lock.

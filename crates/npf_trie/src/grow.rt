@@ -7,7 +7,6 @@ ghost use Rattle.npf_trie.specs.HoldKey.{CanHold, IsAtPlace, StepsSo, HasMet, Ha
 
 use crate::branch::{Tip, build_branch};
 use crate::keys::{leaf_note, store_key, store_note};
-use crate::lock::{lock, unlock};
 use crate::meet::meet;
 use crate::nodes::{give_all, take_nodes};
 use crate::step::{Branch, Met, OtherLeaf, Point, Step, Wanted};
@@ -15,7 +14,7 @@ use arrayvec::ArrayVec;
 use npf_cells::{CellPass, Cells, TurnAct};
 use npf_core::{Held, Law};
 use npf_paths::{Cell, KeyHash, parting_level};
-use npf_turn::wait_turn;
+use npf_turn::{lock, unlock, wait_turn};
 use std::sync::Wait;
 
 /// Grows nodes in the place of the leaf of another key that the pass met there, down to the level at which the two part, if that leaf

@@ -17,10 +17,3 @@ pub record IsEmptyHanded {S A R : Type 0} (v : CellView S A R) : Type 0 where
   pub nodes : v.pools.nodes ≡ []
   pub locks : v.trie.locks ≡ []
   pub turn : v.turn ≡ None
-
--- a pass in a stay that has neither a node, a lock nor a turn
-pub record HasFreeHands {S A R : Type 0} (v : CellView S A R) : Type 0 where
-  pub protected : IsProtected v.epochs.pin
-  pub nodes : v.pools.nodes ≡ []
-  pub locks : v.trie.locks ≡ []
-  pub turn : v.turn ≡ None

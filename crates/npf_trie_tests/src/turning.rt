@@ -1,7 +1,7 @@
 // Connections that passes start, step and kill under the turns of their slots, and the words that stand there then.
 ghost use Rattle.std.specs.Prelude.{◌≡◌, ◌<◌, IfSome, None};
 ghost use Rattle.npf_cells.specs.Cells.{IsPassIn};
-ghost use Rattle.npf_trie_tests.specs.Hands.{HasFreeHands};
+ghost use Rattle.npf_trie_tests.specs.Hands.{IsEmptyHanded};
 
 use crate::answers::{put, same};
 use crate::by_protocol::ByProtocol;
@@ -61,9 +61,9 @@ fn open(
     key: Key,
 ) -> Option<ConnId>
     requires own { IsPassIn cells.now pass.old }
-    requires hands { HasFreeHands pass.old.seat.me.0 }
+    requires hands { IsEmptyHanded pass.old.seat.me.0 }
     ensures own { IsPassIn cells.now pass.new }
-    ensures hands { HasFreeHands pass.new.seat.me.0 }
+    ensures hands { IsEmptyHanded pass.new.seat.me.0 }
     ensures exists { IfSome result (λ id. id.slot < cells.now.table.shared.key.slots) }
 {
     let id = begin(rt, cells, pass)?;
@@ -87,9 +87,9 @@ fn step_by(
     key: Key,
 ) -> Option<Stepped<FlowReply>>
     requires own { IsPassIn cells.now pass.old }
-    requires hands { HasFreeHands pass.old.seat.me.0 }
+    requires hands { IsEmptyHanded pass.old.seat.me.0 }
     ensures own { IsPassIn cells.now pass.new }
-    ensures hands { HasFreeHands pass.new.seat.me.0 }
+    ensures hands { IsEmptyHanded pass.new.seat.me.0 }
 {
     let found = look(cells, pass, 9, key)?;
     if found.id.slot >= cells.layout().slots {
@@ -115,10 +115,10 @@ fn kills(
     now: u64,
 ) -> bool
     requires own { IsPassIn cells.now pass.old }
-    requires hands { HasFreeHands pass.old.seat.me.0 }
+    requires hands { IsEmptyHanded pass.old.seat.me.0 }
     requires exists { slot < cells.now.table.shared.key.slots }
     ensures own { IsPassIn cells.now pass.new }
-    ensures hands { HasFreeHands pass.new.seat.me.0 }
+    ensures hands { IsEmptyHanded pass.new.seat.me.0 }
 {
     match expire(rt, cells, pass, slot, now) {
         Some(_) => true,
@@ -152,7 +152,7 @@ fn step_often(
     told: &[AtomicU64],
 ) -> bool
     requires own { IsPassIn cells.now pass }
-    requires hands { HasFreeHands pass.seat.me.0 }
+    requires hands { IsEmptyHanded pass.seat.me.0 }
 {
     let mut pass = pass;
     let mut each_once = true;
@@ -201,17 +201,17 @@ fn step_beside<R: Threads + Wait + Sync>(
     told: &[AtomicU64],
 ) -> (bool, bool)
     requires own { IsPassIn cells.now pass }
-    requires hands { HasFreeHands pass.seat.me.0 }
+    requires hands { IsEmptyHanded pass.seat.me.0 }
     requires other_own { IsPassIn cells.now other }
-    requires other_hands { HasFreeHands other.seat.me.0 }
+    requires other_hands { IsEmptyHanded other.seat.me.0 }
 {
     join(
         rt,
         move ||
-            requires { IsPassIn cells.now pass × HasFreeHands pass.seat.me.0 }
+            requires { IsPassIn cells.now pass × IsEmptyHanded pass.seat.me.0 }
         { step_often(rt, cells, pass, key, told) },
         move ||
-            requires { IsPassIn cells.now other × HasFreeHands other.seat.me.0 }
+            requires { IsPassIn cells.now other × IsEmptyHanded other.seat.me.0 }
         { step_often(rt, cells, other, key, told) },
     )
 }
@@ -222,9 +222,9 @@ const ROUNDS: u32 = 1000;
 // Opens a connection for each of so many keys. Answers how many it opened.
 fn open_all(rt: &impl Wait, cells: &Cells<FlowLaw, ByProtocol>, pass: &mut CellPass<FlowLaw>) -> u32
     requires own { IsPassIn cells.now pass.old }
-    requires hands { HasFreeHands pass.old.seat.me.0 }
+    requires hands { IsEmptyHanded pass.old.seat.me.0 }
     ensures own { IsPassIn cells.now pass.new }
-    ensures hands { HasFreeHands pass.new.seat.me.0 }
+    ensures hands { IsEmptyHanded pass.new.seat.me.0 }
 {
     let mut draws = Draws::new();
     let mut opened = 0u32;
@@ -239,7 +239,7 @@ fn open_all(rt: &impl Wait, cells: &Cells<FlowLaw, ByProtocol>, pass: &mut CellP
 // Steps the connection of each key. Answers how many were Live.
 fn step_all(rt: &impl Wait, cells: &Cells<FlowLaw, ByProtocol>, pass: CellPass<FlowLaw>) -> u32
     requires own { IsPassIn cells.now pass }
-    requires hands { HasFreeHands pass.seat.me.0 }
+    requires hands { IsEmptyHanded pass.seat.me.0 }
 {
     let mut pass = pass;
     let mut draws = Draws::new();
@@ -255,7 +255,7 @@ fn step_all(rt: &impl Wait, cells: &Cells<FlowLaw, ByProtocol>, pass: CellPass<F
 // Kills the connection of each slot. Answers how many it killed.
 fn kill_all(rt: &impl Wait, cells: &Cells<FlowLaw, ByProtocol>, pass: CellPass<FlowLaw>) -> u32
     requires own { IsPassIn cells.now pass }
-    requires hands { HasFreeHands pass.seat.me.0 }
+    requires hands { IsEmptyHanded pass.seat.me.0 }
 {
     let mut pass = pass;
     let mut killed = 0u32;
@@ -293,17 +293,17 @@ fn race<R: Threads + Wait + Sync>(
     other: CellPass<FlowLaw>,
 ) -> (u32, u32)
     requires own { IsPassIn cells.now pass }
-    requires hands { HasFreeHands pass.seat.me.0 }
+    requires hands { IsEmptyHanded pass.seat.me.0 }
     requires other_own { IsPassIn cells.now other }
-    requires other_hands { HasFreeHands other.seat.me.0 }
+    requires other_hands { IsEmptyHanded other.seat.me.0 }
 {
     join(
         rt,
         move ||
-            requires { IsPassIn cells.now pass × HasFreeHands pass.seat.me.0 }
+            requires { IsPassIn cells.now pass × IsEmptyHanded pass.seat.me.0 }
         { step_all(rt, cells, pass) },
         move ||
-            requires { IsPassIn cells.now other × HasFreeHands other.seat.me.0 }
+            requires { IsPassIn cells.now other × IsEmptyHanded other.seat.me.0 }
         { kill_all(rt, cells, other) },
     )
 }

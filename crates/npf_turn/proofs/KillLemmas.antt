@@ -22,7 +22,7 @@ use Rattle.npf_cells_lives.proofs.ConnLemmas.{building_at}
 use Rattle.npf_cells_rule.specs.declared.view.CellView.{CellView}
 use Rattle.npf_cells_rule.specs.Passes.{cell_pass}
 use Rattle.npf_cells_takes.specs.PrivateKinds.{HasSeenBare}
-use Rattle.npf_cells_takes.proofs.BareLemmas.{over_dead, bare_after}
+use Rattle.npf_cells_rule.proofs.OverLemmas.{over_dead, held_before}
 use Rattle.npf_cells_turns.proofs.ActLemmas.{kills_on}
 use Rattle.npf_cells_turns.proofs.DeathEndLemmas.{killed_stage}
 use Rattle.npf_turn.specs.Done.{HasKilled}
@@ -46,7 +46,7 @@ module _ {S A R : Type 0} (m : Meaning S A R) (slots seat : ℕ) (id : ConnId) w
       killed same =
           let dead : stage_of (after m k e) id ≡ Dead = ap (λ x. stage_of (after m k x) id) same ∙ killed_by k built in
           let holders : IsKeyless (after m k e) id = subst (λ x. IsKeyless (after m k x) id) (sym same) bare in
-          bare_after m slots id (after m k e) es legal.1 (over_dead (life_of (after m k e) id) (sym (stage_of-is (after m k e) id) ∙ dead)) holders
+          λ way key held. holders way key (held_before m slots id (after m k e) es legal.1 (over_dead (life_of (after m k e) id) (sym (stage_of-is (after m k e) id) ∙ dead)) way key held)
 
       by_seat : (by seat es ≡ entry ∷ [] → stage_of (after m k e) id ≡ Building seat → IsKeyless (after m k e) id → IsKeyless (state_from m (after m k e) es) id) → (b : Bool) → (e.seat == seat) ≡ b →
           cond b (e ∷ by seat es) (by seat es) ≡ entry ∷ [] → IsKeyless (state_from m (after m k e) es) id

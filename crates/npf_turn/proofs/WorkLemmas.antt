@@ -46,7 +46,7 @@ stays_idle m way arg Dead e = (refl, refl)
 
 -- a turn of a slot that was at this, with this phase
 abbrev pub turn_of : {S : Type 0} → ℕ → Slot S → ℕ → Turn S
-turn_of slot was phase = record { slot = slot; was = was; phase = phase; ahead = None }
+turn_of slot was phase = record { slot = slot; was = was; phase = phase; ahead = None; said = None }
 
 module _ {S A R : Type 0} where
   -- the pass has the turn of a slot that was at this when it got it, with this phase, and carries this value

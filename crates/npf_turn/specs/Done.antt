@@ -23,7 +23,8 @@ use Rattle.npf_cells_lives.specs.declared.pools.PoolSide.{PoolSide}
 use Rattle.npf_cells_lives.specs.Turns.{Running}
 use Rattle.npf_cells_rule.specs.declared.view.CellView.{CellView}
 use Rattle.npf_cells_rule.specs.Passes.{cell_pass}
-use Rattle.npf_cells_turns.specs.EndKinds.{without_build, with_kill, unloaded}
+use Rattle.npf_cells_rule.specs.Views.{unloaded}
+use Rattle.npf_cells_turns.specs.EndKinds.{without_build, with_kill}
 use Rattle.npf_cells_takes.specs.PrivateKinds.{letting_go}
 
 -- the pass has seen this history, and these are its sides of the epoch and of the pools

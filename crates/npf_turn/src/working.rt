@@ -93,7 +93,8 @@ fn step_flow<L: Law>(
     ((next, steps.saturating_add(1)), reply)
 }
 
-/// Kills a connection that the pass is building. It keeps its keys, and is the pass's own until it lets it go.
+/// Kills a connection that the pass is building, which has stored 0 as the note of each way of which it holds no key. It keeps its keys, and is
+/// the pass's own until it lets it go.
 pub fn kill<L: Law, H: KeyHash>(
     rt: &impl Wait,
     cells: &Cells<L, H>,
@@ -105,6 +106,7 @@ pub fn kill<L: Law, H: KeyHash>(
     requires turnless { pass.old.seat.me.0.turn ≡ None }
     requires builds { Contains pass.old.seat.me.0.pools.builds id }
     requires stored { ¬ Contains pass.old.seat.me.0.pools.unstored id.slot }
+    requires notes { HasBareNotes L.meaning pass.old.seat.me.0 id }
     ensures own { IsPassIn cells.now pass.new }
     ensures kills { HasKilled L.meaning id pass.old.seat.me pass.new.seat.me }
 {
