@@ -4,9 +4,9 @@ use Rattle.std.proofs.Common.{◌≡◌, ◌≢◌, ◌⊎◌, ℕ, ◌+◌, ◌
 use Rattle.std.proofs.lemmas.Bool.{cases_eq}
 use Rattle.std.proofs.lemmas.Bool.Decides.{Decides-eqb, not_from_Decides}
 use Rattle.std.proofs.lemmas.List.Sums.{sum_by_push}
-use mathlib.Core.Option.{some}
+use mathlib.Core.Option.{some, some-injective}
 use lib.ListN.{get_elem?}
-use Rattle.atomic_table.proofs.Lists.{at_set, at_snoc}
+use Rattle.atomic_table.proofs.Lists.{at_longer, at_set, at_snoc, set_else}
 use Rattle.npf_types.specs.declared.key.Key.{Key}
 use Rattle.npf_types.specs.declared.key.Way.{Way}
 use Rattle.npf_core.specs.declared.conn_id.ConnId.{ConnId}
@@ -23,8 +23,8 @@ use Rattle.npf_cells_words.specs.declared.layout.Layout.{Layout}
 use Rattle.npf_cells_words.specs.Layout.{epoch_word}
 use Rattle.npf_seats.specs.Sums.{occurs}
 use Rattle.npf_seats.proofs.PrefixLemmas.{none_listed}
-use Rattle.npf_seats.proofs.SumLemmas.{sum-set}
-use Rattle.npf_cells_lives.specs.Deaths.{DeathSide, Rests, IsProtectedBy, IsKeyless, is_dead, first_note, has_epoch, slots_named, killed_in, reclaimed_in, cleared_in, last_id, IsPast, FitsKill, IsLeft, FitsReclaim, Deaths}
+use Rattle.npf_seats.proofs.SumLemmas.{sum-set, set_there}
+use Rattle.npf_cells_lives.specs.Deaths.{DeathSide, Rests, IsProtectedBy, IsKeyless, is_dead, first_note, has_epoch, slots_named, killed_in, reclaimed_in, cleared_in, last_id, IsPast, FitsKill, IsLeft, IsDated, FitsReclaim, Deaths}
 
 -- the number says whether a stage is Dead
 pub dead_stage : {S : Type 0} (stage : Stage S) → 1 ≤ is_dead stage → stage ≡ Dead
@@ -102,7 +102,30 @@ dead_by m slots k entry id follows free e = rw stage_of-is (dead_moves m entry i
 pub record RestsNoMore {S : Type 0} (k : Machine S) (v w : DeathSide) : Type 0 where
   pub rests : (id : ConnId) → stage_of k id ≡ Dead → IsKeyless k id → Rests w id → Rests v id × (w.protecting ≡ v.protecting)
 
+-- a seat's last epoch is one that the table reached, and no connection was let go with a later one than some seat's
+pub record KeepsDates {V : Type 0} (side_of : V → DeathSide) (now : ℕ) (views views' : List V) (w : V) : Type 0 where
+  pub within : (side_of w).dated ≤ now
+  pub still : (epoch : ℕ) → IsDated side_of views epoch → IsDated side_of views' epoch
+
+-- as where it let no connection go with an earlier epoch
+pub later_dates : {V : Type 0} (side_of : V → DeathSide) (now : ℕ) (views : List V) (i : ℕ) (v w : V) → get_elem? views i ≡ some v → (side_of v).dated ≤ (side_of w).dated → (side_of w).dated ≤ now → KeepsDates side_of now views (set views i w) w
+later_dates side_of now views i v w at more within = record {
+  within = within;
+  still = λ epoch dated. ⊎_elim
+      (λ (same : dated.seat ≡ i).
+      let was = dated.since in
+      let mine = ap (λ y. (side_of y).dated) (some-injective dated.view v (sym dated.there ∙ (ap (get_elem? views) same ∙ at))) in
+      record { seat = i; view = w; there = set_there views i v w at; since = omega (arith, was, mine, more) })
+      (λ (ne : dated.seat ≢ i). record { seat = dated.seat; view = dated.view; there = set_else views i dated.seat w ne ∙ dated.there; since = dated.since })
+      (cases_eq dated.seat i);
+}
+
 module _ {S V : Type 0} (side_of : V → DeathSide) (layout : Layout) where
+  -- and where it let none go
+  pub same_dates : (k : Machine S) (words words' : List ℕ) (views : List V) (i : ℕ) (v w : V) → Deaths side_of layout k words views → get_elem? views i ≡ some v → epoch_word words ≤ epoch_word words' → (side_of w).dated ≡ (side_of v).dated →
+      KeepsDates side_of (epoch_word words') views (set views i w) w
+  same_dates k words words' views i v w kept at goes same = later_dates side_of (epoch_word words') views i v w at (omega (arith, same)) (let was = kept.dates i v at in omega (arith, was, same, goes))
+
   module _ (k k' : Machine S) (words words' : List ℕ) (views : List V) (i : ℕ) (v w : V) (kept : Deaths side_of layout k words views) (at : get_elem? views i ≡ some v) (spares : Spares k k') (goes : epoch_word words ≤ epoch_word words') (less : RestsNoMore k (side_of v) (side_of w)) where
     abbrev pub views' : List V
     views' = set views i w
@@ -156,9 +179,9 @@ module _ {S V : Type 0} (side_of : V → DeathSide) (layout : Layout) where
         ((slot : ℕ) → slot < layout.slots → reclaimed_in side_of views' slot ≤ has_epoch (first_note layout words' slot)) →
         ((id : ConnId) → Contains (side_of w).kills id → FitsKill side_of k' (epoch_word words') views' (side_of w).loaded id) →
         ((id : ConnId) → Contains (side_of w).reclaims id ⊎ Contains (side_of w).cleared id → FitsReclaim side_of k' views' id) →
-        ((slot epoch : ℕ) → slot < layout.slots → first_note layout words' slot ≡ 2 ^ 63 + epoch → (first_note layout words slot ≡ 2 ^ 63 + epoch) ⊎ IsLeft side_of k' (epoch_word words') views' slot epoch) →
-        Deaths side_of layout k' words' views'
-    deaths-changed counted reclaimed mine own left = record {
+        ((slot epoch : ℕ) → slot < layout.slots → first_note layout words' slot ≡ 2 ^ 63 + epoch → (first_note layout words slot ≡ 2 ^ 63 + epoch) ⊎ (IsLeft side_of k' (epoch_word words') views' slot epoch × IsDated side_of views' epoch)) →
+        KeepsDates side_of (epoch_word words') views views' w → Deaths side_of layout k' words' views'
+    deaths-changed counted reclaimed mine own left dates = record {
       counted = counted;
       reclaimed = reclaimed;
       kills = λ j u id e c. ⊎_elim
@@ -170,7 +193,12 @@ module _ {S V : Type 0} (side_of : V → DeathSide) (layout : Layout) where
           (λ (x : (j ≡ i) × (w ≡ u)). own id (subst (λ (y : V). Contains (side_of y).reclaims id ⊎ Contains (side_of y).cleared id) (sym x.1) c))
           (λ (x : (j ≢ i) × (get_elem? views j ≡ some u)). reclaim_kept id (kept.reclaims j u id x.1 c))
           (at_set views i j w u e);
-      left = λ slot epoch h note. ⊎_elim (λ was. left_kept slot epoch h was) (λ now. now) (left slot epoch h note);
+      left = λ slot epoch h note. ⊎_elim (λ was. left_kept slot epoch h was) (λ now. now.0) (left slot epoch h note);
+      dated = λ slot epoch h note. ⊎_elim (λ was. dates.still epoch (kept.dated slot epoch h was)) (λ now. now.1) (left slot epoch h note);
+      dates = λ j u e. ⊎_elim
+          (λ (x : (j ≡ i) × (w ≡ u)). subst (λ (y : V). (side_of y).dated ≤ epoch_word words') x.1 dates.within)
+          (λ (x : (j ≢ i) × (get_elem? views j ≡ some u)). (let was = kept.dates j u x.1 in omega (arith, was, goes)))
+          (at_set views i j w u e);
     }
 
     -- as many are counted as reclaimed, and as cleared, where the seat has the same
@@ -185,9 +213,9 @@ module _ {S V : Type 0} (side_of : V → DeathSide) (layout : Layout) where
         ((slot : ℕ) → slot < layout.slots → killed_in side_of views' slot + has_epoch (first_note layout words' slot) + cleared_in side_of views slot ≡ is_dead (k'.slot slot).stage) →
         ((slot : ℕ) → slot < layout.slots → reclaimed_in side_of views slot ≤ has_epoch (first_note layout words' slot)) →
         ((id : ConnId) → Contains (side_of w).kills id → FitsKill side_of k' (epoch_word words') views' (side_of w).loaded id) →
-        ((slot epoch : ℕ) → slot < layout.slots → first_note layout words' slot ≡ 2 ^ 63 + epoch → (first_note layout words slot ≡ 2 ^ 63 + epoch) ⊎ IsLeft side_of k' (epoch_word words') views' slot epoch) →
-        Deaths side_of layout k' words' views'
-    deaths-set reclaims cleared counted reclaimed mine left = deaths-changed
+        ((slot epoch : ℕ) → slot < layout.slots → first_note layout words' slot ≡ 2 ^ 63 + epoch → first_note layout words slot ≡ 2 ^ 63 + epoch) →
+        KeepsDates side_of (epoch_word words') views views' w → Deaths side_of layout k' words' views'
+    deaths-set reclaims cleared counted reclaimed mine left dates = deaths-changed
         (λ slot h. (let same = same_sum (λ side. side.cleared) cleared slot in let all = counted slot h in omega (arith, same, all)))
         (λ slot h. (let same = same_sum (λ side. side.reclaims) reclaims slot in let all = reclaimed slot h in omega (arith, same, all)))
         mine
@@ -195,12 +223,13 @@ module _ {S V : Type 0} (side_of : V → DeathSide) (layout : Layout) where
         (λ (a : Contains (side_of w).reclaims id). inl (subst (λ ids. Contains ids id) reclaims a))
         (λ (b : Contains (side_of w).cleared id). inr (subst (λ ids. Contains ids id) cleared b))
         c)))
-        left
+        (λ slot epoch h note. inl (left slot epoch h note))
+        dates
 
     -- a step that leaves what seats killed and reclaimed, the first notes, and who is Dead
-    pub deaths-same : (side_of w).kills ≡ (side_of v).kills → (side_of w).reclaims ≡ (side_of v).reclaims → (side_of w).cleared ≡ (side_of v).cleared → ((id : ConnId) → Contains (side_of w).kills id → (side_of w).loaded ≡ (side_of v).loaded) →
+    pub deaths-same : (side_of w).kills ≡ (side_of v).kills → (side_of w).reclaims ≡ (side_of v).reclaims → (side_of w).cleared ≡ (side_of v).cleared → KeepsDates side_of (epoch_word words') views views' w → ((id : ConnId) → Contains (side_of w).kills id → (side_of w).loaded ≡ (side_of v).loaded) →
         ((slot : ℕ) → slot < layout.slots → first_note layout words' slot ≡ first_note layout words slot) → ((slot : ℕ) → slot < layout.slots → is_dead (k'.slot slot).stage ≡ is_dead (k.slot slot).stage) → Deaths side_of layout k' words' views'
-    deaths-same kills reclaims cleared loaded notes dead = deaths-set reclaims cleared
+    deaths-same kills reclaims cleared dates loaded notes dead = deaths-set reclaims cleared
         (λ slot h. (let more = same_sum (λ side. side.kills) kills slot in
         let note = ap has_epoch (notes slot h) in
         let was = kept.counted slot h in
@@ -208,7 +237,8 @@ module _ {S V : Type 0} (side_of : V → DeathSide) (layout : Layout) where
         omega (arith, more, note, was, stage)))
         (λ slot h. (let note = ap has_epoch (notes slot h) in let was = kept.reclaimed slot h in omega (arith, note, was)))
         (λ id c. subst (λ n. FitsKill side_of k' (epoch_word words') views' n id) (sym (loaded id c)) (kill_kept (side_of v).loaded id (kept.kills i v id at (subst (λ ids. Contains ids id) kills c))))
-        (λ slot epoch h note. inl (sym (notes slot h) ∙ note))
+        (λ slot epoch h note. sym (notes slot h) ∙ note)
+        dates
 
   -- a slot whose connection was reclaimed is Dead, and one that isn't is nobody's
   pub gone_dead : (k : Machine S) (words : List ℕ) (views : List V) (slot : ℕ) → Deaths side_of layout k words views → slot < layout.slots → 1 ≤ reclaimed_in side_of views slot + cleared_in side_of views slot → is_dead (k.slot slot).stage ≡ 1
@@ -219,8 +249,8 @@ module _ {S V : Type 0} (side_of : V → DeathSide) (layout : Layout) where
       omega (arith, all, part, one, some')
 
   -- a view comes that killed nothing and rests on nothing
-  pub deaths-push : (k : Machine S) (words : List ℕ) (views : List V) (w : V) → Deaths side_of layout k words views → (side_of w).kills ≡ [] → (side_of w).reclaims ≡ [] → (side_of w).cleared ≡ [] → ((id : ConnId) → ¬ (Rests (side_of w) id)) → Deaths side_of layout k words (views ++ w ∷ [])
-  deaths-push k words views w kept none bare clear free = record {
+  pub deaths-push : (k : Machine S) (words : List ℕ) (views : List V) (w : V) → Deaths side_of layout k words views → (side_of w).kills ≡ [] → (side_of w).reclaims ≡ [] → (side_of w).cleared ≡ [] → (side_of w).dated ≡ 0 → ((id : ConnId) → ¬ (Rests (side_of w) id)) → Deaths side_of layout k words (views ++ w ∷ [])
+  deaths-push k words views w kept none bare clear undated free = record {
     counted = λ slot h.
         let more = no_more (λ side. side.kills) none slot in
         let other = no_more (λ side. side.cleared) clear slot in
@@ -248,6 +278,11 @@ module _ {S V : Type 0} (side_of : V → DeathSide) (layout : Layout) where
         (λ (x : w ≡ u). absurd (none_listed id (subst (λ ids. Contains ids id) none (subst (λ (y : V). Contains (side_of y).kills id) (sym x) c))))
         (at_snoc views w u j e);
     left = λ slot epoch h note. (let was = kept.left slot epoch h note in record { keyless = was.keyless; past = pushed (last_id k slot) epoch was.past });
+    dated = λ slot epoch h note. (let was = kept.dated slot epoch h note in record { seat = was.seat; view = was.view; there = at_longer views (w ∷ []) was.seat was.view was.there; since = was.since });
+    dates = λ j u e. ⊎_elim
+        (λ (there : get_elem? views j ≡ some u). kept.dates j u there)
+        (λ (x : w ≡ u). (let none' = ap (λ (y : V). (side_of y).dated) (sym x) ∙ undated in omega (arith, none')))
+        (at_snoc views w u j e);
   }
     where
       no_more : (of : DeathSide → List ConnId) → of (side_of w) ≡ [] → (slot : ℕ) → sum_by (λ (u : V). occurs slot (slots_named (of (side_of u)))) (views ++ w ∷ []) ≡ sum_by (λ (u : V). occurs slot (slots_named (of (side_of u)))) views

@@ -14,12 +14,13 @@ use Rattle.npf_cells_words.specs.declared.layout.Pool.TheVariants.{Slots}
 use Rattle.npf_cells_words.specs.Layout.{epoch_word, field_at, notes_field}
 use Rattle.npf_seats.specs.Sums.{occurs}
 
--- a seat as this part sees it: what it killed and hasn't let go, what it reclaimed, and what of that it cleared the first note of, the epoch that it loaded since it last killed anything or gave a
+-- a seat as this part sees it: what it killed and hasn't let go, what it reclaimed, and what of that it cleared the first note of, the greatest epoch with which it let a connection go, the epoch that it loaded since it last killed anything or gave a
 -- key up (0 where it loaded none), the epoch that it is protected with, and the connections that it may speak of: those that it was answered, and that of the leaf that it loaded last
 pub record DeathSide : Type 0 where
   pub kills : List ConnId
   pub reclaims : List ConnId
   pub cleared : List ConnId
+  pub dated : ℕ
   pub loaded : ℕ
   pub protecting : Option ℕ
   pub answered : List ConnId
@@ -99,6 +100,13 @@ pub record IsLeft {S V : Type 0} (side_of : V → DeathSide) (k : Machine S) (no
   pub keyless : IsKeyless k (last_id k slot)
   pub past : IsPast side_of now views (last_id k slot) epoch
 
+-- some seat let a connection go with this epoch or a later one
+pub record IsDated {V : Type 0} (side_of : V → DeathSide) (views : List V) (epoch : ℕ) : Type 0 where
+  pub seat : ℕ
+  pub view : V
+  pub there : get_elem? views seat ≡ some view
+  pub since : epoch ≤ (side_of view).dated
+
 -- what it says of one that a pass reclaimed: nobody may speak of it
 pub record FitsReclaim {S V : Type 0} (side_of : V → DeathSide) (k : Machine S) (views : List V) (id : ConnId) : Type 0 where
   pub dead : stage_of k id ≡ Dead
@@ -106,10 +114,12 @@ pub record FitsReclaim {S V : Type 0} (side_of : V → DeathSide) (k : Machine S
   pub unrested : (j : ℕ) (v : V) → get_elem? views j ≡ some v → ¬ (Rests (side_of v) id)
 
 -- over views of which each has a side: a connection is Dead where one pass killed it and hasn't let it go, or the first note has an epoch, or one pass reclaimed it and cleared that note; and one
--- pass at most reclaimed it while the note has its epoch
+-- pass at most reclaimed it while the note has its epoch. No seat let a connection go with an epoch that the table hasn't reached
 pub record Deaths {S V : Type 0} (side_of : V → DeathSide) (layout : Layout) (k : Machine S) (words : List ℕ) (views : List V) : Type 0 where
   pub counted : (slot : ℕ) → slot < layout.slots → killed_in side_of views slot + has_epoch (first_note layout words slot) + cleared_in side_of views slot ≡ is_dead (k.slot slot).stage
   pub reclaimed : (slot : ℕ) → slot < layout.slots → reclaimed_in side_of views slot ≤ has_epoch (first_note layout words slot)
   pub kills : (j : ℕ) (v : V) (id : ConnId) → get_elem? views j ≡ some v → Contains (side_of v).kills id → FitsKill side_of k (epoch_word words) views (side_of v).loaded id
   pub reclaims : (j : ℕ) (v : V) (id : ConnId) → get_elem? views j ≡ some v → Contains (side_of v).reclaims id ⊎ Contains (side_of v).cleared id → FitsReclaim side_of k views id
   pub left : (slot epoch : ℕ) → slot < layout.slots → first_note layout words slot ≡ 2 ^ 63 + epoch → IsLeft side_of k (epoch_word words) views slot epoch
+  pub dated : (slot epoch : ℕ) → slot < layout.slots → first_note layout words slot ≡ 2 ^ 63 + epoch → IsDated side_of views epoch
+  pub dates : (j : ℕ) (v : V) → get_elem? views j ≡ some v → (side_of v).dated ≤ epoch_word words

@@ -41,6 +41,8 @@ pub struct PoolSide {
     pub reclaims: LinkedList<ConnId>,
     /// Those whose first note it has set to 0 since.
     pub cleared: LinkedList<ConnId>,
+    /// The greatest epoch with which it, or a pass that was joined into it, let a connection go, 0 where none did.
+    pub dated: u64,
     /// The notes that it stored of ways of which its connections hold no key.
     pub notes: LinkedList<Note>,
 }

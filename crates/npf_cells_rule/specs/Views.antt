@@ -57,21 +57,23 @@ abbrev pub leaf_id : Option LoadedLeaf → Option ConnId
 leaf_id None = None
 leaf_id (Some leaf) = Some (record { slot = leaf.slot; inc = leaf.inc })
 
--- which dead connections a pass has, and of which it gave keys up
+-- which dead connections a pass has, of which it gave keys up, and the greatest epoch with which it let one go
 pub record DeadHand : Type 0 where
   pub kills : List ConnId
   pub gave_up : List Found
   pub reclaims : List ConnId
   pub cleared : List ConnId
+  pub dated : ℕ
 
 abbrev pub dead_hand : PoolSide → DeadHand
-dead_hand side = record { kills = side.kills; gave_up = side.gave_up; reclaims = side.reclaims; cleared = side.cleared }
+dead_hand side = record { kills = side.kills; gave_up = side.gave_up; reclaims = side.reclaims; cleared = side.cleared; dated = side.dated }
 
 abbrev pub death_side : {S A R : Type 0} → CellView S A R → DeathSide
 death_side v = record {
   kills = v.pools.kills;
   reclaims = v.pools.reclaims;
   cleared = v.pools.cleared;
+  dated = v.pools.dated;
   loaded = v.epochs.loaded;
   protecting = protecting_epoch v.epochs.pin;
   answered = v.trie.answered;

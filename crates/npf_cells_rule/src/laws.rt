@@ -34,7 +34,8 @@ pub fn trie_law<L: Law>()
 {}
 
 /// The death law: while a pass may speak of a connection that was let go, the table's epoch is at most one more than that in its first note.
-/// And where a pass owns all reader places, the first note of each Dead connection that isn't its own has an epoch of the table.
+/// And where a pass owns all reader places, the first note of each Dead connection that isn't its own has an epoch of the table, with which
+/// that pass, or one that was joined into it, let the connection go.
 pub fn death_law<L: Law>()
     ensures rests { (layout : Layout) → RestsHoldBack L.meaning layout }
     ensures sole { (layout : Layout) → SoleFindsLeft L.meaning layout }

@@ -1,5 +1,5 @@
 -- What loads and stores of a pass's own words change in its view, and what each tells.
-use Rattle.std.specs.Prelude.{◌≡◌, ◌≢◌, ◌⊎◌, ℕ, ◌+◌, ◌-◌, ◌^◌, ◌≤◌, ◌<◌, ◌==◌, ◌&&◌, Bool, true, false, Option, Some, None, List, ◌∷◌, Contains, filter, if◌then◌else◌, nat_lt}
+use Rattle.std.specs.Prelude.{◌≡◌, ◌≢◌, ◌⊎◌, ℕ, max, ◌+◌, ◌-◌, ◌^◌, ◌≤◌, ◌<◌, ◌==◌, ◌&&◌, Bool, true, false, Option, Some, None, List, ◌∷◌, Contains, filter, if◌then◌else◌, nat_lt}
 use Rattle.atomic_table.specs.Table.{Me, Step}
 use Rattle.npf_types.specs.declared.key.Key.{Key}
 use Rattle.npf_types.specs.declared.key.Way.{Way}
@@ -139,9 +139,13 @@ abbrev pub with_phase : {S : Type 0} → ℕ → Option (Turn S) → Option (Tur
 with_phase value None = None
 with_phase value (Some turn) = Some (record turn { phase = value })
 
--- the connection of the slot isn't the pass's any more, nor is it remembered which of its keys it gave up
-abbrev pub letting_go : ℕ → PoolSide → PoolSide
-letting_go slot side = record side { kills = ids_elsewhere slot side.kills; gave_up = filter (λ (g : Found). if g.id.slot == slot then false else true) side.gave_up }
+-- the connection of the slot isn't the pass's any more, nor is it remembered which of its keys it gave up; it was let go with this epoch
+abbrev pub letting_go : ℕ → ℕ → PoolSide → PoolSide
+letting_go slot epoch side = record side {
+  kills = ids_elsewhere slot side.kills;
+  gave_up = filter (λ (g : Found). if g.id.slot == slot then false else true) side.gave_up;
+  dated = max side.dated epoch;
+}
 
 -- its first note has no epoch any more
 abbrev pub clearing : ConnId → PoolSide → PoolSide
@@ -163,7 +167,7 @@ abbrev pub stored_in : {S A R F : Type 0} → Pool → ℕ → ℕ → ℕ → M
 stored_in Slots slot field value me =
     if field == phase_field then (record me.0 { turn = with_phase value me.0.turn }, me.1)
     else if nat_lt field notes_field then with_pools me (storing Slots slot field value me.0.pools)
-    else if is_epoch_note field value then with_pools me (letting_go slot me.0.pools)
+    else if is_epoch_note field value then with_pools me (letting_go slot (value - 2 ^ 63) me.0.pools)
     else noted_in slot field value me
 stored_in Nodes node field value me = with_pools me (storing Nodes node field value me.0.pools)
 
