@@ -1,5 +1,5 @@
 -- The connections as turns see them: one that was reclaimed is as good as freed.
-use Rattle.std.proofs.Common.{◌≡◌, ◌≢◌, ◌⊎◌, ℕ, ◌+◌, ◌<◌, ◌≤◌, Bool, true, false, cond, eqb, eq-eqb, ne_eqb, List, refl, sym, ap, ◌∙◌, subst, ⊎_elim, inl, inr, arith}
+use Rattle.std.proofs.Common.{◌≡◌, ◌≢◌, ◌⊎◌, ℕ, ◌+◌, cond, eq-eqb, ne_eqb, List, sym, ap, ◌∙◌, subst, ⊎_elim, inl, inr}
 use Rattle.std.proofs.lemmas.Bool.{cases_eq}
 use Rattle.npf_core.specs.declared.slot.Slot.{Slot}
 use Rattle.npf_core.specs.declared.stage.Stage.{Stage}

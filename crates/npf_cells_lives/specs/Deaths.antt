@@ -1,6 +1,6 @@
 -- The part of the rule on deaths: a dead connection is its killer's, until its first note has an epoch that the table had when it held no key any more; whoever rests on it is protected from that
 -- epoch on or from an earlier one. Once nobody rests on it, a pass may reclaim it, and it is that pass's until it is freed.
-use Rattle.std.specs.Prelude.{◌≡◌, ◌⊎◌, ℕ, ◌+◌, ◌^◌, ◌<◌, ◌≤◌, ◌==◌, nat_lt, Bool, true, false, Option, Some, None, List, Contains, filter, map, sum_by, slice_index, if◌then◌else◌}
+use Rattle.std.specs.Prelude.{◌≡◌, ◌⊎◌, ℕ, ◌+◌, ◌^◌, ◌<◌, ◌≤◌, ◌==◌, nat_lt, true, false, Option, Some, None, List, Contains, filter, map, sum_by, slice_index, if◌then◌else◌}
 use mathlib.Core.Option.{some}
 use lib.ListN.{get_elem?}
 use Rattle.npf_types.specs.declared.key.Way.{Way}

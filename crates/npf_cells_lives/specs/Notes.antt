@@ -4,7 +4,6 @@ use mathlib.Core.Option.{some}
 use lib.ListN.{get_elem?}
 use Rattle.npf_types.specs.declared.key.Way.{Way}
 use Rattle.npf_core.specs.declared.conn_id.ConnId.{ConnId}
-use Rattle.npf_core.specs.declared.found.Found.{Found}
 use Rattle.npf_core.specs.declared.stage.Stage.TheVariants.{Dead}
 use Rattle.npf_core.specs.Machine.{Machine, HoldsNone, HoldsSome}
 use Rattle.npf_paths.specs.declared.cell.Cell.{Cell}

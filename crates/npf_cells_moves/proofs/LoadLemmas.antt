@@ -63,4 +63,5 @@ module _ {S A R : Type 0} (m : Meaning S A R) (digest : Key → ℕ) (layout : L
       (λ slot h. (let more = sum-set (λ (u : CellView S A R). occurs slot (slots_named u.pools.kills)) s.views id v loader at in let was = kept.deaths.counted slot h in omega (arith, more, was)))
       kept.deaths.reclaimed
       (λ conn c. record { dead = (kept.deaths.kills id v conn at c).dead; past = λ some' bare. past_now conn })
-      (λ slot epoch h note. inl note))
+      (λ slot epoch h note. note)
+      (same_dates death_side layout (state_of m kept.log) s.words s.words s.views id v loader kept.deaths at (omega arith) refl))

@@ -61,19 +61,28 @@ module _ {S A R : Type 0} (m : Meaning S A R) (digest : Key → ℕ) (layout : L
   turns_same : (k : Machine S) (words : List ℕ) (views views' : List (CellView S A R)) → ((slot : ℕ) → gone_in death_side views' slot ≡ gone_in death_side views slot) → TurnsStay {V = CellView S A R} turn_side layout (unreclaimed death_side views k) (unreclaimed death_side views' k) words words
   turns_same k words views views' same = record { turn = λ slot h. refl; phase = λ slot h. refl; slots = λ slot. freed_stays death_side views views' k k slot (same slot) (inl refl) }
 
-  turns_still : (s : State (Running S) (CellView S A R)) (id : ℕ) (v w : CellView S A R) (kept : IsCells m digest layout s) → get_elem? s.views id ≡ some v → w.turn ≡ v.turn → dead_hand w.pools ≡ dead_hand v.pools →
+  turns_still : (s : State (Running S) (CellView S A R)) (id : ℕ) (v w : CellView S A R) (kept : IsCells m digest layout s) → get_elem? s.views id ≡ some v → w.turn ≡ v.turn → w.pools.reclaims ≡ v.pools.reclaims → w.pools.cleared ≡ v.pools.cleared →
       Turns turn_side layout (unreclaimed death_side (set s.views id w) (state_of m kept.log)) s.words s.homes (set s.views id w)
-  turns_still s id v w kept at same hand = turns-kept turn_side layout (unreclaimed death_side s.views (state_of m kept.log)) (unreclaimed death_side (set s.views id w) (state_of m kept.log)) s.words s.words s.homes s.views id v w kept.turns at same
-      (turns_same (state_of m kept.log) s.words s.views (set s.views id w) (gone_same m digest layout s.views id v w at hand))
+  turns_still s id v w kept at same reclaims cleared = turns-kept turn_side layout (unreclaimed death_side s.views (state_of m kept.log)) (unreclaimed death_side (set s.views id w) (state_of m kept.log)) s.words s.words s.homes s.views id v w kept.turns at same
+      (turns_same (state_of m kept.log) s.words s.views (set s.views id w) gone)
+    where
+      gone : (slot : ℕ) → gone_in death_side (set s.views id w) slot ≡ gone_in death_side s.views slot
+      gone slot =
+          let one = sum-set (λ (u : CellView S A R). occurs slot (slots_named u.pools.reclaims)) s.views id v w at in
+          let two = sum-set (λ (u : CellView S A R). occurs slot (slots_named u.pools.cleared)) s.views id v w at in
+          let same' = ap (λ ids. occurs slot (slots_named ids)) reclaims in
+          let also = ap (λ ids. occurs slot (slots_named ids)) cleared in
+          omega (arith, one, two, same', also)
 
   -- of a seat that comes or goes with nothing reclaimed, turns stay
   turns_seen : (k : Machine S) (words : List ℕ) (homes : Homes S) (views views' : List (CellView S A R)) → ((slot : ℕ) → gone_in death_side views' slot ≡ gone_in death_side views slot) → Turns turn_side layout (unreclaimed death_side views k) words homes views' → Turns turn_side layout (unreclaimed death_side views' k) words homes views'
   turns_seen k words homes views views' same kept = turns_so turn_side layout (unreclaimed death_side views k) (unreclaimed death_side views' k) words words homes views' views' kept (turns_same k words views views' same) (λ slot. refl) kept.each
 
-  deaths_still : (s : State (Running S) (CellView S A R)) (id : ℕ) (v w : CellView S A R) (kept : IsCells m digest layout s) → get_elem? s.views id ≡ some v → dead_hand w.pools ≡ dead_hand v.pools → w.epochs.loaded ≡ v.epochs.loaded →
-      RestsNoMore (state_of m kept.log) (death_side v) (death_side w) → Deaths death_side layout (state_of m kept.log) s.words (set s.views id w)
-  deaths_still s id v w kept at kills loaded less =
-      deaths-same death_side layout (state_of m kept.log) (state_of m kept.log) s.words s.words s.views id v w kept.deaths at (spares_all (state_of m kept.log)) (omega arith) less (ap (λ (h : DeadHand). h.kills) kills) (ap (λ (h : DeadHand). h.reclaims) kills) (ap (λ (h : DeadHand). h.cleared) kills) (λ conn c. loaded) (λ slot h. refl) (λ slot h. refl)
+  deaths_still : (s : State (Running S) (CellView S A R)) (id : ℕ) (v w : CellView S A R) (kept : IsCells m digest layout s) → get_elem? s.views id ≡ some v → w.pools.kills ≡ v.pools.kills → w.pools.reclaims ≡ v.pools.reclaims → w.pools.cleared ≡ v.pools.cleared → v.pools.dated ≤ w.pools.dated → w.pools.dated ≤ epoch_word s.words →
+      w.epochs.loaded ≡ v.epochs.loaded → RestsNoMore (state_of m kept.log) (death_side v) (death_side w) → Deaths death_side layout (state_of m kept.log) s.words (set s.views id w)
+  deaths_still s id v w kept at kills reclaims cleared more reached loaded less =
+      deaths-same death_side layout (state_of m kept.log) (state_of m kept.log) s.words s.words s.views id v w kept.deaths at (spares_all (state_of m kept.log)) (omega arith) less kills reclaims cleared
+      (later_dates death_side (epoch_word s.words) s.views id v w at more reached) (λ conn c. loaded) (λ slot h. refl) (λ slot h. refl)
 
   nothing_walked : HasNoWalk unread_side
   nothing_walked = record { stands = refl; leaf = refl; seen = refl; meets = refl; answered = refl; locks = refl }
@@ -82,10 +91,10 @@ module _ {S A R : Type 0} (m : Meaning S A R) (digest : Key → ℕ) (layout : L
   notes_same s kept = notes_behind layout (state_of m kept.log) (state_of m kept.log) s.words s.words (λ j h. refl) (λ key. refl) (λ slot. inl refl)
 
   -- one view changes, but neither its turn nor its notes
-  notes_moved : (s : State (Running S) (CellView S A R)) (id : ℕ) (v w : CellView S A R) (kept : IsCells m digest layout s) → get_elem? s.views id ≡ some v → w.turn ≡ v.turn → dead_hand w.pools ≡ dead_hand v.pools → w.pools.notes ≡ v.pools.notes → w.pools.builds ≡ v.pools.builds →
+  notes_moved : (s : State (Running S) (CellView S A R)) (id : ℕ) (v w : CellView S A R) (kept : IsCells m digest layout s) → get_elem? s.views id ≡ some v → w.turn ≡ v.turn → w.pools.kills ≡ v.pools.kills → w.pools.gave_up ≡ v.pools.gave_up → w.pools.notes ≡ v.pools.notes → w.pools.builds ≡ v.pools.builds →
       Notes turn_side pool_side layout (trie_words layout s.words).cell (state_of m kept.log) s.words (set s.views id w)
-  notes_moved s id v w kept at turn hand notes builds =
-      notes_apart m digest layout s s.words id v w (state_of m kept.log) kept at (same_ahead v.turn w.turn turn) hand notes (λ conn c. subst (λ ids. Contains ids conn) (sym builds) c) (notes_same s kept)
+  notes_moved s id v w kept at turn kills gave notes builds =
+      notes-set turn_side pool_side layout (state_of m kept.log) (state_of m kept.log) (trie_words layout s.words).cell (trie_words layout s.words).cell s.words s.words s.views id v w kept.notes at (same_ahead v.turn w.turn turn) kills gave notes (λ conn c. subst (λ ids. Contains ids conn) (sym builds) c) (notes_same s kept)
 
   -- a seat is split so
   pub splits : (id : ℕ) (v : CellView S A R) → v.seats.lives ≡ true → v.epochs.pin ≡ Idle → 2 ≤ length v.seats.readers →
@@ -109,11 +118,11 @@ module _ {S A R : Type 0} (m : Meaning S A R) (digest : Key → ℕ) (layout : L
       (locks-same lock_side layout s.words s.words s.views (set s.views id (gives_reader v) ++ given_view v ∷ []) kept.locks (λ lock h. refl)
       (λ lock. holders-push lock_side layout (set s.views id (gives_reader v)) (given_view v) refl lock ∙ holders-set lock_side layout s.views id v (gives_reader v) at refl lock))
       (turns_seen (state_of m kept.log) s.words s.homes (set s.views id (gives_reader v)) (set s.views id (gives_reader v) ++ given_view v ∷ []) gone_pushed
-      (turns-push turn_side layout (unreclaimed death_side (set s.views id (gives_reader v)) (state_of m kept.log)) s.words s.homes (set s.views id (gives_reader v)) (given_view v) (turns_still s id v (gives_reader v) kept at refl refl) refl))
-      (deaths-push death_side layout (state_of m kept.log) s.words (set s.views id (gives_reader v)) (given_view v) (deaths_still s id v (gives_reader v) kept at refl refl (record { rests = λ conn dead bare rests. (rests, refl) })) refl refl refl (rests_on_none (given_view v) nothing_walked))
+      (turns-push turn_side layout (unreclaimed death_side (set s.views id (gives_reader v)) (state_of m kept.log)) s.words s.homes (set s.views id (gives_reader v)) (given_view v) (turns_still s id v (gives_reader v) kept at refl refl refl) refl))
+      (deaths-push death_side layout (state_of m kept.log) s.words (set s.views id (gives_reader v)) (given_view v) (deaths_still s id v (gives_reader v) kept at refl refl refl (omega arith) (kept.deaths.dates id v at) refl (record { rests = λ conn dead bare rests. (rests, refl) })) refl refl refl refl (rests_on_none (given_view v) nothing_walked))
       (known-push (seen_side m) pool_side (state_of m kept.log) (set s.views id (gives_reader v)) (given_view v) (known_apart m digest layout s id v (gives_reader v) (state_of m kept.log) kept at (λ conn c. c) refl (spares_all (state_of m kept.log))) refl)
       (notes-push turn_side pool_side layout (state_of m kept.log) (state_of m kept.log) (trie_words layout s.words).cell (trie_words layout s.words).cell s.words s.words (set s.views id (gives_reader v)) (given_view v)
-      (notes_moved s id v (gives_reader v) kept at refl refl refl refl) refl refl refl (notes_same s kept))
+      (notes_moved s id v (gives_reader v) kept at refl refl refl refl refl) refl refl refl (notes_same s kept))
       (alone-push (set s.views id (gives_reader v)) (given_view v) given_alone (alone-set s.views id (gives_reader v) (alone_still v (gives_reader v) (kept.alone id v at) some_left refl (λ none. none)) kept.alone))
     where
       some_left : 1 ≤ length (gives_reader v).seats.readers
@@ -157,19 +166,36 @@ module _ {S A R : Type 0} (m : Meaning S A R) (digest : Key → ℕ) (layout : L
       (locks-same lock_side layout s.words s.words s.views (set (set s.views id (takes_in v w)) other nothing_left) kept.locks (λ lock h. refl)
       (λ lock. holders-set lock_side layout (set s.views id (takes_in v w)) other w nothing_left there (sym w-locks) lock ∙ holders-set lock_side layout s.views id v (takes_in v w) at refl lock))
       (turns-kept turn_side layout (unreclaimed death_side (set s.views id (takes_in v w)) (state_of m kept.log)) (unreclaimed death_side (set (set s.views id (takes_in v w)) other nothing_left) (state_of m kept.log)) s.words s.words s.homes (set s.views id (takes_in v w)) other w nothing_left
-      (turns_still s id v (takes_in v w) kept at refl refl) there (sym w-turn) (turns_same (state_of m kept.log) s.words (set s.views id (takes_in v w)) (set (set s.views id (takes_in v w)) other nothing_left) gone_left))
+      (turns_still s id v (takes_in v w) kept at refl refl refl) there (sym w-turn) (turns_same (state_of m kept.log) s.words (set s.views id (takes_in v w)) (set (set s.views id (takes_in v w)) other nothing_left) gone_left))
       (deaths-same death_side layout (state_of m kept.log) (state_of m kept.log) s.words s.words (set s.views id (takes_in v w)) other w nothing_left
-      (deaths_still s id v (takes_in v w) kept at refl refl (record { rests = λ conn dead bare rests. (rests, refl) })) there (spares_all (state_of m kept.log)) (omega arith) (rests_none (state_of m kept.log) w nothing_left nothing_walked)
-      (sym w-kills) (sym w-reclaims) (sym w-cleared) (λ conn c. absurd (none_listed conn c)) (λ slot h. refl) (λ slot h. refl))
+      (taken_deaths s kept at was) there (spares_all (state_of m kept.log)) (omega arith) (rests_none (state_of m kept.log) w nothing_left nothing_walked)
+      (sym w-kills) (sym w-reclaims) (sym w-cleared) (left_dates s kept at apart there) (λ conn c. absurd (none_listed conn c)) (λ slot h. refl) (λ slot h. refl))
       (known-spared (seen_side m) pool_side (state_of m kept.log) (state_of m kept.log) (set s.views id (takes_in v w)) other nothing_left (known_apart m digest layout s id v (takes_in v w) (state_of m kept.log) kept at (λ conn c. c) refl (spares_all (state_of m kept.log)))
-      (spares_all (state_of m kept.log)) (λ j u conn e c. ((deaths_still s id v (takes_in v w) kept at refl refl (record { rests = λ i dead bare rests. (rests, refl) })).kills j u conn e c).dead) (λ conn c. absurd (none_listed conn c)))
+      (spares_all (state_of m kept.log)) (λ j u conn e c. ((taken_deaths s kept at was).kills j u conn e c).dead) (λ conn c. absurd (none_listed conn c)))
       (notes-less turn_side pool_side layout (state_of m kept.log) (state_of m kept.log) (trie_words layout s.words).cell (trie_words layout s.words).cell s.words s.words (set s.views id (takes_in v w)) other w nothing_left
-      (notes_moved s id v (takes_in v w) kept at refl refl refl refl) there (same_ahead w.turn None (sym w-turn)) (λ conn way c. absurd (none_listed conn c)) (λ conn c. absurd (none_listed conn c))
+      (notes_moved s id v (takes_in v w) kept at refl refl refl refl refl) there (same_ahead w.turn None (sym w-turn)) (λ conn way c. absurd (none_listed conn c)) (λ conn c. absurd (none_listed conn c))
       (sym (no_notes layout (state_of m kept.log) s.words w.pools.builds w.pools.notes w-builds (λ note c. kept.notes.each other w note was c)))
       (λ conn c. absurd (none_listed conn (subst (λ ids. Contains ids conn) w-builds c))) (notes_same s kept))
       (alone-set (set s.views id (takes_in v w)) other nothing_left (record { out = λ _. record { stands = refl; leaf = refl; seen = refl; meets = refl; answered = refl; locks = refl }; spent = λ _. refl })
       (alone-set s.views id (takes_in v w) (alone_still v (takes_in v w) (kept.alone id v at) some_left refl (λ none. record { stands = none.stands; leaf = none.leaf; seen = none.seen; meets = none.meets; answered = none.answered; locks = none.locks })) kept.alone))
     where
+      -- the later of the two epochs is one that the table reached, and no connection was let go with a later one than it or another seat's
+      taken_deaths : (s' : State (Running S) (CellView S A R)) (kept' : IsCells m digest layout s') → get_elem? s'.views id ≡ some v → get_elem? s'.views other ≡ some w → Deaths death_side layout (state_of m kept'.log) s'.words (set s'.views id (takes_in v w))
+      taken_deaths s' kept' at' was' = deaths_still s' id v (takes_in v w) kept' at' refl refl refl (omega arith) (let mine = kept'.deaths.dates id v at' in let theirs = kept'.deaths.dates other w was' in omega (arith, mine, theirs)) refl (record { rests = λ conn dead bare rests. (rests, refl) })
+
+      left_dates : (s' : State (Running S) (CellView S A R)) (kept' : IsCells m digest layout s') → get_elem? s'.views id ≡ some v → id ≢ other → get_elem? (set s'.views id (takes_in v w)) other ≡ some w →
+          KeepsDates death_side (epoch_word s'.words) (set s'.views id (takes_in v w)) (set (set s'.views id (takes_in v w)) other nothing_left) nothing_left
+      left_dates s' kept' at' apart' there' = record {
+        within = omega arith;
+        still = λ epoch dated. ⊎_elim
+            (λ (same : dated.seat ≡ other).
+            let late = dated.since in
+            let theirs = ap (λ (u : CellView S A R). u.pools.dated) (some-injective dated.view w (sym dated.there ∙ (ap (get_elem? (set s'.views id (takes_in v w))) same ∙ there'))) in
+            record { seat = id; view = takes_in v w; there = set_else (set s'.views id (takes_in v w)) other id nothing_left apart' ∙ set_there s'.views id v (takes_in v w) at'; since = omega (arith, late, theirs) })
+            (λ (ne : dated.seat ≢ other). record { seat = dated.seat; view = dated.view; there = set_else (set s'.views id (takes_in v w)) other dated.seat nothing_left ne ∙ dated.there; since = dated.since })
+            (cases_eq dated.seat other);
+      }
+
       taker_stored : {words : List ℕ} → FitsStored layout words v.pools → FitsStored layout words (joined_pools v.pools w.pools)
       taker_stored {words} fits = stored_kept layout words words v.pools (joined_pools v.pools w.pools) fits refl (own_same layout v.pools (joined_pools v.pools w.pools) refl refl) (λ pool place field own. refl)
 

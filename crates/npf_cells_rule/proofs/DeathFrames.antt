@@ -24,7 +24,7 @@ use Rattle.npf_cells_leaves.proofs.TrieLemmas.{KnowsNoMore, knows_same}
 use Rattle.npf_cells_lives.specs.Deaths.{DeathSide, Rests, IsKeyless, is_dead, first_note, slots_named, Deaths}
 use Rattle.npf_cells_lives.specs.Turns.{Running}
 use Rattle.npf_cells_lives.specs.Known.{FitsKnown, Known}
-use Rattle.npf_cells_lives.proofs.DeathLemmas.{Spares, spares_all, stays_dead, RestsNoMore, deaths-same}
+use Rattle.npf_cells_lives.proofs.DeathLemmas.{Spares, spares_all, stays_dead, RestsNoMore, same_dates, deaths-same}
 use Rattle.npf_cells_lives.proofs.FreedLemmas.{gone_in}
 use Rattle.npf_cells_lives.proofs.KnownLemmas.{known_now, known_on, known-spared}
 use Rattle.npf_cells_rule.specs.declared.view.CellView.{CellView}
@@ -68,7 +68,8 @@ module _ {S A R : Type 0} (m : Meaning S A R) (digest : Key → ℕ) (layout : L
       Spares (state_of m kept.log) k' → ((slot : ℕ) → is_dead (k'.slot slot).stage ≡ is_dead ((state_of m kept.log).slot slot).stage) → RestsNoMore (state_of m kept.log) (death_side v) (death_side w) → epoch_word s.words ≤ epoch_word (set s.words i n) →
       ((slot : ℕ) → slot < layout.slots → first_note layout (set s.words i n) slot ≡ first_note layout s.words slot) → Deaths death_side layout k' (set s.words i n) (set s.views id w)
   deaths_spared s i n id v w k' kept at kills loaded spares dead less goes notes =
-      deaths-same death_side layout (state_of m kept.log) k' s.words (set s.words i n) s.views id v w kept.deaths at spares goes less (ap (λ (h : DeadHand). h.kills) kills) (ap (λ (h : DeadHand). h.reclaims) kills) (ap (λ (h : DeadHand). h.cleared) kills) (λ conn c. loaded) notes (λ slot h. dead slot)
+      deaths-same death_side layout (state_of m kept.log) k' s.words (set s.words i n) s.views id v w kept.deaths at spares goes less (ap (λ (h : DeadHand). h.kills) kills) (ap (λ (h : DeadHand). h.reclaims) kills) (ap (λ (h : DeadHand). h.cleared) kills)
+      (same_dates death_side layout (state_of m kept.log) s.words (set s.words i n) s.views id v w kept.deaths at goes (ap (λ (h : DeadHand). h.dated) kills)) (λ conn c. loaded) notes (λ slot h. dead slot)
 
   -- where they stay, and so do the first notes
   pub deaths_on : (s : State (Running S) (CellView S A R)) (i n id : ℕ) (v w : CellView S A R) (kept : IsCells m digest layout s) → get_elem? s.views id ≡ some v → dead_hand w.pools ≡ dead_hand v.pools → w.epochs.loaded ≡ v.epochs.loaded →

@@ -1,7 +1,8 @@
 -- While a seat may speak of a connection that was let go, the epoch is at most one more than that of its note; and where a seat owns all reader
 -- places, each Dead connection that isn't its own was let go.
 use Rattle.std.proofs.Common.{◌≡◌, ◌≢◌, ℕ, ◌+◌, ◌-◌, ◌^◌, ◌<◌, ◌≤◌, None, List, [], map, length, refl, sym, ap, ◌∙◌, ⊎_elim, arith}
-use mathlib.Core.Option.{some}
+use Rattle.std.proofs.lemmas.Bool.{cases_eq}
+use mathlib.Core.Option.{some, some-injective}
 use lib.ListN.{get_elem?}
 use Rattle.atomic_table.specs.Table.{State}
 use Rattle.atomic_table.proofs.Lists.{at_map}
@@ -41,7 +42,7 @@ rests_hold_back m layout digest s kept j slot epoch v within at note rests =
     (kept.epochs.each j (reader_view v) (at_map reader_view s.views j v at)).guards
 
 module _ {S A R : Type 0} (m : Meaning S A R) (layout : Layout) (digest : Key → ℕ) (s : State (Running S) (CellView S A R)) (kept : IsCells m digest layout s) (j slot : ℕ) (v : CellView S A R) (within : slot < layout.slots) (at : get_elem? s.views j ≡ some v)
-    (all : length v.seats.readers ≡ all_places) (none : HasNoDeadOfItsOwn v) (turnless : v.turn ≡ None) (dead : ((state_of m kept.log).slot slot).stage ≡ Dead) where
+    (all : length v.seats.readers ≡ all_places) (none : HasNoDeadOfItsOwn v) (dead : ((state_of m kept.log).slot slot).stage ≡ Dead) where
   abbrev k : Machine S
   k = state_of m kept.log
 
@@ -57,8 +58,8 @@ module _ {S A R : Type 0} (m : Meaning S A R) (layout : Layout) (digest : Key �
   none_cleared : cleared_in death_side s.views slot ≡ 0
   none_cleared = sum_alone (λ (u : CellView S A R). occurs slot (slots_named u.pools.cleared)) s.views j v at (spent (λ u. occurs slot (slots_named u.pools.cleared)) refl) ∙ ap (λ ids. occurs slot (slots_named ids)) none.cleared
 
-  none_has : turn_holders turn_side s.views slot ≡ 0
-  none_has = sum_alone (λ (u : CellView S A R). has_turn slot u.turn) s.views j v at (spent (λ u. has_turn slot u.turn) refl) ∙ ap (has_turn slot) turnless
+  none_has : v.turn ≡ None → turn_holders turn_side s.views slot ≡ 0
+  none_has turnless = sum_alone (λ (u : CellView S A R). has_turn slot u.turn) s.views j v at (spent (λ u. has_turn slot u.turn) refl) ∙ ap (has_turn slot) turnless
 
   high : 2 ^ 63 ≤ first_note layout s.words slot
   high = ⊎_elim
@@ -76,14 +77,25 @@ module _ {S A R : Type 0} (m : Meaning S A R) (layout : Layout) (digest : Key �
   is_epoch : first_note layout s.words slot ≡ 2 ^ 63 + epoch
   is_epoch = let h = high in omega (arith, h)
 
-  pub left_there : IsLeftThere layout s.words slot
+  since : epoch ≤ v.pools.dated
+  since =
+      let told = kept.deaths.dated slot epoch within is_epoch in
+      let late = told.since in
+      ⊎_elim
+      (λ (same : told.seat ≡ j). let mine = ap (λ (u : CellView S A R). u.pools.dated) (some-injective told.view v (sym told.there ∙ (ap (get_elem? s.views) same ∙ at))) in omega (arith, late, mine))
+      (λ (ne : told.seat ≢ j). let none = spent (λ u. u.pools.dated) refl told.seat told.view ne told.there in omega (arith, late, none))
+      (cases_eq told.seat j)
+
+  pub left_there : IsLeftThere layout s.words v slot
   left_there = record {
     epoch = epoch;
     note = is_epoch;
     reached = (kept.deaths.left slot epoch within is_epoch).past.reached;
-    turn = kept.turns.says slot within ∙ none_has;
-    phase = (kept.turns.home slot within none_has).phase ∙ (ap (λ (x : Slot S). stage_phase x.stage) (freed_none death_side s.views k slot (let a = none_reclaimed in let b = none_cleared in omega (arith, a, b))) ∙ ap stage_phase dead);
+    since = since;
+    turn = λ turnless. kept.turns.says slot within ∙ none_has turnless;
+    phase = λ turnless. (kept.turns.home slot within (none_has turnless)).phase
+        ∙ (ap (λ (x : Slot S). stage_phase x.stage) (freed_none death_side s.views k slot (let a = none_reclaimed in let b = none_cleared in omega (arith, a, b))) ∙ ap stage_phase dead);
   }
 
 pub sole_finds_left : {S A R : Type 0} (m : Meaning S A R) (layout : Layout) → SoleFindsLeft m layout
-sole_finds_left m layout digest s kept j slot v within at all none turnless dead = left_there m layout digest s kept j slot v within at all none turnless dead
+sole_finds_left m layout digest s kept j slot v within at all none dead = left_there m layout digest s kept j slot v within at all none dead

@@ -194,10 +194,16 @@ module _ {S A R : Type 0} (layout : Layout) where
         kills = no_kills;
         reclaims = no_reclaims;
         left = λ slot epoch h note. absurd (let none = no_note slot in omega (arith, note, none));
+        dated = λ slot epoch h note. absurd (let none = no_note slot in omega (arith, note, none));
+        dates = undated;
       }
         where
           no_note : (slot : ℕ) → first_note layout (opening_words layout) slot ≡ 0
           no_note slot = behind layout (field_at layout Slots slot notes_field) (omega arith)
+
+          undated : (j : ℕ) (v : CellView S A R) → get_elem? (view ∷ []) j ≡ some v → v.pools.dated ≤ epoch_word (opening_words layout)
+          undated zero v e = (let none : v.pools.dated ≡ 0 = ap (λ (u : CellView S A R). u.pools.dated) (sym (some-injective _ _ e)) in omega (arith, none))
+          undated (suc j) v e = absurd (some-ne-none v (sym e))
 
           no_kills : (j : ℕ) (v : CellView S A R) (id : ConnId) → get_elem? (view ∷ []) j ≡ some v → Contains v.pools.kills id → FitsKill {S = S} death_side opening (epoch_word (opening_words layout)) (view ∷ []) v.epochs.loaded id
           no_kills zero v id e c = absurd (none_listed id (subst (λ (u : CellView S A R). Contains u.pools.kills id) (sym (some-injective _ _ e)) c))
