@@ -30,7 +30,7 @@ use Rattle.npf_cells_lives.specs.Deaths.{DeathSide, Rests, IsProtectedBy, IsKeyl
 use Rattle.npf_cells_lives.specs.Known.{FitsKnown, Known}
 use Rattle.npf_cells_lives.specs.Notes.{note_word, IsAheadOf, IsFirm, FitsNote, Notes}
 use Rattle.npf_cells_lives.specs.Turns.{stage_phase}
-use Rattle.npf_cells_lives.proofs.DeathLemmas.{dead_at}
+use Rattle.npf_cells_lives.proofs.DeathLemmas.{KeepsDates, same_dates, dead_at}
 use Rattle.npf_cells_lives.proofs.KnownLemmas.{known-set}
 use Rattle.npf_cells_lives.proofs.NoteLemmas.{note_stays, nobody_before}
 
@@ -103,7 +103,7 @@ module _ {S : Type 0} (k : Machine S) (conn : ConnId) (way : Way) where
       others_apart : (j : ℕ) (u : V) (id : ConnId) → j ≢ i → get_elem? views j ≡ some u → Contains (side_of u).kills id → id ≢ conn
       others_apart j u id ne there c same = killer_alone j u id ne there c (ap (λ (x : ConnId). x.slot) same)
 
-      module _ (kills : (side_of w).kills ≡ (side_of v).kills) (reclaims : (side_of w).reclaims ≡ (side_of v).reclaims) (cleared : (side_of w).cleared ≡ (side_of v).cleared) (unloaded : (side_of w).loaded ≡ 0)
+      module _ (kills : (side_of w).kills ≡ (side_of v).kills) (reclaims : (side_of w).reclaims ≡ (side_of v).reclaims) (cleared : (side_of w).cleared ≡ (side_of v).cleared) (undated : (side_of w).dated ≡ (side_of v).dated) (unloaded : (side_of w).loaded ≡ 0)
           (rests : (id : ConnId) → Rests (side_of w) id → Rests (side_of v) id) (protecting : (side_of w).protecting ≡ (side_of v).protecting) (epoch : epoch_word words' ≡ epoch_word words)
           (notes : (slot : ℕ) → slot < layout.slots → first_note layout words' slot ≡ first_note layout words slot) where
         abbrev views' : List V
@@ -143,6 +143,10 @@ module _ {S : Type 0} (k : Machine S) (conn : ConnId) (way : Way) where
           unrested = λ j u e r. (let was = rested j u id e r in fits.unrested j was.0 was.1 was.2);
         }
 
+        -- the pass lets none go
+        dates_on : KeepsDates side_of (epoch_word words') views views' w
+        dates_on = same_dates side_of layout k words words' views i v w kept at (omega (arith, epoch)) undated
+
         pub deaths_unheld : Deaths side_of layout unheld words' views'
         deaths_unheld = record {
           counted = λ slot h.
@@ -180,6 +184,11 @@ module _ {S : Type 0} (k : Machine S) (conn : ConnId) (way : Way) where
           left = λ slot loaded h note.
               let was = kept.left slot loaded h (sym (notes slot h) ∙ note) in
               record { keyless = keyless_on (last_id k slot) was.keyless; past = past_on (last_id k slot) loaded was.past };
+          dated = λ slot loaded h note. dates_on.still loaded (kept.dated slot loaded h (sym (notes slot h) ∙ note));
+          dates = λ j u e. ⊎_elim
+              (λ (x : (j ≡ i) × (w ≡ u)). subst (λ (y : V). (side_of y).dated ≤ epoch_word words') x.1 dates_on.within)
+              (λ (x : (j ≢ i) × (get_elem? views j ≡ some u)). (let was = kept.dates j u x.1 in omega (arith, was, epoch)))
+              (at_set views i j w u e);
         }
 
     -- other killers know what is, as before

@@ -259,7 +259,7 @@ module _ {S A R : Type 0} (m : Meaning S A R) (digest : Key → ℕ) (layout : L
     other_kills = killer_alone k conn way dead death_side layout s.words words' s.views id me.0 giver kept.deaths at may.killed exists
 
     deaths_after : Deaths death_side layout k' words' views'
-    deaths_after = deaths_unheld k conn way dead death_side layout s.words words' s.views id me.0 giver kept.deaths at may.killed exists refl refl refl refl (λ i rests. rests) refl (below 0 (omega arith)) first_notes
+    deaths_after = deaths_unheld k conn way dead death_side layout s.words words' s.views id me.0 giver kept.deaths at may.killed exists refl refl refl refl refl (λ i rests. rests) refl (below 0 (omega arith)) first_notes
 
     seen : FitsKnown (state_of m me.0.seats.history) k conn
     seen = kept.known id me.0 conn at may.killed

@@ -22,7 +22,7 @@ use Rattle.npf_cells_pins.specs.Pinning.{loading}
 use Rattle.npf_cells_leaves.proofs.TrieLemmas.{knows_same}
 use Rattle.npf_cells_lives.specs.Deaths.{Rests, IsProtectedBy, slots_named, IsPast, FitsKill, Deaths}
 use Rattle.npf_cells_lives.specs.Turns.{Running}
-use Rattle.npf_cells_lives.proofs.DeathLemmas.{spares_all, deaths-set}
+use Rattle.npf_cells_lives.proofs.DeathLemmas.{spares_all, same_dates, deaths-set}
 use Rattle.npf_cells_rule.specs.declared.view.CellView.{CellView}
 use Rattle.npf_cells_rule.specs.Cells.{IsCells}
 use Rattle.npf_cells_rule.specs.Passes.{IsProtected}

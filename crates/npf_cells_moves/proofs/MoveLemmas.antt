@@ -4,7 +4,8 @@ use Rattle.std.proofs.Common.{◌≡◌, ℕ, ◌-◌, ◌≤◌, true, false, N
 use Rattle.std.proofs.lemmas.List.Sums.{sum_by_push}
 use Rattle.std.proofs.lemmas.List.{length-drop, length-take-le, take-append-drop, append_cancel_left, get_or-take, get_or_append_left}
 use Rattle.std.proofs.lemmas.List.Elements.{Contains-append_left, Contains-append_right, Contains-push}
-use mathlib.Core.Option.{some}
+use Rattle.std.proofs.lemmas.Bool.{cases_eq}
+use mathlib.Core.Option.{some, some-injective}
 use lib.ListN.{get_elem?}
 use Rattle.atomic_table.specs.Seated.{TableId}
 use Rattle.atomic_table.specs.Table.{State, Me, Step, Allows, Splits, Joins, keeps}
@@ -23,7 +24,7 @@ use Rattle.npf_seats.specs.Seats.{Seats}
 use Rattle.npf_seats.specs.Sums.{occurs}
 use Rattle.npf_seats.proofs.PrefixLemmas.{none_listed, none_in_prefix, seen_entry}
 use Rattle.npf_seats.proofs.SeatLemmas.{unspent, seats-split, none_seen, seats-born, seats-join, long, mine_seen, told_seen, seats-read, only_seat, most_places, owned_within}
-use Rattle.npf_seats.proofs.SumLemmas.{first_occurs, sum-set}
+use Rattle.npf_seats.proofs.SumLemmas.{first_occurs, sum-set, set_there}
 use Rattle.npf_cells_pins.specs.declared.pin.Pin.TheVariants.{Idle}
 use Rattle.npf_cells_pins.specs.Epochs.{Epochs, pin_place}
 use Rattle.npf_cells_pins.proofs.EpochLemmas.{epochs-split, epochs-join, within_last}
@@ -36,7 +37,7 @@ use Rattle.npf_cells_lives.proofs.KnownLemmas.{known-spared, known-push}
 use Rattle.npf_cells_lives.specs.Pools.{taken}
 use Rattle.npf_cells_lives.specs.Stored.{FitsStored}
 use Rattle.npf_cells_lives.proofs.ConnLemmas.{fits_nothing, owes_nothing, builds-set, builds-kept, builds-push, unstored-set, unstored-push, conns-same}
-use Rattle.npf_cells_lives.proofs.DeathLemmas.{spares_all, RestsNoMore, deaths-same, deaths-push}
+use Rattle.npf_cells_lives.proofs.DeathLemmas.{spares_all, RestsNoMore, KeepsDates, later_dates, deaths-same, deaths-push}
 use Rattle.npf_cells_lives.proofs.LockLemmas.{locks-same, holders-set, holders-push}
 use Rattle.npf_cells_lives.proofs.PoolLemmas.{pools-same, taken-set, taken-push}
 use Rattle.npf_cells_lives.proofs.StoredLemmas.{fits_unstored, own_same, stored_kept, stored-set, stored-push}
@@ -44,14 +45,14 @@ use Rattle.npf_cells_lives.proofs.TurnLemmas.{TurnsStay, turns_so, turns-kept, t
 use Rattle.npf_cells_rule.specs.declared.view.CellView.{CellView}
 use Rattle.npf_cells_rule.specs.Cells.{FitsAlone, IsCells}
 use Rattle.npf_cells_rule.specs.Passes.{cell_pass, IsPassOf}
-use Rattle.npf_cells_rule.specs.Views.{seat_side, reader_view, nothing_left, lock_side, pool_side, trie_side, turn_side, DeadHand, dead_hand, death_side, seen_side}
-use Rattle.npf_cells_rule.proofs.DeathFrames.{rests_none, rests_on_none, gone_same, known_apart}
+use Rattle.npf_cells_rule.specs.Views.{seat_side, reader_view, nothing_left, lock_side, pool_side, trie_side, turn_side, death_side, seen_side}
+use Rattle.npf_cells_rule.proofs.DeathFrames.{rests_none, rests_on_none, known_apart}
 use Rattle.npf_cells_rule.proofs.OverLemmas.{known_more}
 use Rattle.npf_cells_rule.proofs.Frames.{pushed_side, merged_side, framed, seats_step, alone-set, alone-push, alone_still, notes_apart}
 use Rattle.npf_cells_moves.specs.Moves.{gives_reader, given_view, joined_pools, joined_trie, takes_in, IsBorn, HasRead}
 use Rattle.npf_cells_lives.specs.Notes.{Notes}
 use Rattle.npf_cells_lives.specs.Turns.{Homes, Running, Turns}
-use Rattle.npf_cells_lives.proofs.NoteLemmas.{same_ahead, NotesStay, no_notes, notes-less, notes-push}
+use Rattle.npf_cells_lives.proofs.NoteLemmas.{same_ahead, NotesStay, no_notes, notes-set, notes-less, notes-push}
 use Rattle.npf_cells_rule.proofs.NoteFrames.{notes_behind}
 
 module _ {S A R : Type 0} (m : Meaning S A R) (digest : Key → ℕ) (layout : Layout) where
@@ -169,7 +170,7 @@ module _ {S A R : Type 0} (m : Meaning S A R) (digest : Key → ℕ) (layout : L
       (turns_still s id v (takes_in v w) kept at refl refl refl) there (sym w-turn) (turns_same (state_of m kept.log) s.words (set s.views id (takes_in v w)) (set (set s.views id (takes_in v w)) other nothing_left) gone_left))
       (deaths-same death_side layout (state_of m kept.log) (state_of m kept.log) s.words s.words (set s.views id (takes_in v w)) other w nothing_left
       (taken_deaths s kept at was) there (spares_all (state_of m kept.log)) (omega arith) (rests_none (state_of m kept.log) w nothing_left nothing_walked)
-      (sym w-kills) (sym w-reclaims) (sym w-cleared) (left_dates s kept at apart there) (λ conn c. absurd (none_listed conn c)) (λ slot h. refl) (λ slot h. refl))
+      (sym w-kills) (sym w-reclaims) (sym w-cleared) (left_dates s kept at (λ e. apart (sym e)) there) (λ conn c. absurd (none_listed conn c)) (λ slot h. refl) (λ slot h. refl))
       (known-spared (seen_side m) pool_side (state_of m kept.log) (state_of m kept.log) (set s.views id (takes_in v w)) other nothing_left (known_apart m digest layout s id v (takes_in v w) (state_of m kept.log) kept at (λ conn c. c) refl (spares_all (state_of m kept.log)))
       (spares_all (state_of m kept.log)) (λ j u conn e c. ((taken_deaths s kept at was).kills j u conn e c).dead) (λ conn c. absurd (none_listed conn c)))
       (notes-less turn_side pool_side layout (state_of m kept.log) (state_of m kept.log) (trie_words layout s.words).cell (trie_words layout s.words).cell s.words s.words (set s.views id (takes_in v w)) other w nothing_left

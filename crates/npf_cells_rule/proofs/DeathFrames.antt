@@ -1,6 +1,6 @@
 -- The part on deaths stays through steps that leave its words and what the seat killed, and after which the seat rests on nothing more.
 use Rattle.std.specs.List.{Contains}
-use Rattle.std.proofs.Common.{◌≡◌, ◌⊎◌, ℕ, ◌+◌, ◌<◌, ◌≤◌, Option, Some, None, List, [], set, slice_index, refl, sym, ap, ◌∙◌, subst, ⊎_elim, inl, inr, arith}
+use Rattle.std.proofs.Common.{◌≡◌, ◌⊎◌, ℕ, ◌<◌, ◌≤◌, Option, Some, None, List, set, slice_index, refl, sym, ap, ◌∙◌, subst, ⊎_elim, inl, inr, arith}
 use Rattle.std.proofs.lemmas.List.{set-get_or}
 use mathlib.Core.Option.{some}
 use lib.ListN.{get_elem?}
@@ -20,7 +20,7 @@ use Rattle.npf_seats.proofs.PrefixLemmas.{none_listed}
 use Rattle.npf_seats.proofs.SumLemmas.{sum-set}
 use Rattle.npf_cells_leaves.specs.declared.trie.LoadedLeaf.{LoadedLeaf}
 use Rattle.npf_cells_leaves.specs.Trie.{HasNoWalk}
-use Rattle.npf_cells_leaves.proofs.TrieLemmas.{KnowsNoMore, knows_same}
+use Rattle.npf_cells_leaves.proofs.TrieLemmas.{KnowsNoMore}
 use Rattle.npf_cells_lives.specs.Deaths.{DeathSide, Rests, IsKeyless, is_dead, first_note, slots_named, Deaths}
 use Rattle.npf_cells_lives.specs.Turns.{Running}
 use Rattle.npf_cells_lives.specs.Known.{FitsKnown, Known}

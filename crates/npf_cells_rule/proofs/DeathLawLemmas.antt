@@ -1,6 +1,6 @@
 -- While a seat may speak of a connection that was let go, the epoch is at most one more than that of its note; and where a seat owns all reader
 -- places, each Dead connection that isn't its own was let go.
-use Rattle.std.proofs.Common.{◌≡◌, ◌≢◌, ℕ, ◌+◌, ◌-◌, ◌^◌, ◌<◌, ◌≤◌, None, List, [], map, length, refl, sym, ap, ◌∙◌, ⊎_elim, arith}
+use Rattle.std.proofs.Common.{◌≡◌, ◌≢◌, ℕ, ◌+◌, ◌-◌, ◌^◌, ◌<◌, ◌≤◌, None, length, refl, sym, ap, ◌∙◌, ⊎_elim, arith}
 use Rattle.std.proofs.lemmas.Bool.{cases_eq}
 use mathlib.Core.Option.{some, some-injective}
 use lib.ListN.{get_elem?}
@@ -21,7 +21,7 @@ use Rattle.npf_connections.specs.Pass.{all_places}
 use Rattle.npf_seats.specs.Sums.{occurs}
 use Rattle.npf_seats.proofs.SeatLemmas.{cases_lt}
 use Rattle.npf_seats.proofs.SumLemmas.{sum_alone}
-use Rattle.npf_cells_lives.specs.Deaths.{IsProtectedBy, is_dead, first_note, has_epoch, slots_named, killed_in, reclaimed_in, cleared_in}
+use Rattle.npf_cells_lives.specs.Deaths.{IsProtectedBy, is_dead, first_note, slots_named, killed_in, reclaimed_in, cleared_in}
 use Rattle.npf_cells_lives.specs.Turns.{Running, stage_phase, has_turn, turn_holders}
 use Rattle.npf_cells_lives.proofs.DeathLemmas.{low_note}
 use Rattle.npf_cells_lives.proofs.FreedLemmas.{freed_none}

@@ -1,5 +1,5 @@
 -- A step on the word of a slot's turn or of its phase leaves all parts but that on turns.
-use Rattle.std.proofs.Common.{◌≡◌, ◌≢◌, ℕ, ◌+◌, ◌<◌, ◌≤◌, List, [], ◌∷◌, set, slice_index, refl, sym, ap, subst, ⊎_elim, arith, length-set, inl, ◌∙◌}
+use Rattle.std.proofs.Common.{◌≡◌, ◌≢◌, ℕ, ◌+◌, ◌<◌, List, [], ◌∷◌, set, slice_index, refl, sym, ap, subst, ⊎_elim, arith, length-set, inl, ◌∙◌}
 use Rattle.std.specs.List.{Contains}
 use Rattle.std.proofs.lemmas.List.{get_or-set_other}
 use mathlib.Core.Option.{some}

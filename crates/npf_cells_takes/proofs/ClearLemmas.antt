@@ -22,7 +22,7 @@ use Rattle.npf_cells_lives.specs.declared.turn.Said.{Said}
 use Rattle.npf_cells_lives.specs.declared.turn.Turn.{Turn}
 use Rattle.npf_cells_lives.specs.Deaths.{is_dead, has_epoch, first_note, slots_named, killed_in, reclaimed_in, cleared_in, FitsReclaim, Deaths}
 use Rattle.npf_cells_lives.specs.Turns.{stage_phase, Running}
-use Rattle.npf_cells_lives.proofs.DeathLemmas.{spares_all, RestsNoMore, kill_kept, reclaim_kept, deaths-changed}
+use Rattle.npf_cells_lives.proofs.DeathLemmas.{spares_all, RestsNoMore, same_dates, kill_kept, reclaim_kept, deaths-changed}
 use Rattle.npf_cells_lives.proofs.FreedLemmas.{gone_in, still_there}
 use Rattle.npf_cells_rule.specs.declared.view.CellView.{CellView}
 use Rattle.npf_cells_rule.specs.Cells.{IsCells}
@@ -168,6 +168,7 @@ module _ {S A R : Type 0} (m : Meaning S A R) (digest : Key → ℕ) (layout : L
         (λ (e : p ≡ conn.slot). absurd (let now = here p e in omega (arith, now, is)))
         (λ ne. inl (sym (else' p ne) ∙ is))
         (cases_eq p conn.slot))
+        (same_dates death_side layout k s.words words' s.views id me.0 w kept.deaths at goes refl)
 
     nobodys : killed_in death_side (set s.views id w) conn.slot ≡ 0
     nobodys = killed_after conn.slot ∙ (counts conn.slot within refl).unkilled

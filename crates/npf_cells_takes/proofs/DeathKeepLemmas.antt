@@ -23,7 +23,7 @@ use Rattle.npf_cells_leaves.specs.declared.trie.TrieSide.{TrieSide}
 use Rattle.npf_cells_lives.specs.Deaths.{is_dead, has_epoch, first_note, slots_named, killed_in, reclaimed_in, cleared_in, last_id, FitsKill, Deaths}
 use Rattle.npf_cells_lives.specs.Turns.{Running}
 use Rattle.npf_cells_lives.proofs.ConnLemmas.{building_at}
-use Rattle.npf_cells_lives.proofs.DeathLemmas.{spares_all, RestsNoMore, low_note, kill_kept, deaths-set}
+use Rattle.npf_cells_lives.proofs.DeathLemmas.{spares_all, RestsNoMore, same_dates, low_note, kill_kept, deaths-set}
 use Rattle.npf_cells_rule.specs.declared.view.CellView.{CellView}
 use Rattle.npf_cells_rule.specs.Cells.{IsCells}
 use Rattle.npf_cells_rule.specs.Views.{DeadHand, dead_hand, death_side}
@@ -71,8 +71,9 @@ module _ {S A R : Type 0} (m : Meaning S A R) (digest : Key → ℕ) (layout : L
               (kill_kept death_side layout k k s.words words' s.views id me.0 w kept.deaths at (spares_all k) same_epoch less me.0.epochs.loaded i (kept.deaths.kills id me.0 i at (subst (λ (h : DeadHand). Contains h.kills i) hand c))))
               (λ p epoch h note. ⊎_elim
               (λ (e : p ≡ slot). absurd (let small = low in let now : first_note layout words' p ≡ value = here p e in omega (arith, small, now, note)))
-              (λ ne. inl (sym (note_else p ne) ∙ note))
+              (λ ne. sym (note_else p ne) ∙ note)
               (cases_eq p slot))
+              (same_dates death_side layout k s.words words' s.views id me.0 w kept.deaths at same_epoch (ap (λ (h : DeadHand). h.dated) hand))
             where
               here : (p : ℕ) → p ≡ slot → first_note layout words' p ≡ value
               here p e = let same : field_at layout Slots p notes_field ≡ word = omega (arith, e, is) in ap (slice_index words') same ∙ get_or-set_same s.words word value 0 there

@@ -21,7 +21,7 @@ use Rattle.npf_seats.proofs.SumLemmas.{sum-set, one_of_sum, two_of_sum}
 use Rattle.npf_cells_lives.specs.declared.pools.PoolSide.{PoolSide}
 use Rattle.npf_cells_lives.specs.Deaths.{DeathSide, Rests, IsProtectedBy, IsKeyless, is_dead, has_epoch, first_note, slots_named, killed_in, reclaimed_in, cleared_in, ids_elsewhere, freed_slot, last_id, IsPast, FitsKill, IsLeft, FitsReclaim, Deaths}
 use Rattle.npf_cells_lives.proofs.ConnLemmas.{BuildsIn, building_at, builds-kept}
-use Rattle.npf_cells_lives.proofs.DeathLemmas.{dead_at}
+use Rattle.npf_cells_lives.proofs.DeathLemmas.{KeepsDates, same_dates, dead_at}
 use Rattle.npf_cells_lives.proofs.FreedLemmas.{gone_in}
 use Rattle.npf_cells_takes.proofs.HandLemmas.{none_here, as_many, was_elsewhere, slot_listed}
 
@@ -248,6 +248,10 @@ module _ {S A R V : Type 0} (side_of : V → DeathSide) (layout : Layout) (m : M
         past = subst (λ (x : ConnId). IsPast side_of (epoch_word words') views' x since) last (past_on (last_id k p) since was.past);
       }
 
+  -- the pass lets none go
+  dates_on : KeepsDates side_of (epoch_word words') views views' w
+  dates_on = same_dates side_of layout k words words' views j v w kept at (omega (arith, epoch)) (ap (λ (d : DeathSide). d.dated) same)
+
   pub deaths_freed : Deaths side_of layout k' words' views'
   deaths_freed = record {
     counted = λ p h.
@@ -271,4 +275,9 @@ module _ {S A R V : Type 0} (side_of : V → DeathSide) (layout : Layout) (m : M
     kills = kills_on;
     reclaims = reclaims_on;
     left = left_on;
+    dated = λ p since h is. dates_on.still since (kept.dated p since h (sym (notes p h) ∙ is));
+    dates = λ n u e. ⊎_elim
+        (λ (x : (n ≡ j) × (w ≡ u)). subst (λ (y : V). (side_of y).dated ≤ epoch_word words') x.1 dates_on.within)
+        (λ (x : (n ≢ j) × (get_elem? views n ≡ some u)). (let was = kept.dates n u x.1 in omega (arith, was, epoch)))
+        (at_set views j n w u e);
   }

@@ -1,5 +1,5 @@
 -- An epoch in the first note of a connection that the pass killed lets it go.
-use Rattle.std.proofs.Common.{◌≡◌, ◌≢◌, ℕ, ◌+◌, ◌^◌, ◌<◌, ◌≤◌, Some, List, set, length, refl, sym, ap, ◌∙◌, subst, ⊎_elim, inl, inr, arith}
+use Rattle.std.proofs.Common.{◌≡◌, ◌≢◌, ℕ, ◌+◌, ◌-◌, ◌^◌, ◌<◌, ◌≤◌, Some, List, set, length, refl, sym, ap, ◌∙◌, subst, ⊎_elim, inl, inr, arith}
 use Rattle.std.proofs.lemmas.Bool.{cases_eq}
 use mathlib.Core.Option.{some}
 use lib.ListN.{get_elem?}
@@ -16,12 +16,12 @@ use Rattle.npf_cells_words.specs.declared.layout.Layout.{Layout}
 use Rattle.npf_cells_words.specs.declared.layout.Pool.TheVariants.{Slots}
 use Rattle.npf_cells_words.specs.Layout.{notes_field, field_at, epoch_word}
 use Rattle.npf_seats.specs.Sums.{occurs}
-use Rattle.npf_seats.proofs.SumLemmas.{sum-set, one_of_sum}
+use Rattle.npf_seats.proofs.SumLemmas.{sum-set, set_there, one_of_sum}
 use Rattle.npf_cells_lives.specs.declared.turn.Said.{Said}
 use Rattle.npf_cells_lives.specs.declared.turn.Turn.{Turn}
 use Rattle.npf_cells_lives.specs.Deaths.{IsKeyless, is_dead, has_epoch, first_note, slots_named, killed_in, reclaimed_in, cleared_in, last_id, IsPast, FitsKill, Deaths}
 use Rattle.npf_cells_lives.specs.Turns.{Running}
-use Rattle.npf_cells_lives.proofs.DeathLemmas.{spares_all, RestsNoMore, epoch_note, past_kept, kill_kept, deaths-set}
+use Rattle.npf_cells_lives.proofs.DeathLemmas.{spares_all, RestsNoMore, KeepsDates, later_dates, epoch_note, past_kept, kill_kept, reclaim_kept, deaths-changed}
 use Rattle.npf_cells_lives.proofs.FreedLemmas.{gone_in}
 use Rattle.npf_cells_rule.specs.declared.view.CellView.{CellView}
 use Rattle.npf_cells_rule.specs.Cells.{IsCells}
@@ -37,7 +37,7 @@ module _ {S A R : Type 0} (m : Meaning S A R) (digest : Key → ℕ) (layout : L
   k = state_of m kept.log
 
   abbrev w : CellView S A R
-  w = record me.0 { pools = letting_go slot me.0.pools }
+  w = record me.0 { pools = letting_go slot (value - 2 ^ 63) me.0.pools }
 
   abbrev conn : ConnId
   conn = may.id
@@ -104,9 +104,27 @@ module _ {S A R : Type 0} (m : Meaning S A R) (digest : Key → ℕ) (layout : L
       (λ (ne : p ≢ slot). let note = ap has_epoch (else' p ne) in omega (arith, was, note))
       (cases_eq p slot)
 
+  -- it reclaims nothing
+  reclaimed_after : (p : ℕ) → reclaimed_in death_side (set s.views id w) p ≡ reclaimed_in death_side s.views p
+  reclaimed_after p = let sums = sum-set (λ (u : CellView S A R). occurs p (slots_named u.pools.reclaims)) s.views id me.0 w at in omega (arith, sums)
+
+  cleared_after : (p : ℕ) → cleared_in death_side (set s.views id w) p ≡ cleared_in death_side s.views p
+  cleared_after p = let sums = sum-set (λ (u : CellView S A R). occurs p (slots_named u.pools.cleared)) s.views id me.0 w at in omega (arith, sums)
+
+  gone_same : (p : ℕ) → gone_in death_side (set s.views id w) p ≡ gone_in death_side s.views p
+  gone_same p = let one = reclaimed_after p in let two = cleared_after p in omega (arith, one, two)
+
+  -- the pass let it go with an epoch that the table reached
+  now_dated : KeepsDates death_side (epoch_word words') s.views (set s.views id w) w
+  now_dated = later_dates death_side (epoch_word words') s.views id me.0 w at (omega arith)
+      (let was = kept.deaths.dates id me.0 at in let late = (killed.past may.loaded bare).reached in let on = goes in let is = may.epoch in omega (arith, was, late, on, is))
+
   deaths_after : Deaths death_side layout k words' (set s.views id w)
-  deaths_after = deaths-set death_side layout k k s.words words' s.views id me.0 w kept.deaths at (spares_all k) goes less refl refl counted reclaimed
+  deaths_after = deaths-changed death_side layout k k s.words words' s.views id me.0 w kept.deaths at (spares_all k) goes less
+      (λ p h. (let same = cleared_after p in let all = counted p h in omega (arith, same, all)))
+      (λ p h. (let same = reclaimed_after p in let all = reclaimed p h in omega (arith, same, all)))
       (λ i c. kill_kept death_side layout k k s.words words' s.views id me.0 w kept.deaths at (spares_all k) goes less me.0.epochs.loaded i (kept.deaths.kills id me.0 i at (was_elsewhere slot me.0.pools.kills i c).0))
+      (λ i c. reclaim_kept death_side layout k k s.words words' s.views id me.0 w kept.deaths at (spares_all k) goes less i (kept.deaths.reclaims id me.0 i at c))
       (λ p epoch h is. ⊎_elim
       (λ (e : p ≡ slot).
       let exact : me.0.epochs.loaded ≡ epoch = (let now = here p e in omega (arith, now, is)) in
@@ -115,9 +133,10 @@ module _ {S A R : Type 0} (m : Meaning S A R) (digest : Key → ℕ) (layout : L
         keyless = subst (IsKeyless k) same bare;
         past = subst (λ (y : ConnId × ℕ). IsPast death_side (epoch_word words') (set s.views id w) y.0 y.1) (λ i. (same i, exact i))
             (past_kept death_side layout k k s.words words' s.views id me.0 w kept.deaths at (spares_all k) goes less conn me.0.epochs.loaded killed.dead bare (killed.past may.loaded bare));
-      }))
+      }, record { seat = id; view = w; there = set_there s.views id me.0 w at; since = (let value' = may.epoch in omega (arith, exact, value')) }))
       (λ ne. inl (sym (else' p ne) ∙ is))
       (cases_eq p slot))
+      now_dated
 
   -- nobody has killed the slot's connection then, and nobody was told of an epoch there
   nobodys : killed_in death_side (set s.views id w) slot ≡ 0
@@ -133,13 +152,6 @@ module _ {S A R : Type 0} (m : Meaning S A R) (digest : Key → ℕ) (layout : L
       let one : has_epoch (first_note layout s.words slot) ≡ 1 = ap (λ p. has_epoch (first_note layout s.words p)) (sym there) ∙ (ap has_epoch stands ∙ epoch) in
       let none = unmarked in
       omega (arith, one, none)
-
-  -- it reclaims nothing
-  gone_same : (p : ℕ) → gone_in death_side (set s.views id w) p ≡ gone_in death_side s.views p
-  gone_same p =
-      let one = sum-set (λ (u : CellView S A R). occurs p (slots_named u.pools.reclaims)) s.views id me.0 w at in
-      let two = sum-set (λ (u : CellView S A R). occurs p (slots_named u.pools.cleared)) s.views id me.0 w at in
-      omega (arith, one, two)
 
   pub lets_go : 1 ≤ length me.0.seats.readers → IsCells m digest layout (stepped s (field_at layout Slots slot notes_field) value id me.1 w keeps)
   lets_go seated = dead_noted m digest layout s id me kept at slot value within conn may.there killed.dead bare w.pools refl refl refl refl refl

@@ -1,6 +1,6 @@
 -- Kind 10, and the load of an incarnation, keep the rule.
 use Rattle.std.specs.List.{Contains}
-use Rattle.std.proofs.Common.{◌≤◌, ◌≡◌, ◌≢◌, ℕ, ◌+◌, ◌^◌, ◌<◌, Bool, ◌&&◌, true, false, cond, eqb, eq-eqb, ne_eqb, Some, List, ◌∷◌, set, length, slice_index, refl, sym, ap, ◌∙◌, subst, ⊎_elim, inl, arith, length-set, nat_lt}
+use Rattle.std.proofs.Common.{◌≤◌, ◌≡◌, ◌≢◌, ℕ, ◌+◌, ◌-◌, ◌^◌, ◌<◌, Bool, ◌&&◌, true, false, cond, eqb, eq-eqb, ne_eqb, Some, List, ◌∷◌, set, length, slice_index, refl, sym, ap, ◌∙◌, subst, ⊎_elim, inl, arith, length-set, nat_lt}
 use Rattle.std.proofs.lemmas.Bool.Decides.{Decides-eqb, not_from_Decides, Decides-ltb}
 use Rattle.std.proofs.lemmas.List.{get_or-set_same, get_or-set_other, set-get_or}
 use mathlib.Core.Option.{some}
@@ -288,7 +288,7 @@ module _ {S A R : Type 0} (m : Meaning S A R) (digest : Key → ℕ) (layout : L
 
       -- the pass after it, by whether it is a phase, whether it is a word before the notes, and whether it is an epoch in a note
       after' : Bool → Bool → Bool → Me (Running S) (CellView S A R)
-      after' b c d = cond b (record me.0 { turn = with_phase value me.0.turn }, me.1) (cond c (with_pools me (storing Slots place field value me.0.pools)) (cond d (with_pools me (letting_go place me.0.pools)) (noted_in place field value me)))
+      after' b c d = cond b (record me.0 { turn = with_phase value me.0.turn }, me.1) (cond c (with_pools me (storing Slots place field value me.0.pools)) (cond d (with_pools me (letting_go place (value - 2 ^ 63) me.0.pools)) (noted_in place field value me)))
 
       is_after : {b c d : Bool} → eqb field phase_field ≡ b → nat_lt field notes_field ≡ c → is_epoch_note field value ≡ d → after' b c d ≡ stored_in Slots place field value me
       is_after e f g = sym (λ i. after' (e i) (f i) (g i))
@@ -323,10 +323,10 @@ module _ {S A R : Type 0} (m : Meaning S A R) (digest : Key → ℕ) (layout : L
 
       in_epoch : MayLetGo m me.0 place field value → Stores
       in_epoch go = (
-        record me.0 { pools = letting_go place me.0.pools },
+        record me.0 { pools = letting_go place (value - 2 ^ 63) me.0.pools },
         keeps,
         tt,
-        subst (λ f. IsCells m digest layout (stepped s (field_at layout Slots place f) value id me.1 (record me.0 { pools = letting_go place me.0.pools }) keeps)) (sym go.note)
+        subst (λ f. IsCells m digest layout (stepped s (field_at layout Slots place f) value id me.1 (record me.0 { pools = letting_go place (value - 2 ^ 63) me.0.pools }) keeps)) (sym go.note)
             (lets_go m digest layout s id me kept at place value within (record { id = go.id; killed = go.killed; there = go.there; note = refl; bare = go.bare; loaded = go.loaded; epoch = go.epoch }) seated),
         record { is = is_after (ne_eqb field phase_field (λ e. absurd (let note = go.note in omega (arith, e, note)))) (not_below field notes_field (λ low. omega (arith, low, go.note))) (an_epoch field value me.0.epochs.loaded go.note go.epoch) },
       )

@@ -28,7 +28,7 @@ use Rattle.npf_cells_pins.proofs.EpochLemmas.{Change, changed}
 use Rattle.npf_cells_leaves.proofs.TrieLemmas.{KnowsNoMore, knows_same}
 use Rattle.npf_cells_lives.specs.Deaths.{is_dead, has_epoch, first_note, slots_named, killed_in, cleared_in, FitsKill, Deaths}
 use Rattle.npf_cells_lives.specs.Turns.{Running}
-use Rattle.npf_cells_lives.proofs.DeathLemmas.{Spares, spares_held, RestsNoMore, stays_dead, deaths-set}
+use Rattle.npf_cells_lives.proofs.DeathLemmas.{same_dates, Spares, spares_held, RestsNoMore, stays_dead, deaths-set}
 use Rattle.npf_cells_rule.specs.declared.view.CellView.{CellView}
 use Rattle.npf_cells_rule.specs.Cells.{IsCells}
 use Rattle.npf_cells_rule.specs.Views.{reader_view, dead_hand, death_side, unloaded}
@@ -82,11 +82,12 @@ module _ {S A R : Type 0} (m : Meaning S A R) (digest : Key → ℕ) (layout : L
       (rests_less k v w (subst (λ side. KnowsNoMore v.trie side) (sym trie) (knows_same v.trie)) (ap (λ (e : EpochSide). e.pin) epochs)) same_epoch same_notes
 
   -- and one that kills the slot's connection
-  pub deaths_killed : (k' : Machine S) (conn : ConnId) (acts : ActsOn k k' slot Dead) → conn.slot ≡ slot → (k.slot slot).inc ≡ conn.inc → is_dead (k.slot slot).stage ≡ 0 → (w : CellView S A R) → w.pools.kills ≡ conn ∷ v.pools.kills → w.pools.reclaims ≡ v.pools.reclaims → w.pools.cleared ≡ v.pools.cleared → w.epochs ≡ unloaded v.epochs → w.trie ≡ v.trie →
+  pub deaths_killed : (k' : Machine S) (conn : ConnId) (acts : ActsOn k k' slot Dead) → conn.slot ≡ slot → (k.slot slot).inc ≡ conn.inc → is_dead (k.slot slot).stage ≡ 0 → (w : CellView S A R) → w.pools.kills ≡ conn ∷ v.pools.kills → w.pools.reclaims ≡ v.pools.reclaims → w.pools.cleared ≡ v.pools.cleared → w.pools.dated ≡ v.pools.dated → w.epochs ≡ unloaded v.epochs → w.trie ≡ v.trie →
       Deaths death_side layout k' ws (set s.views id w)
-  deaths_killed k' conn acts there last alive w kills reclaims cleared epochs trie = deaths-set death_side layout k k' s.words ws s.views id v w kept.deaths at spares same_epoch
+  deaths_killed k' conn acts there last alive w kills reclaims cleared dated epochs trie = deaths-set death_side layout k k' s.words ws s.views id v w kept.deaths at spares same_epoch
       (rests_less k v w (subst (λ side. KnowsNoMore v.trie side) (sym trie) (knows_same v.trie)) (ap (λ (e : EpochSide). e.pin) epochs))
-      reclaims cleared counted (λ p h. (let note = ap has_epoch (same_notes p h) in let was = kept.deaths.reclaimed p h in omega (arith, note, was))) mine (λ p epoch h note. inl (sym (same_notes p h) ∙ note))
+      reclaims cleared counted (λ p h. (let note = ap has_epoch (same_notes p h) in let was = kept.deaths.reclaimed p h in omega (arith, note, was))) mine (λ p epoch h note. sym (same_notes p h) ∙ note)
+      (same_dates death_side layout k s.words ws s.views id v w kept.deaths at same_epoch dated)
     where
       spares : Spares k k'
       spares = acts_spare k k' slot Dead acts (λ was. refl)

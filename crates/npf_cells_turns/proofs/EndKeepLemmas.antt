@@ -267,7 +267,7 @@ module _ {S A R : Type 0} (m : Meaning S A R) (digest : Key → ℕ) (layout : L
     abandons conn there notes phase = (
       builder conn there entry refl Dead acts None follows (λ i e. absurd cc) refl refl phase (λ live way none. absurd cc) (conn ∷ v.pools.kills) killed_given 0 [] [],
       built_ends conn there entry refl Dead acts None follows (λ i e. absurd cc) refl refl phase (λ live way none. absurd cc) (conn ∷ v.pools.kills) killed_given 0 [] [] (epochs_unloaded m digest layout s kept id v at turn.slot exists killer refl refl)
-          (deaths_killed m digest layout s kept id v at turn.slot exists (after m k entry) conn acts there.there building.0 (ap is_dead building.1) killer refl refl refl refl refl),
+          (deaths_killed m digest layout s kept id v at turn.slot exists (after m k entry) conn acts there.there building.0 (ap is_dead building.1) killer refl refl refl refl refl refl),
       built_acted conn there entry refl Dead acts None follows (λ i e. absurd cc) refl refl phase (λ live way none. absurd cc) (conn ∷ v.pools.kills) killed_given 0 [] [] (Abandoned conn)
           (built_adds conn there entry refl Dead acts None follows (λ i e. absurd cc) refl refl phase (λ live way none. absurd cc) (conn ∷ v.pools.kills) killed_given 0 [] []) refl,
     )
@@ -391,7 +391,7 @@ module _ {S A R : Type 0} (m : Meaning S A R) (digest : Key → ℕ) (layout : L
         let legal = plain_legal entry refl Dead acts leaves None follows (λ i e. absurd cc) bit runs phased (λ live w none. absurd cc) (conn ∷ v.pools.kills) killed_given 0 [] [] in (
           killer,
           plain_ends entry refl Dead acts leaves None follows (λ i e. absurd cc) bit runs phased (λ live w none. absurd cc) (conn ∷ v.pools.kills) killed_given 0 [] [] (epochs_unloaded m digest layout s kept id v at turn.slot exists killer refl refl)
-              (deaths_killed m digest layout s kept id v at turn.slot exists (after m k entry) conn acts there.there (ap (λ (y : Slot S). y.inc) same ∙ there.inc) (due_alive m now x.stage due) killer refl refl refl refl refl),
+              (deaths_killed m digest layout s kept id v at turn.slot exists (after m k entry) conn acts there.there (ap (λ (y : Slot S). y.inc) same ∙ there.inc) (due_alive m now x.stage due) killer refl refl refl refl refl refl),
           record {
             turn = turn;
             has = has;

@@ -33,7 +33,7 @@ use Rattle.npf_cells_lives.specs.Pools.{taken}
 use Rattle.npf_cells_lives.specs.Stored.{FitsStored}
 use Rattle.npf_cells_lives.specs.Turns.{Homes, Running, running, stage_phase, Turns}
 use Rattle.npf_cells_lives.proofs.ConnLemmas.{builds-kept, unstored-set, conns-same}
-use Rattle.npf_cells_lives.proofs.DeathLemmas.{spares_all, epoch_note, last_stage, RestsNoMore, kill_kept, reclaim_kept, deaths-changed}
+use Rattle.npf_cells_lives.proofs.DeathLemmas.{same_dates, spares_all, epoch_note, last_stage, RestsNoMore, kill_kept, reclaim_kept, deaths-changed}
 use Rattle.npf_cells_lives.proofs.FreedLemmas.{gone_in, freed_stays, still_there, by_some}
 use Rattle.npf_cells_lives.proofs.LockLemmas.{locks-same, holders-set}
 use Rattle.npf_cells_lives.proofs.NoteLemmas.{notes-set}
@@ -142,6 +142,7 @@ module _ {S A R : Type 0} (m : Meaning S A R) (digest : Key → ℕ) (layout : L
       (λ (c' : Contains v.pools.cleared i). kept.deaths.reclaims id v i at (inr c'))
       c))
       (λ p epoch h note. inl (sym (same_notes m digest layout s kept id v at slot exists p h) ∙ note))
+      (same_dates death_side layout k s.words ws s.views id v reclaimer kept.deaths at (same_epoch m digest layout s kept id v at slot exists) refl)
     where
       fits_conn : FitsReclaim death_side k s.views conn
       fits_conn = record {
