@@ -61,9 +61,9 @@ module _ {S V : Type 0} (side_of : V → DeathSide) (views : List V) where
           (λ (none : gone_in side_of views slot ≡ 0).
           let same = freed_none k slot none in
           let now : stage_phase ((unreclaimed side_of views k).slot slot).stage ≡ 0 = ⊎_elim
-              (λ (e : (unreclaimed side_of views k).slot slot ≡ was). ap (λ (x : Slot S). stage_phase x.stage) e ∙ idle)
-              (λ (both : (stage_phase was.stage ≡ 0) × (stage_phase ((unreclaimed side_of views k).slot slot).stage ≡ 0)). both.1)
-              stays in
+          (λ (e : (unreclaimed side_of views k).slot slot ≡ was). ap (λ (x : Slot S). stage_phase x.stage) e ∙ idle)
+          (λ (both : (stage_phase was.stage ≡ 0) × (stage_phase ((unreclaimed side_of views k).slot slot).stage ≡ 0)). both.1)
+          stays in
           live_phase (k.slot slot).stage (ap (λ (x : Slot S). stage_phase x.stage) (sym same) ∙ now))
           (λ (gone : gone_in side_of views slot ≢ 0) live. (let no : IsLive {S = S} Dead = subst IsLive (dead gone) live in no))
           (cases_eq (gone_in side_of views slot) 0)

@@ -177,8 +177,8 @@ module _ {S V : Type 0} (turn_of : V → Option (Turn S)) (side_of : V → PoolS
       both j u e = ⊎_elim
           (λ (x : (j ≡ i) × (w ≡ u)).
           subst (λ (y : V). IsGiven turn_of side_of layout k words y × IsToldSo turn_of side_of layout k words y) x.1 (
-          given,
-          told_same turn_of side_of layout k words v w kills same (λ turn said way. kept.said i v turn said way at),
+            given,
+            told_same turn_of side_of layout k words v w kills same (λ turn said way. kept.said i v turn said way at),
           ))
           (λ (x : (j ≢ i) × (get_elem? views j ≡ some u)). (λ id way. kept.given j u id way x.1, λ turn said way. kept.said j u turn said way x.1))
           (at_set views i j w u e)
@@ -257,8 +257,8 @@ module _ {S V : Type 0} (turn_of : V → Option (Turn S)) (side_of : V → PoolS
       (λ j u e. ⊎_elim
       (λ (there : get_elem? views j ≡ some u). (λ id way. kept.given j u id way there, λ turn said way. kept.said j u turn said way there))
       (λ (x : w ≡ u). (
-      λ id way c not n. absurd (none_listed id (subst (λ ids. Contains ids id) (ap (λ (y : V). (side_of y).kills) (sym x) ∙ killless) c)),
-      λ turn said way has is firm field. absurd (let no : None ≡ Some turn = sym none ∙ (ap turn_of x ∙ has) in cc),
+        λ id way c not n. absurd (none_listed id (subst (λ ids. Contains ids id) (ap (λ (y : V). (side_of y).kills) (sym x) ∙ killless) c)),
+        λ turn said way has is firm field. absurd (let no : None ≡ Some turn = sym none ∙ (ap turn_of x ∙ has) in cc),
       ))
       (at_snoc views w u j e))
       (λ j u turn note e has is. ⊎_elim

@@ -1,6 +1,5 @@
 -- A load of the epoch, by a pass that killed connections: whoever rests on one of them is protected with that epoch or an earlier one.
-use Rattle.std.specs.List.{Contains}
-use Rattle.std.proofs.Common.{◌≡◌, ◌≢◌, ℕ, ◌≤◌, List, set, map, slice_index, refl, sym, ap, subst, ⊎_elim, inl, arith}
+use Rattle.std.proofs.Common.{◌≡◌, ◌≢◌, ℕ, set, refl, sym, subst, ⊎_elim, arith}
 use Rattle.std.proofs.lemmas.List.{set-get_or}
 use mathlib.Core.Option.{some}
 use lib.ListN.{get_elem?}
@@ -9,7 +8,6 @@ use Rattle.atomic_table.proofs.Lists.{at_map, at_set}
 use Rattle.npf_types.specs.declared.key.Key.{Key}
 use Rattle.npf_core.specs.declared.conn_id.ConnId.{ConnId}
 use Rattle.npf_core.specs.History.{state_of}
-use Rattle.npf_core.specs.Machine.{Machine}
 use Rattle.npf_core.specs.Meaning.{Meaning}
 use Rattle.npf_cells_words.specs.declared.layout.Layout.{Layout}
 use Rattle.npf_cells_words.specs.Layout.{epoch_word}
@@ -20,7 +18,7 @@ use Rattle.npf_cells_pins.specs.declared.pin.Pin.TheVariants.{Idle, Pinned, Prot
 use Rattle.npf_cells_pins.specs.Epochs.{PinAllows}
 use Rattle.npf_cells_pins.specs.Pinning.{loading}
 use Rattle.npf_cells_leaves.proofs.TrieLemmas.{knows_same}
-use Rattle.npf_cells_lives.specs.Deaths.{Rests, IsProtectedBy, slots_named, IsPast, FitsKill, Deaths}
+use Rattle.npf_cells_lives.specs.Deaths.{Rests, IsProtectedBy, slots_named, IsPast, Deaths}
 use Rattle.npf_cells_lives.specs.Turns.{Running}
 use Rattle.npf_cells_lives.proofs.DeathLemmas.{spares_all, same_dates, deaths-set}
 use Rattle.npf_cells_rule.specs.declared.view.CellView.{CellView}

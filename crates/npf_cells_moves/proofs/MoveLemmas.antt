@@ -1,6 +1,6 @@
 -- The base's moves keep the rule, and what they leave in the passes.
 use Rattle.std.specs.List.{Contains}
-use Rattle.std.proofs.Common.{◌≡◌, ℕ, ◌-◌, ◌≤◌, true, false, None, List, [], ◌∷◌, ◌++◌, map, set, length, take, drop, refl, sym, ap, ◌∙◌, subst, ⊎_elim, inl, inr, arith, append-nil, length-append}
+use Rattle.std.proofs.Common.{◌≡◌, ◌≢◌, ℕ, ◌-◌, ◌≤◌, true, false, None, List, [], ◌∷◌, ◌++◌, map, set, length, take, drop, refl, sym, ap, ◌∙◌, subst, ⊎_elim, inl, inr, arith, append-nil, length-append}
 use Rattle.std.proofs.lemmas.List.Sums.{sum_by_push}
 use Rattle.std.proofs.lemmas.List.{length-drop, length-take-le, take-append-drop, append_cancel_left, get_or-take, get_or_append_left}
 use Rattle.std.proofs.lemmas.List.Elements.{Contains-append_left, Contains-append_right, Contains-push}
@@ -48,7 +48,7 @@ use Rattle.npf_cells_rule.specs.Passes.{cell_pass, IsPassOf}
 use Rattle.npf_cells_rule.specs.Views.{seat_side, reader_view, nothing_left, lock_side, pool_side, trie_side, turn_side, death_side, seen_side}
 use Rattle.npf_cells_rule.proofs.DeathFrames.{rests_none, rests_on_none, known_apart}
 use Rattle.npf_cells_rule.proofs.OverLemmas.{known_more}
-use Rattle.npf_cells_rule.proofs.Frames.{pushed_side, merged_side, framed, seats_step, alone-set, alone-push, alone_still, notes_apart}
+use Rattle.npf_cells_rule.proofs.Frames.{pushed_side, merged_side, framed, seats_step, alone-set, alone-push, alone_still}
 use Rattle.npf_cells_moves.specs.Moves.{gives_reader, given_view, joined_pools, joined_trie, takes_in, IsBorn, HasRead}
 use Rattle.npf_cells_lives.specs.Notes.{Notes}
 use Rattle.npf_cells_lives.specs.Turns.{Homes, Running, Turns}

@@ -1,5 +1,5 @@
 -- What the steps on the epoch and on the readers change in the pass's own view, and what each tells.
-use Rattle.std.specs.Prelude.{◌≡◌, ℕ, ◌+◌, length}
+use Rattle.std.specs.Prelude.{◌≡◌, ℕ, ◌+◌, ◌≤◌, length}
 use Rattle.atomic_table.specs.Table.{Me, Step}
 use Rattle.npf_types.specs.declared.key.Key.{Key}
 use Rattle.npf_core.specs.Meaning.{Meaning}

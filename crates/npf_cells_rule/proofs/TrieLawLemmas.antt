@@ -21,9 +21,9 @@ leaves_are_kept m layout digest s kept j v leaf at is =
     let t = trie_words layout s.words in
     let k = state_of m kept.log in
     let claimed : IsClaimed (stage_of k (record { slot = leaf.slot; inc = leaf.inc })) = ⊎_elim
-        (λ (right : IsRightLeaf layout.slots k.holder t leaf.slot leaf.way). subst (λ (n : ℕ). IsClaimed (stage_of k (record { slot = leaf.slot; inc = n }))) stays.inc (holders_claimed m layout.slots kept.log kept.connections.legal (t.key leaf.slot leaf.way) (leaf_found t leaf.slot leaf.way) right.held))
-        (λ (dead : stage_of k (record { slot = leaf.slot; inc = leaf.inc }) ≡ Dead). subst IsClaimed (sym dead) tt)
-        stays.right in
+    (λ (right : IsRightLeaf layout.slots k.holder t leaf.slot leaf.way). subst (λ (n : ℕ). IsClaimed (stage_of k (record { slot = leaf.slot; inc = n }))) stays.inc (holders_claimed m layout.slots kept.log kept.connections.legal (t.key leaf.slot leaf.way) (leaf_found t leaf.slot leaf.way) right.held))
+    (λ (dead : stage_of k (record { slot = leaf.slot; inc = leaf.inc }) ≡ Dead). subst IsClaimed (sym dead) tt)
+    stays.right in
     record { key = stays.key; inc = stays.inc; claimed = claimed }
 
 pub nodes_are_kept : {S A R : Type 0} (m : Meaning S A R) (layout : Layout) → NodesAreKept m layout

@@ -129,11 +129,14 @@ module _ {S A R : Type 0} (m : Meaning S A R) (digest : Key → ℕ) (layout : L
       (λ (e : p ≡ slot).
       let exact : me.0.epochs.loaded ≡ epoch = (let now = here p e in omega (arith, now, is)) in
       let same : conn ≡ last_id k p = conn_last m digest layout s id me kept at slot value within conn may.there killed.dead bare ∙ ap (last_id k) (sym e) in
-      inr (record {
-        keyless = subst (IsKeyless k) same bare;
-        past = subst (λ (y : ConnId × ℕ). IsPast death_side (epoch_word words') (set s.views id w) y.0 y.1) (λ i. (same i, exact i))
-            (past_kept death_side layout k k s.words words' s.views id me.0 w kept.deaths at (spares_all k) goes less conn me.0.epochs.loaded killed.dead bare (killed.past may.loaded bare));
-      }, record { seat = id; view = w; there = set_there s.views id me.0 w at; since = (let value' = may.epoch in omega (arith, exact, value')) }))
+      inr (
+        record {
+          keyless = subst (IsKeyless k) same bare;
+          past = subst (λ (y : ConnId × ℕ). IsPast death_side (epoch_word words') (set s.views id w) y.0 y.1) (λ i. (same i, exact i))
+              (past_kept death_side layout k k s.words words' s.views id me.0 w kept.deaths at (spares_all k) goes less conn me.0.epochs.loaded killed.dead bare (killed.past may.loaded bare));
+        },
+        record { seat = id; view = w; there = set_there s.views id me.0 w at; since = (let value' = may.epoch in omega (arith, exact, value')) },
+      ))
       (λ ne. inl (sym (else' p ne) ∙ is))
       (cases_eq p slot))
       now_dated

@@ -1,6 +1,6 @@
 -- What the end of a turn makes of deaths: an act that kills puts the connection among the pass's kills, which forgets the epoch that it loaded; any other act spares the dead.
 use Rattle.std.specs.List.{Contains}
-use Rattle.std.proofs.Common.{◌≡◌, ◌≢◌, ◌⊎◌, ℕ, ◌+◌, ◌<◌, ◌≤◌, cond, eqb, eq-eqb, ne_eqb, List, [], ◌∷◌, map, set, slice_index, refl, sym, ap, ◌∙◌, subst, ⊎_elim, inl, inr, arith}
+use Rattle.std.proofs.Common.{◌≡◌, ◌≢◌, ℕ, ◌+◌, ◌<◌, ◌≤◌, cond, eqb, eq-eqb, ne_eqb, List, ◌∷◌, map, set, refl, sym, ap, ◌∙◌, subst, ⊎_elim, inl, arith}
 use Rattle.std.proofs.lemmas.Bool.{cases_eq}
 use Rattle.std.proofs.lemmas.List.{map-set}
 use mathlib.Core.Option.{some}
@@ -23,12 +23,12 @@ use Rattle.npf_seats.proofs.ListLemmas.{one_where, occurs-cons}
 use Rattle.npf_seats.proofs.PrefixLemmas.{none_listed, cons_cases}
 use Rattle.npf_seats.proofs.SumLemmas.{sum-set, side_same}
 use Rattle.npf_cells_pins.specs.declared.pin.EpochSide.{EpochSide}
-use Rattle.npf_cells_pins.specs.Epochs.{ReaderView, FitsEpochs, Epochs, all_raises, pin_place}
-use Rattle.npf_cells_pins.proofs.EpochLemmas.{Change, changed}
+use Rattle.npf_cells_pins.specs.Epochs.{ReaderView, FitsEpochs, Epochs, pin_place}
+use Rattle.npf_cells_pins.proofs.EpochLemmas.{changed}
 use Rattle.npf_cells_leaves.proofs.TrieLemmas.{KnowsNoMore, knows_same}
 use Rattle.npf_cells_lives.specs.Deaths.{is_dead, has_epoch, first_note, slots_named, killed_in, cleared_in, FitsKill, Deaths}
 use Rattle.npf_cells_lives.specs.Turns.{Running}
-use Rattle.npf_cells_lives.proofs.DeathLemmas.{same_dates, Spares, spares_held, RestsNoMore, stays_dead, deaths-set}
+use Rattle.npf_cells_lives.proofs.DeathLemmas.{same_dates, Spares, spares_held, stays_dead, deaths-set}
 use Rattle.npf_cells_rule.specs.declared.view.CellView.{CellView}
 use Rattle.npf_cells_rule.specs.Cells.{IsCells}
 use Rattle.npf_cells_rule.specs.Views.{reader_view, dead_hand, death_side, unloaded}

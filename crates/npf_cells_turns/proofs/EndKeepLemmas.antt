@@ -53,7 +53,7 @@ use Rattle.npf_cells_rule.proofs.Frames.{epochs_apart}
 use Rattle.npf_cells_rule.proofs.TurnFrames.{below}
 use Rattle.npf_cells_turns.specs.declared.act.TurnAct.{TurnAct}
 use Rattle.npf_cells_turns.specs.declared.act.TurnAct.TheVariants.{Nothing, Start, Step as Steps, Abandoned, Expired, Reclaim}
-use Rattle.npf_cells_turns.specs.EndKinds.{stage_by, BuildsThere, KnowsThere, IsDueThere, MayReclaim, MayAct, MayEndBy, act_entries, without_build, acted, HasActed, TellsEnd, EndsTurn, HasBareNotes, building_after}
+use Rattle.npf_cells_turns.specs.EndKinds.{stage_by, BuildsThere, KnowsThere, IsDueThere, MayReclaim, MayAct, MayEndBy, act_entries, without_build, acted, HasActed, TellsEnd, EndsTurn, HasBareNotes}
 use Rattle.npf_cells_turns.proofs.ActLemmas.{stepped_idle, stepped_bit, stepped_death, stepped_dead, due_bit, due_settled, due_alive, answer_stays, answer_seen, step_seen, step_runs, step_phase, ActsOn, starts_on, steps_on, kills_on, still_building, building_in, not_without, in_without}
 use Rattle.npf_cells_turns.proofs.DeathEndLemmas.{deaths_stay, deaths_killed, epochs_unloaded}
 use Rattle.npf_cells_turns.proofs.ReclaimLemmas.{reclaimer, reclaims}
@@ -192,7 +192,7 @@ module _ {S A R : Type 0} (m : Meaning S A R) (digest : Key → ℕ) (layout : L
 
       module _ (value : Running S) (follows : MayFollow m layout.slots k entry) (freeless : (i : ConnId) → ¬ (entry.act ≡ Acts.Free i)) (bit : claim_bit stage ≡ 1) (runs : value ≡ running stage) (phase : turn.phase ≡ stage_phase stage)
           (fresh : stage_phase stage ≡ 1 → (way : Way) → HoldsNone k (last_id k turn.slot) way → note_word layout s.words turn.slot way ≡ 0) (kills : List ConnId)
-            (given : (i : ConnId) (way : Way) → Contains kills i → ¬ Contains v.pools.gave_up (record { id = i; way = way }) → HoldsNone k i way → note_word layout s.words i.slot way ≡ 0) (loaded : ℕ) (scanned behind : List ℕ) where
+          (given : (i : ConnId) (way : Way) → Contains kills i → ¬ Contains v.pools.gave_up (record { id = i; way = way }) → HoldsNone k i way → note_word layout s.words i.slot way ≡ 0) (loaded : ℕ) (scanned behind : List ℕ) where
         abbrev pub builder : CellView S A R
         builder = record v { seats = record v.seats { history = kept.log ++ entry ∷ [] }; epochs = record v.epochs { loaded = loaded; scanned = scanned; behind = behind }; pools = record side { kills = kills }; turn = None }
 
@@ -295,7 +295,7 @@ module _ {S A R : Type 0} (m : Meaning S A R) (digest : Key → ℕ) (layout : L
         (leaves : (i : ConnId) (j : ℕ) → stage_of k i ≡ Building j → i.slot ≡ turn.slot → stage ≡ x.stage)
         (value : Running S) (follows : MayFollow m layout.slots k entry) (freeless : (i : ConnId) → ¬ (entry.act ≡ Acts.Free i)) (bit : claim_bit stage ≡ claim_bit x.stage) (runs : value ≡ running (slot_by gone (record x { stage = stage })).stage) (phase : turn.phase ≡ stage_phase (slot_by gone (record x { stage = stage })).stage)
         (fresh : stage_phase stage ≡ 1 → (way : Way) → HoldsNone k (last_id k turn.slot) way → note_word layout s.words turn.slot way ≡ 0) (kills : List ConnId)
-            (given : (i : ConnId) (way : Way) → Contains kills i → ¬ Contains v.pools.gave_up (record { id = i; way = way }) → HoldsNone k i way → note_word layout s.words i.slot way ≡ 0) (loaded : ℕ) (scanned behind : List ℕ) where
+        (given : (i : ConnId) (way : Way) → Contains kills i → ¬ Contains v.pools.gave_up (record { id = i; way = way }) → HoldsNone k i way → note_word layout s.words i.slot way ≡ 0) (loaded : ℕ) (scanned behind : List ℕ) where
       fits_on : (j : ℕ) (builds : List ConnId) (unstored : List ℕ) → FitsBuilds k j builds unstored → FitsBuilds (after m k entry) j builds unstored
       fits_on j builds unstored fits = record {
         building = λ i c. still_building k (after m k entry) turn.slot stage acts i j (fits.building i c) (leaves i j (fits.building i c));

@@ -56,7 +56,7 @@ use Rattle.npf_cells_rule.specs.Cells.{IsCells}
 use Rattle.npf_cells_rule.specs.Passes.{cell_pass}
 use Rattle.npf_cells_rule.specs.Views.{seat_side, reader_view, lock_side, pool_side, trie_side, turn_side, death_side, seen_side}
 use Rattle.npf_cells_rule.proofs.EntryLemmas.{adds_entry, sole_entries}
-use Rattle.npf_cells_rule.proofs.Frames.{alone-set, alone_still, framed, epochs_apart}
+use Rattle.npf_cells_rule.proofs.Frames.{alone-set, alone_still, framed}
 use Rattle.npf_cells_rule.proofs.TurnFrames.{other_word, below, inc_else, lock_else, keeps_trie, stored_else, turn_step, notes_stay}
 use Rattle.npf_cells_turns.proofs.ActLemmas.{ActsOn, inc_stays, bit_stays}
 

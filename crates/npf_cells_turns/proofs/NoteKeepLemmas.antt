@@ -1,6 +1,6 @@
 -- A load of a note under its slot's turn keeps the rule: the pass knows what the note says.
 use Rattle.std.specs.List.{Contains}
-use Rattle.std.proofs.Common.{◌≡◌, ◌≢◌, ℕ, ◌<◌, ◌≤◌, Bool, true, false, cond, ◌↔◌, Option, Some, None, List, set, length, slice_index, refl, sym, ap, ◌∙◌, subst, ⊎_elim, inl, arith, length-set}
+use Rattle.std.proofs.Common.{◌≡◌, ◌≢◌, ℕ, ◌<◌, ◌≤◌, Bool, true, false, cond, Option, Some, None, List, set, length, slice_index, refl, sym, ap, ◌∙◌, subst, ⊎_elim, inl, arith, length-set}
 use Rattle.std.proofs.lemmas.List.{set-get_or}
 use mathlib.Core.Option.{some}
 use lib.ListN.{get_elem?}
@@ -50,7 +50,7 @@ use Rattle.npf_cells_rule.specs.NoteLaw.{NamesEnd}
 use Rattle.npf_cells_rule.proofs.NoteFrames.{notes_behind}
 use Rattle.npf_cells_rule.proofs.NoteLawLemmas.{code_above, names_end}
 use Rattle.npf_cells_rule.proofs.StoodLemmas.{stood_so}
-use Rattle.npf_cells_turns.specs.NoteKinds.{noting, NamesPlace, ShowsKill, LoadsNote}
+use Rattle.npf_cells_turns.specs.NoteKinds.{NamesPlace, ShowsKill, LoadsNote}
 use Rattle.npf_cells_turns.specs.TurnKinds.{HasSlotTurn}
 use Rattle.npf_cells_turns.proofs.WordKeepLemmas.{own_alone, shows_by_turn, shows_note}
 
@@ -197,15 +197,15 @@ module _ {S A R : Type 0} (m : Meaning S A R) (digest : Key → ℕ) (layout : L
   may_load_note st id n slot way me lives seated within turn =
       subst (λ p. Allows (IsCells m digest layout) n id me (field_at layout Slots p (note_field way)) (λ x. x) (LoadsNote m digest layout p way st me)) turn.there
       (λ s kept homes at bound. (
-      teller s kept id me.0 at seated turn.turn turn.has way,
-      keeps,
-      tt,
-      tells s kept id me.0 at seated turn.turn turn.has way me.1,
-      record {
-        is = refl;
-        noted = shows_note m digest layout s id me.0 kept at Slots turn.turn.slot (note_field way);
-        by_turn = shows_by_turn m digest layout s id me.0 kept at lives Slots turn.turn.slot (note_field way);
-        by_kill = shows_kill s kept id me.0 at seated turn.turn turn.has way;
-        stood = stood_so m digest layout s id me.0 (field_at layout Slots turn.turn.slot (note_field way)) (field_at layout Slots turn.turn.slot (note_field way)) kept at lives refl;
-      },
+        teller s kept id me.0 at seated turn.turn turn.has way,
+        keeps,
+        tt,
+        tells s kept id me.0 at seated turn.turn turn.has way me.1,
+        record {
+          is = refl;
+          noted = shows_note m digest layout s id me.0 kept at Slots turn.turn.slot (note_field way);
+          by_turn = shows_by_turn m digest layout s id me.0 kept at lives Slots turn.turn.slot (note_field way);
+          by_kill = shows_kill s kept id me.0 at seated turn.turn turn.has way;
+          stood = stood_so m digest layout s id me.0 (field_at layout Slots turn.turn.slot (note_field way)) (field_at layout Slots turn.turn.slot (note_field way)) kept at lives refl;
+        },
       ))

@@ -1,11 +1,11 @@
 -- A connection whose first note's epoch is two behind is reclaimed at the end of its slot's turn: nobody may speak of it.
 use Rattle.std.specs.List.{Contains}
-use Rattle.std.proofs.Common.{◌≡◌, ◌≢◌, ◌⊎◌, ℕ, ◌+◌, ◌^◌, ◌<◌, ◌≤◌, cond, eqb, eq-eqb, ne_eqb, Some, None, List, [], ◌∷◌, map, set, length, slice_index, refl, sym, ap, ◌∙◌, subst, ⊎_elim, inl, inr, arith, length-set}
+use Rattle.std.proofs.Common.{◌≡◌, ◌≢◌, ℕ, ◌+◌, ◌^◌, ◌<◌, ◌≤◌, eqb, eq-eqb, ne_eqb, Some, None, List, ◌∷◌, set, length, refl, sym, ap, ◌∙◌, subst, ⊎_elim, inl, inr, arith, length-set}
 use Rattle.std.proofs.lemmas.Bool.{cases_eq}
 use mathlib.Core.Option.{some}
 use lib.ListN.{get_elem?}
 use Rattle.atomic_table.specs.Table.{State}
-use Rattle.atomic_table.proofs.Lists.{at_map, at_set}
+use Rattle.atomic_table.proofs.Lists.{at_map}
 use Rattle.npf_types.specs.declared.key.Key.{Key}
 use Rattle.npf_types.specs.declared.key.Way.{Way}
 use Rattle.npf_types.specs.declared.key.Way.TheVariants.{Forward}
@@ -18,7 +18,7 @@ use Rattle.npf_core.specs.Meaning.{Meaning}
 use Rattle.npf_connections.specs.Pass.{all_places}
 use Rattle.npf_cells_words.specs.declared.layout.Layout.{Layout}
 use Rattle.npf_cells_words.specs.declared.layout.Pool.TheVariants.{Slots}
-use Rattle.npf_cells_words.specs.Layout.{turn_field, field_at, epoch_word, reader_word}
+use Rattle.npf_cells_words.specs.Layout.{turn_field, field_at}
 use Rattle.npf_seats.specs.Seats.{Seats}
 use Rattle.npf_seats.specs.Sums.{occurs}
 use Rattle.npf_seats.proofs.ListLemmas.{one_where, occurs-cons}
@@ -28,7 +28,7 @@ use Rattle.npf_cells_leaves.specs.Trie.{trie_words}
 use Rattle.npf_cells_leaves.proofs.TrieLemmas.{knows_same, trie_same}
 use Rattle.npf_cells_lives.specs.declared.turn.Turn.{Turn}
 use Rattle.npf_cells_lives.specs.Conns.{entry_seat}
-use Rattle.npf_cells_lives.specs.Deaths.{Rests, is_dead, has_epoch, first_note, slots_named, killed_in, reclaimed_in, cleared_in, freed_slot, slot_by, unreclaimed, last_id, FitsReclaim, Deaths}
+use Rattle.npf_cells_lives.specs.Deaths.{Rests, has_epoch, first_note, slots_named, reclaimed_in, cleared_in, freed_slot, slot_by, unreclaimed, last_id, FitsReclaim, Deaths}
 use Rattle.npf_cells_lives.specs.Pools.{taken}
 use Rattle.npf_cells_lives.specs.Stored.{FitsStored}
 use Rattle.npf_cells_lives.specs.Turns.{Homes, Running, running, stage_phase, Turns}
