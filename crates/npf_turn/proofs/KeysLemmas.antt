@@ -64,7 +64,7 @@ module _ {S A R : Type 0} (m : Meaning S A R) (id : ConnId) where
   ends_so : (way : Way) (gave : Bool) (old now : Me (Running S) (CellView S A R)) → HasEndedKey m id way gave old now → Ends way gave old now
   ends_so way true old now so = record {
     adds = so.adds;
-    some = (λ h. tt, λ h. so.held);
+    some = (λ h. refl, λ h. so.held);
     none = λ key held. (
         let before = so.adds.ends [] (unhold (cell_pass old.0) way) refl in
         let after' = ap (λ h. (state_of m h).holder key) before.1 ∙ ap (λ (k : Machine S). k.holder key) (state_of-append m before.0 (unhold (cell_pass old.0) way)) in
@@ -79,7 +79,7 @@ module _ {S A R : Type 0} (m : Meaning S A R) (id : ConnId) where
       adds = record { rest = []; goes_on = history ∙ sym (append-nil old.0.seats.history); own = refl; listed = λ n c. refl };
       ends = λ init last e. absurd (nothing init last e);
     };
-    some = (λ h. absurd (so.none h.0 h.1), λ h. absurd h);
+    some = (λ h. absurd (so.none h.0 h.1), λ h. absurd (let no' : false ≡ true = h in cc));
     none = λ key held. so.none key (subst (λ h. Holds (state_of m h) id way key) history held);
     others = λ other key ne. (subst (λ h. Holds (state_of m h) id other key) (sym history), subst (λ h. Holds (state_of m h) id other key) history);
     legal = λ pass. subst (λ (y : Me (Running S) (CellView S A R)). IsPass m (cell_pass y.0)) (sym so.is) pass;

@@ -6,7 +6,7 @@ ghost use Rattle.npf_cells.specs.Cells.{IsPassIn};
 ghost use Rattle.npf_types.specs.declared.key.Way.{Way};
 ghost use Rattle.npf_turn.specs.Ending.{HasEndedKey, HasEndedKeys};
 
-use crate::lock::{lock, unlock};
+use crate::locking::{lock, unlock};
 use crate::turn::wait_turn;
 use npf_cells::{CellPass, Cells, Layout, TurnAct};
 use npf_core::{ConnId, Law};
