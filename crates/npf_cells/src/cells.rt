@@ -54,6 +54,13 @@ impl<L: Law> CellPass<L> {
         }
     }
 
+    /// How many reader places it owns: all 66 where no other pass owns any.
+    pub fn places(&self) -> usize
+        ensures { result ≡ length self.now.readers.items }
+    {
+        self.readers.len()
+    }
+
     /// Begins the next search in that pool in this word.
     pub fn set_hint(&mut self, pool: Pool, word: u32)
         ensures seat { self.new.seat ≡ self.old.seat }
@@ -188,11 +195,12 @@ impl<L: Law, H: KeyHash> Cells<L, H> {
         add_all(&mut pass.readers, &readers);
     }
 
-    /// Loads the epoch, and begins a new scan of the readers.
+    /// Loads the epoch, and begins a new scan of the readers. It isn't before any with which the pass let a connection go.
     pub fn load_epoch(&self, pass: &mut CellPass<L>) -> u64
         requires own { IsPassIn self.now pass.old }
         ensures own { IsPassIn self.now pass.new }
         ensures met { IsMet pass.old.seat.me.0.epochs result }
+        ensures dated { pass.old.seat.me.0.pools.dated ≤ result }
         ensures sole { IsSole pass.old.seat.me.0 result }
         ensures next { pass.new.seat.me ≡ with_epochs pass.old.seat.me (loading pass.old.seat.me.0.epochs result) }
     {

@@ -1,5 +1,5 @@
 -- What is stored of a word after a further store.
-use Rattle.std.proofs.Common.{◌≡◌, ◌≢◌, ℕ, ◌+◌, ◌<◌, ◌≤◌, ◌^◌, ◌&&◌, Bool, true, false, not, nat_lt, cond, eqb, eq-eqb, ne_eqb, Some, List, [], ◌∷◌, refl, sym, ap, ◌∙◌, subst, ⊎_elim, arith}
+use Rattle.std.proofs.Common.{◌≡◌, ◌≢◌, ℕ, ◌+◌, ◌-◌, ◌<◌, ◌≤◌, ◌^◌, ◌&&◌, Bool, true, false, not, nat_lt, cond, eqb, eq-eqb, ne_eqb, Some, List, [], ◌∷◌, refl, sym, ap, ◌∙◌, subst, ⊎_elim, arith}
 use Rattle.std.specs.Prelude.{Contains, filter}
 use Rattle.std.proofs.lemmas.Bool.{cases_eq}
 use Rattle.std.proofs.lemmas.Bool.Decides.{Decides-ltb}
@@ -74,7 +74,7 @@ module _ {S A R F : Type 0} where
       let behind = behind_inc way in
       let near = key_short way word low in
       is ∙ ((λ i. cond (ne_eqb field 2 (λ e. omega (arith, at, e, behind)) i) (record me.0 { turn = with_phase value me.0.turn }, me.1)
-      (cond ((Decides-ltb field 18).1 (omega (arith, at, near)) i) (with_pools me (storing Slots slot field value me.0.pools)) (cond (is_epoch_note field value) (with_pools me (letting_go slot me.0.pools)) (noted_in slot field value me))))
+      (cond ((Decides-ltb field 18).1 (omega (arith, at, near)) i) (with_pools me (storing Slots slot field value me.0.pools)) (cond (is_epoch_note field value) (with_pools me (letting_go slot (value - 2 ^ 63) me.0.pools)) (noted_in slot field value me))))
       ∙ ap (λ b. with_pools me (record me.0.pools { unstored = cond b (others_than slot me.0.pools.unstored) me.0.pools.unstored; stored = s ∷ me.0.pools.stored })) (ne_eqb field 1 (λ e. omega (arith, at, e))))
 
 -- a filter does nothing twice
@@ -103,7 +103,7 @@ module _ {S A R F : Type 0} where
   note_stored me next slot field value way at low is =
       let late = note_late way in
       is ∙ ((λ i. cond (ne_eqb field 2 (λ e. omega (arith, at, e, late)) i) (record me.0 { turn = with_phase value me.0.turn }, me.1)
-      (cond (not_below (nat_lt field 18) refl i) (with_pools me (storing Slots slot field value me.0.pools)) (cond (no_epoch (eqb field 18) i) (with_pools me (letting_go slot me.0.pools)) (noted_in slot field value me))))
+      (cond (not_below (nat_lt field 18) refl i) (with_pools me (storing Slots slot field value me.0.pools)) (cond (no_epoch (eqb field 18) i) (with_pools me (letting_go slot (value - 2 ^ 63) me.0.pools)) (noted_in slot field value me))))
       ∙ ap (λ f. noted_in slot f value me) at)
     where
       not_below : (b : Bool) → nat_lt field 18 ≡ b → b ≡ false

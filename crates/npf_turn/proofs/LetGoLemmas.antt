@@ -1,6 +1,6 @@
 -- A connection is let go: the epoch is loaded, and stored in its first note.
 use Rattle.std.specs.List.{Contains}
-use Rattle.std.proofs.Common.{◌≡◌, ℕ, ◌+◌, ◌^◌, cond, eqb, refl, sym, ap, ◌∙◌, subst, inr, arith}
+use Rattle.std.proofs.Common.{◌≡◌, ℕ, ◌+◌, ◌-◌, ◌^◌, cond, eqb, refl, sym, ap, ◌∙◌, subst, inr, arith}
 use Rattle.atomic_table.specs.Table.{Me}
 use Rattle.npf_core.specs.declared.conn_id.ConnId.{ConnId}
 use Rattle.npf_core.specs.Meaning.{Meaning}
@@ -29,6 +29,7 @@ module _ {S A R F : Type 0} (m : Meaning S A R) (id : ConnId) (old now : Me F (C
   lets_go next stored = record {
     epoch = epoch;
     met = met;
-    is = stored ∙ (ap (λ n. cond (eqb n 1) (with_pools now (letting_go id.slot now.0.pools)) (noted_in id.slot notes_field (2 ^ 63 + epoch) now)) (epoch_note epoch)
-        ∙ ap (λ (y : Me F (CellView S A R)). with_pools y (letting_go id.slot y.0.pools)) loads);
+    is = stored ∙ (ap (λ n. cond (eqb n 1) (with_pools now (letting_go id.slot (2 ^ 63 + epoch - 2 ^ 63) now.0.pools)) (noted_in id.slot notes_field (2 ^ 63 + epoch) now)) (epoch_note epoch)
+        ∙ (ap (λ n. with_pools now (letting_go id.slot n now.0.pools)) (let same : 2 ^ 63 + epoch - 2 ^ 63 ≡ epoch = omega arith in same)
+        ∙ ap (λ (y : Me F (CellView S A R)). with_pools y (letting_go id.slot epoch y.0.pools)) loads));
   }

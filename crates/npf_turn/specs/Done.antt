@@ -64,4 +64,4 @@ HasExpired m slot now (Some id) old next = (id.slot ≡ slot) × HasDone m (Kill
 pub record HasLetGo {S A R F : Type 0} (id : ConnId) (old now : Me F (CellView S A R)) : Type 0 where
   pub epoch : ℕ
   pub met : IsMet old.0.epochs epoch
-  pub is : now ≡ (record old.0 { epochs = loading old.0.epochs epoch; pools = letting_go id.slot old.0.pools }, old.1)
+  pub is : now ≡ (record old.0 { epochs = loading old.0.epochs epoch; pools = letting_go id.slot epoch old.0.pools }, old.1)
