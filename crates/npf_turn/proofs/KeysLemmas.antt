@@ -29,7 +29,7 @@ use Rattle.npf_cells_lives.specs.Deaths.{ids_elsewhere}
 use Rattle.npf_cells_lives.specs.Turns.{Running}
 use Rattle.npf_cells_rule.specs.declared.view.CellView.{CellView}
 use Rattle.npf_cells_rule.specs.Passes.{cell_pass, IsProtected}
-use Rattle.npf_turn.specs.Ending.{without_key, HasEndedKey, HasEndedKeys, key_ended, seen_with, unhold_entries, HasNoKills}
+use Rattle.npf_turn.specs.Ending.{without_key, HasEndedKey, HasEndedKeys, key_ended, seen_with, unhold_entries, HasNoKills, hands}
 use Rattle.npf_turn.specs.Done.{HasLetGo}
 
 -- what gave a key up doesn't hold it
@@ -242,6 +242,19 @@ module _ {S A R : Type 0} (id : ConnId) where
   kills_still true way v = refl
   kills_still false way v = refl
 
+  -- and what else the pass has stays
+  turn_after : (gave : Bool) (way : Way) (v : CellView S A R) → (key_ended gave id way v).turn ≡ None
+  turn_after true way v = refl
+  turn_after false way v = refl
+
+  locks_after : (gave : Bool) (way : Way) (v : CellView S A R) → v.trie.locks ≡ [] → (key_ended gave id way v).trie.locks ≡ []
+  locks_after true way v none = refl
+  locks_after false way v none = none
+
+  hands_after : (gave : Bool) (way : Way) (v : CellView S A R) → v.turn ≡ None → v.trie.locks ≡ [] → hands (key_ended gave id way v) ≡ hands v
+  hands_after true way v turnless none = λ i. record (hands v) { locks = sym none i; turn = sym turnless i }
+  hands_after false way v turnless none = λ i. record (hands v) { turn = sym turnless i }
+
   of_it : (gave : Bool) (way : Way) (v : CellView S A R) → ((g : Found) → Contains v.pools.gave_up g → g.id ≡ id) → (g : Found) → Contains (key_ended gave id way v).pools.gave_up g → g.id ≡ id
   of_it true way v mine g c = ⊎_elim
       (λ (same : record { id = id; way = way } ≡ g). ap (λ (f : Found). f.id) (sym same))
@@ -257,6 +270,15 @@ module _ {S A R : Type 0} (id : ConnId) where
     kills_left : between.0.pools.kills ≡ old.0.pools.kills
     kills_left = ap (λ (y : Me (Running S) (CellView S A R)). y.0.pools.kills) keys.is ∙ (kills_still (keys.held Port) Port (key_ended (keys.held Backward) id Backward (key_ended (keys.held Forward) id Forward old.0))
         ∙ (kills_still (keys.held Backward) Backward (key_ended (keys.held Forward) id Forward old.0) ∙ kills_still (keys.held Forward) Forward old.0))
+
+    pub same_hands : (now : Me (Running S) (CellView S A R)) → HasLetGo id between now → old.0.turn ≡ None → old.0.trie.locks ≡ [] → hands now.0 ≡ hands old.0
+    same_hands now gone turnless none =
+        let first = key_ended (keys.held Forward) id Forward old.0 in
+        let second = key_ended (keys.held Backward) id Backward first in
+        let one = locks_after (keys.held Forward) Forward old.0 none in
+        ap (λ (y : Me (Running S) (CellView S A R)). hands y.0) gone.is ∙ (ap (λ (y : Me (Running S) (CellView S A R)). hands y.0) keys.is
+        ∙ (hands_after (keys.held Port) Port second (turn_after (keys.held Backward) Backward first) (locks_after (keys.held Backward) Backward first one)
+        ∙ (hands_after (keys.held Backward) Backward first (turn_after (keys.held Forward) Forward old.0) one ∙ hands_after (keys.held Forward) Forward old.0 turnless none)))
 
     pub still_killed : Contains old.0.pools.kills id → Contains between.0.pools.kills id
     still_killed c = subst (λ ids. Contains ids id) (sym kills_left) c

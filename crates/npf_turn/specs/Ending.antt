@@ -1,5 +1,5 @@
 -- What giving up a key of a killed connection leaves.
-use Rattle.std.specs.Prelude.{◌≡◌, ◌≢◌, ◌↔◌, Bool, true, false, None, List, [], ◌∷◌, filter, map}
+use Rattle.std.specs.Prelude.{◌≡◌, ◌≢◌, ◌↔◌, ℕ, Bool, true, false, Option, None, List, [], ◌∷◌, filter, map}
 use Rattle.atomic_table.specs.Table.{Me}
 use Rattle.npf_types.specs.declared.key.Key.{Key}
 use Rattle.npf_types.specs.declared.key.Way.{Way}
@@ -18,6 +18,10 @@ use Rattle.npf_connections.specs.Pass.{Pass, IsPass}
 use Rattle.npf_connections.specs.Ways.{HoldsThese, all_ways}
 use Rattle.npf_cells_holds.specs.PublishKinds.{publishing}
 use Rattle.npf_cells_holds.specs.UnlinkKinds.{giving_up}
+use Rattle.npf_paths.specs.declared.place.Lock.{Lock}
+use Rattle.npf_cells_pins.specs.declared.pin.Pin.{Pin}
+use Rattle.npf_cells_lives.specs.declared.pools.Note.{Note}
+use Rattle.npf_cells_lives.specs.declared.turn.Turn.{Turn}
 use Rattle.npf_cells_lives.specs.Turns.{Running}
 use Rattle.npf_cells_rule.specs.declared.view.CellView.{CellView}
 use Rattle.npf_cells_rule.specs.Passes.{cell_pass}
@@ -82,9 +86,37 @@ pub record HasNoKills {S A R : Type 0} (v : CellView S A R) : Type 0 where
   pub kills : v.pools.kills ≡ []
   pub gave_up : v.pools.gave_up ≡ []
 
+-- what ending a connection leaves of a pass: how it reads, what it has and builds, what it was answered, and what it stored and reclaimed
+pub record Hands (S : Type 0) : Type 0 where
+  pub pin : Pin
+  pub nodes : List ℕ
+  pub builds : List ConnId
+  pub unstored : List ℕ
+  pub notes : List Note
+  pub reclaims : List ConnId
+  pub cleared : List ConnId
+  pub answered : List ConnId
+  pub locks : List Lock
+  pub turn : Option (Turn S)
+
+abbrev pub hands : {S A R : Type 0} → CellView S A R → Hands S
+hands v = record {
+  pin = v.epochs.pin;
+  nodes = v.pools.nodes;
+  builds = v.pools.builds;
+  unstored = v.pools.unstored;
+  notes = v.pools.notes;
+  reclaims = v.pools.reclaims;
+  cleared = v.pools.cleared;
+  answered = v.trie.answered;
+  locks = v.trie.locks;
+  turn = v.turn;
+}
+
 -- the pass gave all keys of the connection up, and let it go. Where it killed nothing else, it has no kills then
 pub record HasEnded {S A R : Type 0} (m : Meaning S A R) (id : ConnId) (old now : Me (Running S) (CellView S A R)) : Type 0 where
   pub between : Me (Running S) (CellView S A R)
   pub keys : HasEndedKeys m id old between
   pub gone : HasLetGo id between now
+  pub same : hands now.0 ≡ hands old.0
   pub leaves : old.0.pools.kills ≡ id ∷ [] → old.0.pools.gave_up ≡ [] → HasNoKills now.0
