@@ -13,7 +13,7 @@ mod reclaiming;
 mod turn;
 mod working;
 
-pub use ending::{end_key, end_keys};
+pub use ending::{end_key, end_keys, end_killed};
 pub use laws::kill_law;
 pub use letting_go::let_go;
 pub use locking::{lock, unlock};
