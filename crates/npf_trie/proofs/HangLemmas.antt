@@ -369,7 +369,7 @@ module _ {S A R F : Type 0} (m : Meaning S A R) (digest : Key → ℕ) (layout :
         let moved_at : moved ≡ place_code (foot_place (digits_of digest branch.other.key) (level_at led.0.trie point.place + 1) point.place grown.nodes) =
         moved_is ∙ (ap place_code grown.moved_to ∙ ap (λ l. place_code (foot_place (digits_of digest branch.other.key) (l + 1) point.place grown.nodes)) (sym grown.at.level_is)) in
         subst (λ (l : LoadedLeaf). IsAheadTo led.0.turn l.slot l.way (place_code (foot_place (digits_of digest l.key) (level_at led.0.trie point.place + 1) point.place grown.nodes))) here (record {
-          mine = record turn.mine { ahead = Some (record { field = note_field branch.other.way; value = moved }) };
+          mine = record turn.mine { ahead = Some (record { field = note_field branch.other.way; value = moved }); said = None };
           has = ap (with_ahead (Some (record { field = note_field branch.other.way; value = moved }))) turn.has;
           there = turn.there ∙ sym sees.is.0;
           ahead = λ i. Some (record {
