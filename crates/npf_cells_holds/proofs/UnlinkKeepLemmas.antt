@@ -298,6 +298,7 @@ module _ {S A R : Type 0} (m : Meaning S A R) (digest : Key → ℕ) (layout : L
     pub has_unlinked : HasUnlinked m conn way me (giver, me.1)
     has_unlinked = record {
       held = (held.0, seen.back way held.0 held.1);
+      dead = ap (λ x. stage_of x conn) state ∙ dead;
       others = λ other key ne. (
         λ was. subst (λ x. Holds x conn other key) (sym state) (still_held k conn way key (record { id = conn; way = other }) (λ e. ne (ap (λ (f : Found). f.way) e)) (seen.held other key was)),
         λ now. seen.back other key (held_before k conn way key (record { id = conn; way = other }) (subst (λ x. Holds x conn other key) state now)),

@@ -8,7 +8,8 @@ use Rattle.npf_core.specs.declared.conn_id.ConnId.{ConnId}
 use Rattle.npf_core.specs.declared.entry.Entry.{Entry}
 use Rattle.npf_core.specs.declared.reply.Reply.TheVariants.{Nothing}
 use Rattle.npf_core.specs.History.{state_of}
-use Rattle.npf_core.specs.Machine.{Holds, HoldsSome}
+use Rattle.npf_core.specs.declared.stage.Stage.TheVariants.{Dead}
+use Rattle.npf_core.specs.Machine.{stage_of, Holds, HoldsSome}
 use Rattle.npf_core.specs.Meaning.{Meaning}
 use Rattle.npf_connections.specs.Adding.{AddsOwn}
 use Rattle.npf_connections.specs.Entries.{entry_of}
@@ -49,10 +50,11 @@ unlinked v history id way = record v {
   trie = publishing v.trie;
 }
 
--- the pass gave the key up: this ends its history. By what it had seen the connection held a key of that way; and by what it has now seen it holds its
--- other keys as before
+-- the pass gave the key up: this ends its history. By what it had seen the connection held a key of that way; and by what it has now seen it is Dead
+-- still, and holds its other keys as before
 pub record HasUnlinked {S A R F : Type 0} (m : Meaning S A R) (id : ConnId) (way : Way) (old now : Me F (CellView S A R)) : Type 0 where
   pub held : HoldsSome (state_of m old.0.seats.history) id way
+  pub dead : stage_of (state_of m now.0.seats.history) id ≡ Dead
   pub others : (other : Way) (key : Key) → other ≢ way → Holds (state_of m old.0.seats.history) id other key ↔ Holds (state_of m now.0.seats.history) id other key
   pub adds : AddsOwn (cell_pass old.0) now.0.seats.history (entry_of (cell_pass old.0) (Unhold id way) Nothing ∷ [])
   pub legal : IsPass m (cell_pass old.0) → IsPass m (cell_pass now.0)

@@ -156,7 +156,7 @@ module _ {S A R : Type 0} (m : Meaning S A R) (digest : Key → ℕ) (layout : L
 
     -- of a kill the note says whether a key is held
     pub shows_kill : ShowsKill m layout v turn.slot way found
-    shows_kill t conn is there settled killed slots not = record { zero = (zero, given); named = λ some'. names some'.0 some'.1 }
+    shows_kill t conn is there settled killed slots not = record { dead = (kept.known id v conn at killed).dead; zero = (zero, given); named = λ some'. names some'.0 some'.1 }
       where
         last : conn ≡ last_id k turn.slot
         last = λ i. record { slot = slots i; inc = (sym (dead_at (k.slot conn.slot) conn.inc (kept.deaths.kills id v conn at killed).dead).0 ∙ ap (λ p. (k.slot p).inc) slots) i }

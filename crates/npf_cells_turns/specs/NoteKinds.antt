@@ -5,7 +5,8 @@ use Rattle.npf_types.specs.declared.key.Key.{Key}
 use Rattle.npf_types.specs.declared.key.Way.{Way}
 use Rattle.npf_core.specs.declared.conn_id.ConnId.{ConnId}
 use Rattle.npf_core.specs.History.{state_of}
-use Rattle.npf_core.specs.Machine.{HoldsNone, HoldsSome}
+use Rattle.npf_core.specs.declared.stage.Stage.TheVariants.{Dead}
+use Rattle.npf_core.specs.Machine.{stage_of, HoldsNone, HoldsSome}
 use Rattle.npf_core.specs.Meaning.{Meaning}
 use Rattle.npf_paths.specs.declared.place.Place.{Place}
 use Rattle.npf_cells_words.specs.declared.layout.Layout.{Layout}
@@ -30,8 +31,9 @@ pub record NamesPlace (layout : Layout) (found : ℕ) : Type 0 where
   pub within : IsInTrie layout place
   pub names : found ≡ place_code place
 
--- by what a pass has seen the connection holds a key of that way where the note isn't 0, and the note names a place
+-- by what a pass has seen the connection is Dead, and holds a key of that way where the note isn't 0, and the note names a place
 pub record TellsKilledKey {S A R : Type 0} (m : Meaning S A R) (layout : Layout) (v : CellView S A R) (id : ConnId) (way : Way) (found : ℕ) : Type 0 where
+  pub dead : stage_of (state_of m v.seats.history) id ≡ Dead
   pub zero : (found ≡ 0) ↔ HoldsNone (state_of m v.seats.history) id way
   pub named : HoldsSome (state_of m v.seats.history) id way → NamesPlace layout found
 

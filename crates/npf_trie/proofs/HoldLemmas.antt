@@ -27,7 +27,7 @@ use Rattle.npf_cells_leaves.specs.declared.trie.TrieSide.{TrieSide}
 use Rattle.npf_cells_lives.specs.declared.pools.StoredWord.{StoredWord}
 use Rattle.npf_cells_holds.specs.HoldKinds.{MayHoldSo}
 use Rattle.npf_cells_holds.specs.LookKinds.{StandsOnPath, level_of, level_at}
-use Rattle.npf_cells_rule.specs.Views.{with_trie, with_pools}
+use Rattle.npf_cells_rule.specs.Views.{dead_hand, with_trie, with_pools}
 use Rattle.npf_cells_rule.specs.Passes.{cell_pass, IsProtected}
 use Rattle.npf_cells_leaves.specs.Trie.{digits_of}
 use Rattle.npf_trie.specs.declared.step.Point.{Point}
@@ -78,7 +78,7 @@ module _ {S A R F : Type 0} where
     pub nodes : now.0.pools.nodes ≡ old.0.pools.nodes
     pub builds : now.0.pools.builds ≡ old.0.pools.builds
     pub unstored : now.0.pools.unstored ≡ old.0.pools.unstored
-    pub kills : now.0.pools.kills ≡ old.0.pools.kills
+    pub dead : dead_hand now.0.pools ≡ dead_hand old.0.pools
     pub turn : now.0.turn ≡ old.0.turn
     pub rest : now.1 ≡ old.1
     pub sweeps : old.0.pools.sweeps ≤ now.0.pools.sweeps
@@ -97,7 +97,7 @@ module _ {S A R F : Type 0} where
     nodes = bc.nodes ∙ ab.nodes;
     builds = bc.builds ∙ ab.builds;
     unstored = bc.unstored ∙ ab.unstored;
-    kills = bc.kills ∙ ab.kills;
+    dead = bc.dead ∙ ab.dead;
     turn = bc.turn ∙ ab.turn;
     rest = bc.rest ∙ ab.rest;
     sweeps = let x = ab.sweeps in let y = bc.sweeps in omega arith;
@@ -109,7 +109,7 @@ module _ {S A R F : Type 0} where
   -- steps that change only what the pass knows of the trie, or what it stored
   pub stays_trie : (old now : Me F (CellView S A R)) (side : TrieSide) → now ≡ with_trie old side → side.published ≡ old.0.trie.published → StaysOn old now
   stays_trie old now side e same = subst (λ (y : Me F (CellView S A R)). StaysOn old y) (sym e) (record {
-    keeps = record { seats = refl; epochs = refl; nodes = refl; builds = refl; unstored = refl; kills = refl; turn = refl; rest = refl; sweeps = omega arith };
+    keeps = record { seats = refl; epochs = refl; nodes = refl; builds = refl; unstored = refl; dead = refl; turn = refl; rest = refl; sweeps = omega arith };
     history = refl;
     published = same;
     notes = refl;
@@ -117,7 +117,7 @@ module _ {S A R F : Type 0} where
 
   pub stays_stored : (old now : Me F (CellView S A R)) (words : List StoredWord) → now ≡ with_pools old (record old.0.pools { stored = words }) → StaysOn old now
   stays_stored old now words e = subst (λ (y : Me F (CellView S A R)). StaysOn old y) (sym e) (record {
-    keeps = record { seats = refl; epochs = refl; nodes = refl; builds = refl; unstored = refl; kills = refl; turn = refl; rest = refl; sweeps = omega arith };
+    keeps = record { seats = refl; epochs = refl; nodes = refl; builds = refl; unstored = refl; dead = refl; turn = refl; rest = refl; sweeps = omega arith };
     history = refl;
     published = refl;
     notes = refl;
@@ -129,7 +129,7 @@ module _ {S A R F : Type 0} where
     record now.0 {
       seats = keeps.seats i;
       epochs = keeps.epochs i;
-      pools = record now.0.pools { nodes = keeps.nodes i; builds = keeps.builds i; unstored = keeps.unstored i; kills = keeps.kills i };
+      pools = record now.0.pools { nodes = keeps.nodes i; builds = keeps.builds i; unstored = keeps.unstored i; kills = (keeps.dead i).kills; gave_up = (keeps.dead i).gave_up; reclaims = (keeps.dead i).reclaims; cleared = (keeps.dead i).cleared };
       trie = record now.0.trie { locks = locks i };
       turn = keeps.turn i;
     },
@@ -146,7 +146,7 @@ module _ {S A R F : Type 0} where
     nodes = ap (λ (y : Me F (CellView S A R)). y.0.pools.nodes) is;
     builds = ap (λ (y : Me F (CellView S A R)). y.0.pools.builds) is;
     unstored = ap (λ (y : Me F (CellView S A R)). y.0.pools.unstored) is;
-    kills = ap (λ (y : Me F (CellView S A R)). y.0.pools.kills) is;
+    dead = ap (λ (y : Me F (CellView S A R)). dead_hand y.0.pools) is;
     turn = ap (λ (y : Me F (CellView S A R)). y.0.turn) is;
     rest = ap (λ (y : Me F (CellView S A R)). y.1) is;
     sweeps = sweeps;
@@ -220,7 +220,7 @@ module _ {S A R F : Type 0} (m : Meaning S A R) where
     legal = subst (λ (ids : List ConnId). IsPass m (record (cell_pass b.0) { answered = ids })) (sym same) ends.legal;
     answered = same ∙ ends.answered;
     noted = ends.noted;
-    keeps = keeps_after a b (with_trie b side) ends.keeps (record { seats = refl; epochs = refl; nodes = refl; builds = refl; unstored = refl; kills = refl; turn = refl; rest = refl; sweeps = omega arith });
+    keeps = keeps_after a b (with_trie b side) ends.keeps (record { seats = refl; epochs = refl; nodes = refl; builds = refl; unstored = refl; dead = refl; turn = refl; rest = refl; sweeps = omega arith });
   })
 
   answers_so : (layout : Layout) (old now : Me F (CellView S A R)) (id : ConnId) (key : Key) (way : Way) (held : Held) → EndsHold id key way held old now → now.0.trie.locks ≡ old.0.trie.locks → SettlesHold m layout id key way held old now

@@ -23,7 +23,7 @@ use Rattle.npf_cells_leaves.specs.declared.trie.LoadedLeaf.{LoadedLeaf}
 use Rattle.npf_cells_leaves.specs.declared.trie.PathPlace.{PathPlace}
 use Rattle.npf_cells_holds.specs.HoldKinds.{HoldsAt, meeting, renewed}
 use Rattle.npf_cells_holds.specs.LookKinds.{IsLeafOf, level_of, level_at, sighting}
-use Rattle.npf_cells_rule.specs.Views.{with_trie}
+use Rattle.npf_cells_rule.specs.Views.{dead_hand, with_trie}
 use Rattle.npf_cells_words.specs.Places.{IsLockOf, IsInTrie}
 use Rattle.npf_cells_rule.specs.Passes.{IsProtected, cell_pass}
 use Rattle.npf_connections.specs.Adding.{AddsOwn}
@@ -158,7 +158,7 @@ module _ {S A R F : Type 0} where
                 nodes = ap (λ (y : Me F (CellView S A R)). y.0.pools.nodes) has.is;
                 builds = ap (λ (y : Me F (CellView S A R)). y.0.pools.builds) has.is;
                 unstored = ap (λ (y : Me F (CellView S A R)). y.0.pools.unstored) has.is;
-                kills = ap (λ (y : Me F (CellView S A R)). y.0.pools.kills) has.is;
+                dead = ap (λ (y : Me F (CellView S A R)). dead_hand y.0.pools) has.is;
                 turn = ap (λ (y : Me F (CellView S A R)). y.0.turn) has.is;
                 rest = ap (λ (y : Me F (CellView S A R)). y.1) has.is;
                 sweeps = let e : b.0.pools.sweeps ≡ a.0.pools.sweeps = ap (λ (y : Me F (CellView S A R)). y.0.pools.sweeps) has.is in omega arith;
@@ -227,7 +227,7 @@ module _ {S A R F : Type 0} where
               nodes = ap (λ (y : Me F (CellView S A R)). y.0.pools.nodes) is ∙ (ap (nodes_but gone) none ∙ sym none);
               builds = ap (λ (y : Me F (CellView S A R)). y.0.pools.builds) is;
               unstored = ap (λ (y : Me F (CellView S A R)). y.0.pools.unstored) is;
-              kills = ap (λ (y : Me F (CellView S A R)). y.0.pools.kills) is;
+              dead = ap (λ (y : Me F (CellView S A R)). dead_hand y.0.pools) is;
               turn = ap (λ (y : Me F (CellView S A R)). y.0.turn) is ∙ (ap (with_ahead None) turnless ∙ sym turnless);
               rest = ap (λ (y : Me F (CellView S A R)). y.1) is;
               sweeps = let e : b.0.pools.sweeps ≡ a.0.pools.sweeps = ap (λ (y : Me F (CellView S A R)). y.0.pools.sweeps) is in omega arith;

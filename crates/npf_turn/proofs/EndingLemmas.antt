@@ -9,7 +9,8 @@ use Rattle.npf_core.specs.declared.slot.Slot.{Slot}
 use Rattle.npf_core.specs.History.{state_of}
 use Rattle.npf_core.specs.declared.act.Act.TheVariants.{Unhold}
 use Rattle.npf_core.specs.declared.reply.Reply.TheVariants.{Nothing as Replied}
-use Rattle.npf_core.specs.Machine.{Holds, HoldsNone}
+use Rattle.npf_core.specs.declared.stage.Stage.TheVariants.{Dead}
+use Rattle.npf_core.specs.Machine.{stage_of, Holds, HoldsNone}
 use Rattle.npf_connections.specs.Adding.{AddsOwn}
 use Rattle.npf_connections.specs.Entries.{entry_of}
 use Rattle.npf_connections.specs.Pass.{IsPass}
@@ -76,7 +77,7 @@ module _ {S A R : Type 0} (m : Meaning S A R) (layout : Layout) (old : Me (Runni
   pub tells_keys : (taken : Me (Running S) (CellView S A R)) → taken_so taken → Contains old.0.pools.kills id → ¬ Contains old.0.pools.gave_up (record { id = id; way = way }) → ShowsKill m layout taken.0 id.slot way note → TellsKilledKey m layout old.0 id way note
   tells_keys taken is killed held shows =
       let tells = subst (λ (y : Me (Running S) (CellView S A R)). ShowsKill m layout y.0 id.slot way note) is shows (turn_at id.slot was) id refl refl refl killed refl held in
-      record { zero = tells.zero; named = tells.named }
+      record { dead = tells.dead; zero = tells.zero; named = tells.named }
 
   pub holds_lock : (noted locked : Me (Running S) (CellView S A R)) (lock : Lock) → noted ≡ told → locked ≡ with_trie noted (locking lock noted.0.trie) → locked ≡ holding lock
   holds_lock noted locked lock is gets = gets ∙ ap (λ (y : Me (Running S) (CellView S A R)). with_trie y (locking lock y.0.trie)) is
@@ -111,6 +112,7 @@ module _ {S A R : Type 0} (m : Meaning S A R) (layout : Layout) (old : Me (Runni
     pub gives_up : (freed now : Me (Running S) (CellView S A R)) → freed ≡ with_trie gone (record gone.0.trie { locks = [] }) → now ≡ (record freed.0 { turn = None }, []) → GivesUpKey m id way old now
     gives_up freed now frees ended = record {
       held = unlinks_so.held;
+      dead = subst (λ h. stage_of (state_of m h) id ≡ Dead) (sym same) unlinks_so.dead;
       others = λ other key ne. subst (λ h. Holds (state_of m old.0.seats.history) id other key ↔ Holds (state_of m h) id other key) (sym same) (unlinks_so.others other key ne);
       adds = subst (λ h. AddsOwn (cell_pass old.0) h (entry_of (cell_pass old.0) (Unhold id way) Replied ∷ [])) (sym same) unlinks_so.adds;
       legal = λ pass. subst (λ (y : Me (Running S) (CellView S A R)). IsPass m (cell_pass y.0)) (sym ended_is) (subst (λ (y : Me (Running S) (CellView S A R)). IsPass m (cell_pass (record y.0 { trie = record y.0.trie { locks = [] }; turn = None }))) (sym unlinks_so.is)
@@ -129,4 +131,4 @@ module _ {S A R : Type 0} (m : Meaning S A R) (layout : Layout) (old : Me (Runni
   may_end_idle noted is = subst (λ (y : Me (Running S) (CellView S A R)). MayEndBy m Nothing id.slot y) (sym is) (record { turn = turn_told; has = refl; there = refl; may = tt; carries = refl; phase = refl; settled = refl })
 
   pub has_none : (noted now : Me (Running S) (CellView S A R)) → noted ≡ told → TellsKilledKey m layout old.0 id way note → note ≡ 0 → now ≡ (record noted.0 { turn = None }, []) → HasNoKey m id way old now
-  has_none noted now is tells none ended = record { none = tells.zero.0 none; is = ended ∙ ap (λ (y : Me (Running S) (CellView S A R)). (record y.0 { turn = None }, [])) is }
+  has_none noted now is tells none ended = record { dead = tells.dead; none = tells.zero.0 none; is = ended ∙ ap (λ (y : Me (Running S) (CellView S A R)). (record y.0 { turn = None }, [])) is }

@@ -1,7 +1,8 @@
 -- All keys of a killed connection are given up, one way after the other.
-use Rattle.std.specs.List.{Contains}
-use Rattle.std.proofs.Common.{◌≡◌, ◌≢◌, ◌↔◌, Bool, true, false, cond, IsTrue, Option, Some, None, List, [], ◌∷◌, ◌++◌, refl, sym, ap, ◌∙◌, subst, ⊎_elim, append-nil}
+use Rattle.std.specs.List.{Contains, filter}
+use Rattle.std.proofs.Common.{◌≡◌, ◌≢◌, ◌↔◌, Bool, true, false, cond, eqb, eq-eqb, IsTrue, Option, Some, None, List, [], ◌∷◌, ◌++◌, refl, sym, ap, ◌∙◌, subst, ⊎_elim, append-nil}
 use Rattle.std.proofs.lemmas.List.{same_from_push}
+use Rattle.std.proofs.lemmas.List.Elements.{Contains-append_left, Contains-append_right, Contains-push}
 use Rattle.atomic_table.specs.Table.{Me}
 use Rattle.npf_types.specs.declared.key.Key.{Key}
 use Rattle.npf_types.specs.declared.key.Way.{Way}
@@ -12,7 +13,8 @@ use Rattle.npf_core.specs.declared.entry.Entry.{Entry}
 use Rattle.npf_core.specs.declared.found.Found.{Found}
 use Rattle.npf_core.specs.declared.reply.Reply.TheVariants.{Nothing}
 use Rattle.npf_core.specs.History.{state_of}
-use Rattle.npf_core.specs.Machine.{Machine, Holds, HoldsNone, HoldsSome}
+use Rattle.npf_core.specs.declared.stage.Stage.TheVariants.{Dead}
+use Rattle.npf_core.specs.Machine.{Machine, stage_of, Holds, HoldsNone, HoldsSome}
 use Rattle.npf_core.specs.Meaning.{Meaning}
 use Rattle.npf_core.specs.NextState.{is_found, given_up}
 use Rattle.npf_core.proofs.EqualityLemmas.{is_found-Decides}
@@ -22,11 +24,13 @@ use Rattle.npf_connections.specs.Entries.{entry_of}
 use Rattle.npf_connections.specs.Pass.{Pass, IsPass}
 use Rattle.npf_connections.specs.Ways.{HoldsThese}
 use Rattle.npf_connections.proofs.AddLemmas.{adds_more}
-use Rattle.npf_seats.proofs.PrefixLemmas.{cons_cases}
+use Rattle.npf_seats.proofs.PrefixLemmas.{cons_cases, none_listed}
+use Rattle.npf_cells_lives.specs.Deaths.{ids_elsewhere}
 use Rattle.npf_cells_lives.specs.Turns.{Running}
 use Rattle.npf_cells_rule.specs.declared.view.CellView.{CellView}
 use Rattle.npf_cells_rule.specs.Passes.{cell_pass, IsProtected}
-use Rattle.npf_turn.specs.Ending.{without_key, HasEndedKey, HasEndedKeys, key_ended, seen_with, unhold_entries}
+use Rattle.npf_turn.specs.Ending.{without_key, HasEndedKey, HasEndedKeys, key_ended, seen_with, unhold_entries, HasNoKills}
+use Rattle.npf_turn.specs.Done.{HasLetGo}
 
 -- what gave a key up doesn't hold it
 never_back : (x : Option Found) (found : Found) → given_up x found ≢ Some found
@@ -55,6 +59,7 @@ module _ {S A R : Type 0} (m : Meaning S A R) (id : ConnId) where
   pub record Ends (way : Way) (gave : Bool) (old now : Me (Running S) (CellView S A R)) : Type 0 where
     pub adds : AddsOwn (cell_pass old.0) now.0.seats.history (cond gave (unhold (cell_pass old.0) way ∷ []) [])
     pub some : HoldsSome (state_of m old.0.seats.history) id way ↔ IsTrue gave
+    pub dead : stage_of (state_of m now.0.seats.history) id ≡ Dead
     pub none : HoldsNone (state_of m now.0.seats.history) id way
     pub others : (other : Way) (key : Key) → other ≢ way → Holds (state_of m old.0.seats.history) id other key ↔ Holds (state_of m now.0.seats.history) id other key
     pub legal : IsPass m (cell_pass old.0) → IsPass m (cell_pass now.0)
@@ -64,7 +69,8 @@ module _ {S A R : Type 0} (m : Meaning S A R) (id : ConnId) where
   ends_so : (way : Way) (gave : Bool) (old now : Me (Running S) (CellView S A R)) → HasEndedKey m id way gave old now → Ends way gave old now
   ends_so way true old now so = record {
     adds = so.adds;
-    some = (λ h. tt, λ h. so.held);
+    some = (λ h. refl, λ h. so.held);
+    dead = so.dead;
     none = λ key held. (
         let before = so.adds.ends [] (unhold (cell_pass old.0) way) refl in
         let after' = ap (λ h. (state_of m h).holder key) before.1 ∙ ap (λ (k : Machine S). k.holder key) (state_of-append m before.0 (unhold (cell_pass old.0) way)) in
@@ -79,7 +85,8 @@ module _ {S A R : Type 0} (m : Meaning S A R) (id : ConnId) where
       adds = record { rest = []; goes_on = history ∙ sym (append-nil old.0.seats.history); own = refl; listed = λ n c. refl };
       ends = λ init last e. absurd (nothing init last e);
     };
-    some = (λ h. absurd (so.none h.0 h.1), λ h. absurd h);
+    some = (λ h. absurd (so.none h.0 h.1), λ h. absurd (let no' : false ≡ true = h in cc));
+    dead = ap (λ h. stage_of (state_of m h) id) history ∙ so.dead;
     none = λ key held. so.none key (subst (λ h. Holds (state_of m h) id way key) history held);
     others = λ other key ne. (subst (λ h. Holds (state_of m h) id other key) (sym history), subst (λ h. Holds (state_of m h) id other key) history);
     legal = λ pass. subst (λ (y : Me (Running S) (CellView S A R)). IsPass m (cell_pass y.0)) (sym so.is) pass;
@@ -219,6 +226,49 @@ module _ {S A R : Type 0} (m : Meaning S A R) (id : ConnId) where
       holds = holds;
       adds = adds_all;
       legal = λ pass. c.legal (b.legal (a.legal pass));
-      keyless = keyless;
+      bare = record { dead = c.dead; keyless = keyless };
       is = c.is ∙ ap (λ v. (v, [])) (ap (λ v. seen_with (key_ended three id Port v) now.0.seats.history) view_second ∙ seen_on three Port (key_ended two id Backward (key_ended one id Forward old.0)) second.0.seats.history now.0.seats.history);
     }
+
+-- nothing is left where each is left out
+left_out : {X : Type 0} (keep : X → Bool) (xs : List X) → ((x : X) → Contains xs x → keep x ≡ false) → filter keep xs ≡ []
+left_out keep [] none = refl
+left_out keep (x ∷ xs) none = ap (λ b. cond b (x ∷ filter keep xs) (filter keep xs)) (none x (Contains-append_left (x ∷ []) xs x (Contains-push [] x)))
+    ∙ left_out keep xs (λ y c. none y (Contains-append_right (x ∷ []) xs y c))
+
+module _ {S A R : Type 0} (id : ConnId) where
+  -- what keys were given up is of this connection, where none were before
+  kills_still : (gave : Bool) (way : Way) (v : CellView S A R) → (key_ended gave id way v).pools.kills ≡ v.pools.kills
+  kills_still true way v = refl
+  kills_still false way v = refl
+
+  of_it : (gave : Bool) (way : Way) (v : CellView S A R) → ((g : Found) → Contains v.pools.gave_up g → g.id ≡ id) → (g : Found) → Contains (key_ended gave id way v).pools.gave_up g → g.id ≡ id
+  of_it true way v mine g c = ⊎_elim
+      (λ (same : record { id = id; way = way } ≡ g). ap (λ (f : Found). f.id) (sym same))
+      (λ (c' : Contains v.pools.gave_up g). mine g c')
+      (cons_cases (record { id = id; way = way }) g v.pools.gave_up c)
+  of_it false way v mine g c = mine g c
+
+  -- who ended the one connection that it killed has no kills
+  module _ (m : Meaning S A R) (old between : Me (Running S) (CellView S A R)) (keys : HasEndedKeys m id old between) where
+    abbrev left : CellView S A R
+    left = key_ended (keys.held Port) id Port (key_ended (keys.held Backward) id Backward (key_ended (keys.held Forward) id Forward old.0))
+
+    kills_left : between.0.pools.kills ≡ old.0.pools.kills
+    kills_left = ap (λ (y : Me (Running S) (CellView S A R)). y.0.pools.kills) keys.is ∙ (kills_still (keys.held Port) Port (key_ended (keys.held Backward) id Backward (key_ended (keys.held Forward) id Forward old.0))
+        ∙ (kills_still (keys.held Backward) Backward (key_ended (keys.held Forward) id Forward old.0) ∙ kills_still (keys.held Forward) Forward old.0))
+
+    pub still_killed : Contains old.0.pools.kills id → Contains between.0.pools.kills id
+    still_killed c = subst (λ ids. Contains ids id) (sym kills_left) c
+
+    pub no_kills : (now : Me (Running S) (CellView S A R)) → HasLetGo id between now → old.0.pools.kills ≡ id ∷ [] → old.0.pools.gave_up ≡ [] → HasNoKills now.0
+    no_kills now gone one none = record {
+      kills = ap (λ (y : Me (Running S) (CellView S A R)). y.0.pools.kills) gone.is ∙ (ap (ids_elsewhere id.slot) (kills_left ∙ one) ∙ ap (λ b. cond (cond b false true) (id ∷ []) []) (eq-eqb id.slot id.slot refl));
+      gave_up = ap (λ (y : Me (Running S) (CellView S A R)). y.0.pools.gave_up) gone.is ∙ left_out (λ (g : Found). cond (eqb g.id.slot id.slot) false true) between.0.pools.gave_up
+          (λ g c. ap (λ b. cond b false true) (eq-eqb g.id.slot id.slot (ap (λ (i : ConnId). i.slot) (mine g c))));
+    }
+      where
+        mine : (g : Found) → Contains between.0.pools.gave_up g → g.id ≡ id
+        mine g c =
+            of_it (keys.held Port) Port _ (of_it (keys.held Backward) Backward _ (of_it (keys.held Forward) Forward old.0 (λ g' c'. absurd (none_listed g' (subst (λ gs. Contains gs g') none c'))))) g
+            (subst (λ (y : Me (Running S) (CellView S A R)). Contains y.0.pools.gave_up g) keys.is c)

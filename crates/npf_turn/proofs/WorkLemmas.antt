@@ -21,7 +21,7 @@ use Rattle.npf_cells_rule.specs.declared.view.CellView.{CellView}
 use Rattle.npf_cells_rule.specs.Passes.{cell_pass}
 use Rattle.npf_cells_takes.specs.PrivateKinds.{ShowsTurnInc, MayStore, stored_in}
 use Rattle.npf_cells_turns.specs.declared.act.TurnAct.{TurnAct}
-use Rattle.npf_cells_turns.specs.declared.act.TurnAct.TheVariants.{Start, Step as Steps, Expired}
+use Rattle.npf_cells_turns.specs.declared.act.TurnAct.TheVariants.{Start, Step as Steps, Abandoned, Expired}
 use Rattle.npf_cells_turns.specs.EndKinds.{BuildsThere, HasBareNotes, stage_by, MayAct, MayEndBy}
 use Rattle.npf_cells_turns.specs.TurnKinds.{HasTaken, HasSlotTurn}
 use Rattle.npf_cells_turns.proofs.ActLemmas.{stepped_phase}
@@ -97,6 +97,13 @@ module _ {S A R : Type 0} where
     pub may_start : (m : Meaning S A R) (id : ConnId) (n : ℕ) (init : S) → id.slot ≡ slot → Contains old.0.pools.builds id → ¬ Contains old.0.pools.unstored id.slot → HasBareNotes m old.0 id → phase ≡ 1 → value ≡ Some (init, 1) → MayEndBy m (Start id n init) slot now
     may_start m id n init there built stored notes phase_is value_is =
         may_end m (Start id n init)
+        (subst (λ (y : Me (Running S) (CellView S A R)). BuildsThere y.0 (turn_of slot was phase) id × HasBareNotes m y.0 id) (sym so.is) (record { built = built; there = there; stored = stored }, notes))
+        value_is phase_is
+
+    -- or by giving up what it built
+    pub may_abandon : (m : Meaning S A R) (id : ConnId) → id.slot ≡ slot → Contains old.0.pools.builds id → ¬ Contains old.0.pools.unstored id.slot → HasBareNotes m old.0 id → phase ≡ 2 → value ≡ None → MayEndBy m (Abandoned id) slot now
+    may_abandon m id there built stored notes phase_is value_is =
+        may_end m (Abandoned id)
         (subst (λ (y : Me (Running S) (CellView S A R)). BuildsThere y.0 (turn_of slot was phase) id × HasBareNotes m y.0 id) (sym so.is) (record { built = built; there = there; stored = stored }, notes))
         value_is phase_is
 

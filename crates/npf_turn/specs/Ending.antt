@@ -9,7 +9,8 @@ use Rattle.npf_core.specs.declared.conn_id.ConnId.{ConnId}
 use Rattle.npf_core.specs.declared.entry.Entry.{Entry}
 use Rattle.npf_core.specs.declared.reply.Reply.TheVariants.{Nothing}
 use Rattle.npf_core.specs.History.{state_of}
-use Rattle.npf_core.specs.Machine.{Holds, HoldsNone, HoldsSome}
+use Rattle.npf_core.specs.declared.stage.Stage.TheVariants.{Dead}
+use Rattle.npf_core.specs.Machine.{stage_of, Holds, HoldsNone, HoldsSome}
 use Rattle.npf_core.specs.Meaning.{Meaning}
 use Rattle.npf_connections.specs.Adding.{AddsOwn}
 use Rattle.npf_connections.specs.Entries.{entry_of}
@@ -17,11 +18,12 @@ use Rattle.npf_connections.specs.Pass.{Pass, IsPass}
 use Rattle.npf_connections.specs.Ways.{HoldsThese, all_ways}
 use Rattle.npf_cells_holds.specs.PublishKinds.{publishing}
 use Rattle.npf_cells_holds.specs.UnlinkKinds.{giving_up}
-use Rattle.npf_cells_lives.specs.Deaths.{IsKeyless}
 use Rattle.npf_cells_lives.specs.Turns.{Running}
 use Rattle.npf_cells_rule.specs.declared.view.CellView.{CellView}
 use Rattle.npf_cells_rule.specs.Passes.{cell_pass}
 use Rattle.npf_cells_rule.specs.Views.{unloaded}
+use Rattle.npf_cells_takes.specs.PrivateKinds.{HasSeenBare}
+use Rattle.npf_turn.specs.Done.{HasLetGo}
 
 -- the pass after it gave a key up, and has seen this history: it forgot the epoch that it loaded, counts the store in the trie, and has no lock and no turn
 abbrev pub without_key : {S A R : Type 0} → CellView S A R → List (Entry S A R) → ConnId → Way → CellView S A R
@@ -33,9 +35,10 @@ without_key v history id way = record v {
   turn = None;
 }
 
--- the connection held a key of that way, and gave it up: this ends the history. It holds its other keys as before
+-- the connection held a key of that way, and gave it up: this ends the history. It is Dead still, and holds its other keys as before
 pub record GivesUpKey {S A R : Type 0} (m : Meaning S A R) (id : ConnId) (way : Way) (old now : Me (Running S) (CellView S A R)) : Type 0 where
   pub held : HoldsSome (state_of m old.0.seats.history) id way
+  pub dead : stage_of (state_of m now.0.seats.history) id ≡ Dead
   pub others : (other : Way) (key : Key) → other ≢ way → Holds (state_of m old.0.seats.history) id other key ↔ Holds (state_of m now.0.seats.history) id other key
   pub adds : AddsOwn (cell_pass old.0) now.0.seats.history (entry_of (cell_pass old.0) (Unhold id way) Nothing ∷ [])
   pub legal : IsPass m (cell_pass old.0) → IsPass m (cell_pass now.0)
@@ -43,6 +46,7 @@ pub record GivesUpKey {S A R : Type 0} (m : Meaning S A R) (id : ConnId) (way : 
 
 -- or it held none, and nothing was done
 pub record HasNoKey {S A R : Type 0} (m : Meaning S A R) (id : ConnId) (way : Way) (old now : Me (Running S) (CellView S A R)) : Type 0 where
+  pub dead : stage_of (state_of m old.0.seats.history) id ≡ Dead
   pub none : HoldsNone (state_of m old.0.seats.history) id way
   pub is : now ≡ (record old.0 { turn = None }, [])
 
@@ -64,11 +68,23 @@ key_ended false id way v = record v { turn = None }
 abbrev pub unhold_entries : {S A R : Type 0} → Pass (Entry S A R) → ConnId → (Way → Bool) → List (Entry S A R)
 unhold_entries pass id held = map (λ way. entry_of pass (Unhold id way) Nothing) (filter held all_ways)
 
--- the pass gave all keys of the connection up, one after the other, which ends its history; by what it has seen the connection holds none
+-- the pass gave all keys of the connection up, one after the other, which ends its history; by what it has seen the connection is Dead and holds none
 pub record HasEndedKeys {S A R : Type 0} (m : Meaning S A R) (id : ConnId) (old now : Me (Running S) (CellView S A R)) : Type 0 where
   pub held : Way → Bool
   pub holds : HoldsThese (state_of m old.0.seats.history) id held
   pub adds : AddsOwn (cell_pass old.0) now.0.seats.history (unhold_entries (cell_pass old.0) id held)
   pub legal : IsPass m (cell_pass old.0) → IsPass m (cell_pass now.0)
-  pub keyless : IsKeyless (state_of m now.0.seats.history) id
+  pub bare : HasSeenBare m now.0 id
   pub is : now ≡ (seen_with (key_ended (held Port) id Port (key_ended (held Backward) id Backward (key_ended (held Forward) id Forward old.0))) now.0.seats.history, [])
+
+-- a pass that killed nothing, and remembers no key that it gave up
+pub record HasNoKills {S A R : Type 0} (v : CellView S A R) : Type 0 where
+  pub kills : v.pools.kills ≡ []
+  pub gave_up : v.pools.gave_up ≡ []
+
+-- the pass gave all keys of the connection up, and let it go. Where it killed nothing else, it has no kills then
+pub record HasEnded {S A R : Type 0} (m : Meaning S A R) (id : ConnId) (old now : Me (Running S) (CellView S A R)) : Type 0 where
+  pub between : Me (Running S) (CellView S A R)
+  pub keys : HasEndedKeys m id old between
+  pub gone : HasLetGo id between now
+  pub leaves : old.0.pools.kills ≡ id ∷ [] → old.0.pools.gave_up ≡ [] → HasNoKills now.0

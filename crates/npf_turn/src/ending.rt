@@ -4,9 +4,10 @@ ghost use Rattle.npf_cells_words.specs.Places.{IsInTrie};
 ghost use Rattle.npf_cells_rule.specs.Passes.{IsProtected};
 ghost use Rattle.npf_cells.specs.Cells.{IsPassIn};
 ghost use Rattle.npf_types.specs.declared.key.Way.{Way};
-ghost use Rattle.npf_turn.specs.Ending.{HasEndedKey, HasEndedKeys};
+ghost use Rattle.npf_turn.specs.Ending.{HasEnded, HasEndedKey, HasEndedKeys};
 
-use crate::lock::{lock, unlock};
+use crate::letting_go::let_go;
+use crate::locking::{lock, unlock};
 use crate::turn::wait_turn;
 use npf_cells::{CellPass, Cells, Layout, TurnAct};
 use npf_core::{ConnId, Law};
@@ -72,6 +73,27 @@ pub fn end_keys<L: Law, H: KeyHash>(
     end_key(rt, cells, pass, id, Way::Forward);
     end_key(rt, cells, pass, id, Way::Backward);
     end_key(rt, cells, pass, id, Way::Port);
+}
+
+/// Gives up all keys of a connection that the pass killed, and lets it go: two epochs later any pass may free it.
+pub fn end_killed<L: Law, H: KeyHash>(
+    rt: &impl Wait,
+    cells: &Cells<L, H>,
+    pass: &mut CellPass<L>,
+    id: ConnId,
+)
+    requires own { IsPassIn cells.now pass.old }
+    requires exists { id.slot < cells.now.table.shared.key.slots }
+    requires protected { IsProtected pass.old.seat.me.0.epochs.pin }
+    requires turnless { pass.old.seat.me.0.turn ≡ None }
+    requires unlocked { pass.old.seat.me.0.trie.locks ≡ [] }
+    requires killed { Contains pass.old.seat.me.0.pools.kills id }
+    requires held { (way : Way) → ¬ Contains pass.old.seat.me.0.pools.gave_up (record { id = id; way = way }) }
+    ensures own { IsPassIn cells.now pass.new }
+    ensures ends { HasEnded L.meaning id pass.old.seat.me pass.new.seat.me }
+{
+    end_keys(rt, cells, pass, id);
+    let_go(cells, pass, id);
 }
 
 // The place of the trie that has this number.

@@ -8,15 +8,15 @@
 mod ending;
 mod laws;
 mod letting_go;
-mod lock;
+mod locking;
 mod reclaiming;
 mod turn;
 mod working;
 
-pub use ending::{end_key, end_keys};
+pub use ending::{end_key, end_keys, end_killed};
 pub use laws::kill_law;
 pub use letting_go::let_go;
-pub use lock::{lock, unlock};
+pub use locking::{lock, unlock};
 pub use reclaiming::reclaim;
 pub use turn::wait_turn;
 pub use working::{expire, kill, start, step};
