@@ -135,16 +135,16 @@ module _ {S A R F : Type 0} {m : Meaning S A R} {digest : Key → ℕ} {layout :
         pub may_fill : value ≡ place_code point.place → leaf ≡ Leaf wanted.id.slot wanted.way → MayPublish m digest layout n.0 point.place leaf (Some aim')
         may_fill names leaf_is = subst (λ (x : Cell). MayPublish m digest layout n.0 point.place x (Some aim')) (sym leaf_is) (subst (λ (x : Aim). MayPublish m digest layout n.0 point.place (Leaf wanted.id.slot wanted.way) (Some x)) (sym aimed')
             (subst (λ (y : Me F (CellView S A R)). MayPublishFor m digest layout y.0 wanted.id wanted.key wanted.way point.place (Leaf wanted.id.slot wanted.way)) (sym noted) (record {
-          hold = let may = may_after m d e wanted.id wanted.way stayed.comes.0 ready.may in record { built = may.built; bare = may.bare };
-          stands = stayed.comes.1.stands;
-          exists = ready.exists;
-          key_stored = subst (λ (y : Me F (CellView S A R)). HasStoredKey layout y.0.pools.stored wanted.id.slot wanted.way wanted.key) (sym (loads.nothing (inl refl))) ready.key_stored;
-          inc_stored = λ inside. ready.stored (subst (λ slots. Contains slots wanted.id.slot) stayed.comes.0.keeps.unstored inside);
-          nodes = [];
-          puts = fills (sees_empty m digest layout wanted point d e [] loads ready.locks);
-          noted = (0, omega arith, λ i. record { slot = wanted.id.slot; field = note_field wanted.way; value = names i });
-          moves = λ t has. absurd (let no : None ≡ Some t = sym (stayed.comes.0.keeps.turn ∙ ready.turnless) ∙ has in cc);
-        })))
+              hold = let may = may_after m d e wanted.id wanted.way stayed.comes.0 ready.may in record { built = may.built; bare = may.bare };
+              stands = stayed.comes.1.stands;
+              exists = ready.exists;
+              key_stored = subst (λ (y : Me F (CellView S A R)). HasStoredKey layout y.0.pools.stored wanted.id.slot wanted.way wanted.key) (sym (loads.nothing (inl refl))) ready.key_stored;
+              inc_stored = λ inside. ready.stored (subst (λ slots. Contains slots wanted.id.slot) stayed.comes.0.keeps.unstored inside);
+              nodes = [];
+              puts = fills (sees_empty m digest layout wanted point d e [] loads ready.locks);
+              noted = (0, omega arith, λ i. record { slot = wanted.id.slot; field = note_field wanted.way; value = names i });
+              moves = λ t has. absurd (let no : None ≡ Some t = sym (stayed.comes.0.keeps.turn ∙ ready.turnless) ∙ has in cc);
+            })))
 
         pub came_empty : (f : Me F (CellView S A R)) → Published m digest layout point.place leaf (Some aim') n f → Comes m digest layout wanted point (Ends Held.Done) d f
         came_empty f published =

@@ -1,6 +1,6 @@
 -- What a pass meets in a place that it has locked, and what it has once it hung its new nodes there.
 use Rattle.std.proofs.Common.{◌≡◌, ◌≢◌, ℕ, ◌+◌, ◌^◌, ◌<◌, ◌∷◌, [], Bool, true, false, Option, Some, None, List, length, refl, sym, ap, ◌∙◌, subst, arith}
-use Rattle.std.specs.Prelude.{nat_eq, Contains, ◌&&◌}
+use Rattle.std.specs.Prelude.{nat_eq, ◌&&◌}
 use Rattle.std.proofs.lemmas.Bool.Decides.{Decides-and, Decides-eqb}
 use denote.Enum.Bare.{sameb}
 use Rattle.atomic_table.specs.Table.{Me}
@@ -394,11 +394,15 @@ module _ {S A R F : Type 0} (m : Meaning S A R) (digest : Key → ℕ) (layout :
           inc_stored = grown.stored;
           nodes = grown.nodes;
           puts = may_put;
-          noted = (0, omega arith, λ i. record {
-            slot = wanted.id.slot;
-            field = note_field wanted.way;
-            value = (own_is ∙ (ap place_code grown.own_place ∙ ap (λ l. place_code (foot_place (digits_of digest wanted.key) (l + 1) point.place grown.nodes)) (sym grown.at.level_is))) i;
-          });
+          noted = (
+            0,
+            omega arith,
+            λ i. record {
+              slot = wanted.id.slot;
+              field = note_field wanted.way;
+              value = (own_is ∙ (ap place_code grown.own_place ∙ ap (λ l. place_code (foot_place (digits_of digest wanted.key) (l + 1) point.place grown.nodes)) (sym grown.at.level_is))) i;
+            },
+          );
           moves = moves grown.nodes refl;
         } in
         subst (λ a. MayPublish m digest layout h.0 point.place (Cells.Node branch.first) (Some a)) (sym is)

@@ -67,11 +67,11 @@ fn open(
     ensures exists { IfSome result (λ id. id.slot < cells.now.table.shared.key.slots) }
 {
     let id = begin(rt, cells, pass)?;
+    // The notes of the ways that get no key.
+    cells.store_private(pass, Pool::Slots, id.slot, note_field(Way::Backward), 0);
+    cells.store_private(pass, Pool::Slots, id.slot, note_field(Way::Port), 0);
     match hold(rt, cells, pass, id, key, Way::Forward) {
         Held::Done => {
-            // The notes of the ways without a key.
-            cells.store_private(pass, Pool::Slots, id.slot, note_field(Way::Backward), 0);
-            cells.store_private(pass, Pool::Slots, id.slot, note_field(Way::Port), 0);
             start(rt, cells, pass, id, 7, FLOW);
             Some(id)
         }

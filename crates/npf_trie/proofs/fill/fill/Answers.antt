@@ -60,7 +60,7 @@ returns-clause-loads g c =
     elim c.match-load_place.branch [
       | in-Empty w ↦
           let load = by_load g.L.Law.meaning g.H.KeyHash.digest c.args.cells.now.table.shared.key c.args.wanted.now c.args.point _ c.aim.ensures _ _ _ w.in-Empty.ensures.tells in
-          let noted = by_pools _ _ _ w.store_note.ensures.next in
+          let noted = ap (λ me. me.0.trie.places) w.store_note.ensures.next in
           let put = by_store g.L.Law.meaning g.H.KeyHash.digest c.args.cells.now.table.shared.key c.args.wanted.now c.args.point _ w.aim-in-Empty.ensures _ _ _ w.publish_place.ensures.published in
           let same = ap (λ pass. pass.seat.me.0.trie.places) w.pass-is in
           omega (arith, stored, locked, freed, load, noted, put, same)

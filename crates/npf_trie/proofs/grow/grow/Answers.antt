@@ -1,6 +1,6 @@
 use Rattle.npf_cells_holds.specs.PublishKinds.{IsParentStored}
 use Rattle.npf_cells_leaves.specs.Trie.{digits_of}
-use Rattle.std.proofs.Common.{◌+◌, ap, sym, rules, arith, ◌≡◌, ◌≤◌, length, subst, ◌∙◌, refl, ◌≢◌}
+use Rattle.std.proofs.Common.{◌+◌, ◌-◌, ap, sym, rules, arith, ◌≡◌, ◌≤◌, length, subst, ◌∙◌, refl, ◌≢◌}
 use Rattle.std.specs.Prelude.{Contains, slice_index}
 use Rattle.npf_cells_rule.specs.Passes.{IsProtected}
 use Rattle.npf_trie.proofs.CountLemmas.{by_pools}
@@ -52,9 +52,10 @@ move_leaf-step-requires-clause-grown g c =
     let parents = parents_so (digits_of g.H.KeyHash.digest c.args.wanted.now.key) (IsParentStored c.args.cells.now.table.shared.key c.build_branch.new.pass.seat.me.0.pools.stored) (c.args.point.level + 1) c.args.point.place _ _ c.as_slice.ensures.value c.build_branch.ensures.parents in
     let counted = c.in-Some-take_nodes.ensures.takes.counted in
     let some : 1 ≤ length c.in-Some-take_nodes.nodes.items = omega (arith, counted, c.if-parting-point.true) in
-    let own = foot_of g.H.KeyHash.digest _ c.args.wanted.now.key c.args.point.level c.in-Some.parting c.args.point.place c.in-Some-take_nodes.nodes.items _ _ c.requires.hashed c.if-parting-point.true counted c.deref-last.ensures.0 c.place_in.ensures in
-    let moved = foot_of g.H.KeyHash.digest _ c.args.other.now.key c.args.point.level c.in-Some.parting c.args.point.place c.in-Some-take_nodes.nodes.items _ _ c.hash.ensures c.if-parting-point.true counted c.deref-last.ensures.0 c.place_in-2.ensures in
-    has_grown _ _ _ _ _ _ c.requires.can (record { other = c.args.other.now; first = slice_index c.in-Some-take_nodes.nodes.items 0; own_place = c.place_in.result; moved_to = c.place_in-2.result }) _ _ _ _ _ _ c.requires.at c.in-Some-take_nodes.ensures.takes ready c.store_key.ensures.stores c.store_key.ensures.keeps leads parents some own moved
+    let at_last = ap (λ xs. slice_index xs (c.in-Some.parting - c.args.point.level - 1)) c.deref.ensures.0 in
+    let own = foot_of g.H.KeyHash.digest _ c.args.wanted.now.key c.args.point.level c.in-Some.parting c.args.point.place c.in-Some-take_nodes.nodes.items _ _ c.requires.hashed c.if-parting-point.true counted at_last c.place_in.ensures in
+    let moved = foot_of g.H.KeyHash.digest _ c.args.other.now.key c.args.point.level c.in-Some.parting c.args.point.place c.in-Some-take_nodes.nodes.items _ _ c.hash.ensures c.if-parting-point.true counted at_last c.place_in-2.ensures in
+    rw c.deref-2.ensures.0 (has_grown _ _ _ _ _ _ c.requires.can (record { other = c.args.other.now; first = slice_index c.in-Some-take_nodes.nodes.items 0; own_place = c.place_in.result; moved_to = c.place_in-2.result }) _ _ _ _ _ _ c.requires.at c.in-Some-take_nodes.ensures.takes ready c.store_key.ensures.stores c.store_key.ensures.keeps leads parents some own moved)
 
 pub give_all-requires-clause-owned : goal.give_all-requires-clause-owned
 give_all-requires-clause-owned g c =

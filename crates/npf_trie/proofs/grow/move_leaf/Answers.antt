@@ -1,11 +1,7 @@
-use Rattle.std.proofs.Common.{◌≡◌, ◌∙◌, [], ◌∷◌, refl, ap, sym, subst, arith}
-use Rattle.npf_cells_lives.specs.Turns.{running, stage_phase}
-use Rattle.npf_cells_rule.specs.Passes.{CarriesByTurn, IsProtected}
+use Rattle.std.proofs.Common.{◌≡◌, ◌∙◌, [], ◌∷◌, ap, sym, subst, arith}
+use Rattle.npf_cells_rule.specs.Passes.{CarriesByTurn}
 use Rattle.npf_trie.proofs.HangLemmas.{grown_locked, turn_locked, locks_locked, loads_locked, locks_hung, ends_nothing, moves_so, loads_so, protected_locked}
 use Rattle.npf_trie.proofs.grow.move_leaf.Goals as goal
-
-pub lock-2-requires-clause-protected : goal.lock-2-requires-clause-protected
-lock-2-requires-clause-protected g c = subst (λ me. IsProtected me.0.epochs.pin) (sym c.wait_turn.ensures.takes.is) c.requires.protected
 
 pub hang-step-requires-clause-protected : goal.hang-step-requires-clause-protected
 hang-step-requires-clause-protected g c =
