@@ -1,5 +1,5 @@
 -- Connections in slots that a pass claimed, and their incarnations.
-use Rattle.std.proofs.Common.{◌≡◌, ◌≢◌, inl, inr, ℕ, ◌+◌, ◌-◌, ◌^◌, ◌<◌, ◌≤◌, [], ◌∷◌, ◌++◌, List, Option, Some, None, IfSome, IfNone, true, false, cond, eqb, eq-eqb, refl, sym, ap, ◌∙◌, subst, arith}
+use Rattle.std.proofs.Common.{◌≡◌, ◌≢◌, inl, inr, ℕ, ◌+◌, ◌-◌, ◌^◌, ◌≤◌, [], ◌∷◌, ◌++◌, List, Option, Some, None, IfSome, IfNone, true, false, cond, eq-eqb, refl, sym, ap, ◌∙◌, subst, arith}
 use Rattle.std.specs.List.{Contains}
 use Rattle.std.proofs.lemmas.List.Elements.{Contains-append_left, Contains-append_right, Contains-push}
 use Rattle.atomic_table.specs.Table.{Me}
@@ -171,7 +171,7 @@ module _ {S A R F : Type 0} (m : Meaning S A R) (n : ℕ) (old now : Me F (CellV
     pub shows : cell_pass now.0 ≡ shows_begun result
 
   pub asked : (result : Option ConnId) → IfSome result (λ id. IsBegun m n id old now) → IfNone result (HasSeenMore m old now) → IfNone result (IsFullBetween m (cell_pass old.0) now.0.seats.history) → Asked result
-  asked None begun sees full = record {
+  asked None claims sees full = record {
     between = λ pass. goes_between m old.0 now.0 (ap (λ (y : Me F (CellView S A R)). hands y.0) sees.is) (ap (λ (y : Me F (CellView S A R)). y.0.pools.builds) sees.is) (ap (λ (y : Me F (CellView S A R)). y.0.pools.notes) sees.is) pass (sees.legal pass) (begins (cell_pass old.0) now.0.seats.history [] sees.adds);
     legal = sees.legal;
     pin = ap (λ (y : Me F (CellView S A R)). y.0.epochs.pin) sees.is;
@@ -180,23 +180,23 @@ module _ {S A R F : Type 0} (m : Meaning S A R) (n : ℕ) (old now : Me F (CellV
     bare = tt;
     shows = ap (λ (y : Me F (CellView S A R)). cell_pass y.0) sees.is;
   }
-  asked (Some id) begun sees full = record {
+  asked (Some id) claims sees full = record {
     between = λ pass between. record {
-      protected = subst (λ (pin : Pin). is_pinned pin ≡ true → IsProtected pin) (sym (ap (λ (y : Me F (CellView S A R)). y.0.epochs.pin) begun.is)) between.protected;
-      unlocked = ap (λ (y : Me F (CellView S A R)). y.0.trie.locks) begun.is ∙ between.unlocked;
-      turnless = ap (λ (y : Me F (CellView S A R)). y.0.turn) begun.is ∙ between.turnless;
-      nodeless = ap (λ (y : Me F (CellView S A R)). y.0.pools.nodes) begun.is ∙ between.nodeless;
-      stored = begun.owes between.stored;
-      noted = noted_more m old.0 now.0 pass begun.legal (begins (cell_pass old.0) now.0.seats.history (claim_entries (cell_pass old.0) n (Some id)) begun.adds.adds) between.noted id (ap (λ (y : Me F (CellView S A R)). y.0.pools.builds) begun.is) begun.noted begun.known;
-      let_go = ap (λ (y : Me F (CellView S A R)). y.0.pools.kills) begun.is ∙ between.let_go;
-      given_up = ap (λ (y : Me F (CellView S A R)). y.0.pools.gave_up) begun.is ∙ between.given_up;
-      reclaimed = ap (λ (y : Me F (CellView S A R)). y.0.pools.reclaims) begun.is ∙ between.reclaimed;
-      freed = ap (λ (y : Me F (CellView S A R)). y.0.pools.cleared) begun.is ∙ between.freed;
+      protected = subst (λ (pin : Pin). is_pinned pin ≡ true → IsProtected pin) (sym (ap (λ (y : Me F (CellView S A R)). y.0.epochs.pin) claims.is)) between.protected;
+      unlocked = ap (λ (y : Me F (CellView S A R)). y.0.trie.locks) claims.is ∙ between.unlocked;
+      turnless = ap (λ (y : Me F (CellView S A R)). y.0.turn) claims.is ∙ between.turnless;
+      nodeless = ap (λ (y : Me F (CellView S A R)). y.0.pools.nodes) claims.is ∙ between.nodeless;
+      stored = claims.owes between.stored;
+      noted = noted_more m old.0 now.0 pass claims.legal (begins (cell_pass old.0) now.0.seats.history (claim_entries (cell_pass old.0) n (Some id)) claims.adds.adds) between.noted id (ap (λ (y : Me F (CellView S A R)). y.0.pools.builds) claims.is) claims.noted claims.known;
+      let_go = ap (λ (y : Me F (CellView S A R)). y.0.pools.kills) claims.is ∙ between.let_go;
+      given_up = ap (λ (y : Me F (CellView S A R)). y.0.pools.gave_up) claims.is ∙ between.given_up;
+      reclaimed = ap (λ (y : Me F (CellView S A R)). y.0.pools.reclaims) claims.is ∙ between.reclaimed;
+      freed = ap (λ (y : Me F (CellView S A R)). y.0.pools.cleared) claims.is ∙ between.freed;
     };
-    legal = λ _. begun.legal;
-    pin = ap (λ (y : Me F (CellView S A R)). y.0.epochs.pin) begun.is;
-    adds = begun.adds;
+    legal = λ _. claims.legal;
+    pin = ap (λ (y : Me F (CellView S A R)). y.0.epochs.pin) claims.is;
+    adds = claims.adds;
     full = tt;
-    bare = begun.bare;
-    shows = ap (λ (y : Me F (CellView S A R)). cell_pass y.0) begun.is;
+    bare = claims.bare;
+    shows = ap (λ (y : Me F (CellView S A R)). cell_pass y.0) claims.is;
   }

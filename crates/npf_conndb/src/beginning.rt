@@ -8,8 +8,8 @@ ghost use Rattle.npf_conndb.specs.Begins.{IsBegun, BuildsBare};
 ghost use Rattle.npf_pool.specs.Take.{HasSeenMore};
 
 use npf_cells::{CellPass, Cells, Pool};
-use npf_core::{ConnId, Law};
 use npf_cells_words::note_field;
+use npf_core::{ConnId, Law};
 use npf_paths::KeyHash;
 use npf_pool::take;
 use npf_types::Way;
@@ -18,8 +18,8 @@ use std::sync::Wait;
 /// The field of the incarnation among a connection's words.
 const INCARNATION: u32 = 1;
 
-/// Claims a slot for the packet `n`, and stores the incarnation of its next connection, and 0 as its notes. None where each slot was claimed at some point of this
-/// call.
+/// Claims a slot for the packet `n`, and stores the incarnation of its next connection, and 0 as its notes. None where each slot was claimed
+/// at some point of this call.
 pub(crate) fn begin<L: Law, H: KeyHash>(
     rt: &impl Wait,
     cells: &Cells<L, H>,
@@ -43,12 +43,7 @@ pub(crate) fn begin<L: Law, H: KeyHash>(
 }
 
 // The note of a way is 0 from now on: what it said of an earlier connection is over.
-fn clear_note<L: Law, H: KeyHash>(
-    cells: &Cells<L, H>,
-    pass: &mut CellPass<L>,
-    slot: u32,
-    way: Way,
-)
+fn clear_note<L: Law, H: KeyHash>(cells: &Cells<L, H>, pass: &mut CellPass<L>, slot: u32, way: Way)
     requires own { IsPassIn cells.now pass.old }
     requires exists { slot < cells.now.table.shared.key.slots }
     requires bare { BuildsBare L.meaning pass.old.seat.me.0 slot way }
