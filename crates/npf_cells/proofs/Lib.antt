@@ -1,0 +1,2 @@
+mod PublishedLemmas
+mod UnlinkedLemmas

@@ -54,6 +54,13 @@ impl<L: Law> CellPass<L> {
         }
     }
 
+    /// How many reader places it owns: all 66 where no other pass owns any.
+    pub fn places(&self) -> usize
+        ensures { result ≡ length self.now.readers.items }
+    {
+        self.readers.len()
+    }
+
     /// Begins the next search in that pool in this word.
     pub fn set_hint(&mut self, pool: Pool, word: u32)
         ensures seat { self.new.seat ≡ self.old.seat }
@@ -170,6 +177,8 @@ impl<L: Law, H: KeyHash> Cells<L, H> {
         requires other_done { other.seat.me.0.pools.builds ≡ [] }
         requires other_nodes { other.seat.me.0.pools.nodes ≡ [] }
         requires other_kills { other.seat.me.0.pools.kills ≡ [] }
+        requires other_reclaims { other.seat.me.0.pools.reclaims ≡ [] }
+        requires other_cleared { other.seat.me.0.pools.cleared ≡ [] }
         requires other_turn { other.seat.me.0.turn ≡ None }
         ensures own { IsPassIn self.now pass.new }
         ensures idle { pass.new.seat.me.0.epochs.pin ≡ Idle }
@@ -186,11 +195,12 @@ impl<L: Law, H: KeyHash> Cells<L, H> {
         add_all(&mut pass.readers, &readers);
     }
 
-    /// Loads the epoch, and begins a new scan of the readers.
+    /// Loads the epoch, and begins a new scan of the readers. It isn't before any with which the pass let a connection go.
     pub fn load_epoch(&self, pass: &mut CellPass<L>) -> u64
         requires own { IsPassIn self.now pass.old }
         ensures own { IsPassIn self.now pass.new }
         ensures met { IsMet pass.old.seat.me.0.epochs result }
+        ensures dated { pass.old.seat.me.0.pools.dated ≤ result }
         ensures sole { IsSole pass.old.seat.me.0 result }
         ensures next { pass.new.seat.me ≡ with_epochs pass.old.seat.me (loading pass.old.seat.me.0.epochs result) }
     {

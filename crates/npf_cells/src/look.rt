@@ -25,21 +25,24 @@ impl<L: Law, H: KeyHash, W: Told> Play<Running<L::State>, CellView<L::State, L::
     ghost then = { LoadsPlace L.meaning H.digest W.told.layout W.told.packet W.told.key W.told.place };
 }
 
-pub(crate) struct LoadsKeyWord<W> {
+pub(crate) struct LoadsKeyWord<L: Law, H: KeyHash, W> {
+    law: PhantomData<L>,
+    hash: PhantomData<H>,
     aim: PhantomData<W>,
 }
 
-impl<F, S, A, R, W: Told> Play<F, CellView<S, A, R>> for LoadsKeyWord<W> {
+impl<L: Law, H: KeyHash, W: Told> Play<Running<L::State>, CellView<L::State, L::Arg, L::Reply>>
+    for LoadsKeyWord<L, H, W> {
     ghost use Rattle.npf_cells_holds.specs.LookKinds.{LoadsKey};
 
-    ghost then = { LoadsKey W.told.layout W.told.number W.told.way W.told.word };
+    ghost then = { LoadsKey L.meaning H.digest W.told.layout W.told.number W.told.way W.told.word };
 }
 
 impl<L: Law, H: KeyHash> Cells<L, H> {
     ghost use Rattle.std.specs.Prelude.{◌≡◌, ◌<◌, ◌⊎◌};
     ghost use Rattle.npf_cells_lives.specs.Conns.{IsBuiltIn};
     ghost use Rattle.npf_cells_holds.specs.Aims.{MayAim, TellsAim, aim_key};
-    ghost use Rattle.npf_cells_holds.specs.LookKinds.{StandsOnPath, LooksAt, IsLeafOf, ShowsKey, ShowsStoredKey, reading};
+    ghost use Rattle.npf_cells_holds.specs.LookKinds.{StandsOnPath, LooksAt, IsLeafOf, HasLiveTurn, ShowsKey, ShowsStoredKey, TellsHeldKey, reading};
     ghost use Rattle.npf_cells_rule.specs.Views.{with_trie};
     ghost use Rattle.npf_cells.specs.Cells.{IsPassIn};
     ghost use Rattle.npf_cells_rule.specs.Passes.{IsProtected};
@@ -79,16 +82,18 @@ impl<L: Law, H: KeyHash> Cells<L, H> {
         Cell::of_word(found)
     }
 
-    /// Loads a word of the key of the leaf that the pass loaded last in this stay, or of a connection that it is building.
+    /// Loads a word of the key of the leaf that the pass loaded last in this stay, of a connection that it is building, or of a Live one
+    /// whose turn it has. Where the connection held a key of that way, the word is that key's.
     pub fn load_key(&self, pass: &mut CellPass<L>, slot: u32, way: Way, word: u32) -> u64
         requires own { IsPassIn self.now pass.old }
         requires slot { slot < self.now.table.shared.key.slots }
         requires word { word < 5 }
-        requires fixed { IsLeafOf pass.old.seat.me.0.trie slot way ⊎ IsBuiltIn pass.old.seat.me.0.pools.builds slot }
+        requires fixed { IsLeafOf pass.old.seat.me.0.trie slot way ⊎ IsBuiltIn pass.old.seat.me.0.pools.builds slot ⊎ HasLiveTurn pass.old.seat.me.0.turn slot }
         ensures own { IsPassIn self.now pass.new }
         ensures next { pass.new.seat.me ≡ with_trie pass.old.seat.me (reading pass.old.seat.me.0.trie) }
         ensures shows { ShowsKey pass.old.seat.me.0.trie slot way word result }
         ensures stored { ShowsStoredKey self.now.table.shared.key pass.old.seat.me.0.pools.stored slot way word result }
+        ensures tells { TellsHeldKey L.meaning H.digest self.now.table.shared.key pass.old.seat.me.0 slot way word result }
     {
         self.load_key_as::<Brand>(pass, slot, way, word)
     }
@@ -102,12 +107,13 @@ impl<L: Law, H: KeyHash> Cells<L, H> {
         ensures next { pass.new.seat.me ≡ with_trie pass.old.seat.me (reading pass.old.seat.me.0.trie) }
         ensures shows { ShowsKey pass.old.seat.me.0.trie slot way word result }
         ensures stored { ShowsStoredKey self.now.table.shared.key pass.old.seat.me.0.pools.stored slot way word result }
+        ensures tells { TellsHeldKey L.meaning H.digest self.now.table.shared.key pass.old.seat.me.0 slot way word result }
     {
         let place = self
             .layout
             .field_place(Pool::Slots, slot, key_field(way, word));
         self.table
             .shared
-            .load::<LoadsKeyWord<W>>(&mut pass.seat, place)
+            .load::<LoadsKeyWord<L, H, W>>(&mut pass.seat, place)
     }
 }

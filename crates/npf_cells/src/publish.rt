@@ -39,7 +39,8 @@ impl<L: Law, H: KeyHash> Cells<L, H> {
     ghost use Rattle.npf_paths.specs.Paths.{IsEnd};
     ghost use Rattle.npf_cells.specs.Cells.{IsPassIn};
     ghost use Rattle.npf_cells_rule.specs.Passes.{IsProtected};
-    ghost use Rattle.npf_cells_holds.specs.PublishKinds.{aim_now, MayPublish, MayPublishFor, Published, HasHeld, SeesLocked, publishing};
+    ghost use Rattle.npf_cells_holds.specs.PublishKinds.{aim_now, MayPublish, MayPublishFor, Published, HasHeld, publishing};
+    ghost use Rattle.npf_cells_leaves.specs.Sights.{SeesLocked};
     ghost use Rattle.npf_cells_words.specs.Places.{IsInTrie};
 
     /// Stores in a place of the trie whose lock the pass has, and which it loaded since it got it. To hold a key, the connection's leaf goes

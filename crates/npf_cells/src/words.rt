@@ -28,10 +28,11 @@ impl<L: Law, H: KeyHash> Cells<L, H> {
     ghost use Rattle.npf_cells_words.specs.Layout.{field_at, pool_places};
     ghost use Rattle.npf_cells.specs.Cells.{IsPassIn};
     ghost use Rattle.npf_cells_rule.specs.Stood.{StoodSo};
-    ghost use Rattle.npf_cells_turns.specs.WordKinds.{IsLoadField, ShowsStored};
+    ghost use Rattle.npf_cells_turns.specs.WordKinds.{IsLoadField, ShowsByTurn, ShowsNote, ShowsPhase, ShowsStored};
 
-    /// Loads the state or the parent of a node, or the phase or a note of a connection. The fields are those of docs/ARCHITECTURE.md,
-    /// counted from 0.
+    /// Loads the state or the parent of a node, or the phase or a note of a connection: what the pass stored there, where it did; the phase
+    /// that a turn knows, to who has it; and a note of a Live connection, to who has its slot's turn, is 0 exactly where no key of its way is
+    /// held, and else names the key's place. The fields are those of docs/ARCHITECTURE.md, counted from 0.
     pub fn load_word(&self, pass: &mut CellPass<L>, pool: Pool, place: u32, field: u32) -> u64
         requires own { IsPassIn self.now pass.old }
         requires place { place < pool_places self.now.table.shared.key pool }
@@ -39,6 +40,9 @@ impl<L: Law, H: KeyHash> Cells<L, H> {
         ensures own { IsPassIn self.now pass.new }
         ensures same { pass.new.seat.me ≡ pass.old.seat.me }
         ensures stored { ShowsStored self.now.table.shared.key pass.old.seat.me.0.pools.stored pool place field result }
+        ensures noted { ShowsNote pass.old.seat.me.0.pools.notes pool place field result }
+        ensures phase { ShowsPhase pass.old.seat.me.0.turn pool place field result }
+        ensures by_turn { ShowsByTurn L.meaning H.digest self.now.table.shared.key pass.old.seat.me.0 pool place field result }
         ensures stood { StoodSo L.meaning H.digest self.now.table.shared.key pass.old.seat.me.0 (field_at self.now.table.shared.key pool place field) result }
     {
         self.load_word_as::<Brand>(pass, pool, place, field)
@@ -58,6 +62,9 @@ impl<L: Law, H: KeyHash> Cells<L, H> {
         ensures own { IsPassIn self.now pass.new }
         ensures same { pass.new.seat.me ≡ pass.old.seat.me }
         ensures stored { ShowsStored self.now.table.shared.key pass.old.seat.me.0.pools.stored pool place field result }
+        ensures noted { ShowsNote pass.old.seat.me.0.pools.notes pool place field result }
+        ensures phase { ShowsPhase pass.old.seat.me.0.turn pool place field result }
+        ensures by_turn { ShowsByTurn L.meaning H.digest self.now.table.shared.key pass.old.seat.me.0 pool place field result }
         ensures stood { StoodSo L.meaning H.digest self.now.table.shared.key pass.old.seat.me.0 (field_at self.now.table.shared.key pool place field) result }
     {
         let word = self.layout.field_place(pool, place, field);

@@ -20,19 +20,21 @@ use Rattle.npf_cells_words.specs.Places.{IsInTrie, place_at}
 use Rattle.npf_cells_words.specs.Layout.{notes_field}
 use Rattle.npf_cells_words.proofs.WordLemmas.{place_behind}
 use Rattle.npf_seats.proofs.PrefixLemmas.{none_listed}
+use Rattle.npf_cells_leaves.specs.Sights.{SeesLocked}
 use Rattle.npf_cells_leaves.specs.declared.trie.TrieSide.{TrieSide}
 use Rattle.npf_cells_leaves.specs.Trie.{cell_in, digits_of, TrieWords, trie_words}
 use Rattle.npf_cells_leaves.proofs.TrieLemmas.{said, KnowsNoMore, are_digits, trie_same}
 use Rattle.npf_cells_lives.proofs.ConnLemmas.{builds-kept, unstored-set, conns-same}
 use Rattle.npf_cells_lives.proofs.LockLemmas.{locks-same, holders-set}
+use Rattle.npf_cells_lives.proofs.NoteLemmas.{same_ahead}
 use Rattle.npf_cells_lives.proofs.StoredLemmas.{stored_kept, stored-set}
 use Rattle.npf_cells_rule.specs.declared.view.CellView.{CellView}
 use Rattle.npf_cells_rule.specs.Cells.{IsCells}
 use Rattle.npf_cells_rule.specs.Views.{lock_side, pool_side, trie_side}
 use Rattle.npf_cells_rule.proofs.DeathFrames.{deaths_on}
-use Rattle.npf_cells_rule.proofs.Frames.{alone_still, private_step, turns_apart}
-use Rattle.npf_cells_holds.specs.PublishKinds.{SeesLocked, publishing, StoresAgain}
-use Rattle.npf_cells_holds.proofs.PlaceLemmas.{cell_here, cell_else, key_else, inc_else, parent_else, turn_else, lock_else, own_else}
+use Rattle.npf_cells_rule.proofs.Frames.{alone_still, private_step, turns_apart, notes_apart}
+use Rattle.npf_cells_holds.specs.PublishKinds.{publishing, StoresAgain}
+use Rattle.npf_cells_holds.proofs.PlaceLemmas.{cell_here, cell_else, key_else, inc_else, parent_else, turn_else, lock_else, own_else, note_else}
 use Rattle.npf_cells_lives.specs.Turns.{Running}
 
 -- what the pass saw stands there still, on a key's path
@@ -70,15 +72,13 @@ module _ {S A R : Type 0} (m : Meaning S A R) (digest : Key → ℕ) (layout : L
         let there = stands_there cell sees in
         let w : CellView S A R = record me.0 { trie = publishing me.0.trie } in
         let are = are_digits digest there.key in
-        private_step m digest layout s (place_at layout p) (cell_word cell) id me.1 me.0 w kept at (place_behind layout p) refl refl refl refl
+        private_step m digest layout s (place_at layout p) (cell_word cell) id me.1 me.0 w kept at (place_behind layout p) refl refl refl refl (λ conn c. c)
         (alone_still me.0 w (kept.alone id me.0 at) place refl (λ none. absurd (none_listed (lock_of p) (subst (λ locks. Contains locks (lock_of p)) none.locks sees.locked))))
         (trie_same trie_side digest layout kept.published k k s.words words s.views id me.0 w kept.trie at (publishes_less me.0.trie) (record {
           holder = λ key. refl;
           claimed = λ identity c. c;
-          cells = λ digits _ level q on. ⊎_elim
-              (λ (e : q ≡ p). ap (cell_in layout words) e ∙ (cell_here m digest layout s kept p inside (cell_word cell) ∙ (said cell ∙ (sym there.is ∙ ap t.cell (sym e)))))
-              (λ (ne : q ≢ p). cell_else m digest layout s kept p inside (cell_word cell) q ne)
-              (same_or_apart q p);
+          dead = λ identity e. e;
+          cells = λ digits _ level q on. same_cell cell there.is q;
           parents = λ digits level q node are on is. parent_else m digest layout s kept p inside (cell_word cell) node;
           keys = λ slot way right. key_else m digest layout s kept p inside (cell_word cell) slot way;
           incs = λ slot way right. inc_else m digest layout s kept p inside (cell_word cell) slot;
@@ -89,13 +89,26 @@ module _ {S A R : Type 0} (m : Meaning S A R) (digest : Key → ℕ) (layout : L
         (stored_kept layout s.words words me.0.pools w.pools (kept.stored id me.0 at) refl (λ pool place field own. own) (own_else m digest layout s kept p inside (cell_word cell) (digits_of digest there.key) there.level are there.on_path id me.0 at))
         (λ j u ne e. stored_kept layout s.words words u.pools u.pools (kept.stored j u e) refl (λ pool place field own. own) (own_else m digest layout s kept p inside (cell_word cell) (digits_of digest there.key) there.level are there.on_path j u e)))
         (locks-same lock_side layout s.words words s.views (set s.views id w) kept.locks (lock_else m digest layout s kept p inside (cell_word cell)) (holders-set lock_side layout s.views id me.0 w at refl))
-        (turns_apart m digest layout s (place_at layout p) (cell_word cell) id me.0 w k kept at refl (λ slot field h f. turn_else m digest layout s kept p inside (cell_word cell) slot field) (λ slot. inl refl))
+        (turns_apart m digest layout s (place_at layout p) (cell_word cell) id me.0 w k kept at refl refl (λ slot field h f. turn_else m digest layout s kept p inside (cell_word cell) slot field) (λ slot. inl refl))
         (deaths_on m digest layout s (place_at layout p) (cell_word cell) id me.0 w kept at refl refl (record { rests = λ i dead bare rests. (rests, refl) })
         (let same = get_or-set_other s.words (place_at layout p) 0 (cell_word cell) 0 (λ e. absurd (let far = place_behind layout p in omega (arith, e, far))) in omega (arith, same))
         (λ slot h. turn_else m digest layout s kept p inside (cell_word cell) slot notes_field))
+        (notes_apart m digest layout s words id me.0 w k kept at (same_ahead me.0.turn me.0.turn refl) refl refl (λ i c. c) (record {
+          cells = λ digits _ level q on. same_cell cell there.is q;
+          notes = note_else m digest layout s kept p inside (cell_word cell);
+          held = λ key found is. is;
+          back = λ key found is. is;
+          slots = λ slot. inl refl;
+        }))
       where
         words : List ℕ
         words = set s.words (place_at layout p) (cell_word cell)
+
+        same_cell : (c : Cell) → t.cell p ≡ c → (q : Place) → cell_in layout (set s.words (place_at layout p) (cell_word c)) q ≡ t.cell q
+        same_cell c is q = ⊎_elim
+            (λ (e : q ≡ p). ap (cell_in layout (set s.words (place_at layout p) (cell_word c))) e ∙ (cell_here m digest layout s kept p inside (cell_word c) ∙ (said c ∙ (sym is ∙ ap t.cell (sym e)))))
+            (λ (ne : q ≢ p). cell_else m digest layout s kept p inside (cell_word c) q ne)
+            (same_or_apart q p)
 
   pub may_store_again : (st : Step (Running S)) (id n : ℕ) (p : Place) (cell : Cell) (me : Me (Running S) (CellView S A R)) → 1 ≤ length me.0.seats.readers → IsInTrie layout p → SeesLocked me.0.trie p cell →
       Allows (IsCells m digest layout) n id me (place_at layout p) (λ _. cell_word cell) (λ _. StoresAgain st me (cell_word cell))

@@ -124,8 +124,8 @@ module _ {S A R : Type 0} (m : Meaning S A R) (digest : Key → ℕ) (layout : L
       right : IsRightLeaf layout.slots k.holder t slot leaf_way
       right = kept.trie.leaves (digits_of digest key) level p slot leaf_way (are_digits digest key) here is
 
-      leaf_stays : (x : LoadedLeaf) → Some leaf ≡ Some x → StaysLeaf layout.slots k.holder t x
-      leaf_stays x e = subst (StaysLeaf layout.slots k.holder t) (some_same _ _ e) (record { right = right; key = refl; inc = refl })
+      leaf_stays : (x : LoadedLeaf) → Some leaf ≡ Some x → StaysLeaf layout.slots k t x
+      leaf_stays x e = subst (StaysLeaf layout.slots k t) (some_same _ _ e) (record { right = inl right; key = refl; inc = refl })
 
       leaf_keyed : (i : ConnId) → leaf_id (Some leaf) ≡ Some i → ¬ (IsKeyless k i)
       leaf_keyed i e = subst (λ (x : ConnId). ¬ (IsKeyless k x)) (some_same _ _ e) (holder_keyed k (t.key slot leaf_way) (leaf_found t slot leaf_way) right.held)
@@ -172,6 +172,7 @@ module _ {S A R : Type 0} (m : Meaning S A R) (digest : Key → ℕ) (layout : L
         keeps_trie = keeps_words layout k k' s.words s.words
             (λ other. holder_stays k key (leaf_holder leaf) (record { id = conn; way = way }) held other (is_key key other) refl)
             (λ i c. claimed_by m layout.slots k entry i follows (λ e. absurd cc) c)
+            (λ i e. e)
             (λ j h. refl)
 
         asker_fits : FitsTrie digest layout.slots k' t asker.trie
@@ -207,7 +208,7 @@ module _ {S A R : Type 0} (m : Meaning S A R) (digest : Key → ℕ) (layout : L
         pub takes : IsCells m digest layout (stepped s word (slice_index s.words word) id me.1 asker keeps)
         takes =
             let words = set-get_or s.words word 0 in
-            entry_step m digest layout s word (slice_index s.words word) id me.1 me.0 asker kept at lives place entry refl follows refl refl (kept.stored id me.0 at) refl refl (λ slot. inl refl) refl spares (λ slot. refl) asker_rests (alone_within asker place stays)
+            entry_step m digest layout s word (slice_index s.words word) id me.1 me.0 asker kept at lives place entry refl follows refl refl (kept.stored id me.0 at) refl refl (λ slot. inl refl) keeps_trie.holder refl spares (λ slot. refl) asker_rests refl (λ i c. c) (alone_within asker place stays)
             (record { before = λ j h. ap (λ ws. slice_index ws j) words; behind = λ j h. ap (λ ws. slice_index ws j) words })
             (pools-same layout (taken pool_side kept.published k s.views) (taken pool_side kept.published k' (set s.views id asker)) s.words (set s.words word (slice_index s.words word)) kept.pools
             (length-set s.words word (slice_index s.words word)) (λ j h. ap (λ ws. slice_index ws j) words) (taken-set pool_side kept.published k s.views id me.0 asker at refl))

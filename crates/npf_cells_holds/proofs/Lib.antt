@@ -1,4 +1,5 @@
 pub mod AgainKeepLemmas
+pub mod ForgottenLemmas
 pub mod HoldKeepLemmas
 pub mod LockKeepLemmas
 pub mod LookKeepLemmas
@@ -6,3 +7,6 @@ pub mod OwnedLemmas
 pub mod PlaceLemmas
 pub mod PublishKeepLemmas
 pub mod SpareLemmas
+pub mod StandingLemmas
+pub mod UnheldLemmas
+pub mod UnlinkKeepLemmas

@@ -18,7 +18,7 @@ use Rattle.npf_core.specs.Meaning.{Meaning}
 use Rattle.npf_paths.specs.declared.place.Lock.{Lock}
 use Rattle.npf_cells_words.specs.declared.layout.Layout.{Layout}
 use Rattle.npf_cells_words.specs.declared.layout.Pool.TheVariants.{Slots, Nodes}
-use Rattle.npf_cells_words.specs.Layout.{inc_field, parent_field, key_field, field_at, notes_field}
+use Rattle.npf_cells_words.specs.Layout.{inc_field, parent_field, key_field, field_at, notes_field, note_field}
 use Rattle.npf_cells_words.specs.Places.{lock_at, IsLockOf, place_at}
 use Rattle.npf_cells_words.proofs.WordLemmas.{lock_behind, lock_reach, not_place, not_slot, parent_unlocked}
 use Rattle.npf_seats.specs.Sums.{others_than, occurs}
@@ -34,13 +34,14 @@ use Rattle.npf_cells_lives.specs.Locks.{has_lock, lock_holders, Locks}
 use Rattle.npf_cells_lives.specs.Stored.{FitsStored}
 use Rattle.npf_cells_lives.proofs.ConnLemmas.{builds-kept, unstored-set, conns-same}
 use Rattle.npf_cells_lives.proofs.DeathLemmas.{RestsNoMore}
+use Rattle.npf_cells_lives.proofs.NoteLemmas.{same_ahead}
 use Rattle.npf_cells_lives.proofs.StoredLemmas.{no_lock, stored_kept, stored-set}
 use Rattle.npf_cells_rule.specs.declared.view.CellView.{CellView}
 use Rattle.npf_cells_rule.specs.Cells.{FitsAlone, IsCells}
 use Rattle.npf_cells_rule.specs.Passes.{IsPassOf, IsProtected}
 use Rattle.npf_cells_rule.specs.Views.{with_trie, lock_side, pool_side, trie_side, death_side}
 use Rattle.npf_cells_rule.proofs.DeathFrames.{deaths_on}
-use Rattle.npf_cells_rule.proofs.Frames.{alone_still, alone_within, private_step, turns_apart}
+use Rattle.npf_cells_rule.proofs.Frames.{alone_still, alone_within, private_step, turns_apart, notes_apart}
 use Rattle.npf_cells_rule.proofs.StoodLemmas.{stood_so}
 use Rattle.npf_cells_holds.specs.LockKinds.{locking, locks_but, unlocking, TriesLock, StoresState}
 use Rattle.npf_cells_holds.proofs.LookKeepLemmas.{load_step}
@@ -70,6 +71,7 @@ lock_keeps : {S : Type 0} (layout : Layout) (k : Machine S) (words : List ℕ) (
 lock_keeps layout k words lock n exists = record {
   holder = λ key. refl;
   claimed = λ identity c. c;
+  dead = λ identity e. e;
   cells = λ digits are level p on. cell_kept layout words _ p (λ h. other (place_at layout p) (not_place layout p lock h exists));
   parents = λ digits level p node are on is. other (field_at layout Nodes node parent_field) (parent_unlocked layout lock node exists);
   keys = λ slot way right. λ i. record { 0 = key_same slot way 0 i ∷ key_same slot way 1 i ∷ key_same slot way 2 i ∷ key_same slot way 3 i ∷ key_same slot way 4 i ∷ [] };
@@ -170,17 +172,24 @@ module _ {S A R : Type 0} (m : Meaning S A R) (digest : Key → ℕ) (layout : L
         ((other : Lock) → lock_at layout other ≢ word → has_lock layout other side.locks ≡ has_lock layout other me.0.trie.locks) → IsCells m digest layout (stepped s word n id me.1 (having side) keeps)
     lock_step n side grown less alone fits here most others =
         let w = having side in
-        private_step m digest layout s word n id me.1 me.0 w kept at (lock_behind layout lock) refl refl refl refl alone
+        private_step m digest layout s word n id me.1 me.0 w kept at (lock_behind layout lock) refl refl refl refl (λ conn c. c) alone
         (trie_kept trie_side digest layout kept.published k k s.words (words' n) s.views (set s.views id w) kept.trie (keeps_trie n) (grown-set trie_side s.views id me.0 w at grown)
         (fits-set trie_side digest layout.slots k (t' n) s.views id w fits (fits_all trie_side digest layout.slots k k (trie_words layout s.words) (t' n) s.views (keeps_trie n) kept.trie.each)))
         (conns-same pool_side m layout kept.log s.words (words' n) s.views (set s.views id w) kept.connections (length-set s.words word n)
         (λ slot h. get_or-set_other s.words word (field_at layout Slots slot inc_field) n 0 (not_slot layout slot inc_field lock exists)) (builds-kept pool_side k s.views id me.0 w at refl refl kept.connections.each) (unstored-set pool_side s.views id me.0 w at refl))
         (stored-set pool_side layout (words' n) s.views id w (on me.0.pools (kept.stored id me.0 at)) (λ j u ne there. on u.pools (kept.stored j u there)))
         (locks-set layout s.words s.views id me.0 w lock n kept.locks at (let reach = lock_reach layout lock exists in let long = kept.connections.reach in omega (arith, reach, long)) here most others)
-        (turns_apart m digest layout s word n id me.0 w k kept at refl (λ slot field h f. get_or-set_other s.words word (field_at layout Slots slot field) n 0 (not_slot layout slot field lock exists)) (λ slot. inl refl))
+        (turns_apart m digest layout s word n id me.0 w k kept at refl refl (λ slot field h f. get_or-set_other s.words word (field_at layout Slots slot field) n 0 (not_slot layout slot field lock exists)) (λ slot. inl refl))
         (deaths_on m digest layout s word n id me.0 w kept at refl refl less
         (let same = get_or-set_other s.words word 0 n 0 (λ e. absurd (let far = lock_behind layout lock in omega (arith, e, far))) in omega (arith, same))
         (λ slot h. get_or-set_other s.words word (field_at layout Slots slot notes_field) n 0 (not_slot layout slot notes_field lock exists)))
+        (notes_apart m digest layout s (words' n) id me.0 w k kept at (same_ahead me.0.turn me.0.turn refl) refl refl (λ i c. c) (record {
+          cells = (keeps_trie n).cells;
+          notes = λ slot way. get_or-set_other s.words word (field_at layout Slots slot (note_field way)) n 0 (not_slot layout slot (note_field way) lock exists);
+          held = λ key found is. is;
+          back = λ key found is. is;
+          slots = λ slot. inl refl;
+        }))
       where
         on : (pools : PoolSide) → FitsStored layout s.words pools → FitsStored layout (words' n) pools
         on pools h = stored_kept layout s.words (words' n) pools pools h refl (λ pool place field own. own)

@@ -43,7 +43,7 @@ use Rattle.npf_cells_leaves.specs.declared.trie.TrieSide.{TrieSide}
 use Rattle.npf_cells_leaves.specs.Trie.{cell_in, key_in, digits_of, TrieWords, trie_words, leaf_found, holder_at, StaysLeaf, StaysSighted, FitsTrie, Trie}
 use Rattle.npf_cells_leaves.proofs.TrieLemmas.{are_digits, cell_there, trie_moved}
 use Rattle.npf_cells_lives.specs.Conns.{inc_word, entry_seat}
-use Rattle.npf_cells_lives.specs.Deaths.{IsKeyless}
+use Rattle.npf_cells_lives.specs.Deaths.{IsKeyless, last_id}
 use Rattle.npf_cells_lives.specs.Pools.{taken}
 use Rattle.npf_cells_lives.proofs.ConnLemmas.{builds-kept, unstored-set}
 use Rattle.npf_cells_lives.proofs.DeathLemmas.{spares_all, RestsNoMore}
@@ -54,9 +54,10 @@ use Rattle.npf_cells_rule.specs.Passes.{IsProtected, cell_pass}
 use Rattle.npf_cells_rule.specs.Views.{seat_side, reader_view, with_trie, pool_side, trie_side, leaf_id, death_side}
 use Rattle.npf_cells_rule.proofs.DeathFrames.{rests_or_holds, holder_keyed, deaths_load}
 use Rattle.npf_cells_rule.proofs.EntryLemmas.{adds_entry, sole_entries}
-use Rattle.npf_cells_rule.proofs.Frames.{alone_still, alone_within, conns_apart, stored_apart, locks_apart, turns_behind, entry_step, private_step}
+use Rattle.npf_cells_rule.proofs.Frames.{notes_still, alone_still, alone_within, conns_apart, stored_apart, locks_apart, turns_behind, entry_step, private_step}
 use Rattle.npf_cells_rule.proofs.PassLemmas.{pinned_in}
 use Rattle.npf_cells_holds.specs.LookKinds.{StandsOnPath, level_of, level_at, descending, TellsHolder, looked, HasLooked, FitsLayout, LooksAt, LoadsPlace, reading, LoadsKey}
+use Rattle.npf_cells_holds.proofs.StandingLemmas.{stands_at_end}
 use Rattle.npf_cells_lives.specs.Turns.{Running}
 
 pub some_same : {X : Type 0} (x y : X) → Some x ≡ Some y → x ≡ y
@@ -113,13 +114,14 @@ module _ {S A R : Type 0} (m : Meaning S A R) (digest : Key → ℕ) (layout : L
       IsCells m digest layout (stepped s i (slice_index s.words i) id c (record v { trie = side }) keeps)
   load_step s i id c v side kept at behind fits locks grown less alone =
       let w : CellView S A R = record v { trie = side } in
-      private_step m digest layout s i (slice_index s.words i) id c v w kept at behind refl refl refl refl alone
+      private_step m digest layout s i (slice_index s.words i) id c v w kept at behind refl refl refl refl (λ conn killed. killed) alone
       (subst (λ ws. Trie trie_side digest layout kept.published (state_of m kept.log) ws (set s.views id w)) (sym (set-get_or s.words i 0)) (trie_moved trie_side digest layout kept.published (state_of m kept.log) s.words s.views id v w kept.trie at grown fits))
       (conns_apart m digest layout s i (slice_index s.words i) id v w kept at refl refl (λ j h. ap (λ ws. slice_index ws j) (set-get_or s.words i 0)))
       (stored_apart m digest layout s i (slice_index s.words i) id w kept (kept.stored id v at) (λ j h. ap (λ ws. slice_index ws j) (set-get_or s.words i 0)))
       (locks_apart m digest layout s i (slice_index s.words i) id v w kept at locks (λ j h. ap (λ ws. slice_index ws j) (set-get_or s.words i 0)))
-      (turns_behind m digest layout s i (slice_index s.words i) id v w kept at refl (λ j h. ap (λ ws. slice_index ws j) (set-get_or s.words i 0)))
+      (turns_behind m digest layout s i (slice_index s.words i) id v w kept at refl refl (λ j h. ap (λ ws. slice_index ws j) (set-get_or s.words i 0)))
       (deaths_load m digest layout s i id v w kept at refl refl less)
+      (notes_still m digest layout s i (slice_index s.words i) id v w kept at refl refl refl refl (λ j h. ap (λ ws. slice_index ws j) (set-get_or s.words i 0)))
 
   module _ (s : State (Running S) (CellView S A R)) (id : ℕ) (me : Me (Running S) (CellView S A R)) (kept : IsCells m digest layout s) (at : get_elem? s.views id ≡ some me.0)
       (lives : me.0.seats.lives ≡ true) (settled : me.0.seats.theirs ≡ []) (place : 1 ≤ length me.0.seats.readers) (stays : IsProtected me.0.epochs.pin) (packet : ℕ) (key : Key) (p : Place) (stands : StandsOnPath digest me.0.trie key p) where
@@ -170,11 +172,11 @@ module _ {S A R : Type 0} (m : Meaning S A R) (digest : Key → ℕ) (layout : L
     }) refl refl (record { rests = λ i dead bare rests. (rests, refl) }) (alone_within (record me.0 { trie = descending digest key p level node me.0.trie }) place stays)
 
     -- the leaf that is then known stays
-    leaf_fits : (cell : Cell) → t.cell p ≡ cell → (leaf : LoadedLeaf) → leaf_after t cell me.0.trie.leaf ≡ Some leaf → StaysLeaf layout.slots k.holder t leaf
+    leaf_fits : (cell : Cell) → t.cell p ≡ cell → (leaf : LoadedLeaf) → leaf_after t cell me.0.trie.leaf ≡ Some leaf → StaysLeaf layout.slots k t leaf
     leaf_fits Empty is leaf e = (kept.trie.each id me.0 at).leaf leaf e
     leaf_fits (Leaf slot way) is leaf e =
         let right = kept.trie.leaves (digits_of digest key) level p slot way (are_digits digest key) on is in
-        subst (StaysLeaf layout.slots k.holder t) (some_same _ _ e) (record { right = right; key = refl; inc = refl })
+        subst (StaysLeaf layout.slots k t) (some_same _ _ e) (record { right = inl right; key = refl; inc = refl })
     leaf_fits (Node node) is leaf e = (kept.trie.each id me.0 at).leaf leaf e
     leaf_fits Mark is leaf e = (kept.trie.each id me.0 at).leaf leaf e
 
@@ -217,7 +219,7 @@ module _ {S A R : Type 0} (m : Meaning S A R) (digest : Key → ℕ) (layout : L
     pub ends : IsCells m digest layout (stepped s word (slice_index s.words word) id me.1 looker keeps)
     ends =
         let words = set-get_or s.words word 0 in
-        entry_step m digest layout s word (slice_index s.words word) id me.1 me.0 looker kept at lives place entry refl follows refl refl (kept.stored id me.0 at) refl refl (λ slot. inl refl) refl (spares_all k) (λ slot. refl) looker_rests (alone_within looker place stays)
+        entry_step m digest layout s word (slice_index s.words word) id me.1 me.0 looker kept at lives place entry refl follows refl refl (kept.stored id me.0 at) refl refl (λ slot. inl refl) (λ other. refl) refl (spares_all k) (λ slot. refl) looker_rests refl (λ i c. c) (alone_within looker place stays)
         (record { before = λ j h. ap (λ ws. slice_index ws j) words; behind = λ j h. ap (λ ws. slice_index ws j) words })
         (pools-same layout (taken pool_side kept.published k s.views) (taken pool_side kept.published k (set s.views id looker)) s.words (set s.words word (slice_index s.words word)) kept.pools
         (length-set s.words word (slice_index s.words word)) (λ j h. ap (λ ws. slice_index ws j) words) (taken-set pool_side kept.published k s.views id me.0 looker at refl))
@@ -295,9 +297,9 @@ module _ {S A R : Type 0} (m : Meaning S A R) (digest : Key → ℕ) (layout : L
         }),
       )
 
-  pub may_load_key : (st : Step (Running S)) (id n slot : ℕ) (way : Way) (place : ℕ) (me : Me (Running S) (CellView S A R)) → 1 ≤ length me.0.seats.readers → place < 5 →
-      Allows (IsCells m digest layout) n id me (field_at layout Slots slot (key_field way + place)) (λ x. x) (LoadsKey layout slot way place st me)
-  may_load_key st id n slot way place me seated short s kept homes at bound = (
+  pub may_load_key : (st : Step (Running S)) (id n slot : ℕ) (way : Way) (place : ℕ) (me : Me (Running S) (CellView S A R)) → me.0.seats.lives ≡ true → 1 ≤ length me.0.seats.readers → place < 5 →
+      Allows (IsCells m digest layout) n id me (field_at layout Slots slot (key_field way + place)) (λ x. x) (LoadsKey m digest layout slot way place st me)
+  may_load_key st id n slot way place me lives seated short s kept homes at bound = (
     record me.0 { trie = reading me.0.trie },
     keeps,
     tt,
@@ -311,5 +313,13 @@ module _ {S A R : Type 0} (m : Meaning S A R) (digest : Key → ℕ) (layout : L
       shows = λ leaf e slots ways.
           let stays = (kept.trie.each id me.0 at).leaf leaf e in
           word_of layout s.words slot way place short ∙ ap (λ (key : Key). slice_index key.0 place) ((λ i. (trie_words layout s.words).key (sym slots i) (sym ways i)) ∙ stays.key);
+      tells = record {
+        state = s;
+        rule = kept;
+        seated = subst (λ i. get_elem? s.views i ≡ some me.0) (sym ((kept.seats.each id me.0.seats (at_map seat_side s.views id me.0 at)).lives lives).number) at;
+        held = λ key holds.
+            let is = (stands_at_end trie_side digest layout kept.published (state_of m kept.log) s.words s.views kept.trie (last_id (state_of m kept.log) slot) way key holds).says.key_is in
+            (ap (λ (x : Key). length x.0) (sym is), word_of layout s.words slot way place short ∙ ap (λ (x : Key). slice_index x.0 place) is);
+      };
     },
   )

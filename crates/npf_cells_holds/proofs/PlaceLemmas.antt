@@ -15,11 +15,12 @@ use Rattle.npf_paths.specs.Paths.{AreDigits, IsOnPath}
 use Rattle.npf_cells_words.specs.declared.layout.Layout.{Layout}
 use Rattle.npf_cells_words.specs.declared.layout.Pool.{Pool}
 use Rattle.npf_cells_words.specs.declared.layout.Pool.TheVariants.{Slots, Nodes}
-use Rattle.npf_cells_words.specs.Layout.{inc_field, parent_field, key_field, field_at}
+use Rattle.npf_cells_words.specs.Layout.{inc_field, parent_field, key_field, note_field, field_at}
 use Rattle.npf_cells_words.specs.Places.{lock_at, IsLockOf, IsInTrie, place_at}
 use Rattle.npf_cells_words.proofs.WordLemmas.{place_reach, one_word, slot_apart, parent_apart, lock_apart}
 use Rattle.npf_cells_leaves.specs.Trie.{cell_in, key_word, trie_words}
 use Rattle.npf_cells_leaves.proofs.TrieLemmas.{cell_there, cell_kept}
+use Rattle.npf_cells_lives.specs.Notes.{note_word}
 use Rattle.npf_cells_lives.specs.Stored.{IsOwnField}
 use Rattle.npf_cells_rule.specs.declared.view.CellView.{CellView}
 use Rattle.npf_cells_rule.specs.Cells.{IsCells}
@@ -56,6 +57,9 @@ module _ {S A R : Type 0} (m : Meaning S A R) (digest : Key → ℕ) (layout : L
   -- the parents of nodes
   pub parent_else : (node : ℕ) → (trie_words layout words').parent node ≡ (trie_words layout s.words).parent node
   parent_else node = other_word (field_at layout Nodes node parent_field) (parent_apart layout p node inside)
+
+  pub note_else : (slot : ℕ) (way : Way) → note_word layout words' slot way ≡ note_word layout s.words slot way
+  note_else slot way = other_word (field_at layout Slots slot (note_field way)) (slot_apart layout p slot (note_field way) inside)
 
   pub turn_else : (slot field : ℕ) → slice_index words' (field_at layout Slots slot field) ≡ slice_index s.words (field_at layout Slots slot field)
   turn_else slot field = other_word (field_at layout Slots slot field) (slot_apart layout p slot field inside)

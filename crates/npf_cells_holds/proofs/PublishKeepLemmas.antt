@@ -1,24 +1,27 @@
 -- Kind 15 for a key keeps the rule, and holds the key.
 use Rattle.std.specs.List.{Contains}
-use Rattle.std.proofs.Common.{◌≡◌, ◌≢◌, ℕ, ◌+◌, ◌<◌, ◌≤◌, true, false, true≢false, cond, Option, Some, None, List, [], ◌∷◌, ◌++◌, map, set, length, slice_index, refl, sym, ap, ◌∙◌, subst, ⊎_elim, inl, inr, arith, length-set}
+use Rattle.std.proofs.Common.{◌≡◌, ◌≢◌, ℕ, ◌+◌, ◌<◌, ◌≤◌, true, false, true≢false, cond, Option, Some, None, List, [], ◌∷◌, ◌++◌, map, set, length, slice_index, refl, sym, ap, ◌∙◌, subst, ⊎_elim, inl, inr, arith, length-set, ◌⊎◌, ◌-◌}
 use Rattle.std.proofs.lemmas.Grind.{same_number_lists}
 use Rattle.std.proofs.lemmas.List.{map-set, get_or-set_other}
 use mathlib.Core.Option.{some}
 use lib.ListN.{get_elem?}
 use Rattle.atomic_table.specs.Table.{State, Me, Step, Allows, stepped, keeps}
-use Rattle.atomic_table.proofs.Lists.{at_map}
+use Rattle.atomic_table.proofs.Lists.{at_map, at_set}
 use Rattle.npf_types.specs.declared.key.Key.{Key}
 use Rattle.npf_types.specs.declared.key.Way.{Way}
 use Rattle.npf_core.specs.declared.act.Act.TheVariants.{Hold}
 use Rattle.npf_core.specs.declared.conn_id.ConnId.{ConnId}
 use Rattle.npf_core.specs.declared.entry.Entry.{Entry}
+use Rattle.npf_core.specs.declared.found.Found.{Found}
 use Rattle.npf_core.specs.declared.held.Held.{Held}
 use Rattle.npf_core.specs.declared.reply.Reply.TheVariants.{ToHold}
 use Rattle.npf_core.specs.declared.stage.Stage.TheVariants.{Building}
 use Rattle.npf_core.specs.History.{MayFollow, Legal, after, state_of}
 use Rattle.npf_core.specs.Machine.{Machine, stage_of, is_key}
 use Rattle.npf_core.specs.Meaning.{Meaning}
+use Rattle.npf_core.specs.NextState.{holder_or}
 use Rattle.npf_core.specs.Replies.{held_by}
+use Rattle.npf_core.proofs.EqualityLemmas.{is_key-Decides}
 use Rattle.npf_core.proofs.HistoryLemmas.{state_of-append, Legal-append}
 use Rattle.npf_connections.specs.Adding.{AddsOwn}
 use Rattle.npf_connections.specs.Pass.{all_places}
@@ -28,18 +31,22 @@ use Rattle.npf_paths.specs.declared.place.Place.{Place}
 use Rattle.npf_paths.specs.declared.place.Place.TheVariants as Places
 use Rattle.npf_paths.specs.CellWords.{cell_word, cell_of}
 use Rattle.npf_paths.specs.Growing.{IsPlaceOf, GrowsBranch}
-use Rattle.npf_paths.specs.GrowingLaw.{PathsAfterGrowth}
+use Rattle.npf_paths.specs.GrowingLaw.{IsEndNow, PathsAfterGrowth}
+use Rattle.npf_paths.specs.GrowingLaw.IsEndNow.{end_stays, end_grew}
 use Rattle.npf_paths.specs.Paths.{AreDigits, IsOnPath, IsEnd}
 use Rattle.npf_paths.specs.Paths.IsOnPath.{at_root, further}
 use Rattle.npf_paths.specs.Places.{lock_of}
-use Rattle.npf_paths.proofs.FillingLemmas.{filled_places}
+use Rattle.npf_paths.proofs.FillingLemmas.{same_or_apart, filled_back, filled_places}
+use Rattle.npf_paths.proofs.BranchLemmas.{branch_long}
 use Rattle.npf_paths.proofs.GrowingLemmas.{growth_told}
+use Rattle.npf_paths.proofs.PathLemmas.{one_end}
 use Rattle.npf_cells_words.specs.declared.layout.Layout.{Layout}
 use Rattle.npf_cells_words.specs.declared.layout.Pool.{Pool}
 use Rattle.npf_cells_words.specs.declared.layout.Pool.TheVariants.{Slots, Nodes}
-use Rattle.npf_cells_words.specs.Layout.{root_at, parent_field, key_field, field_at, notes_field}
+use Rattle.npf_cells_words.specs.Layout.{root_at, parent_field, key_field, field_at, notes_field, turn_field, phase_field, note_field}
+use Rattle.npf_cells_words.specs.Codes.{place_code}
 use Rattle.npf_cells_words.specs.Places.{IsInTrie, place_at}
-use Rattle.npf_cells_words.proofs.WordLemmas.{place_lock, place_behind}
+use Rattle.npf_cells_words.proofs.WordLemmas.{place_lock, place_behind, same_note}
 use Rattle.npf_seats.specs.Seats.{FitsSeats, Seats}
 use Rattle.npf_seats.specs.Sums.{occurs}
 use Rattle.npf_seats.proofs.ListLemmas.{occurs_or}
@@ -47,52 +54,63 @@ use Rattle.npf_seats.proofs.PrefixLemmas.{none_listed}
 use Rattle.npf_seats.proofs.SeatLemmas.{seats-adds}
 use Rattle.npf_seats.proofs.SumLemmas.{sum-set}
 use Rattle.npf_cells_pins.proofs.EpochLemmas.{within_last}
+use Rattle.npf_cells_leaves.specs.Sights.{SeesLocked}
 use Rattle.npf_cells_leaves.specs.declared.trie.LoadedLeaf.{LoadedLeaf}
-use Rattle.npf_cells_leaves.specs.Parents.{NameParents}
+use Rattle.npf_cells_leaves.specs.Parents.{foot_place, NameParents}
 use Rattle.npf_cells_leaves.specs.Trie.{key_in, digits_of, TrieWords, trie_words, leaf_found, holder_at, StaysLeaf, FitsTrie, Trie, all_grown}
 use Rattle.npf_cells_leaves.proofs.FillLemmas.{FillsFor, fills_place, trie_filled}
-use Rattle.npf_cells_leaves.proofs.GivenLemmas.{GivesKey, fits_still, others-fit}
+use Rattle.npf_cells_leaves.proofs.GivenLemmas.{key_cases, keys_apart, other_holds, GivesKey, fits_still, others-fit}
 use Rattle.npf_cells_leaves.proofs.GrowLemmas.{branch_seen, trie_grown}
-use Rattle.npf_cells_leaves.proofs.ParentLemmas.{names_so}
+use Rattle.npf_cells_leaves.proofs.ParentLemmas.{names_so, mine_foot, theirs_foot}
 use Rattle.npf_cells_leaves.proofs.TrieLemmas.{said, knows_same, are_digits, cell_there}
 use Rattle.npf_cells_lives.specs.Conns.{Conns, entry_seat}
-use Rattle.npf_cells_lives.specs.Deaths.{Deaths}
+use Rattle.npf_cells_lives.specs.Deaths.{Deaths, last_id, unreclaimed}
+use Rattle.npf_cells_lives.specs.Known.{Known}
 use Rattle.npf_cells_lives.specs.Locks.{Locks}
 use Rattle.npf_cells_lives.specs.Pools.{taken, Pools}
 use Rattle.npf_cells_lives.specs.Stored.{stored_value, StoredWords}
 use Rattle.npf_cells_lives.proofs.BuiltLemmas.{bare_in_log}
 use Rattle.npf_cells_lives.proofs.ConnLemmas.{BuildsIn, builds-kept, unstored-set, inc_shown}
+use Rattle.npf_cells_lives.proofs.FreedLemmas.{freed_stays}
 use Rattle.npf_cells_lives.proofs.LockLemmas.{locks-same, holders-set, locks_alone}
+use Rattle.npf_cells_lives.proofs.NoteLemmas.{ahead_turns, ahead_fits, note_stays, notes_left, nobody_before}
+use Rattle.npf_cells_lives.proofs.TurnLemmas.{turns-like}
+use Rattle.npf_cells_rule.proofs.LawLemmas.{builds_alone}
 use Rattle.npf_cells_lives.proofs.PoolLemmas.{pools-kept}
 use Rattle.npf_cells_lives.proofs.StoredLemmas.{fits_unstored, stored_kept, stored-set}
 use Rattle.npf_cells_rule.specs.declared.view.CellView.{CellView}
 use Rattle.npf_cells_rule.specs.Cells.{IsCells, FitsAlone}
 use Rattle.npf_cells_rule.specs.Passes.{IsProtected, cell_pass}
-use Rattle.npf_cells_rule.specs.Views.{seat_side, reader_view, lock_side, pool_side, trie_side, turn_side, leaf_id, death_side}
-use Rattle.npf_cells_rule.proofs.DeathFrames.{rests_or_holds, deaths_spared}
+use Rattle.npf_cells_rule.specs.Views.{seat_side, reader_view, lock_side, pool_side, trie_side, turn_side, leaf_id, death_side, seen_side}
+use Rattle.npf_cells_rule.proofs.DeathFrames.{rests_or_holds, deaths_spared, gone_same, known_seen}
 use Rattle.npf_cells_rule.proofs.EntryLemmas.{adds_entry, sole_entries}
-use Rattle.npf_cells_rule.proofs.Frames.{alone-set, alone_within, framed, epochs_apart, turns_apart}
+use Rattle.npf_cells_rule.proofs.Frames.{alone-set, alone_within, framed, epochs_apart}
 use Rattle.npf_cells_rule.proofs.MetLemmas.{unowned}
 use Rattle.npf_cells_rule.proofs.PassLemmas.{pinned_in}
 use Rattle.npf_cells_holds.specs.HoldKinds.{renewed}
 use Rattle.npf_cells_holds.specs.LookKinds.{level_at}
-use Rattle.npf_cells_holds.specs.PublishKinds.{SeesLocked, stored_cell, cell_stored, IsParentStored, GrowsNodes, PutsFor, MayPublishFor, published_for, HasHeld, PublishesFor, publishing}
+use Rattle.npf_cells_holds.specs.PublishKinds.{stored_cell, cell_stored, IsParentStored, GrowsNodes, HasNoted, IsSettled, IsAheadTo, MovesLeaf, PutsFor, MayPublishFor, published_for, HasHeld, PublishesFor, publishing}
 use Rattle.npf_cells_holds.proofs.AgainKeepLemmas.{stands_there}
 use Rattle.npf_cells_holds.proofs.LookKeepLemmas.{word_of, on_path}
 use Rattle.npf_cells_holds.proofs.OwnedLemmas.{owns_there, taken_moved}
-use Rattle.npf_cells_holds.proofs.PlaceLemmas.{cell_here, cell_else, key_else, inc_else, parent_else, turn_else, lock_else, own_else}
+use Rattle.npf_cells_holds.proofs.PlaceLemmas.{cell_here, cell_else, key_else, inc_else, parent_else, turn_else, lock_else, own_else, note_else}
 use Rattle.npf_cells_holds.proofs.SpareLemmas.{hold_spares}
 use Rattle.npf_cells_holds.specs.PublishKinds.PutsFor.{fills, grows}
-use Rattle.npf_cells_lives.specs.Turns.{Running, Turns}
+use Rattle.npf_cells_lives.specs.declared.pools.Note.{Note}
+use Rattle.npf_cells_lives.specs.declared.turn.Ahead.{Ahead}
+use Rattle.npf_cells_lives.specs.declared.turn.Said.{Said}
+use Rattle.npf_cells_lives.specs.declared.turn.Turn.{Turn}
+use Rattle.npf_cells_lives.specs.Notes.{note_word, IsAheadOf, NobodyAhead, FitsNote, notes_but, with_ahead, Notes}
+use Rattle.npf_cells_lives.specs.Turns.{Running, FitsTurn, Turns}
 
 module _ {S A R : Type 0} (m : Meaning S A R) (digest : Key → ℕ) (layout : Layout) where
   -- a store in a place of the trie, by which the pass adds an entry of its own and may publish nodes
   publish_step : (s : State (Running S) (CellView S A R)) (i n id : ℕ) (v w : CellView S A R) (kept : IsCells m digest layout s) (published : List ℕ) → get_elem? s.views id ≡ some v → root_at layout ≤ i → v.seats.lives ≡ true → 1 ≤ length v.seats.readers →
       (entry : Entry S A R) → entry.seat ≡ id → MayFollow m layout.slots (state_of m kept.log) entry → w.seats ≡ record v.seats { history = kept.log ++ entry ∷ [] } → reader_view w ≡ reader_view v →
       ((pool : Pool) (place : ℕ) → taken pool_side published (after m (state_of m kept.log) entry) (set s.views id w) pool place ≡ taken pool_side kept.published (state_of m kept.log) s.views pool place) →
-      Trie trie_side digest layout published (after m (state_of m kept.log) entry) (set s.words i n) (set s.views id w) → Conns pool_side m layout (kept.log ++ entry ∷ []) (set s.words i n) (set s.views id w) → StoredWords pool_side layout (set s.words i n) (set s.views id w) → Locks lock_side layout (set s.words i n) (set s.views id w) → Turns turn_side layout (after m (state_of m kept.log) entry) (set s.words i n) s.homes (set s.views id w) → Deaths death_side layout (after m (state_of m kept.log) entry) (set s.words i n) (set s.views id w) → FitsAlone w →
+      Trie trie_side digest layout published (after m (state_of m kept.log) entry) (set s.words i n) (set s.views id w) → Conns pool_side m layout (kept.log ++ entry ∷ []) (set s.words i n) (set s.views id w) → StoredWords pool_side layout (set s.words i n) (set s.views id w) → Locks lock_side layout (set s.words i n) (set s.views id w) → Turns turn_side layout (unreclaimed death_side (set s.views id w) (after m (state_of m kept.log) entry)) (set s.words i n) s.homes (set s.views id w) → Deaths death_side layout (after m (state_of m kept.log) entry) (set s.words i n) (set s.views id w) → Known (seen_side m) pool_side (after m (state_of m kept.log) entry) (set s.views id w) → Notes turn_side pool_side layout (trie_words layout (set s.words i n)).cell (after m (state_of m kept.log) entry) (set s.words i n) (set s.views id w) → FitsAlone w →
       (c : List (ℕ × Running S)) → IsCells m digest layout (stepped s i n id c w keeps)
-  publish_step s i n id v w kept published at behind lives place entry mine follows seats reads takes trie connections stored locks turns deaths alone c =
+  publish_step s i n id v w kept published at behind lives place entry mine follows seats reads takes trie connections stored locks turns deaths known notes alone c =
       let log = kept.log ++ entry ∷ [] in
       let state = state_of-append m kept.log entry in
       framed m digest layout s (stepped s i n id c w keeps) kept published log (length-set s.words i n)
@@ -105,8 +123,10 @@ module _ {S A R : Type 0} (m : Meaning S A R) (digest : Key → ℕ) (layout : L
       connections
       stored
       locks
-      (subst (λ k. Turns turn_side layout k (set s.words i n) s.homes (set s.views id w)) (sym state) turns)
+      (subst (λ k. Turns turn_side layout (unreclaimed death_side (set s.views id w) k) (set s.words i n) s.homes (set s.views id w)) (sym state) turns)
       (subst (λ k. Deaths death_side layout k (set s.words i n) (set s.views id w)) (sym state) deaths)
+      (subst (λ k. Known (seen_side m) pool_side k (set s.views id w)) (sym state) known)
+      (subst (λ k. Notes turn_side pool_side layout (trie_words layout (set s.words i n)).cell k (set s.words i n) (set s.views id w)) (sym state) notes)
       (alone-set s.views id w alone kept.alone)
     where
       below : (j : ℕ) → j < root_at layout → slice_index (set s.words i n) j ≡ slice_index s.words j
@@ -139,7 +159,7 @@ module _ {S A R : Type 0} (m : Meaning S A R) (digest : Key → ℕ) (layout : L
     k' = after m k entry
 
     abbrev holding : List ℕ → CellView S A R
-    holding nodes = published_for me.0 (kept.log ++ entry ∷ []) nodes
+    holding nodes = published_for me.0 (kept.log ++ entry ∷ []) conn way nodes
 
     on : IsOnPath (digits_of digest key) t.cell level p
     on = on_path digest layout.slots k t me.0.trie key p (kept.trie.each id me.0 at) may.stands
@@ -180,6 +200,7 @@ module _ {S A R : Type 0} (m : Meaning S A R) (digest : Key → ℕ) (layout : L
       free = free;
       holder = λ other. refl;
       claimed = λ identity c. c;
+      dead = λ identity e. e;
       keys = key_else m digest layout s kept p inside (cell_word cell);
       incs = inc_else m digest layout s kept p inside (cell_word cell);
       key_is = key_stands;
@@ -229,12 +250,106 @@ module _ {S A R : Type 0} (m : Meaning S A R) (digest : Key → ℕ) (layout : L
         (let same = get_or-set_other s.words word 0 (cell_word cell) 0 (λ e. absurd (let far = place_behind layout p in omega (arith, e, far))) in omega (arith, same))
         (λ slot h. turn_else m digest layout s kept p inside (cell_word cell) slot notes_field)
 
+    -- the pass knows what its kills hold, since it has seen all
+    known_held : (nodes : List ℕ) → Known (seen_side m) pool_side k' (set s.views id (holding nodes))
+    known_held nodes = known_seen m digest layout s id me.0 (holding nodes) k' kept at (λ i c. c) (state_of-append m kept.log entry) (hold_spares m k id conn key way built)
+
+    -- a turn that the pass has fits still, is ahead of nothing, and was told nothing
+    turn_fits : (t : Option (Turn S)) → me.0.turn ≡ t → (turn : Turn S) → with_ahead None t ≡ Some turn → FitsTurn layout (unreclaimed death_side s.views k) s.words turn
+    turn_fits None has turn is = absurd cc
+    turn_fits (Some mine) has turn is =
+        let same : record mine { ahead = None; said = None } ≡ turn = cc in
+        let fits = kept.turns.each id me.0 mine at has in
+        subst (FitsTurn layout (unreclaimed death_side s.views k) s.words) same (record { exists = fits.exists; phase = fits.phase; stays = fits.stays })
+
+    settled_after : (t : Option (Turn S)) (turn : Turn S) (note : Ahead) → with_ahead None t ≡ Some turn → turn.ahead ≡ Some note → ⊥
+    settled_after None turn note is ahead = cc
+    settled_after (Some mine) turn note is ahead = let same : record mine { ahead = None; said = None } ≡ turn = cc in let no : None ≡ Some note = ap (λ (y : Turn S). y.ahead) same ∙ ahead in cc
+
+    untold_after : (t : Option (Turn S)) (turn : Turn S) (said : Said) → with_ahead None t ≡ Some turn → turn.said ≡ Some said → ⊥
+    untold_after None turn said is told = cc
+    untold_after (Some mine) turn said is told = let same : record mine { ahead = None; said = None } ≡ turn = cc in let no : None ≡ Some said = ap (λ (y : Turn S). y.said) same ∙ told in cc
+
+    turns_after : (nodes : List ℕ) → Turns turn_side layout (unreclaimed death_side (set s.views id (holding nodes)) k') words' s.homes (set s.views id (holding nodes))
+    turns_after nodes = turns-like turn_side layout (unreclaimed death_side s.views k) (unreclaimed death_side (set s.views id (holding nodes)) k') s.words words' s.homes s.views id me.0 (holding nodes) kept.turns at (λ slot. ahead_turns None me.0.turn slot) (λ turn is. turn_fits me.0.turn refl turn is) (record {
+      turn = λ slot h. turn_else m digest layout s kept p inside (cell_word cell) slot turn_field;
+      phase = λ slot h. turn_else m digest layout s kept p inside (cell_word cell) slot phase_field;
+      slots = λ slot. freed_stays death_side s.views (set s.views id (holding nodes)) k k' slot (gone_same m digest layout s.views id me.0 (holding nodes) at refl slot) (inl refl);
+    })
+
+    abbrev taker : Found
+    taker = record { id = conn; way = way }
+
+    -- what was held is, and what is held was, or is this key
+    held_on : k.holder key ≡ None → (other : Key) (found : Found) → k.holder other ≡ Some found → k'.holder other ≡ Some found
+    held_on free other found is = ⊎_elim
+        (λ (same : key ≡ other). absurd (let no : None ≡ Some found = sym free ∙ (ap k.holder same ∙ is) in cc))
+        (λ differ. other_holds digest layout.slots k k' t t' conn key way (gives free) other differ ∙ is)
+        (key_cases key other)
+
+    held_back : k.holder key ≡ None → (other : Key) (found : Found) → k'.holder other ≡ Some found → (k.holder other ≡ Some found) ⊎ (taker ≡ found)
+    held_back free other found is = ⊎_elim
+        (λ (same : key ≡ other).
+        let now : k'.holder other ≡ Some taker = ap (λ b. cond b (holder_or (k.holder other) taker) (k.holder other)) ((is_key-Decides key other).1 same) ∙ ap (λ x. holder_or x taker) (ap k.holder (sym same) ∙ free) in
+        inr (let e : Some taker ≡ Some found = sym now ∙ is in cc))
+        (λ differ. inl (sym (other_holds digest layout.slots k k' t t' conn key way (gives free) other differ) ∙ is))
+        (key_cases key other)
+
+    -- the leaves that paths then meet are where their notes say
+    abbrev Names : List ℕ → Type 0
+    Names nodes = (digits : ℕ → ℕ) (l : ℕ) (q : Place) (slot : ℕ) (w : Way) → AreDigits digits → IsOnPath digits t'.cell l q → t'.cell q ≡ Leaf slot w → NobodyAhead turn_side (set s.views id (holding nodes)) slot (note_field w) → note_word layout s.words slot w ≡ place_code q
+
+    notes_after : (nodes : List ℕ) → k.holder key ≡ None → Names nodes → Notes turn_side pool_side layout t'.cell k' words' (set s.views id (holding nodes))
+    notes_after nodes free names = record {
+      named = λ digits l q slot w are on' is none. note_else m digest layout s kept p inside (cell_word cell) slot w ∙ names digits l q slot w are on' is none;
+      bare = λ slot w within live none. note_else m digest layout s kept p inside (cell_word cell) slot w ∙ kept.notes.bare slot w within live (λ other holds. none other (held_on free other (record { id = last_id k slot; way = w }) holds));
+      given = λ j u i w e c not none. note_else m digest layout s kept p inside (cell_word cell) i.slot w ∙ ⊎_elim
+          (λ (x : (j ≡ id) × (holding nodes ≡ u)).
+          kept.notes.given id me.0 i w at (subst (λ (y : CellView S A R). Contains y.pools.kills i) (sym x.1) c) (λ d. not (subst (λ (y : CellView S A R). Contains y.pools.gave_up (record { id = i; way = w })) x.1 d))
+          (λ other holds. none other (held_on free other (record { id = i; way = w }) holds)))
+          (λ (x : (j ≢ id) × (get_elem? s.views j ≡ some u)). kept.notes.given j u i w x.1 c not (λ other holds. none other (held_on free other (record { id = i; way = w }) holds)))
+          (at_set s.views id j (holding nodes) u e);
+      said = λ j u turn said w e has is firm field. note_else m digest layout s kept p inside (cell_word cell) turn.slot w ∙ ⊎_elim
+          (λ (x : (j ≡ id) × (holding nodes ≡ u)). absurd (untold_after me.0.turn turn said (ap (λ (y : CellView S A R). y.turn) x.1 ∙ has) is))
+          (λ (x : (j ≢ id) × (get_elem? s.views j ≡ some u)). kept.notes.said j u turn said w x.1 has is firm field)
+          (at_set s.views id j (holding nodes) u e);
+      ahead = λ j u turn note e has is. ⊎_elim
+          (λ (x : (j ≡ id) × (holding nodes ≡ u)). absurd (settled_after me.0.turn turn note (ap (λ (y : CellView S A R). y.turn) x.1 ∙ has) is))
+          (λ (x : (j ≢ id) × (get_elem? s.views j ≡ some u)).
+          let fits = kept.notes.ahead j u turn note x.1 has is in
+          ahead_fits layout k k' s.words words' turn.slot note fits (note_else m digest layout s kept p inside (cell_word cell) turn.slot fits.way) (held_on free))
+          (at_set s.views id j (holding nodes) u e);
+      each = λ j u note e c. ⊎_elim
+          (λ (x : (j ≡ id) × (holding nodes ≡ u)). subst (λ (y : CellView S A R). FitsNote layout k' words' y.pools.builds note) x.1 (own_note note (subst (λ (y : CellView S A R). Contains y.pools.notes note) (sym x.1) c)))
+          (λ (x : (j ≢ id) × (get_elem? s.views j ≡ some u)). note_stays layout k k' s.words words' u.pools.builds u.pools.builds note (λ w is. note_else m digest layout s kept p inside (cell_word cell) note.slot w)
+          (λ other i w built is there holds. let asked : Found = record { id = i; way = w } in ⊎_elim
+          (λ was. was)
+          (λ (same : taker ≡ asked). absurd (x.0 (builds_alone m layout digest s j id u me.0 i conn kept x.1 at built may.hold.built (ap (λ (f : Found). f.id.slot) (sym same)))))
+          (held_back free other asked holds))
+          (λ i e' c'. c') (kept.notes.each j u note x.1 c))
+          (at_set s.views id j (holding nodes) u e);
+    }
+      where
+        own_note : (note : Note) → Contains (notes_but conn.slot (note_field way) me.0.pools.notes) note → FitsNote layout k' words' me.0.pools.builds note
+        own_note note c =
+            let left = notes_left conn.slot (note_field way) me.0.pools.notes note c in
+            note_stays layout k k' s.words words' me.0.pools.builds me.0.pools.builds note (λ w is. note_else m digest layout s kept p inside (cell_word cell) note.slot w)
+            (λ other i w built is there holds. let asked : Found = record { id = i; way = w } in ⊎_elim
+            (λ was. was)
+            (λ (same : taker ≡ asked). absurd (left.1 (sym there ∙ ap (λ (f : Found). f.id.slot) (sym same)) (is ∙ ap (λ (f : Found). note_field f.way) (sym same))))
+            (held_back free other asked holds))
+            (λ i e' c'. c') (kept.notes.each id me.0 note at left.0)
+
+    -- the pass noted where the leaf will stand
+    own_noted : (nodes : List ℕ) → HasNoted me.0.pools.notes conn.slot way (place_code (foot_place (digits_of digest key) (level + 1) p nodes)) → note_word layout s.words conn.slot way ≡ place_code (foot_place (digits_of digest key) (level + 1) p nodes)
+    own_noted nodes noted = let fits = kept.notes.each id me.0 _ at noted in ap (note_word layout s.words conn.slot) (same_note way fits.way fits.field_is) ∙ fits.stands
+
     -- the rule, as long as the trie's part holds and the nodes pass from the pass to the trie
-    held_so : (nodes : List ℕ) → k.holder key ≡ None →
+    held_so : (nodes : List ℕ) → k.holder key ≡ None → Names nodes →
         ((pool : Pool) (x : ℕ) → taken pool_side (nodes ++ kept.published) k' (set s.views id (holding nodes)) pool x ≡ taken pool_side kept.published k s.views pool x) →
         Trie trie_side digest layout (nodes ++ kept.published) k' words' (set s.views id (holding nodes)) → IsCells m digest layout (stepped s word (cell_word cell) id me.1 (holding nodes) keeps)
-    held_so nodes free takes trie = publish_step s word (cell_word cell) id me.0 (holding nodes) kept (nodes ++ kept.published) at (place_behind layout p) lives place entry refl (follows free) refl refl takes trie (connected nodes free) (stored_stays nodes) (locks_stay nodes)
-        (turns_apart m digest layout s word (cell_word cell) id me.0 (holding nodes) k' kept at refl (λ slot field h f. turn_else m digest layout s kept p inside (cell_word cell) slot field) (λ slot. inl refl)) (deaths_held nodes) (alone_within (holding nodes) place stays) me.1
+    held_so nodes free names takes trie = publish_step s word (cell_word cell) id me.0 (holding nodes) kept (nodes ++ kept.published) at (place_behind layout p) lives place entry refl (follows free) refl refl takes trie (connected nodes free) (stored_stays nodes) (locks_stay nodes)
+        (turns_after nodes) (deaths_held nodes) (known_held nodes) (notes_after nodes free names) (alone_within (holding nodes) place stays) me.1
 
     -- the hold ends what the pass has then seen
     pub has_held : (nodes : List ℕ) → PutsFor digest layout me.0 conn key way p cell nodes → k.holder key ≡ None → HasHeld m digest layout conn key way p cell me (holding nodes, me.1)
@@ -267,19 +382,31 @@ module _ {S A R : Type 0} (m : Meaning S A R) (digest : Key → ℕ) (layout : L
     free_empty : t.cell p ≡ Empty → k.holder key ≡ None
     free_empty empty = kept.trie.ends key level p (record { on_path = on; is_end = subst IsEnd (sym empty) tt }) ∙ ap (λ c. holder_at t c key) empty
 
-    held_by_filling : cell ≡ Leaf conn.slot way → SeesLocked me.0.trie p Empty → IsCells m digest layout (stepped s word (cell_word cell) id me.1 (holding []) keeps)
-    held_by_filling put sees =
+    named_filled : (filled : FillsFor digest t t' conn.slot key way p level) → HasNoted me.0.pools.notes conn.slot way (place_code p) → IsSettled me.0.turn → Names []
+    named_filled filled noted settled digits l q slot w are on' is none = ⊎_elim
+        (λ (e : q ≡ p).
+        let leaf : Leaf conn.slot way ≡ Leaf slot w = sym filled.filled ∙ (ap t'.cell (sym e) ∙ is) in
+        let slots : conn.slot ≡ slot = cc in
+        let ways : way ≡ w = cc in
+        (λ i. note_word layout s.words (sym slots i) (sym ways i)) ∙ (own_noted [] noted ∙ ap place_code (sym e)))
+        (λ (ne : q ≢ p). kept.notes.named digits l q slot w are (filled_places (filled_back (fills_place digest t t' conn.slot key way p level filled)) on') (sym (filled.others q ne) ∙ is)
+        (nobody_before turn_side s.views id me.0 (holding []) slot (note_field w) at (λ a. absurd (let no : None ≡ Some a.note = sym (settled a.mine a.has) ∙ a.ahead in cc)) none))
+        (same_or_apart q p)
+
+    held_by_filling : cell ≡ Leaf conn.slot way → HasNoted me.0.pools.notes conn.slot way (place_code p) → IsSettled me.0.turn → SeesLocked me.0.trie p Empty → IsCells m digest layout (stepped s word (cell_word cell) id me.1 (holding []) keeps)
+    held_by_filling put noted settled sees =
         let empty = (stands_there m digest layout s id me kept at p inside Empty sees).is in
         let free = free_empty empty in
         let changed = fills_place digest t t' conn.slot key way p level (filled_for put empty) in
-        held_so [] free (taken_moved m digest layout s kept id me.0 at k k' (holding []) [] (λ i j h. absurd (omega (arith, h))) (λ node c. absurd (none_listed node c)) refl (λ slot. refl))
+        held_so [] free (named_filled (filled_for put empty) noted settled) (taken_moved m digest layout s kept id me.0 at k k' (holding []) [] (λ i j h. absurd (omega (arith, h))) (λ node c. absurd (none_listed node c)) refl (λ slot. refl))
         (trie_filled trie_side digest layout kept.published k k' s.words words' s.views (set s.views id (holding [])) conn key way p level kept.trie (gives free) (filled_for put empty)
         (let sums = all_after [] in omega (arith, sums))
         (all_fit free [] sees.locked (λ digits l q are on'. filled_places changed on') (λ digits l q are on' ne. changed.others q ne)))
 
     -- new nodes lead on from the place to the leaf and to that of another key, which stood there
     module _ (leaf : LoadedLeaf) (first : ℕ) (nodes : List ℕ) (put : cell ≡ Node first) (known : me.0.trie.leaf ≡ Some leaf) (other_key : is_key leaf.key key ≡ false) (sees : SeesLocked me.0.trie p (Leaf leaf.slot leaf.way))
-        (news : GrowsNodes digest layout me.0 conn.slot way key leaf p level first nodes) where
+        (news : GrowsNodes digest layout me.0 conn.slot way key leaf p level first nodes) (noted : HasNoted me.0.pools.notes conn.slot way (place_code (foot_place (digits_of digest key) (level + 1) p nodes)))
+        (moves : IsAheadTo me.0.turn leaf.slot leaf.way (place_code (foot_place (digits_of digest leaf.key) (level + 1) p nodes))) where
       abbrev mine : ℕ → ℕ
       mine = digits_of digest key
 
@@ -289,7 +416,7 @@ module _ {S A R : Type 0} (m : Meaning S A R) (digest : Key → ℕ) (layout : L
       stood : t.cell p ≡ Leaf leaf.slot leaf.way
       stood = (stands_there m digest layout s id me kept at p inside (Leaf leaf.slot leaf.way) sees).is
 
-      leaf_stays : StaysLeaf layout.slots k.holder t leaf
+      leaf_stays : StaysLeaf layout.slots k t leaf
       leaf_stays = (kept.trie.each id me.0 at).leaf leaf known
 
       free_other : k.holder key ≡ None
@@ -335,10 +462,61 @@ module _ {S A R : Type 0} (m : Meaning S A R) (digest : Key → ℕ) (layout : L
       named = names_so mine (IsParentStored layout me.0.pools.stored) (λ node code. t'.parent node ≡ code) (level + 1) p nodes
           (λ node code has is. parent_else m digest layout s kept p inside (cell_word cell) node ∙ (kept.stored id me.0 at).stands (field_at layout Nodes node parent_field) code is) news.parents
 
+      -- the leaf that is moved is noted where it will stand, and the pass is ahead of no other note
+      moved_noted : note_word layout s.words leaf.slot leaf.way ≡ place_code (foot_place theirs (level + 1) p nodes)
+      moved_noted =
+          let fits = kept.notes.ahead id me.0 moves.mine _ at moves.has moves.ahead in
+          (λ i. note_word layout s.words (sym moves.there i) (same_note leaf.way fits.way fits.field_is i)) ∙ fits.stands
+
+      ahead_of_that : (slot : ℕ) (w : Way) → IsAheadOf me.0.turn slot (note_field w) → (leaf.slot ≡ slot) × (leaf.way ≡ w)
+      ahead_of_that slot w a =
+          let same : moves.mine ≡ a.mine = (let e : Some moves.mine ≡ Some a.mine = sym moves.has ∙ a.has in cc) in
+          let led : Ahead = record { field = note_field leaf.way; value = place_code (foot_place theirs (level + 1) p nodes) } in
+          let note : led ≡ a.note = (let e : Some led ≡ Some a.note = sym moves.ahead ∙ (ap (λ (y : Turn S). y.ahead) same ∙ a.ahead) in cc) in
+          (sym moves.there ∙ (ap (λ (y : Turn S). y.slot) same ∙ a.there), same_note leaf.way w (ap (λ (n : Ahead). n.field) note ∙ a.field_is))
+
+      two_leaves : Leaf conn.slot way ≢ Leaf leaf.slot leaf.way
+      two_leaves e =
+          let slots : conn.slot ≡ leaf.slot = cc in
+          let ways : way ≡ leaf.way = cc in
+          keys_apart leaf.key key other_key (sym leaf_stays.key ∙ ((λ i. t.key (sym slots i) (sym ways i)) ∙ key_stands))
+
+      named_grown : Names nodes
+      named_grown digits l q slot w are on' is none = by_end (grown_paths.ends digits l q are (record { on_path = on'; is_end = subst IsEnd (sym is) tt }))
+        where
+          at_leaf : (slot' : ℕ) (w' : Way) → t'.cell q ≡ Leaf slot' w' → note_word layout s.words slot' w' ≡ place_code q → note_word layout s.words slot w ≡ place_code q
+          at_leaf slot' w' e so =
+              let same : Leaf slot' w' ≡ Leaf slot w = sym e ∙ is in
+              let slots : slot' ≡ slot = cc in
+              let ways : w' ≡ w = cc in
+              (λ i. note_word layout s.words (sym slots i) (sym ways i)) ∙ so
+
+          by_end : IsEndNow digits t.cell t'.cell (Leaf conn.slot way) (Leaf leaf.slot leaf.way) level p nodes l q → note_word layout s.words slot w ≡ place_code q
+          by_end (end_stays was ne same) =
+              let before : t.cell q ≡ Leaf slot w = sym same ∙ is in
+              kept.notes.named digits l q slot w are was.on_path before (nobody_before turn_side s.views id me.0 (holding nodes) slot (note_field w) at (λ a.
+              let that = ahead_of_that slot w a in
+              let home = kept.trie.homes digits l q slot w are was.on_path before in
+              let keys : t.key slot w ≡ leaf.key = (λ i. t.key (sym that.0 i) (sym that.1 i)) ∙ leaf_stays.key in
+              absurd (ne (one_end (record { on_path = subst (λ x. IsOnPath (digits_of digest x) t.cell l q) keys home; is_end = subst IsEnd (sym before) tt }) (record { on_path = grows_branch.theirs_there; is_end = grows_branch.was_end })).1)) none)
+          by_end (end_grew was grown foot) =
+              let below = grown.below in
+              let within : Contains nodes (slice_index nodes (l - (level + 1))) = subst (IsPlaceOf nodes) grown.is grown.within in
+              let low = are.node l (omega (arith, below)) in
+              let full : Leaf conn.slot way ≢ Empty = (λ e. cc) in
+              let other_full : Leaf leaf.slot leaf.way ≢ Empty = (λ e. cc) in
+              ⊎_elim
+              (λ (e : t'.cell q ≡ Empty). let clash : Empty ≡ Leaf slot w = sym e ∙ is in absurd cc)
+              (λ leafy. ⊎_elim
+              (λ (e : t'.cell q ≡ Leaf conn.slot way). at_leaf conn.slot way e (own_noted nodes noted ∙ ap place_code (sym (grown.is ∙ mine_foot grows_branch.leaf_ends grows_branch.other_ends full other_full two_leaves grows_branch.branch p _ (digits l) within low (ap t'.cell (sym grown.is) ∙ e)))))
+              (λ (e : t'.cell q ≡ Leaf leaf.slot leaf.way). at_leaf leaf.slot leaf.way e (moved_noted ∙ ap place_code (sym (grown.is ∙ theirs_foot grows_branch.leaf_ends grows_branch.other_ends full other_full two_leaves grows_branch.branch p _ (digits l) within low (ap t'.cell (sym grown.is) ∙ e)))))
+              leafy)
+              foot
+
       held_by_growing : IsCells m digest layout (stepped s word (cell_word cell) id me.1 (holding nodes) keeps)
       held_by_growing =
-          held_so nodes free_other (taken_moved m digest layout s kept id me.0 at k k' (holding nodes) nodes news.apart news.owned refl (λ slot. refl))
-          (trie_grown trie_side digest layout kept.published k k' s.words words' s.views (set s.views id (holding nodes)) conn key way leaf p level first nodes kept.trie (gives free_other) leaf_stays other_key stood grows_branch news.apart
+          held_so nodes free_other named_grown (taken_moved m digest layout s kept id me.0 at k k' (holding nodes) nodes news.apart news.owned refl (λ slot. refl))
+          (trie_grown trie_side digest layout kept.published k k' s.words words' s.views (set s.views id (holding nodes)) conn key way leaf p level first nodes kept.trie (gives free_other) leaf_stays (kept.trie.leaves mine level p leaf.slot leaf.way (are_digits digest key) on stood) other_key stood grows_branch news.apart
           (λ node has. owns_there m digest layout s kept id me.0 at node (news.owned node has)) may.key_stored.five (parent_else m digest layout s kept p inside (cell_word cell)) named
           (let sums = all_after nodes in omega (arith, sums))
           (all_fit free_other nodes sees.locked grown_paths.old_places (λ digits l q are on' ne. cell_else m digest layout s kept p inside (cell_word cell) q ne)))
@@ -347,21 +525,30 @@ module _ {S A R : Type 0} (m : Meaning S A R) (digest : Key → ℕ) (layout : L
     abbrev pub Holds : List ℕ → Type 0
     Holds nodes = IsCells m digest layout (stepped s word (cell_word cell) id me.1 (holding nodes) keeps) × HasHeld m digest layout conn key way p cell me (holding nodes, me.1)
 
-    pub holds : (nodes : List ℕ) → PutsFor digest layout me.0 conn key way p cell nodes → Holds nodes
-    holds nodes puts = by_puts cell nodes puts refl refl
+    pub holds : (nodes : List ℕ) → PutsFor digest layout me.0 conn key way p cell nodes → HasNoted me.0.pools.notes conn.slot way (place_code (foot_place (digits_of digest key) (level + 1) p nodes)) → MovesLeaf digest me.0 p nodes → Holds nodes
+    holds nodes puts noted moves = by_puts cell nodes puts refl refl
       where
+        noted_as : (news : List ℕ) → nodes ≡ news → HasNoted me.0.pools.notes conn.slot way (place_code (foot_place (digits_of digest key) (level + 1) p news))
+        noted_as news same = subst (λ ns. HasNoted me.0.pools.notes conn.slot way (place_code (foot_place (digits_of digest key) (level + 1) p ns))) same noted
+
+        -- there is a node at least
+        ahead_to : (leaf : LoadedLeaf) (first : ℕ) (news : List ℕ) → me.0.trie.leaf ≡ Some leaf → GrowsNodes digest layout me.0 conn.slot way key leaf p level first news → nodes ≡ news →
+            IsAheadTo me.0.turn leaf.slot leaf.way (place_code (foot_place (digits_of digest leaf.key) (level + 1) p news))
+        ahead_to leaf first [] known grown same = absurd (let some' = branch_long grown.branch in omega (arith, some'))
+        ahead_to leaf first (node ∷ news) known grown same = (subst (MovesLeaf digest me.0 p) same moves) leaf known
+
         by_puts : (cell' : Cell) (nodes' : List ℕ) → PutsFor digest layout me.0 conn key way p cell' nodes' → cell ≡ cell' → nodes ≡ nodes' → Holds nodes
         by_puts _ _ (fills sees) is none =
-            (subst (λ ns. IsCells m digest layout (stepped s word (cell_word cell) id me.1 (holding ns) keeps)) (sym none) (held_by_filling is sees), has_held nodes puts (free_empty (stands_there m digest layout s id me kept at p inside Empty sees).is))
+            (subst (λ ns. IsCells m digest layout (stepped s word (cell_word cell) id me.1 (holding ns) keeps)) (sym none) (held_by_filling is (subst (λ ns. HasNoted me.0.pools.notes conn.slot way (place_code (foot_place (digits_of digest key) (level + 1) p ns))) none noted) (subst (MovesLeaf digest me.0 p) none moves) sees), has_held nodes puts (free_empty (stands_there m digest layout s id me kept at p inside Empty sees).is))
         by_puts _ _ (grows leaf first news known other_key sees grown) is same = (
-          subst (λ ns. IsCells m digest layout (stepped s word (cell_word cell) id me.1 (holding ns) keeps)) (sym same) (held_by_growing leaf first news is known other_key sees grown),
-          has_held nodes puts (free_other leaf first news is known other_key sees grown),
+          subst (λ ns. IsCells m digest layout (stepped s word (cell_word cell) id me.1 (holding ns) keeps)) (sym same) (held_by_growing leaf first news is known other_key sees grown (noted_as news same) (ahead_to leaf first news known grown same)),
+          has_held nodes puts (free_other leaf first news is known other_key sees grown (noted_as news same) (ahead_to leaf first news known grown same)),
         )
 
   pub may_publish_for : (st : Step (Running S)) (id n : ℕ) (conn : ConnId) (key : Key) (way : Way) (p : Place) (cell : Cell) (me : Me (Running S) (CellView S A R)) → IsInTrie layout p → me.0.seats.lives ≡ true → me.0.seats.theirs ≡ [] → 1 ≤ length me.0.seats.readers → IsProtected me.0.epochs.pin →
       MayPublishFor m digest layout me.0 conn key way p cell → Allows (IsCells m digest layout) n id me (place_at layout p) (λ _. cell_word cell) (λ _. PublishesFor m digest layout conn key way p cell st me (cell_word cell))
   may_publish_for st id n conn key way p cell me inside lives settled place stays may s kept homes at bound =
-      let both = holds s id me kept at lives settled place stays conn key way p inside cell may may.nodes may.puts in (
+      let both = holds s id me kept at lives settled place stays conn key way p inside cell may may.nodes may.puts may.noted may.moves in (
         holding s id me kept at lives settled place stays conn key way p inside cell may may.nodes,
         keeps,
         tt,

@@ -1,9 +1,9 @@
 -- A hold spares the dead: it gives a key to a connection that is Building, and takes none.
-use Rattle.std.proofs.Common.{◌≡◌, ℕ, Option, Some, None, refl, sym, ap, ◌∙◌}
+use Rattle.std.proofs.Common.{◌≡◌, ℕ, Option, Some, refl, sym, ap, ◌∙◌}
 use Rattle.npf_types.specs.declared.key.Key.{Key}
 use Rattle.npf_types.specs.declared.key.Way.{Way}
 use Rattle.npf_core.specs.declared.act.Act.{Act}
-use Rattle.npf_core.specs.declared.act.Act.TheVariants.{Hold, Unhold}
+use Rattle.npf_core.specs.declared.act.Act.TheVariants.{Hold}
 use Rattle.npf_core.specs.declared.conn_id.ConnId.{ConnId}
 use Rattle.npf_core.specs.declared.found.Found.{Found}
 use Rattle.npf_core.specs.declared.stage.Stage.TheVariants.{Building, Dead}
@@ -38,6 +38,6 @@ module _ {S A R : Type 0} (m : Meaning S A R) (k : Machine S) (seat : ℕ) (conn
   pub hold_spares : Spares k k'
   hold_spares = record {
     slots = λ slot dead. refl;
-    gain = λ i dead bare w other held. bare w other (held_before i w other (k.holder other) (k'.holder other) dead (passes act other (k.holder other)) held);
-    lose = λ i dead bare w other held. bare w other (held_after (record { id = i; way = w }) other (k.holder other) (k'.holder other) (passes act other (k.holder other)) held);
+    held = λ i dead w other holds. held_after (record { id = i; way = w }) other (k.holder other) (k'.holder other) (passes act other (k.holder other)) holds;
+    back = λ i dead w other holds. held_before i w other (k.holder other) (k'.holder other) dead (passes act other (k.holder other)) holds;
   }

@@ -4,3 +4,4 @@ pub mod HoldsLaw
 pub mod LockKinds
 pub mod LookKinds
 pub mod PublishKinds
+pub mod UnlinkKinds

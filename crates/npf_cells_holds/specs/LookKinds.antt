@@ -1,13 +1,16 @@
 -- What loads of the trie's words change in a pass's own view, and what each tells.
 use Rattle.std.specs.Prelude.{◌≡◌, ℕ, ◌+◌, ◌<◌, Option, Some, None, List, [], ◌∷◌, ◌++◌, length, slice_index, if◌then◌else◌}
-use Rattle.atomic_table.specs.Table.{Me, Step}
+use mathlib.Core.Option.{some}
+use lib.ListN.{get_elem?}
+use Rattle.atomic_table.specs.Table.{Me, Step, State}
 use Rattle.npf_types.specs.declared.key.Key.{Key}
 use Rattle.npf_types.specs.declared.key.Way.{Way}
 use Rattle.npf_core.specs.declared.act.Act.TheVariants.{Look}
 use Rattle.npf_core.specs.declared.entry.Entry.{Entry}
 use Rattle.npf_core.specs.declared.found.Found.{Found}
 use Rattle.npf_core.specs.declared.reply.Reply.TheVariants.{ToLook}
-use Rattle.npf_core.specs.Machine.{is_key}
+use Rattle.npf_core.specs.History.{state_of}
+use Rattle.npf_core.specs.Machine.{Holds, is_key}
 use Rattle.npf_core.specs.Meaning.{Meaning}
 use Rattle.npf_connections.specs.Adding.{AddsOwn}
 use Rattle.npf_connections.specs.Answered.{found_ids}
@@ -27,8 +30,12 @@ use Rattle.npf_cells_leaves.specs.declared.trie.PathPlace.{PathPlace}
 use Rattle.npf_cells_leaves.specs.declared.trie.TrieSide.{TrieSide}
 use Rattle.npf_cells_leaves.specs.Trie.{digits_of}
 use Rattle.npf_cells_lives.specs.declared.pools.StoredWord.{StoredWord}
+use Rattle.npf_cells_lives.specs.declared.turn.Turn.{Turn}
+use Rattle.npf_cells_lives.specs.Deaths.{last_id}
 use Rattle.npf_cells_lives.specs.Stored.{stored_value}
+use Rattle.npf_cells_lives.specs.Turns.{Running, stage_phase}
 use Rattle.npf_cells_rule.specs.declared.view.CellView.{CellView}
+use Rattle.npf_cells_rule.specs.Cells.{IsCells}
 use Rattle.npf_cells_rule.specs.Passes.{cell_pass}
 use Rattle.npf_cells_rule.specs.Views.{with_trie}
 
@@ -109,6 +116,10 @@ pub record LoadsPlace {S A R F : Type 0} (m : Meaning S A R) (digest : Key → �
 abbrev pub IsLeafOf : TrieSide → ℕ → Way → Type 0
 IsLeafOf side slot way = (leaf : LoadedLeaf) × (side.leaf ≡ Some leaf) × (leaf.slot ≡ slot) × (leaf.way ≡ way)
 
+-- the pass has the slot's turn, and got it while the slot's connection was Live
+abbrev pub HasLiveTurn : {S : Type 0} → Option (Turn S) → ℕ → Type 0
+HasLiveTurn {S} turn slot = (t : Turn S) × (turn ≡ Some t) × (t.slot ≡ slot) × (stage_phase t.was.stage ≡ 1)
+
 -- a load of a word of a key
 abbrev pub reading : TrieSide → TrieSide
 reading side = record side { words = side.words + 1 }
@@ -121,7 +132,15 @@ ShowsKey side slot way word found = (leaf : LoadedLeaf) → side.leaf ≡ Some l
 abbrev pub ShowsStoredKey : Layout → List StoredWord → ℕ → Way → ℕ → ℕ → Type 0
 ShowsStoredKey layout stored slot way word found = (n : ℕ) → stored_value layout stored (field_at layout Slots slot (key_field way + word)) ≡ Some n → found ≡ n
 
-pub record LoadsKey {S A R F : Type 0} (layout : Layout) (slot : ℕ) (way : Way) (word : ℕ) (step : Step F) (me : Me F (CellView S A R)) (found : ℕ) (next : Me F (CellView S A R)) : Type 0 where
+-- in a state of the table in which the seat knew and had this, it is that of the key which the slot's last connection held that way, where it held one
+pub record TellsHeldKey {S A R : Type 0} (m : Meaning S A R) (digest : Key → ℕ) (layout : Layout) (view : CellView S A R) (slot : ℕ) (way : Way) (word found : ℕ) : Type 0 where
+  pub state : State (Running S) (CellView S A R)
+  pub rule : IsCells m digest layout state
+  pub seated : get_elem? state.views view.seats.number ≡ some view
+  pub held : (key : Key) → Holds (state_of m rule.log) (last_id (state_of m rule.log) slot) way key → (length key.0 ≡ 5) × (found ≡ slice_index key.0 word)
+
+pub record LoadsKey {S A R : Type 0} (m : Meaning S A R) (digest : Key → ℕ) (layout : Layout) (slot : ℕ) (way : Way) (word : ℕ) (step : Step (Running S)) (me : Me (Running S) (CellView S A R)) (found : ℕ) (next : Me (Running S) (CellView S A R)) : Type 0 where
   pub is : next ≡ with_trie me (reading me.0.trie)
   pub shows : ShowsKey me.0.trie slot way word found
   pub stored : ShowsStoredKey layout me.0.pools.stored slot way word found
+  pub tells : TellsHeldKey m digest layout me.0 slot way word found

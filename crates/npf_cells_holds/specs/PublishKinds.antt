@@ -1,6 +1,6 @@
 -- What a store in a place of the trie changes in a pass's own view, and what it tells.
 use Rattle.std.specs.List.{list_any}
-use Rattle.std.specs.Prelude.{◌≡◌, ℕ, ◌+◌, ◌<◌, ◌==◌, true, false, Option, Some, None, List, [], Contains, length, slice_index, filter, if◌then◌else◌}
+use Rattle.std.specs.Prelude.{◌≡◌, ℕ, ◌+◌, ◌<◌, ◌==◌, true, false, Option, Some, None, List, [], ◌∷◌, Contains, length, slice_index, filter, if◌then◌else◌}
 use denote.Bor.{Bor}
 use Rattle.atomic_table.specs.Table.{Me, Step}
 use Rattle.npf_types.specs.declared.key.Key.{Key}
@@ -20,17 +20,20 @@ use Rattle.npf_paths.specs.CellWords.{cell_of}
 use Rattle.npf_paths.specs.Growing.{IsBranch}
 use Rattle.npf_paths.specs.LevelLaw.{AreApart}
 use Rattle.npf_paths.specs.Paths.{IsEnd}
-use Rattle.npf_paths.specs.Places.{lock_of}
 use Rattle.npf_cells_words.specs.declared.layout.Layout.{Layout}
 use Rattle.npf_cells_words.specs.declared.layout.Pool.TheVariants.{Slots, Nodes}
-use Rattle.npf_cells_words.specs.Layout.{parent_field, key_field, field_at}
+use Rattle.npf_cells_words.specs.Layout.{parent_field, key_field, note_field, field_at}
+use Rattle.npf_cells_words.specs.Codes.{place_code}
 use Rattle.npf_cells_words.specs.Places.{place_at}
+use Rattle.npf_cells_leaves.specs.Sights.{SeesLocked}
 use Rattle.npf_cells_leaves.specs.declared.trie.LoadedLeaf.{LoadedLeaf}
-use Rattle.npf_cells_leaves.specs.declared.trie.SeenCell.{SeenCell}
 use Rattle.npf_cells_leaves.specs.declared.trie.TrieSide.{TrieSide}
-use Rattle.npf_cells_leaves.specs.Parents.{NameParents}
+use Rattle.npf_cells_leaves.specs.Parents.{foot_place, NameParents}
 use Rattle.npf_cells_leaves.specs.Trie.{digits_of}
+use Rattle.npf_cells_lives.specs.declared.pools.Note.{Note}
 use Rattle.npf_cells_lives.specs.declared.pools.StoredWord.{StoredWord}
+use Rattle.npf_cells_lives.specs.declared.turn.Turn.{Turn}
+use Rattle.npf_cells_lives.specs.Notes.{notes_but, with_ahead}
 use Rattle.npf_cells_lives.specs.Stored.{stored_value}
 use Rattle.npf_cells_rule.specs.declared.view.CellView.{CellView}
 use Rattle.npf_cells_rule.specs.Passes.{cell_pass}
@@ -43,14 +46,6 @@ use Rattle.npf_cells_holds.specs.LookKinds.{StandsOnPath, level_at}
 abbrev pub aim_now : Option (Bor Aim) → Option Aim
 aim_now None = None
 aim_now (Some aim) = Some aim.now
-
--- the place was the last that the pass loaded, under its lock, and this stood there
-pub record SeesLocked (side : TrieSide) (p : Place) (cell : Cell) : Type 0 where
-  pub locked : Contains side.locks (lock_of p)
-  pub saw : SeenCell
-  pub seen : side.seen ≡ Some saw
-  pub there : saw.place ≡ p
-  pub was : saw.cell ≡ cell
 
 -- the words of that way's key in the slot are this key's, as the pass stored them
 pub record HasStoredKey (layout : Layout) (stored : List StoredWord) (slot : ℕ) (way : Way) (key : Key) : Type 0 where
@@ -84,7 +79,28 @@ pub data PutsFor {S A R : Type 0} (digest : Key → ℕ) (layout : Layout) (v : 
   grows : (leaf : LoadedLeaf) (first : ℕ) (nodes : List ℕ) → v.trie.leaf ≡ Some leaf → is_key leaf.key key ≡ false → SeesLocked v.trie p (Leaf leaf.slot leaf.way) →
       GrowsNodes digest layout v id.slot way key leaf p (level_at v.trie p) first nodes → PutsFor digest layout v id key way p (Node first) nodes
 
--- what a store for a key asks: the pass may hold the key, stands at the place of its path, and has stored the key and the incarnation
+-- the pass stored this as the note of that way
+abbrev pub HasNoted : List Note → ℕ → Way → ℕ → Type 0
+HasNoted notes slot way value = Contains notes (record { slot = slot; field = note_field way; value = value })
+
+-- the pass is ahead of no note, and it is ahead of this one
+abbrev pub IsSettled : {S : Type 0} → Option (Turn S) → Type 0
+IsSettled {S} turn = (t : Turn S) → turn ≡ Some t → t.ahead ≡ None
+
+pub record IsAheadTo {S : Type 0} (turn : Option (Turn S)) (slot : ℕ) (way : Way) (value : ℕ) : Type 0 where
+  pub mine : Turn S
+  pub has : turn ≡ Some mine
+  pub there : mine.slot ≡ slot
+  pub ahead : mine.ahead ≡ Some (record { field = note_field way; value = value })
+
+-- a pass that moves the leaf of another key down, to the foot of new nodes, has its slot's turn, and is ahead of its note with that place
+abbrev pub MovesLeaf : {S A R : Type 0} → (Key → ℕ) → CellView S A R → Place → List ℕ → Type 0
+MovesLeaf digest v p [] = IsSettled v.turn
+MovesLeaf digest v p (node ∷ nodes) = (leaf : LoadedLeaf) → v.trie.leaf ≡ Some leaf →
+    IsAheadTo v.turn leaf.slot leaf.way (place_code (foot_place (digits_of digest leaf.key) (level_at v.trie p + 1) p (node ∷ nodes)))
+
+-- what a store for a key asks: the pass may hold the key, stands at the place of its path, and has stored the key, the incarnation
+-- and, as the note of the way, where the leaf will stand
 pub record MayPublishFor {S A R : Type 0} (m : Meaning S A R) (digest : Key → ℕ) (layout : Layout) (v : CellView S A R) (id : ConnId) (key : Key) (way : Way) (p : Place) (cell : Cell) : Type 0 where
   pub hold : MayHoldSo m v id way
   pub stands : StandsOnPath digest v.trie key p
@@ -93,6 +109,8 @@ pub record MayPublishFor {S A R : Type 0} (m : Meaning S A R) (digest : Key → 
   pub inc_stored : ¬ Contains v.pools.unstored id.slot
   pub nodes : List ℕ
   pub puts : PutsFor digest layout v id key way p cell nodes
+  pub noted : HasNoted v.pools.notes id.slot way (place_code (foot_place (digits_of digest key) (level_at v.trie p + 1) p nodes))
+  pub moves : MovesLeaf digest v p nodes
 
 -- what any store in a place asks: without an aim what stands there may be stored again, unless it is a node
 abbrev pub MayPublish : {S A R : Type 0} → Meaning S A R → (Key → ℕ) → Layout → CellView S A R → Place → Cell → Option Aim → Type 0
@@ -104,15 +122,17 @@ MayPublish m digest layout v p cell (Some (Aim.Hold id key way)) = MayPublishFor
 abbrev pub nodes_but : List ℕ → List ℕ → List ℕ
 nodes_but published = filter (λ node. if list_any (λ x. x == node) published then false else true)
 
--- the pass after a store, and after one for a key: it has seen this history, is in a new stay, and these nodes aren't its own any more but counted
+-- the pass after a store, and after one for a key: it has seen this history, is in a new stay, and these nodes aren't its own any more but counted,
+-- nor is the note of the way; it is ahead of none
 abbrev pub publishing : TrieSide → TrieSide
 publishing side = record side { seen = None; meets = None; published = side.published + 1 }
 
-abbrev pub published_for : {S A R : Type 0} → CellView S A R → List (Entry S A R) → List ℕ → CellView S A R
-published_for v history nodes = record v {
+abbrev pub published_for : {S A R : Type 0} → CellView S A R → List (Entry S A R) → ConnId → Way → List ℕ → CellView S A R
+published_for v history id way nodes = record v {
   seats = record v.seats { history = history };
-  pools = record v.pools { nodes = nodes_but nodes v.pools.nodes; stored = [] };
+  pools = record v.pools { nodes = nodes_but nodes v.pools.nodes; stored = []; notes = notes_but id.slot (note_field way) v.pools.notes };
   trie = record (publishing (renewed v.trie)) { grown = v.trie.grown + length nodes };
+  turn = with_ahead None v.turn;
 }
 
 -- the pass holds the key for the connection, by new nodes or none: this ends its history
@@ -121,7 +141,7 @@ pub record HasHeld {S A R F : Type 0} (m : Meaning S A R) (digest : Key → ℕ)
   pub puts : PutsFor digest layout old.0 id key way p cell nodes
   pub adds : AddsOwn (cell_pass old.0) now.0.seats.history (hold_entries (cell_pass old.0) id key way Held.Done)
   pub legal : IsPass m (cell_pass now.0)
-  pub is : now ≡ (published_for old.0 now.0.seats.history nodes, old.1)
+  pub is : now ≡ (published_for old.0 now.0.seats.history id way nodes, old.1)
 
 -- the pass after any store
 abbrev pub Published : {S A R F : Type 0} → Meaning S A R → (Key → ℕ) → Layout → Place → Cell → Option Aim → Me F (CellView S A R) → Me F (CellView S A R) → Type 0

@@ -7,6 +7,7 @@ use Rattle.npf_types.specs.declared.key.Key.{Key}
 use Rattle.npf_types.specs.declared.key.Way.{Way}
 use Rattle.npf_core.specs.declared.conn_id.ConnId.{ConnId}
 use Rattle.npf_core.specs.declared.found.Found.{Found}
+use Rattle.npf_core.specs.declared.stage.Stage.TheVariants.{Dead}
 use Rattle.npf_core.specs.Machine.{Machine, stage_of, IsClaimed, is_key}
 use Rattle.npf_core.specs.NextState.{is_found, given_up}
 use Rattle.npf_core.proofs.EqualityLemmas.{is_key-Decides, is_found-Decides}
@@ -30,6 +31,8 @@ use Rattle.npf_cells_leaves.proofs.TrieLemmas.{KnowsNoMore}
 pub record TakesKey {S : Type 0} (k k' : Machine S) (t t' : TrieWords) (conn : ConnId) (way : Way) : Type 0 where
   pub holder : (other : Key) → k'.holder other ≡ given_up (k.holder other) (record { id = conn; way = way })
   pub claimed : (id : ConnId) → IsClaimed (stage_of k id) → IsClaimed (stage_of k' id)
+  pub dead : (id : ConnId) → stage_of k id ≡ Dead → stage_of k' id ≡ Dead
+  pub loser : stage_of k' conn ≡ Dead
   pub keys : (slot : ℕ) (w : Way) → t'.key slot w ≡ t.key slot w
   pub incs : (slot : ℕ) → t'.inc slot ≡ t.inc slot
   pub inc_is : t.inc conn.slot ≡ conn.inc
@@ -171,12 +174,33 @@ module _ {S V : Type 0} (side_of : V → TrieSide) (digest : Key → ℕ) (layou
     pub trie_emptied : all_grown side_of views' ≡ all_grown side_of views → ((j : ℕ) (v : V) → get_elem? views' j ≡ some v → FitsTrie digest layout.slots k' t' (side_of v)) → Trie side_of digest layout published k' words' views'
     trie_emptied sums each = record { ends = ends; leaves = leaves; nodes = nodes; homes = homes; levels = filled_levels changed kept.levels; parents = λ ds l q node are on is. empties.parents node ∙ kept.parents ds l q node are (before ds l q on) (sym (empties.others q (no_node q node is)) ∙ is); hang = hang; counted = kept.counted ∙ sym sums; each = each }
 
-    -- a seat fits still that knows no more, saw nothing of the place under the place's lock, and whose leaf's key is still held
+    -- a leaf that a pass loaded stays: where it is this one, its connection is Dead
+    leaf_emptied : (leaf : LoadedLeaf) → StaysLeaf layout.slots k t leaf → StaysLeaf layout.slots k' t' leaf
+    leaf_emptied leaf stays = record {
+      right = ⊎_elim still (λ dead. inr (takes.dead (record { slot = leaf.slot; inc = leaf.inc }) dead)) stays.right;
+      key = takes.keys leaf.slot leaf.way ∙ stays.key;
+      inc = takes.incs leaf.slot ∙ stays.inc;
+    }
+      where
+        still : IsRightLeaf layout.slots k.holder t leaf.slot leaf.way → IsRightLeaf layout.slots k'.holder t' leaf.slot leaf.way ⊎ (stage_of k' (record { slot = leaf.slot; inc = leaf.inc }) ≡ Dead)
+        still right = ⊎_elim
+            (λ (lost : (k.holder (t.key leaf.slot leaf.way) ≡ Some gone) × (given_up (k.holder (t.key leaf.slot leaf.way)) gone ≡ None)).
+            let both : Some (leaf_found t leaf.slot leaf.way) ≡ Some gone = sym right.held ∙ lost.0 in
+            let one : leaf_found t leaf.slot leaf.way ≡ gone = cc in
+            let same : record { slot = leaf.slot; inc = t.inc leaf.slot } ≡ conn = ap (λ (f : Found). f.id) one in
+            inr (ap (λ n. stage_of k' (record { slot = leaf.slot; inc = n })) (sym stays.inc) ∙ (ap (λ (i : ConnId). stage_of k' i) same ∙ takes.loser)))
+            (λ (kept' : (given_up (k.holder (t.key leaf.slot leaf.way)) gone ≡ k.holder (t.key leaf.slot leaf.way)) × (k.holder (t.key leaf.slot leaf.way) ≢ Some gone)). inl (record {
+              exists = right.exists;
+              held = ap k'.holder (takes.keys leaf.slot leaf.way) ∙ (takes.holder (t.key leaf.slot leaf.way) ∙ (kept'.0 ∙ (right.held ∙ ap (λ (f : Found). Some f) (sym (found_same leaf.slot leaf.way)))));
+            }))
+            (kept_or_lost (k.holder (t.key leaf.slot leaf.way)) gone)
+
+    -- a seat fits still that knows no more, and saw nothing of the place under the place's lock
     pub fits_emptied : (side side' : TrieSide) → KnowsNoMore side side' → ((x : SeenCell) → side'.seen ≡ Some x → Contains side.locks (lock_of x.place) → x.place ≢ p) →
-        ((leaf : LoadedLeaf) → side'.leaf ≡ Some leaf → StaysLeaf layout.slots k'.holder t' leaf) → FitsTrie digest layout.slots k t side → FitsTrie digest layout.slots k' t' side'
-    fits_emptied side side' less apart leaf fits = record {
+        FitsTrie digest layout.slots k t side → FitsTrie digest layout.slots k' t' side'
+    fits_emptied side side' less apart fits = record {
       stands = λ point e. filled_places changed (fits.stands point (less.stands point e));
-      leaf = leaf;
+      leaf = λ leaf e. leaf_emptied leaf (fits.leaf leaf (less.leaf leaf e));
       seen = λ x e.
           let was = fits.seen x (less.seen x e) in
           record {

@@ -1,7 +1,7 @@
 -- A free key is given to a connection whose words of the key and of the incarnation are stored: what every leaf says stays, and the
 -- connection's leaf is right from then on.
 use Rattle.std.specs.List.{Contains}
-use Rattle.std.proofs.Common.{◌≡◌, ◌≢◌, ◌⊎◌, ℕ, ◌<◌, Bool, true, false, cond, Option, Some, None, List, set, refl, sym, ap, ◌∙◌, subst, ⊎_elim, inl, inr, arith}
+use Rattle.std.proofs.Common.{◌≡◌, ◌≢◌, ◌⊎◌, ℕ, ◌<◌, Bool, true, false, cond, Option, Some, None, List, set, refl, sym, ap, ◌∙◌, subst, ⊎_elim, inl, inr}
 use mathlib.Core.Option.{some}
 use lib.ListN.{get_elem?}
 use Rattle.atomic_table.proofs.Lists.{at_set}
@@ -9,6 +9,7 @@ use Rattle.npf_types.specs.declared.key.Key.{Key}
 use Rattle.npf_types.specs.declared.key.Way.{Way}
 use Rattle.npf_core.specs.declared.conn_id.ConnId.{ConnId}
 use Rattle.npf_core.specs.declared.found.Found.{Found}
+use Rattle.npf_core.specs.declared.stage.Stage.TheVariants.{Dead}
 use Rattle.npf_core.specs.Machine.{Machine, stage_of, IsClaimed, is_key}
 use Rattle.npf_core.specs.NextState.{holder_or}
 use Rattle.npf_core.proofs.EqualityLemmas.{is_key-Decides}
@@ -41,6 +42,7 @@ pub record GivesKey {S : Type 0} (slots : ℕ) (k k' : Machine S) (t t' : TrieWo
   pub free : k.holder key ≡ None
   pub holder : (other : Key) → k'.holder other ≡ cond (is_key key other) (holder_or (k.holder other) (record { id = conn; way = way })) (k.holder other)
   pub claimed : (id : ConnId) → IsClaimed (stage_of k id) → IsClaimed (stage_of k' id)
+  pub dead : (id : ConnId) → stage_of k id ≡ Dead → stage_of k' id ≡ Dead
   pub keys : (slot : ℕ) (w : Way) → t'.key slot w ≡ t.key slot w
   pub incs : (slot : ℕ) → t'.inc slot ≡ t.inc slot
   pub key_is : t.key conn.slot way ≡ key
@@ -97,9 +99,9 @@ module _ {S : Type 0} (digest : Key → ℕ) (slots : ℕ) (k k' : Machine S) (t
   pub said_now : (other : Key) → k.holder other ≡ None → k'.holder other ≡ holder_at t' (Leaf conn.slot way) other
   said_now other e = freed_holds other e ∙ (λ i. cond (is_key (sym key_now i) other) (Some (sym found_now i)) None)
 
-  leaf_still : (leaf : LoadedLeaf) → StaysLeaf slots k.holder t leaf → StaysLeaf slots k'.holder t' leaf
+  leaf_still : (leaf : LoadedLeaf) → StaysLeaf slots k t leaf → StaysLeaf slots k' t' leaf
   leaf_still leaf stays = record {
-    right = right_still leaf.slot leaf.way stays.right;
+    right = ⊎_elim (λ right. inl (right_still leaf.slot leaf.way right)) (λ dead. inr (gives.dead (record { slot = leaf.slot; inc = leaf.inc }) dead)) stays.right;
     key = gives.keys leaf.slot leaf.way ∙ stays.key;
     inc = gives.incs leaf.slot ∙ stays.inc;
   }

@@ -78,7 +78,7 @@ module _ {S V : Type 0} (side_of : V → TrieSide) (digest : Key → ℕ) (layou
   abbrev Grows : Type 0
   Grows = GrowsBranch mine theirs t.cell t'.cell (Leaf conn.slot way) (Leaf leaf.slot leaf.way) level p first nodes
 
-  module _ (kept : Trie side_of digest layout published k words views) (gives : GivesKey layout.slots k k' t t' conn key way) (stays : StaysLeaf layout.slots k.holder t leaf) (other_key : is_key leaf.key key ≡ false) (stood : t.cell p ≡ Leaf leaf.slot leaf.way)
+  module _ (kept : Trie side_of digest layout published k words views) (gives : GivesKey layout.slots k k' t t' conn key way) (stays : StaysLeaf layout.slots k t leaf) (right_leaf : IsRightLeaf layout.slots k.holder t leaf.slot leaf.way) (other_key : is_key leaf.key key ≡ false) (stood : t.cell p ≡ Leaf leaf.slot leaf.way)
       (grows : Grows) (apart : AreApart nodes) (exist : (node : ℕ) → Contains nodes node → node < layout.nodes) (five : length key.0 ≡ 5)
       (elsewhere : (node : ℕ) → t'.parent node ≡ t.parent node) (named : NameParents mine (λ node code. t'.parent node ≡ code) (level + 1) p nodes) where
     small : AreDigits mine
@@ -176,7 +176,7 @@ module _ {S V : Type 0} (side_of : V → TrieSide) (digest : Key → ℕ) (layou
             (λ (e : t'.cell q ≡ Empty). let clash : Empty ≡ Leaf slot w = sym e ∙ is in absurd cc)
             (λ leafy. ⊎_elim
             (λ (e : t'.cell q ≡ Leaf conn.slot way). same_leaf conn.slot way e (right_now digest layout.slots k k' t t' conn key way gives))
-            (λ (e : t'.cell q ≡ Leaf leaf.slot leaf.way). same_leaf leaf.slot leaf.way e (right_still digest layout.slots k k' t t' conn key way gives leaf.slot leaf.way stays.right))
+            (λ (e : t'.cell q ≡ Leaf leaf.slot leaf.way). same_leaf leaf.slot leaf.way e (right_still digest layout.slots k k' t t' conn key way gives leaf.slot leaf.way right_leaf))
             leafy)
             foot
 

@@ -3,7 +3,6 @@ use Rattle.std.specs.List.{Contains}
 use Rattle.std.proofs.Common.{◌≡◌, ◌≢◌, ℕ, ◌+◌, ◌<◌, Bool, true, false, cond, zero, suc, List, [], ◌∷◌, slice_index, refl, sym, ap, ◌∙◌, subst, ⊎_elim, arith}
 use Rattle.std.proofs.lemmas.Bool.{cases_eq}
 use Rattle.npf_types.specs.declared.key.Key.{Key}
-use Rattle.npf_core.specs.Machine.{Machine}
 use Rattle.npf_paths.specs.declared.cell.Cell.{Cell}
 use Rattle.npf_paths.specs.declared.cell.Cell.TheVariants.{Empty, Node}
 use Rattle.npf_paths.specs.declared.place.Place.{Place}
@@ -18,9 +17,8 @@ use Rattle.npf_cells_words.specs.Places.{IsInTrie, is_in_trie, place_at}
 use Rattle.npf_cells_words.proofs.CodeLemmas.{codes_are_apart}
 use Rattle.npf_cells_words.proofs.WordLemmas.{in_trie}
 use Rattle.npf_cells_leaves.specs.LeavesLaw.{HangsInOnePlace}
-use Rattle.npf_cells_leaves.specs.Parents.{NameParents}
+use Rattle.npf_cells_leaves.specs.Parents.{foot_place, NameParents}
 use Rattle.npf_cells_leaves.specs.Trie.{cell_in}
-use Rattle.npf_seats.proofs.PrefixLemmas.{none_listed}
 
 -- what is said of each of the nodes may be said otherwise
 pub names_so : (digits : ℕ → ℕ) (says says' : ℕ → ℕ → Type 0) (level : ℕ) (p : Place) (nodes : List ℕ) → ((node code : ℕ) → Contains nodes node → says node code → says' node code) → NameParents digits says level p nodes → NameParents digits says' level p nodes
@@ -65,6 +63,48 @@ module _ {mine theirs : ℕ → ℕ} {cell : Place → Cell} {leaf other : Cell}
       (cases_eq digit (mine level))
   node_named (goes_on level node below_it tail agree mine_is empty below) p named n digit next (suc i, short, is) low stands =
       node_named below (Places.Node node (mine level)) named.1 n digit next (i, omega (arith, short), is) low stands
+
+-- the leaves stand at the foot of the new nodes, where either key's digits lead
+module _ {mine theirs : ℕ → ℕ} {cell : Place → Cell} {leaf other : Cell} (leaf_ends : IsEnd leaf) (other_ends : IsEnd other) (full : leaf ≢ Empty) (other_full : other ≢ Empty) (two : leaf ≢ other) where
+  pub mine_foot : {level first : ℕ} {nodes : List ℕ} → IsBranch mine theirs cell leaf other level first nodes → (p : Place) (node digit : ℕ) → Contains nodes node → digit < 16 → cell (Places.Node node digit) ≡ leaf → Places.Node node digit ≡ foot_place mine level p nodes
+  mine_foot (parts level node apart mine_is theirs_is empty) p n digit (zero, short, is) low stands =
+      let there : cell (Places.Node node digit) ≡ leaf = ap (λ x. cell (Places.Node x digit)) is ∙ stands in
+      ⊎_elim
+      (λ (e : digit ≡ mine level). λ i. Places.Node (sym is i) (e i))
+      (λ ne. ⊎_elim
+      (λ (e : digit ≡ theirs level). absurd (two (sym there ∙ (ap (λ d. cell (Places.Node node d)) e ∙ theirs_is))))
+      (λ ne'. absurd (full (sym there ∙ empty digit low ne ne')))
+      (cases_eq digit (theirs level)))
+      (cases_eq digit (mine level))
+  mine_foot (parts level node apart mine_is theirs_is empty) p n digit (suc i, short, is) low stands = absurd (omega (arith, short))
+  mine_foot (goes_on level node next tail agree mine_is empty below) p n digit (zero, short, is) low stands =
+      let there : cell (Places.Node node digit) ≡ leaf = ap (λ x. cell (Places.Node x digit)) is ∙ stands in
+      ⊎_elim
+      (λ (e : digit ≡ mine level). absurd (no_node leaf next leaf_ends (sym there ∙ (ap (λ d. cell (Places.Node node d)) e ∙ mine_is))))
+      (λ ne. absurd (full (sym there ∙ empty digit low ne)))
+      (cases_eq digit (mine level))
+  mine_foot (goes_on level node next tail agree mine_is empty below) p n digit (suc i, short, is) low stands =
+      mine_foot below (Places.Node node (mine level)) n digit (i, omega (arith, short), is) low stands
+
+  pub theirs_foot : {level first : ℕ} {nodes : List ℕ} → IsBranch mine theirs cell leaf other level first nodes → (p : Place) (node digit : ℕ) → Contains nodes node → digit < 16 → cell (Places.Node node digit) ≡ other → Places.Node node digit ≡ foot_place theirs level p nodes
+  theirs_foot (parts level node apart mine_is theirs_is empty) p n digit (zero, short, is) low stands =
+      let there : cell (Places.Node node digit) ≡ other = ap (λ x. cell (Places.Node x digit)) is ∙ stands in
+      ⊎_elim
+      (λ (e : digit ≡ mine level). absurd (two (sym mine_is ∙ (ap (λ d. cell (Places.Node node d)) (sym e) ∙ there))))
+      (λ ne. ⊎_elim
+      (λ (e : digit ≡ theirs level). λ i. Places.Node (sym is i) (e i))
+      (λ ne'. absurd (other_full (sym there ∙ empty digit low ne ne')))
+      (cases_eq digit (theirs level)))
+      (cases_eq digit (mine level))
+  theirs_foot (parts level node apart mine_is theirs_is empty) p n digit (suc i, short, is) low stands = absurd (omega (arith, short))
+  theirs_foot (goes_on level node next tail agree mine_is empty below) p n digit (zero, short, is) low stands =
+      let there : cell (Places.Node node digit) ≡ other = ap (λ x. cell (Places.Node x digit)) is ∙ stands in
+      ⊎_elim
+      (λ (e : digit ≡ mine level). absurd (no_node other next other_ends (sym there ∙ (ap (λ d. cell (Places.Node node d)) e ∙ mine_is))))
+      (λ ne. absurd (other_full (sym there ∙ empty digit low ne)))
+      (cases_eq digit (mine level))
+  theirs_foot (goes_on level node next tail agree mine_is empty below) p n digit (suc i, short, is) low stands =
+      theirs_foot below (Places.Node node (theirs level)) n digit (i, omega (arith, short), is) low stands
 
 -- a node stands in a place of the table
 stands_in_trie : (layout : Layout) (words : List ℕ) (p : Place) (node : ℕ) → cell_in layout words p ≡ Node node → IsInTrie layout p

@@ -1,6 +1,6 @@
 -- The part on the trie stays through steps that leave what its paths meet.
 use Rattle.std.specs.List.{Contains}
-use Rattle.std.proofs.Common.{◌≡◌, ◌≢◌, ℕ, ◌+◌, ◌≤◌, Bool, true, false, cond, Some, None, List, [], ◌∷◌, ◌++◌, set, slice_index, refl, sym, ap, ◌∙◌, subst, ⊎_elim, arith}
+use Rattle.std.proofs.Common.{◌≡◌, ◌≢◌, ◌⊎◌, ℕ, ◌+◌, ◌≤◌, Bool, true, false, cond, eqb, Some, None, List, [], ◌∷◌, ◌++◌, set, slice_index, refl, sym, ap, ◌∙◌, subst, ⊎_elim, inl, inr, arith}
 use Rattle.std.proofs.lemmas.List.Sums.{sum_by_push}
 use mathlib.Core.Option.{some}
 use lib.ListN.{get_elem?}
@@ -9,7 +9,9 @@ use Rattle.npf_types.specs.declared.key.Key.{Key}
 use Rattle.npf_types.specs.declared.key.Way.{Way}
 use Rattle.npf_types.specs.declared.key.Way.TheVariants.{Forward, Backward, Port}
 use Rattle.npf_core.specs.declared.conn_id.ConnId.{ConnId}
-use Rattle.npf_core.specs.Machine.{Machine, stage_of, IsClaimed, is_key}
+use Rattle.npf_core.specs.declared.slot.Slot.{Slot}
+use Rattle.npf_core.specs.declared.stage.Stage.TheVariants.{Vacant, Dead}
+use Rattle.npf_core.specs.Machine.{Machine, stage_at, stage_of, IsClaimed, is_key}
 use Rattle.npf_paths.specs.declared.cell.Cell.{Cell}
 use Rattle.npf_paths.specs.declared.cell.Cell.TheVariants.{Empty, Leaf, Node, Mark}
 use Rattle.npf_paths.specs.declared.place.Place.{Place}
@@ -56,24 +58,37 @@ pub record KeepsTrie {S : Type 0} (slots : ℕ) (k k' : Machine S) (t t' : TrieW
   pub claimed : (id : ConnId) → IsClaimed (stage_of k id) → IsClaimed (stage_of k' id)
   pub cells : (digits : ℕ → ℕ) → AreDigits digits → AgreesOnPath digits t.cell t'.cell
   pub parents : (digits : ℕ → ℕ) (level : ℕ) (p : Place) (node : ℕ) → AreDigits digits → IsOnPath digits t.cell level p → t.cell p ≡ Node node → t'.parent node ≡ t.parent node
-  pub keys : (slot : ℕ) (way : Way) → IsRightLeaf slots k.holder t slot way → t'.key slot way ≡ t.key slot way
-  pub incs : (slot : ℕ) (way : Way) → IsRightLeaf slots k.holder t slot way → t'.inc slot ≡ t.inc slot
+  pub dead : (id : ConnId) → stage_of k id ≡ Dead → stage_of k' id ≡ Dead
+  pub keys : (slot : ℕ) (way : Way) → IsRightLeaf slots k.holder t slot way ⊎ ((k.slot slot).stage ≡ Dead) → t'.key slot way ≡ t.key slot way
+  pub incs : (slot : ℕ) (way : Way) → IsRightLeaf slots k.holder t slot way ⊎ ((k.slot slot).stage ≡ Dead) → t'.inc slot ≡ t.inc slot
+
+-- the slot of a Dead connection is at that
+dead_slot : {S : Type 0} (x : Slot S) (inc : ℕ) → stage_at x inc ≡ Dead → x.stage ≡ Dead
+dead_slot x inc e = by_test (eqb x.inc inc) e
+  where
+    by_test : (b : Bool) → cond b x.stage Vacant ≡ Dead → x.stage ≡ Dead
+    by_test true same = same
+    by_test false same = absurd cc
+
+-- the leaf is right, or its slot's connection is Dead
+still_there : {S : Type 0} {slots : ℕ} {k : Machine S} {t : TrieWords} (leaf : LoadedLeaf) → StaysLeaf slots k t leaf → IsRightLeaf slots k.holder t leaf.slot leaf.way ⊎ ((k.slot leaf.slot).stage ≡ Dead)
+still_there {k = k} leaf stays = ⊎_elim (λ right. inl right) (λ dead. inr (dead_slot (k.slot leaf.slot) leaf.inc dead)) stays.right
 
 module _ {S : Type 0} (digest : Key → ℕ) (slots : ℕ) (k k' : Machine S) (t t' : TrieWords) (same : KeepsTrie slots k k' t t') where
   found_kept : (slot : ℕ) (way : Way) → IsRightLeaf slots k.holder t slot way → leaf_found t' slot way ≡ leaf_found t slot way
-  found_kept slot way right = ap (λ inc. record { id = record { slot = slot; inc = inc }; way = way }) (same.incs slot way right)
+  found_kept slot way right = ap (λ inc. record { id = record { slot = slot; inc = inc }; way = way }) (same.incs slot way (inl right))
 
   right_kept : (slot : ℕ) (way : Way) → IsRightLeaf slots k.holder t slot way → IsRightLeaf slots k'.holder t' slot way
   right_kept slot way right = record {
     exists = right.exists;
-    held = ap k'.holder (same.keys slot way right) ∙ (same.holder (t.key slot way) ∙ (right.held ∙ ap Some (sym (found_kept slot way right))));
+    held = ap k'.holder (same.keys slot way (inl right)) ∙ (same.holder (t.key slot way) ∙ (right.held ∙ ap Some (sym (found_kept slot way right))));
   }
 
-  leaf_kept : (leaf : LoadedLeaf) → StaysLeaf slots k.holder t leaf → StaysLeaf slots k'.holder t' leaf
+  leaf_kept : (leaf : LoadedLeaf) → StaysLeaf slots k t leaf → StaysLeaf slots k' t' leaf
   leaf_kept leaf stays = record {
-    right = right_kept leaf.slot leaf.way stays.right;
-    key = same.keys leaf.slot leaf.way stays.right ∙ stays.key;
-    inc = same.incs leaf.slot leaf.way stays.right ∙ stays.inc;
+    right = ⊎_elim (λ right. inl (right_kept leaf.slot leaf.way right)) (λ dead. inr (same.dead (record { slot = leaf.slot; inc = leaf.inc }) dead)) stays.right;
+    key = same.keys leaf.slot leaf.way (still_there leaf stays) ∙ stays.key;
+    inc = same.incs leaf.slot leaf.way (still_there leaf stays) ∙ stays.inc;
   }
 
   -- a seat fits that knows no more than one that fitted
@@ -96,7 +111,7 @@ module _ {S : Type 0} (digest : Key → ℕ) (slots : ℕ) (k k' : Machine S) (t
   holder_kept Empty key right = refl
   holder_kept (Leaf slot way) key right =
       let r = right slot way refl in
-      λ i. cond (is_key (same.keys slot way r i) key) (Some (found_kept slot way r i)) None
+      λ i. cond (is_key (same.keys slot way (inl r) i) key) (Some (found_kept slot way r i)) None
   holder_kept (Node node) key right = refl
   holder_kept Mark key right = refl
 
@@ -150,7 +165,7 @@ module _ {S V : Type 0} (side_of : V → TrieSide) (digest : Key → ℕ) (layou
         let was : t.cell p ≡ Leaf slot way = sym (agree level p before) ∙ e in
         let right = kept.leaves digits level p slot way are before was in
         let home = kept.homes digits level p slot way are before was in
-        subst (λ key. IsOnPath (digits_of digest key) t'.cell level p) (sym (same.keys slot way right)) (same_places_back (same.cells (digits_of digest (t.key slot way)) (are_digits digest (t.key slot way))) home);
+        subst (λ key. IsOnPath (digits_of digest key) t'.cell level p) (sym (same.keys slot way (inl right))) (same_places_back (same.cells (digits_of digest (t.key slot way)) (are_digits digest (t.key slot way))) home);
     levels = λ digits digits' l l' q are are' on on'. kept.levels digits digits' l l' q are are' (same_places (same.cells digits are) on) (same_places (same.cells digits' are') on');
     parents = λ digits level p node are on e.
         let agree = same.cells digits are in
@@ -222,11 +237,12 @@ trie_moved side_of digest layout published k words views i v w kept at same fits
 }
 
 -- words behind the pools' that are the same make the same trie
-pub keeps_words : {S : Type 0} (layout : Layout) (k k' : Machine S) (words words' : List ℕ) → ((key : Key) → k'.holder key ≡ k.holder key) → ((id : ConnId) → IsClaimed (stage_of k id) → IsClaimed (stage_of k' id)) →
+pub keeps_words : {S : Type 0} (layout : Layout) (k k' : Machine S) (words words' : List ℕ) → ((key : Key) → k'.holder key ≡ k.holder key) → ((id : ConnId) → IsClaimed (stage_of k id) → IsClaimed (stage_of k' id)) → ((id : ConnId) → stage_of k id ≡ Dead → stage_of k' id ≡ Dead) →
     ((j : ℕ) → root_at layout ≤ j → slice_index words' j ≡ slice_index words j) → KeepsTrie layout.slots k k' (trie_words layout words) (trie_words layout words')
-keeps_words layout k k' words words' holder claimed same = record {
+keeps_words layout k k' words words' holder claimed dead same = record {
   holder = holder;
   claimed = claimed;
+  dead = dead;
   cells = λ digits are level p on. cell_same layout words words' p (same (place_at layout p) (place_behind layout p));
   parents = λ digits level p node are on is. same (field_at layout Nodes node parent_field) (field_behind layout Nodes node parent_field);
   keys = λ slot way right. λ i. record {

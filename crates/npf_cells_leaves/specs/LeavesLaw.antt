@@ -1,5 +1,5 @@
 -- What the part on the trie says of passes.
-use Rattle.std.specs.Prelude.{◌≡◌, ℕ, Some, List, Contains}
+use Rattle.std.specs.Prelude.{◌≡◌, ℕ, Some, List}
 use mathlib.Core.Option.{some}
 use lib.ListN.{get_elem?}
 use Rattle.npf_types.specs.declared.key.Key.{Key}

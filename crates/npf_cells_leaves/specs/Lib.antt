@@ -1,3 +1,4 @@
 pub mod LeavesLaw
 pub mod Parents
+pub mod Sights
 pub mod Trie

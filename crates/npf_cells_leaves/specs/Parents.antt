@@ -11,6 +11,11 @@ use Rattle.npf_cells_words.specs.Codes.{place_code}
 abbrev pub Parents : (Place → Cell) → (ℕ → ℕ) → Type 0
 Parents cell parent = (digits : ℕ → ℕ) (level : ℕ) (p : Place) (node : ℕ) → AreDigits digits → IsOnPath digits cell level p → cell p ≡ Cells.Node node → parent node ≡ place_code p
 
+-- the place at the foot of new nodes to which the digits lead, where the first is met at that level behind this place
+abbrev pub foot_place : (ℕ → ℕ) → ℕ → Place → List ℕ → Place
+foot_place digits level p [] = p
+foot_place digits level p (node ∷ nodes) = foot_place digits (level + 1) (Places.Node node (digits level)) nodes
+
 -- the parent of each of these nodes is said to be the number of the place that is to have it: for the first, whose places are those of that
 -- level, this place, and for each further one the place to which the digits lead in the one before it
 abbrev pub NameParents : (ℕ → ℕ) → (ℕ → ℕ → Type 0) → ℕ → Place → List ℕ → Type 0

@@ -1,11 +1,12 @@
 -- The part of the rule on the trie: who holds a key stands where the key's path ends.
-use Rattle.std.specs.Prelude.{◌≡◌, ℕ, ◌+◌, ◌<◌, Option, Some, None, List, [], ◌∷◌, Contains, length, sum_by, slice_index, if◌then◌else◌}
+use Rattle.std.specs.Prelude.{◌≡◌, ◌⊎◌, ℕ, ◌+◌, ◌<◌, Option, Some, None, List, [], ◌∷◌, Contains, length, sum_by, slice_index, if◌then◌else◌}
 use mathlib.Core.Option.{some}
 use lib.ListN.{get_elem?}
 use Rattle.npf_types.specs.declared.key.Key.{Key}
 use Rattle.npf_types.specs.declared.key.Way.{Way}
 use Rattle.npf_core.specs.declared.conn_id.ConnId.{ConnId}
 use Rattle.npf_core.specs.declared.found.Found.{Found}
+use Rattle.npf_core.specs.declared.stage.Stage.TheVariants.{Dead}
 use Rattle.npf_core.specs.Machine.{Machine, stage_of, IsClaimed, is_key}
 use Rattle.npf_paths.specs.declared.cell.Cell.{Cell}
 use Rattle.npf_paths.specs.declared.cell.Cell.TheVariants.{Empty, Leaf, Node, Mark}
@@ -81,9 +82,9 @@ pub record IsRightNode (nodes : ℕ) (published : List ℕ) (level node : ℕ) :
   pub published_once : Contains published node
   pub within : level < 94
 
--- a leaf that a pass loaded is still right, and its slot has still the words that it had
-pub record StaysLeaf (slots : ℕ) (holder : Key → Option Found) (t : TrieWords) (leaf : LoadedLeaf) : Type 0 where
-  pub right : IsRightLeaf slots holder t leaf.slot leaf.way
+-- a leaf that a pass loaded is still right, or its connection is Dead, which may have given the key up; and its slot has still the words that it had
+pub record StaysLeaf {S : Type 0} (slots : ℕ) (k : Machine S) (t : TrieWords) (leaf : LoadedLeaf) : Type 0 where
+  pub right : IsRightLeaf slots k.holder t leaf.slot leaf.way ⊎ (stage_of k (record { slot = leaf.slot; inc = leaf.inc }) ≡ Dead)
   pub key : t.key leaf.slot leaf.way ≡ leaf.key
   pub inc : t.inc leaf.slot ≡ leaf.inc
 
@@ -96,7 +97,7 @@ pub record StaysSighted (digest : Key → ℕ) (t : TrieWords) (locks : List Loc
 -- and what it was answered is claimed
 pub record FitsTrie {S : Type 0} (digest : Key → ℕ) (slots : ℕ) (k : Machine S) (t : TrieWords) (side : TrieSide) : Type 0 where
   pub stands : (point : PathPlace) → side.stands ≡ Some point → IsOnPath (digits_of digest point.key) t.cell point.level point.place
-  pub leaf : (leaf : LoadedLeaf) → side.leaf ≡ Some leaf → StaysLeaf slots k.holder t leaf
+  pub leaf : (leaf : LoadedLeaf) → side.leaf ≡ Some leaf → StaysLeaf slots k t leaf
   pub seen : (s : SeenCell) → side.seen ≡ Some s → StaysSighted digest t side.locks s
   pub claimed : (id : ConnId) → Contains side.answered id → IsClaimed (stage_of k id)
 

@@ -7,8 +7,9 @@ use Rattle.npf_core.specs.declared.conn_id.ConnId.{ConnId}
 use Rattle.npf_core.specs.declared.entry.Entry.{Entry}
 use Rattle.npf_core.specs.declared.stage.Stage.TheVariants.{Building}
 use Rattle.npf_core.specs.History.{LegalFrom, Legal, IsPrefix, after, by, state_from, state_of}
-use Rattle.npf_core.specs.Machine.{Machine, stage_of, HoldsNone}
+use Rattle.npf_core.specs.Machine.{IsAlive, Machine, stage_of, HoldsNone}
 use Rattle.npf_core.specs.Meaning.{Meaning}
+use Rattle.npf_core.proofs.KeyLemmas.{stays_holder}
 use Rattle.npf_core.proofs.BuildingLemmas.{holds_none_after}
 use Rattle.npf_core.proofs.HistoryLemmas.{state_from-append, LegalFrom-rest}
 use Rattle.npf_core.proofs.LifeLemmas.{Life, stage_in, stage_of-is, Moves, keeps, claims, starts, steps, abandons, expires, frees as is_freed, entry_moves}
@@ -52,3 +53,14 @@ module _ {S A R : Type 0} (m : Meaning S A R) (slots : ℕ) where
       let others = rest_none entry_seat seat history log seen own in
       let before = built_before (state_of m history) seen.rest seat id after' others (subst (λ k. stage_of k id ≡ Building seat) whole built) in
       subst (λ k. HoldsNone k id way) (sym whole) (holds_none_after m slots (state_of m history) seen.rest seat id way after' others before bare)
+
+  -- and what it builds held nothing that it doesn't hold now
+  pub bare_before : (history log : List (Entry S A R)) (seat : ℕ) (id : ConnId) (way : Way) → Legal m slots log → IsPrefix history log → by seat log ≡ by seat history →
+      stage_of (state_of m log) id ≡ Building seat → HoldsNone (state_of m log) id way → HoldsNone (state_of m history) id way
+  bare_before history log seat id way legal seen own built bare key holds =
+      let whole : state_of m log ≡ state_from m (state_of m history) seen.rest = ap (state_of m) seen.goes_on ∙ state_from-append m _ history seen.rest in
+      let after' = LegalFrom-rest m slots _ history seen.rest (subst (Legal m slots) seen.goes_on legal) in
+      let others = rest_none entry_seat seat history log seen own in
+      let later : stage_of (state_from m (state_of m history) seen.rest) id ≡ Building seat = subst (λ k. stage_of k id ≡ Building seat) whole built in
+      let before = built_before (state_of m history) seen.rest seat id after' others later in
+      bare key (ap (λ k. k.holder key) whole ∙ stays_holder m slots (state_of m history) seen.rest key (record { id = id; way = way }) after' holds (subst IsAlive (sym before) tt) (subst IsAlive (sym later) tt))

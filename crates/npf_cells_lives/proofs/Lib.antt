@@ -1,7 +1,10 @@
 pub mod BuiltLemmas
 pub mod ConnLemmas
 pub mod DeathLemmas
+pub mod FreedLemmas
+pub mod KnownLemmas
 pub mod LockLemmas
+pub mod NoteLemmas
 pub mod PoolLemmas
 pub mod SlotLemmas
 pub mod StoredLemmas

@@ -6,13 +6,15 @@ use Rattle.std.proofs.lemmas.List.Elements.{Contains-append_left, Contains-appen
 use mathlib.Core.Option.{some}
 use lib.ListN.{get_elem?}
 use Rattle.atomic_table.proofs.Lists.{at_set, at_snoc}
+use Rattle.npf_types.specs.declared.key.Way.{Way}
 use Rattle.npf_core.specs.declared.conn_id.ConnId.{ConnId}
 use Rattle.npf_paths.specs.declared.place.Lock.{Lock}
 use Rattle.npf_paths.specs.declared.place.Lock.TheVariants as Locking
 use Rattle.npf_cells_words.specs.declared.layout.Layout.{Layout}
 use Rattle.npf_cells_words.specs.declared.layout.Pool.{Pool}
 use Rattle.npf_cells_words.specs.declared.layout.Pool.TheVariants.{Slots, Nodes}
-use Rattle.npf_cells_words.specs.Layout.{turn_field, phase_field, field_at}
+use Rattle.npf_cells_words.specs.Layout.{turn_field, phase_field, note_field, field_at}
+use Rattle.npf_cells_words.proofs.WordLemmas.{note_late, note_soon}
 use Rattle.npf_cells_words.specs.Places.{lock_at, IsLockOf}
 use Rattle.npf_seats.proofs.PrefixLemmas.{none_listed, cons_cases}
 use Rattle.npf_cells_lives.specs.declared.pools.PoolSide.{PoolSide}
@@ -89,6 +91,11 @@ no_lock layout side Slots place field (Locking.Root digit) own h e = absurd (ome
 no_lock layout side Slots place field (Locking.Node node) own h e = absurd (omega (arith, h, e))
 no_lock layout side Nodes place field (Locking.Root digit) own h e = absurd (omega (arith, h, e))
 no_lock layout side Nodes place field (Locking.Node node) own h e = let short = own.2 in own.3 (omega (arith, e, short))
+
+-- nor a note
+pub no_note : (layout : Layout) (side : PoolSide) (pool : Pool) (place field slot : ℕ) (way : Way) → IsOwnField layout side pool place field → field_at layout Slots slot (note_field way) ≢ field_at layout pool place field
+no_note layout side Slots place field slot way own e = let short = own.3 in let late = note_late way in let soon = note_soon way in absurd (omega (arith, short, late, soon, e))
+no_note layout side Nodes place field slot way own e = let low = own.1 in let short = own.2 in absurd (omega (arith, low, short, e))
 
 -- nor a turn or a phase
 pub no_turn : (layout : Layout) (side : PoolSide) (pool : Pool) (place field slot f : ℕ) → IsOwnField layout side pool place field → slot < layout.slots → IsTurnField f → field_at layout Slots slot f ≢ field_at layout pool place field

@@ -59,7 +59,7 @@ module _ {S V : Type 0} (turn_of : V → Option (Turn S)) (layout : Layout) wher
   }
 
   -- the part after such a step, where who has a turn is the same
-  turns_so : (k k' : Machine S) (words words' : List ℕ) (homes : Homes S) (views views' : List V) → Turns turn_of layout k words homes views → TurnsStay k k' words words' →
+  pub turns_so : (k k' : Machine S) (words words' : List ℕ) (homes : Homes S) (views views' : List V) → Turns turn_of layout k words homes views → TurnsStay k k' words words' →
       ((slot : ℕ) → turn_holders turn_of views' slot ≡ turn_holders turn_of views slot) → ((j : ℕ) (v : V) (turn : Turn S) → get_elem? views' j ≡ some v → turn_of v ≡ Some turn → FitsTurn layout k words turn) →
       Turns turn_of layout k' words' homes views'
   turns_so k k' words words' homes views views' kept same holders each = record {
@@ -93,6 +93,17 @@ module _ {S V : Type 0} (turn_of : V → Option (Turn S)) (layout : Layout) wher
       TurnsStay k k' words words' → Turns turn_of layout k' words' homes (set views i w)
   turns-kept k k' words words' homes views i v w kept at same stay =
       turns_so k k' words words' homes views (set views i w) kept stay (holders-set views i v w at same) (each-set k words homes views i v w kept at same)
+
+  -- one view changes, which has a turn of the same slot, that fits
+  pub turns-like : (k k' : Machine S) (words words' : List ℕ) (homes : Homes S) (views : List V) (i : ℕ) (v w : V) → Turns turn_of layout k words homes views → get_elem? views i ≡ some v → ((slot : ℕ) → has_turn slot (turn_of w) ≡ has_turn slot (turn_of v)) →
+      ((turn : Turn S) → turn_of w ≡ Some turn → FitsTurn layout k words turn) → TurnsStay k k' words words' → Turns turn_of layout k' words' homes (set views i w)
+  turns-like k k' words words' homes views i v w kept at same fits stay =
+      turns_so k k' words words' homes views (set views i w) kept stay
+      (λ slot. (let more = sum-set (λ (u : V). has_turn slot (turn_of u)) views i v w at in let one = same slot in omega (arith, more, one)))
+      (λ j u turn e has. ⊎_elim
+      (λ (x : (j ≡ i) × (w ≡ u)). fits turn (ap turn_of x.1 ∙ has))
+      (λ (x : (j ≢ i) × (get_elem? views j ≡ some u)). kept.each j u turn x.1 has)
+      (at_set views i j w u e))
 
   -- a view comes that has no turn
   pub turns-push : (k : Machine S) (words : List ℕ) (homes : Homes S) (views : List V) (w : V) → Turns turn_of layout k words homes views → turn_of w ≡ None → Turns turn_of layout k words homes (views ++ w ∷ [])

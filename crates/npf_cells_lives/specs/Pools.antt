@@ -40,4 +40,4 @@ pub record Pools (layout : Layout) (takes : Pool → ℕ → ℕ) (words : List 
 
 -- a pass that owns nothing
 abbrev pub empty_handed : PoolSide
-empty_handed = record { sweeps = 0; row = 0; found = 0; nodes = []; builds = []; unstored = []; stored = []; kills = [] }
+empty_handed = record { sweeps = 0; row = 0; found = 0; nodes = []; builds = []; unstored = []; stored = []; kills = []; gave_up = []; reclaims = []; cleared = []; dated = 0; notes = [] }

@@ -5,7 +5,7 @@ use lib.ListN.{get_elem?}
 use Rattle.npf_cells_words.specs.declared.layout.Layout.{Layout}
 use Rattle.npf_cells_words.specs.declared.layout.Pool.{Pool}
 use Rattle.npf_cells_words.specs.declared.layout.Pool.TheVariants.{Slots, Nodes}
-use Rattle.npf_cells_words.specs.Layout.{state_field, phase_field, field_at}
+use Rattle.npf_cells_words.specs.Layout.{notes_field, state_field, phase_field, field_at}
 use Rattle.npf_cells_lives.specs.declared.pools.PoolSide.{PoolSide}
 use Rattle.npf_cells_lives.specs.declared.pools.StoredWord.{StoredWord}
 use Rattle.npf_cells_lives.specs.Conns.{IsBuiltIn}
@@ -27,9 +27,10 @@ is_of_slot slot s = is_slots s.pool && (s.place == slot)
 abbrev pub stored_but : ℕ → List StoredWord → List StoredWord
 stored_but slot = filter (λ s. not (is_of_slot slot s))
 
--- a word of a place that the pass owns: of a node any but the state, of a connection that it is building any but the turn and the phase
+-- a word of a place that the pass owns: of a node any but the state, of a connection that it is building any but the turn, the phase and the
+-- notes
 abbrev pub IsOwnField : Layout → PoolSide → Pool → ℕ → ℕ → Type 0
-IsOwnField layout side Slots slot field = IsBuiltIn side.builds slot × (slot < layout.slots) × (1 ≤ field) × (field < 21) × (field ≢ phase_field)
+IsOwnField layout side Slots slot field = IsBuiltIn side.builds slot × (slot < layout.slots) × (1 ≤ field) × (field < notes_field) × (field ≢ phase_field)
 IsOwnField layout side Nodes node field = Contains side.nodes node × (node < layout.nodes) × (field < 18) × (field ≢ state_field)
 
 -- what the part says of one seat

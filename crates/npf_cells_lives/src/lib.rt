@@ -7,5 +7,5 @@ mod pools;
 mod turn;
 
 pub use laws::lives_law;
-pub use pools::{PoolSide, StoredWord};
-pub use turn::Turn;
+pub use pools::{Note, PoolSide, StoredWord};
+pub use turn::{Ahead, Said, Turn};

@@ -1,11 +1,18 @@
 use npf_cells_words::Pool;
-use npf_core::ConnId;
+use npf_core::{ConnId, Found};
 use std::collections::LinkedList;
 
 /// A word that a pass stored in one of its own places.
 pub struct StoredWord {
     pub pool: Pool,
     pub place: u32,
+    pub field: u32,
+    pub value: u64,
+}
+
+/// A note of a connection that a pass is building, as it stored it, of a way of which the connection holds no key.
+pub struct Note {
+    pub slot: u32,
     pub field: u32,
     pub value: u64,
 }
@@ -28,4 +35,14 @@ pub struct PoolSide {
     pub stored: LinkedList<StoredWord>,
     /// The connections that it killed and hasn't let go yet.
     pub kills: LinkedList<ConnId>,
+    /// The ways of those of which it gave the key up.
+    pub gave_up: LinkedList<Found>,
+    /// The connections that it reclaimed, whose first note still has its epoch.
+    pub reclaims: LinkedList<ConnId>,
+    /// Those whose first note it has set to 0 since.
+    pub cleared: LinkedList<ConnId>,
+    /// The greatest epoch with which it, or a pass that was joined into it, let a connection go, 0 where none did.
+    pub dated: u64,
+    /// The notes that it stored of ways of which its connections hold no key.
+    pub notes: LinkedList<Note>,
 }

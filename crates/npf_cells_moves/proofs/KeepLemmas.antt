@@ -128,7 +128,7 @@ module _ {S A R : Type 0} (m : Meaning S A R) (digest : Key → ℕ) (layout : L
     load_keeps s id me.1 me.0 kept at 0 (loading me.0.epochs (epoch_word s.words)) (alone_still me.0 (record me.0 { epochs = loading me.0.epochs (epoch_word s.words) }) (kept.alone id me.0 at) place refl (λ none. none))
         (loads (epoch_word s.words) (reader_word s.words) (map reader_view s.views) id (reader_view me.0) kept.epochs (there s id me.1 me.0 kept at))
         (deaths_loading m digest layout s id me.0 kept at),
-    record { met = is_met (epoch_word s.words) (reader_word s.words) (map reader_view s.views) id (reader_view me.0) kept.epochs (there s id me.1 me.0 kept at); sole = λ all. raised_alone m digest layout s id me.0 kept at all; is = refl },
+    record { met = is_met (epoch_word s.words) (reader_word s.words) (map reader_view s.views) id (reader_view me.0) kept.epochs (there s id me.1 me.0 kept at); dated = kept.deaths.dates id me.0 at; sole = λ all. raised_alone m digest layout s id me.0 kept at all; is = refl },
   )
 
   pub may_pin : (st : Step (Running S)) (id n place epoch : ℕ) (me : Me (Running S) (CellView S A R)) → place ≡ pin_place me.0.seats.readers → 1 ≤ length me.0.seats.readers → me.0.epochs.loaded ≡ epoch → me.0.epochs.pin ≡ Idle →

@@ -1,6 +1,5 @@
 -- A load of the epoch, by a pass that killed connections: whoever rests on one of them is protected with that epoch or an earlier one.
-use Rattle.std.specs.List.{Contains}
-use Rattle.std.proofs.Common.{◌≡◌, ◌≢◌, ℕ, ◌≤◌, List, set, map, slice_index, refl, sym, ap, subst, ⊎_elim, inl, arith}
+use Rattle.std.proofs.Common.{◌≡◌, ◌≢◌, ℕ, set, refl, sym, subst, ⊎_elim, arith}
 use Rattle.std.proofs.lemmas.List.{set-get_or}
 use mathlib.Core.Option.{some}
 use lib.ListN.{get_elem?}
@@ -9,7 +8,6 @@ use Rattle.atomic_table.proofs.Lists.{at_map, at_set}
 use Rattle.npf_types.specs.declared.key.Key.{Key}
 use Rattle.npf_core.specs.declared.conn_id.ConnId.{ConnId}
 use Rattle.npf_core.specs.History.{state_of}
-use Rattle.npf_core.specs.Machine.{Machine}
 use Rattle.npf_core.specs.Meaning.{Meaning}
 use Rattle.npf_cells_words.specs.declared.layout.Layout.{Layout}
 use Rattle.npf_cells_words.specs.Layout.{epoch_word}
@@ -20,9 +18,9 @@ use Rattle.npf_cells_pins.specs.declared.pin.Pin.TheVariants.{Idle, Pinned, Prot
 use Rattle.npf_cells_pins.specs.Epochs.{PinAllows}
 use Rattle.npf_cells_pins.specs.Pinning.{loading}
 use Rattle.npf_cells_leaves.proofs.TrieLemmas.{knows_same}
-use Rattle.npf_cells_lives.specs.Deaths.{Rests, IsProtectedBy, slots_named, IsPast, FitsKill, Deaths}
+use Rattle.npf_cells_lives.specs.Deaths.{Rests, IsProtectedBy, slots_named, IsPast, Deaths}
 use Rattle.npf_cells_lives.specs.Turns.{Running}
-use Rattle.npf_cells_lives.proofs.DeathLemmas.{spares_all, deaths-set}
+use Rattle.npf_cells_lives.proofs.DeathLemmas.{spares_all, same_dates, deaths-set}
 use Rattle.npf_cells_rule.specs.declared.view.CellView.{CellView}
 use Rattle.npf_cells_rule.specs.Cells.{IsCells}
 use Rattle.npf_cells_rule.specs.Passes.{IsProtected}
@@ -59,7 +57,9 @@ module _ {S A R : Type 0} (m : Meaning S A R) (digest : Key → ℕ) (layout : L
 
   pub deaths_loading : Deaths death_side layout (state_of m kept.log) (set s.words 0 (epoch_word s.words)) (set s.views id loader)
   deaths_loading = subst (λ ws. Deaths death_side layout (state_of m kept.log) ws (set s.views id loader)) (sym (set-get_or s.words 0 0))
-      (deaths-set death_side layout (state_of m kept.log) (state_of m kept.log) s.words s.words s.views id v loader kept.deaths at (spares_all (state_of m kept.log)) (omega arith) (rests_less (state_of m kept.log) v loader (knows_same v.trie) refl)
+      (deaths-set death_side layout (state_of m kept.log) (state_of m kept.log) s.words s.words s.views id v loader kept.deaths at (spares_all (state_of m kept.log)) (omega arith) (rests_less (state_of m kept.log) v loader (knows_same v.trie) refl) refl refl
       (λ slot h. (let more = sum-set (λ (u : CellView S A R). occurs slot (slots_named u.pools.kills)) s.views id v loader at in let was = kept.deaths.counted slot h in omega (arith, more, was)))
+      kept.deaths.reclaimed
       (λ conn c. record { dead = (kept.deaths.kills id v conn at c).dead; past = λ some' bare. past_now conn })
-      (λ slot epoch h note. inl note))
+      (λ slot epoch h note. note)
+      (same_dates death_side layout (state_of m kept.log) s.words s.words s.views id v loader kept.deaths at (omega arith) refl))

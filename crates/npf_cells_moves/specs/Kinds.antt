@@ -1,5 +1,5 @@
 -- What the steps on the epoch and on the readers change in the pass's own view, and what each tells.
-use Rattle.std.specs.Prelude.{◌≡◌, ℕ, ◌+◌, length}
+use Rattle.std.specs.Prelude.{◌≡◌, ℕ, ◌+◌, ◌≤◌, length}
 use Rattle.atomic_table.specs.Table.{Me, Step}
 use Rattle.npf_types.specs.declared.key.Key.{Key}
 use Rattle.npf_core.specs.Meaning.{Meaning}
@@ -22,6 +22,7 @@ IsSole v found = length v.seats.readers ≡ all_places → found ≡ 2 + v.epoch
 -- the kinds, as what they tell
 pub record Loads {S A R F : Type 0} (step : Step F) (me : Me F (CellView S A R)) (found : ℕ) (next : Me F (CellView S A R)) : Type 0 where
   pub met : IsMet me.0.epochs found
+  pub dated : me.0.pools.dated ≤ found
   pub sole : IsSole me.0 found
   pub is : next ≡ with_epochs me (loading me.0.epochs found)
 

@@ -1,5 +1,5 @@
 -- How passes are split and joined, and what the step after it tells.
-use Rattle.std.specs.Prelude.{◌≡◌, ◌≢◌, ◌⊎◌, ℕ, ◌+◌, ◌≤◌, ◌<◌, true, None, List, [], ◌++◌, Contains, length}
+use Rattle.std.specs.Prelude.{◌≡◌, ◌≢◌, ◌⊎◌, ℕ, max, ◌+◌, ◌≤◌, ◌<◌, true, None, List, [], ◌++◌, Contains, length}
 use Rattle.atomic_table.specs.Table.{Me, Step}
 use Rattle.npf_core.specs.declared.entry.Entry.{Entry}
 use Rattle.npf_core.specs.History.{Legal, IsPrefix, by}
@@ -23,7 +23,7 @@ abbrev pub given_view : {S A R : Type 0} → CellView S A R → CellView S A R
 given_view v = record { seats = given_seat v.seats; epochs = idle_side; pools = empty_handed; trie = unread_side; turn = None }
 
 abbrev pub joined_pools : PoolSide → PoolSide → PoolSide
-joined_pools mine theirs = record mine { sweeps = mine.sweeps + theirs.sweeps }
+joined_pools mine theirs = record mine { sweeps = mine.sweeps + theirs.sweeps; dated = max mine.dated theirs.dated }
 
 abbrev pub joined_trie : TrieSide → TrieSide → TrieSide
 joined_trie mine theirs = record mine {

@@ -19,7 +19,7 @@ use Rattle.npf_cells_lives.specs.Turns.{Running}
 pub record KeepsMoves {S A R : Type 0} (m : Meaning S A R) (digest : Key → ℕ) (layout : Layout) : Type 0 where
   pub splits : (id : ℕ) (v : CellView S A R) → v.seats.lives ≡ true → v.epochs.pin ≡ Idle → 2 ≤ length v.seats.readers → Splits (IsCells m digest layout) id v (gives_reader v) (given_view v)
   pub born : (st : Step (Running S)) (id n i : ℕ) (me : Me (Running S) (CellView S A R)) → me.0.seats.lives ≡ false → 1 ≤ length me.0.seats.readers → Allows (IsCells m digest layout) n id me i (λ k. k) (IsBorn m st me)
-  pub joins : (id : ℕ) (v : CellView S A R) (other : ℕ) (w : CellView S A R) → v.seats.lives ≡ true → v.seats.theirs ≡ [] → v.epochs.pin ≡ Idle → 1 ≤ length v.seats.readers → w.seats.lives ≡ true → w.seats.theirs ≡ [] → w.epochs.pin ≡ Idle → w.pools.nodes ≡ [] → w.pools.builds ≡ [] → w.pools.kills ≡ [] → w.trie.locks ≡ [] → w.turn ≡ None → Joins (IsCells m digest layout) id v other w (takes_in v w) nothing_left
+  pub joins : (id : ℕ) (v : CellView S A R) (other : ℕ) (w : CellView S A R) → v.seats.lives ≡ true → v.seats.theirs ≡ [] → v.epochs.pin ≡ Idle → 1 ≤ length v.seats.readers → w.seats.lives ≡ true → w.seats.theirs ≡ [] → w.epochs.pin ≡ Idle → w.pools.nodes ≡ [] → w.pools.builds ≡ [] → w.pools.kills ≡ [] → w.pools.reclaims ≡ [] → w.pools.cleared ≡ [] → w.trie.locks ≡ [] → w.turn ≡ None → Joins (IsCells m digest layout) id v other w (takes_in v w) nothing_left
   pub reads : (st : Step (Running S)) (id n i : ℕ) (me : Me (Running S) (CellView S A R)) → me.0.seats.lives ≡ true → 1 ≤ length me.0.seats.readers → Allows (IsCells m digest layout) n id me i (λ k. k) (HasRead m st me)
   pub loads : (st : Step (Running S)) (id n : ℕ) (me : Me (Running S) (CellView S A R)) → 1 ≤ length me.0.seats.readers → Allows (IsCells m digest layout) n id me 0 (λ k. k) (Loads st me)
   pub pins : (st : Step (Running S)) (id n place epoch : ℕ) (me : Me (Running S) (CellView S A R)) → place ≡ pin_place me.0.seats.readers → 1 ≤ length me.0.seats.readers → me.0.epochs.loaded ≡ epoch → me.0.epochs.pin ≡ Idle → Allows (IsCells m digest layout) n id me (reader_at place) (λ _. epoch + 1) (λ _. Pins st me (epoch + 1))

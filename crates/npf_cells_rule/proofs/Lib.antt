@@ -4,7 +4,10 @@ pub mod EntryLemmas
 pub mod Frames
 pub mod LawLemmas
 pub mod MetLemmas
+pub mod NoteFrames
+pub mod NoteLawLemmas
 pub mod OpenLemmas
+pub mod OverLemmas
 pub mod PassLemmas
 pub mod ReaderLemmas
 pub mod SoleLemmas

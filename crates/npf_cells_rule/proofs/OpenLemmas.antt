@@ -1,6 +1,6 @@
 -- A new table keeps the rule.
 use Rattle.std.specs.List.{Contains}
-use Rattle.std.proofs.Common.{◌≡◌, ℕ, zero, suc, ◌+◌, ◌<◌, ◌≤◌, Bool, true, false, cond, Some, None, List, [], ◌∷◌, map, slice_index, replicate, refl, sym, ap, ◌∙◌, subst, ⊎_elim, arith}
+use Rattle.std.proofs.Common.{◌≡◌, ℕ, zero, suc, ◌+◌, ◌<◌, ◌≤◌, ◌⊎◌, Bool, true, false, cond, Some, None, List, [], ◌∷◌, map, slice_index, replicate, refl, sym, ap, ◌∙◌, subst, ⊎_elim, arith}
 use Rattle.std.proofs.lemmas.List.{get_or-set_same, length-map, length-replicate}
 use Rattle.std.proofs.lemmas.List.Sums.{sum_by-cons}
 use mathlib.Core.Option.{some, some-injective, some-ne-none}
@@ -8,8 +8,10 @@ use lib.ListN.{get_elem?}
 use Rattle.atomic_table.specs.Table.{opening as table_opening}
 use Rattle.atomic_table.proofs.Lists.{at_map}
 use Rattle.npf_types.specs.declared.key.Key.{Key}
+use Rattle.npf_types.specs.declared.key.Way.{Way}
 use Rattle.npf_core.specs.declared.conn_id.ConnId.{ConnId}
-use Rattle.npf_core.specs.Machine.{opening}
+use Rattle.npf_core.specs.declared.slot.Slot.{Slot}
+use Rattle.npf_core.specs.Machine.{opening, HoldsNone}
 use Rattle.npf_core.specs.Meaning.{Meaning}
 use Rattle.npf_connections.specs.Pass.{all_places}
 use Rattle.npf_paths.specs.declared.cell.Cell.TheVariants.{Empty, Leaf, Node}
@@ -20,7 +22,7 @@ use Rattle.npf_paths.proofs.LevelLemmas.{bare_has_levels}
 use Rattle.npf_cells_words.specs.declared.layout.Layout.{Layout}
 use Rattle.npf_cells_words.specs.declared.layout.Pool.{Pool}
 use Rattle.npf_cells_words.specs.declared.layout.Pool.TheVariants.{Slots, Nodes}
-use Rattle.npf_cells_words.specs.Layout.{turn_field, inc_field, phase_field, notes_field, field_at, word_count, epoch_word, reader_word}
+use Rattle.npf_cells_words.specs.Layout.{turn_field, inc_field, phase_field, notes_field, note_field, field_at, word_count, epoch_word, reader_word}
 use Rattle.npf_cells_words.specs.Opening.{opening_words}
 use Rattle.npf_cells_words.specs.Places.{lock_at, is_in_trie, place_at}
 use Rattle.npf_cells_words.proofs.WordLemmas.{lock_behind, place_behind}
@@ -32,9 +34,15 @@ use Rattle.npf_cells_pins.specs.Epochs.{ReaderView, pin_place, FitsEpochs, all_r
 use Rattle.npf_cells_pins.proofs.EpochLemmas.{idle_holds}
 use Rattle.npf_cells_leaves.specs.Trie.{trie_words, holder_at, FitsTrie}
 use Rattle.npf_cells_leaves.proofs.TrieLemmas.{fits_unread}
+use Rattle.npf_cells_lives.specs.declared.pools.Note.{Note}
+use Rattle.npf_cells_lives.specs.declared.turn.Ahead.{Ahead}
+use Rattle.npf_cells_lives.specs.declared.turn.Said.{Said}
 use Rattle.npf_cells_lives.specs.declared.turn.Turn.{Turn}
+use Rattle.npf_cells_lives.specs.Notes.{note_word, IsFirm, FitsAhead, FitsNote, Notes}
 use Rattle.npf_cells_lives.specs.Conns.{FitsBuilds, inc_word, unstored_by, entry_seat}
-use Rattle.npf_cells_lives.specs.Deaths.{first_note, has_epoch, slots_named, FitsKill, Deaths}
+use Rattle.npf_cells_lives.specs.Deaths.{first_note, has_epoch, slots_named, unreclaimed, FitsKill, FitsReclaim, Deaths}
+use Rattle.npf_cells_lives.specs.Known.{Known}
+use Rattle.npf_cells_lives.proofs.FreedLemmas.{gone_in, freed_none}
 use Rattle.npf_cells_lives.specs.Locks.{has_lock, lock_holders}
 use Rattle.npf_cells_lives.specs.Pools.{taken}
 use Rattle.npf_cells_lives.specs.Stored.{FitsStored}
@@ -42,8 +50,8 @@ use Rattle.npf_cells_lives.proofs.ConnLemmas.{fits_nothing}
 use Rattle.npf_cells_lives.proofs.StoredLemmas.{fits_unstored}
 use Rattle.npf_cells_rule.specs.declared.view.CellView.{CellView}
 use Rattle.npf_cells_rule.specs.Cells.{FitsAlone, IsCells, first_cell_view}
-use Rattle.npf_cells_rule.specs.Views.{reader_view, lock_side, pool_side, turn_side, death_side}
-use Rattle.npf_cells_lives.specs.Turns.{Running, has_turn, turn_holders, FitsTurn, Turns}
+use Rattle.npf_cells_rule.specs.Views.{reader_view, lock_side, pool_side, turn_side, death_side, seen_side}
+use Rattle.npf_cells_lives.specs.Turns.{Running, running, stage_phase, has_turn, turn_holders, FitsTurn, Turns}
 use Rattle.npf_cells_rule.specs.Readers.{readers_in_turn}
 use Rattle.npf_cells_rule.proofs.ReaderLemmas.{in_turn_once, in_turn_never, length-in_turn}
 
@@ -102,6 +110,8 @@ module _ {S A R : Type 0} (layout : Layout) where
     locks = record { says = λ lock h. behind layout (lock_at layout lock) (lock_behind layout lock) ∙ sym (unheld lock); alone = λ lock h. (let none = unheld lock in omega (arith, none)) };
     turns = first_turns;
     deaths = first_deaths;
+    known = first_known;
+    notes = first_notes;
     alone = alone;
   })
     where
@@ -148,19 +158,28 @@ module _ {S A R : Type 0} (layout : Layout) where
       no_turns : (slot : ℕ) → turn_holders turn_side (view ∷ []) slot ≡ 0
       no_turns slot = sum_by-cons (λ (u : CellView S A R). has_turn slot u.turn) view []
 
-      first_turns : Turns {S = S} turn_side layout opening (opening_words layout) (map some (replicate layout.slots None)) (view ∷ [])
+      none_gone : (slot : ℕ) → gone_in death_side (view ∷ []) slot ≡ 0
+      none_gone slot =
+          let one = sum_by-cons (λ (u : CellView S A R). occurs slot (slots_named u.pools.reclaims)) view [] in
+          let two = sum_by-cons (λ (u : CellView S A R). occurs slot (slots_named u.pools.cleared)) view [] in
+          omega (arith, one, two)
+
+      as_opened : (slot : ℕ) → (unreclaimed {S = S} death_side (view ∷ []) opening).slot slot ≡ opening.slot slot
+      as_opened slot = freed_none death_side (view ∷ []) opening slot (none_gone slot)
+
+      first_turns : Turns {S = S} turn_side layout (unreclaimed death_side (view ∷ []) opening) (opening_words layout) (map some (replicate layout.slots None)) (view ∷ [])
       first_turns = record {
         reach = length-map (replicate layout.slots None) some ∙ length-replicate layout.slots None;
         says = λ slot h. behind layout (field_at layout Slots slot turn_field) (omega arith) ∙ sym (no_turns slot);
         alone = λ slot h. (let none = no_turns slot in omega (arith, none));
         home = λ slot h none. record {
-          there = at_map some (replicate layout.slots None) slot None (replicated None layout.slots slot h);
-          phase = behind layout (field_at layout Slots slot phase_field) (omega arith);
+          there = at_map some (replicate layout.slots None) slot None (replicated None layout.slots slot h) ∙ ap (λ (x : Slot S). some (some (running x.stage))) (sym (as_opened slot));
+          phase = behind layout (field_at layout Slots slot phase_field) (omega arith) ∙ ap (λ (x : Slot S). stage_phase x.stage) (sym (as_opened slot));
         };
         each = turnless;
       }
         where
-          turnless : (j : ℕ) (v : CellView S A R) (turn : Turn S) → get_elem? (view ∷ []) j ≡ some v → v.turn ≡ Some turn → FitsTurn {S = S} layout opening (opening_words layout) turn
+          turnless : (j : ℕ) (v : CellView S A R) (turn : Turn S) → get_elem? (view ∷ []) j ≡ some v → v.turn ≡ Some turn → FitsTurn {S = S} layout (unreclaimed death_side (view ∷ []) opening) (opening_words layout) turn
           turnless zero v turn e has = absurd (let no : None ≡ Some turn = ap (λ (u : CellView S A R). u.turn) (some-injective _ _ e) ∙ has in cc)
           turnless (suc j) v turn e has = absurd (some-ne-none v (sym e))
 
@@ -169,17 +188,63 @@ module _ {S A R : Type 0} (layout : Layout) where
         counted = λ slot h.
             let sum = sum_by-cons (λ (u : CellView S A R). occurs slot (slots_named u.pools.kills)) view [] in
             let note : has_epoch (first_note layout (opening_words layout) slot) ≡ 0 = ap has_epoch (no_note slot) in
-            omega (arith, sum, note);
+            let gone = none_gone slot in
+            omega (arith, sum, note, gone);
+        reclaimed = λ slot h. (let gone = none_gone slot in omega (arith, gone));
         kills = no_kills;
+        reclaims = no_reclaims;
         left = λ slot epoch h note. absurd (let none = no_note slot in omega (arith, note, none));
+        dated = λ slot epoch h note. absurd (let none = no_note slot in omega (arith, note, none));
+        dates = undated;
       }
         where
           no_note : (slot : ℕ) → first_note layout (opening_words layout) slot ≡ 0
           no_note slot = behind layout (field_at layout Slots slot notes_field) (omega arith)
 
+          undated : (j : ℕ) (v : CellView S A R) → get_elem? (view ∷ []) j ≡ some v → v.pools.dated ≤ epoch_word (opening_words layout)
+          undated zero v e = (let none : v.pools.dated ≡ 0 = ap (λ (u : CellView S A R). u.pools.dated) (sym (some-injective _ _ e)) in omega (arith, none))
+          undated (suc j) v e = absurd (some-ne-none v (sym e))
+
           no_kills : (j : ℕ) (v : CellView S A R) (id : ConnId) → get_elem? (view ∷ []) j ≡ some v → Contains v.pools.kills id → FitsKill {S = S} death_side opening (epoch_word (opening_words layout)) (view ∷ []) v.epochs.loaded id
           no_kills zero v id e c = absurd (none_listed id (subst (λ (u : CellView S A R). Contains u.pools.kills id) (sym (some-injective _ _ e)) c))
           no_kills (suc j) v id e c = absurd (some-ne-none v (sym e))
+
+          no_reclaims : (j : ℕ) (v : CellView S A R) (id : ConnId) → get_elem? (view ∷ []) j ≡ some v → Contains v.pools.reclaims id ⊎ Contains v.pools.cleared id → FitsReclaim {S = S} death_side opening (view ∷ []) id
+          no_reclaims zero v id e c = absurd (⊎_elim
+              (λ (a : Contains v.pools.reclaims id). none_listed id (subst (λ (u : CellView S A R). Contains u.pools.reclaims id) (sym (some-injective _ _ e)) a))
+              (λ (b : Contains v.pools.cleared id). none_listed id (subst (λ (u : CellView S A R). Contains u.pools.cleared id) (sym (some-injective _ _ e)) b))
+              c)
+          no_reclaims (suc j) v id e c = absurd (some-ne-none v (sym e))
+
+      first_known : Known {S = S} (seen_side m) pool_side opening (view ∷ [])
+      first_known zero v id e c = absurd (none_listed id (subst (λ (u : CellView S A R). Contains u.pools.kills id) (sym (some-injective _ _ e)) c))
+      first_known (suc j) v id e c = absurd (some-ne-none v (sym e))
+
+      first_notes : Notes {S = S} turn_side pool_side layout (trie_words layout (opening_words layout)).cell opening (opening_words layout) (view ∷ [])
+      first_notes = record {
+        named = λ digits level p slot way are on e none. absurd (let no : Empty ≡ Leaf slot way = sym (blank p) ∙ e in cc);
+        bare = λ slot way within live none. absurd (let no : 0 ≡ 1 = live in cc);
+        given = killless;
+        said = untold;
+        ahead = aheadless;
+        each = noteless;
+      }
+        where
+          killless : (j : ℕ) (v : CellView S A R) (id : ConnId) (way : Way) → get_elem? (view ∷ []) j ≡ some v → Contains v.pools.kills id → ¬ Contains v.pools.gave_up (record { id = id; way = way }) → HoldsNone {S = S} opening id way → note_word layout (opening_words layout) id.slot way ≡ 0
+          killless zero v id way e c not none = absurd (none_listed id (subst (λ (u : CellView S A R). Contains u.pools.kills id) (sym (some-injective _ _ e)) c))
+          killless (suc j) v id way e c not none = absurd (some-ne-none v (sym e))
+
+          untold : (j : ℕ) (v : CellView S A R) (turn : Turn S) (said : Said) (way : Way) → get_elem? (view ∷ []) j ≡ some v → v.turn ≡ Some turn → turn.said ≡ Some said → IsFirm v.pools.kills turn said → said.field ≡ note_field way → note_word layout (opening_words layout) turn.slot way ≡ said.value
+          untold zero v turn said way e has is firm field = absurd (let no : None ≡ Some turn = ap (λ (u : CellView S A R). u.turn) (some-injective _ _ e) ∙ has in cc)
+          untold (suc j) v turn said way e has is firm field = absurd (some-ne-none v (sym e))
+
+          aheadless : (j : ℕ) (v : CellView S A R) (turn : Turn S) (note : Ahead) → get_elem? (view ∷ []) j ≡ some v → v.turn ≡ Some turn → turn.ahead ≡ Some note → FitsAhead {S = S} layout opening (opening_words layout) turn.slot note
+          aheadless zero v turn note e has is = absurd (let no : None ≡ Some turn = ap (λ (u : CellView S A R). u.turn) (some-injective _ _ e) ∙ has in cc)
+          aheadless (suc j) v turn note e has is = absurd (some-ne-none v (sym e))
+
+          noteless : (j : ℕ) (v : CellView S A R) (note : Note) → get_elem? (view ∷ []) j ≡ some v → Contains v.pools.notes note → FitsNote {S = S} layout opening (opening_words layout) v.pools.builds note
+          noteless zero v note e c = absurd (none_listed note (subst (λ (u : CellView S A R). Contains u.pools.notes note) (sym (some-injective _ _ e)) c))
+          noteless (suc j) v note e c = absurd (some-ne-none v (sym e))
 
       alone : (j : ℕ) (v : CellView S A R) → get_elem? (view ∷ []) j ≡ some v → FitsAlone v
       alone zero v e = subst (λ (u : CellView S A R). FitsAlone u) (some-injective _ _ e)

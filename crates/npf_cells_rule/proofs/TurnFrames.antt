@@ -1,5 +1,6 @@
 -- A step on the word of a slot's turn or of its phase leaves all parts but that on turns.
-use Rattle.std.proofs.Common.{◌≡◌, ◌≢◌, ℕ, ◌+◌, ◌<◌, ◌≤◌, List, [], ◌∷◌, set, slice_index, refl, sym, ap, subst, ⊎_elim, arith, length-set}
+use Rattle.std.proofs.Common.{◌≡◌, ◌≢◌, ℕ, ◌+◌, ◌<◌, List, [], ◌∷◌, set, slice_index, refl, sym, ap, subst, ⊎_elim, arith, length-set, inl, ◌∙◌}
+use Rattle.std.specs.List.{Contains}
 use Rattle.std.proofs.lemmas.List.{get_or-set_other}
 use mathlib.Core.Option.{some}
 use lib.ListN.{get_elem?}
@@ -8,6 +9,7 @@ use Rattle.npf_types.specs.declared.key.Key.{Key}
 use Rattle.npf_types.specs.declared.key.Way.{Way}
 use Rattle.npf_core.specs.declared.conn_id.ConnId.{ConnId}
 use Rattle.npf_core.specs.History.{state_of}
+use Rattle.npf_core.specs.declared.stage.Stage.TheVariants.{Dead}
 use Rattle.npf_core.specs.Machine.{Machine, stage_of, IsClaimed}
 use Rattle.npf_core.specs.Meaning.{Meaning}
 use Rattle.npf_connections.specs.Pass.{all_places}
@@ -15,9 +17,11 @@ use Rattle.npf_paths.specs.declared.place.Lock.{Lock}
 use Rattle.npf_cells_words.specs.declared.layout.Layout.{Layout}
 use Rattle.npf_cells_words.specs.declared.layout.Pool.{Pool}
 use Rattle.npf_cells_words.specs.declared.layout.Pool.TheVariants.{Slots, Nodes}
-use Rattle.npf_cells_words.specs.Layout.{root_at, turn_field, inc_field, parent_field, phase_field, key_field, field_at, notes_field}
+use Rattle.npf_cells_words.specs.Layout.{root_at, turn_field, inc_field, parent_field, phase_field, key_field, field_at, notes_field, note_field}
 use Rattle.npf_cells_words.specs.Places.{lock_at, IsLockOf, place_at}
-use Rattle.npf_cells_words.proofs.WordLemmas.{field_behind, key_far, key_short, not_slot, slot_apart}
+use Rattle.npf_cells_words.proofs.WordLemmas.{field_behind, note_late, note_soon, key_far, key_short, not_slot, slot_apart}
+use Rattle.npf_core.specs.declared.entry.Entry.{Entry}
+use Rattle.npf_seats.specs.declared.side.SeatSide.{SeatSide}
 use Rattle.npf_seats.specs.Seats.{Seats}
 use Rattle.npf_seats.proofs.SumLemmas.{side_same}
 use Rattle.npf_cells_pins.specs.declared.pin.EpochSide.{EpochSide}
@@ -25,18 +29,21 @@ use Rattle.npf_cells_leaves.specs.Trie.{key_word, trie_words}
 use Rattle.npf_cells_leaves.proofs.TrieLemmas.{KeepsTrie, KnowsNoMore, cell_kept, knows_same, trie_same}
 use Rattle.npf_cells_lives.specs.declared.pools.PoolSide.{PoolSide}
 use Rattle.npf_cells_lives.specs.Conns.{inc_word, entry_seat}
+use Rattle.npf_cells_lives.specs.Deaths.{unreclaimed}
 use Rattle.npf_cells_lives.specs.Pools.{taken}
 use Rattle.npf_cells_lives.specs.Stored.{IsOwnField, FitsStored, StoredWords}
-use Rattle.npf_cells_lives.specs.Turns.{Homes, IsTurnField, Running, Turns}
+use Rattle.npf_cells_lives.specs.Turns.{Homes, IsTurnField, Running, StaysAt, Turns}
 use Rattle.npf_cells_lives.proofs.ConnLemmas.{builds-kept, unstored-set, conns-same}
+use Rattle.npf_cells_lives.proofs.DeathLemmas.{spares_all}
 use Rattle.npf_cells_lives.proofs.LockLemmas.{locks-same, holders-set}
+use Rattle.npf_cells_lives.proofs.NoteLemmas.{SameAhead, NotesStay}
 use Rattle.npf_cells_lives.proofs.PoolLemmas.{pools-kept, taken-set}
 use Rattle.npf_cells_lives.proofs.StoredLemmas.{stored_kept, stored-set, no_turn}
 use Rattle.npf_cells_rule.specs.declared.view.CellView.{CellView}
 use Rattle.npf_cells_rule.specs.Cells.{FitsAlone, IsCells}
-use Rattle.npf_cells_rule.specs.Views.{seat_side, lock_side, pool_side, trie_side, turn_side}
-use Rattle.npf_cells_rule.proofs.DeathFrames.{rests_less, deaths_on}
-use Rattle.npf_cells_rule.proofs.Frames.{alone-set, framed, epochs_apart}
+use Rattle.npf_cells_rule.specs.Views.{seat_side, lock_side, pool_side, trie_side, turn_side, dead_hand, death_side}
+use Rattle.npf_cells_rule.proofs.DeathFrames.{rests_less, deaths_on, known_apart}
+use Rattle.npf_cells_rule.proofs.Frames.{alone-set, framed, epochs_apart, notes_apart, same_kills}
 
 module _ {S A R : Type 0} (m : Meaning S A R) (digest : Key → ℕ) (layout : Layout) where
   module _ (s : State (Running S) (CellView S A R)) (kept : IsCells m digest layout s) (slot field n : ℕ) (within : slot < layout.slots) (is : IsTurnField field) where
@@ -71,10 +78,11 @@ module _ {S A R : Type 0} (m : Meaning S A R) (digest : Key → ℕ) (layout : L
     own_else side pool place f own = other_word (field_at layout pool place f) (λ e. no_turn layout side pool place f slot field own within is (sym e))
 
     -- the trie stays where the holders do, and what is claimed
-    pub keeps_trie : (k' : Machine S) → ((key : Key) → k'.holder key ≡ k.holder key) → ((id : ConnId) → IsClaimed (stage_of k id) → IsClaimed (stage_of k' id)) → KeepsTrie layout.slots k k' (trie_words layout s.words) (trie_words layout words')
-    keeps_trie k' holder claimed = record {
+    pub keeps_trie : (k' : Machine S) → ((key : Key) → k'.holder key ≡ k.holder key) → ((id : ConnId) → IsClaimed (stage_of k id) → IsClaimed (stage_of k' id)) → ((id : ConnId) → stage_of k id ≡ Dead → stage_of k' id ≡ Dead) → KeepsTrie layout.slots k k' (trie_words layout s.words) (trie_words layout words')
+    keeps_trie k' holder claimed dead = record {
       holder = holder;
       claimed = claimed;
+      dead = dead;
       cells = λ digits are level p on. cell_kept layout s.words words' p (λ there. other_word (place_at layout p) (λ e. slot_apart layout p slot field there (sym e)));
       parents = λ digits level p node are on is. other_word (field_at layout Nodes node parent_field) (λ e. absurd (let in' = (kept.trie.nodes digits level p node are on is).exists in omega (arith, in', e)));
       keys = λ p way right. λ i. record { 0 = key_same p way 0 (omega arith) i ∷ key_same p way 1 (omega arith) i ∷ key_same p way 2 (omega arith) i ∷ key_same p way 3 (omega arith) i ∷ key_same p way 4 (omega arith) i ∷ [] };
@@ -88,6 +96,16 @@ module _ {S A R : Type 0} (m : Meaning S A R) (digest : Key → ℕ) (layout : L
             let low = short in
             other_word (field_at layout Slots p (key_field way + place)) (λ e. absurd (omega (arith, far, near, low, e)))
 
+    -- and the notes
+    pub notes_stay : (k' : Machine S) → ((key : Key) → k'.holder key ≡ k.holder key) → ((p : ℕ) → StaysAt (k.slot p) (k'.slot p)) → NotesStay layout k k' (trie_words layout s.words).cell (trie_words layout words').cell s.words words'
+    notes_stay k' holder slots = record {
+      cells = λ digits are level p on. cell_kept layout s.words words' p (λ there. other_word (place_at layout p) (λ e. slot_apart layout p slot field there (sym e)));
+      notes = λ p way. other_word (field_at layout Slots p (note_field way)) (λ e. let low = short in let late = note_late way in let soon = note_soon way in absurd (omega (arith, low, late, soon, e)));
+      held = λ key found holds. holder key ∙ holds;
+      back = λ key found holds. sym (holder key) ∙ holds;
+      slots = slots;
+    }
+
     -- what passes stored stays, where the seat's fits
     pub stored_else : (id : ℕ) (w : CellView S A R) → FitsStored layout s.words w.pools → StoredWords pool_side layout words' (set s.views id w)
     stored_else id w fits = stored-set pool_side layout words' s.views id w (on w.pools fits) (λ j u ne there. on u.pools (kept.stored j u there))
@@ -96,20 +114,22 @@ module _ {S A R : Type 0} (m : Meaning S A R) (digest : Key → ℕ) (layout : L
         on side h = stored_kept layout s.words words' side side h refl (λ pool place f own. own) (own_else side)
 
     -- the rule, where the part on turns holds
-    pub turn_step : (id : ℕ) (v w : CellView S A R) (homes : Homes S) → get_elem? s.views id ≡ some v → w.seats ≡ v.seats → w.epochs ≡ v.epochs → w.pools ≡ v.pools → w.trie ≡ v.trie → FitsAlone w →
-        Turns turn_side layout k words' homes (set s.views id w) → IsCells m digest layout (record { words = words'; homes = homes; views = set s.views id w })
-    turn_step id v w homes at seats epochs pools trie alone turns = framed m digest layout s (record { words = words'; homes = homes; views = set s.views id w }) kept kept.published kept.log (length-set s.words word n)
+    pub turn_step : (id : ℕ) (v w : CellView S A R) (homes : Homes S) → get_elem? s.views id ≡ some v → w.seats ≡ v.seats → w.epochs ≡ v.epochs → w.pools ≡ v.pools → w.trie ≡ v.trie → SameAhead v.turn w.turn → FitsAlone w →
+        Turns turn_side layout (unreclaimed death_side (set s.views id w) k) words' homes (set s.views id w) → IsCells m digest layout (record { words = words'; homes = homes; views = set s.views id w })
+    turn_step id v w homes at seats epochs pools trie ahead alone turns = framed m digest layout s (record { words = words'; homes = homes; views = set s.views id w }) kept kept.published kept.log (length-set s.words word n)
         (subst (λ sides. Seats entry_seat layout.slots all_places kept.log sides) (sym (side_same seat_side s.views id v w at seats)) kept.seats)
         (epochs_apart m digest layout s word n id v w kept at (λ i. record { places = (seats i).readers; side = epochs i }) (λ j h. below j (omega (arith, h))))
         (pools-kept layout (taken pool_side kept.published k s.views) (taken pool_side kept.published k (set s.views id w)) s.words words' kept.pools (length-set s.words word n) below
         (taken-set pool_side kept.published k s.views id v w at (ap (λ (p : PoolSide). p.nodes) pools)))
-        (trie_same trie_side digest layout kept.published k k s.words words' s.views id v w kept.trie at (subst (λ side. KnowsNoMore v.trie side) (sym trie) (knows_same v.trie)) (keeps_trie k (λ key. refl) (λ identity c. c)))
+        (trie_same trie_side digest layout kept.published k k s.words words' s.views id v w kept.trie at (subst (λ side. KnowsNoMore v.trie side) (sym trie) (knows_same v.trie)) (keeps_trie k (λ key. refl) (λ identity c. c) (λ identity e. e)))
         (conns-same pool_side m layout kept.log s.words words' s.views (set s.views id w) kept.connections (length-set s.words word n) (λ p h. inc_else p)
         (builds-kept pool_side k s.views id v w at (ap (λ (p : PoolSide). p.builds) pools) (ap (λ (p : PoolSide). p.unstored) pools) kept.connections.each) (unstored-set pool_side s.views id v w at (ap (λ (p : PoolSide). p.unstored) pools)))
         (stored_else id w (subst (FitsStored layout s.words) (sym pools) (kept.stored id v at)))
         (locks-same lock_side layout s.words words' s.views (set s.views id w) kept.locks lock_else (holders-set lock_side layout s.views id v w at (ap (λ t. t.locks) trie)))
         turns
-        (deaths_on m digest layout s word n id v w kept at (ap (λ (p : PoolSide). p.kills) pools) (ap (λ (e : EpochSide). e.loaded) epochs)
+        (deaths_on m digest layout s word n id v w kept at (ap dead_hand pools) (ap (λ (e : EpochSide). e.loaded) epochs)
         (rests_less k v w (subst (λ side. KnowsNoMore v.trie side) (sym trie) (knows_same v.trie)) (ap (λ (e : EpochSide). e.pin) epochs))
         (let same = below 0 (omega arith) in omega (arith, same)) (λ p h. other_word (field_at layout Slots p notes_field) (λ e. absurd (let low = short in omega (arith, e, low)))))
+        (known_apart m digest layout s id v w k kept at (same_kills m digest layout v w (ap dead_hand pools)) (ap (λ (x : SeatSide ℕ (Entry S A R)). x.history) seats) (spares_all k))
+        (notes_apart m digest layout s words' id v w k kept at ahead (ap dead_hand pools) (ap (λ (p : PoolSide). p.notes) pools) (λ conn c. subst (λ (p : PoolSide). Contains p.builds conn) (sym pools) c) (notes_stay k (λ key. refl) (λ p. inl refl)))
         (alone-set s.views id w alone kept.alone)

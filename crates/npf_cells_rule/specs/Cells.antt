@@ -1,4 +1,4 @@
--- The rule of the table without locks: nine parts, over its words and the sides of the views, and what it says of each pass by itself.
+-- The rule of the table without locks: its parts, over its words and the sides of the views, and what it says of each pass by itself.
 use Rattle.std.specs.Prelude.{◌≡◌, ℕ, None, List, map, length}
 use mathlib.Core.Option.{some}
 use lib.ListN.{get_elem?}
@@ -13,15 +13,17 @@ use Rattle.npf_cells_words.specs.Layout.{epoch_word, reader_word}
 use Rattle.npf_seats.specs.Moves.{first_seat}
 use Rattle.npf_seats.specs.Seats.{Seats}
 use Rattle.npf_cells_pins.specs.Epochs.{Epochs, idle_side}
-use Rattle.npf_cells_leaves.specs.Trie.{HasNoWalk, Trie, unread_side}
+use Rattle.npf_cells_leaves.specs.Trie.{HasNoWalk, Trie, trie_words, unread_side}
 use Rattle.npf_cells_lives.specs.Conns.{Conns, entry_seat}
-use Rattle.npf_cells_lives.specs.Deaths.{Deaths}
+use Rattle.npf_cells_lives.specs.Deaths.{Deaths, unreclaimed}
+use Rattle.npf_cells_lives.specs.Known.{Known}
 use Rattle.npf_cells_lives.specs.Locks.{Locks}
+use Rattle.npf_cells_lives.specs.Notes.{Notes}
 use Rattle.npf_cells_lives.specs.Pools.{taken, Pools, empty_handed}
 use Rattle.npf_cells_lives.specs.Stored.{StoredWords}
 use Rattle.npf_cells_rule.specs.declared.view.CellView.{CellView}
 use Rattle.npf_cells_rule.specs.Passes.{IsProtected}
-use Rattle.npf_cells_rule.specs.Views.{seat_side, reader_view, lock_side, pool_side, trie_side, turn_side, death_side, nothing_left}
+use Rattle.npf_cells_rule.specs.Views.{seat_side, reader_view, lock_side, pool_side, trie_side, turn_side, death_side, seen_side, nothing_left}
 use Rattle.npf_cells_lives.specs.Turns.{Running, Turns}
 use Rattle.npf_cells_rule.specs.Readers.{readers_in_turn}
 
@@ -45,8 +47,10 @@ pub record IsCells {S A R : Type 0} (m : Meaning S A R) (digest : Key → ℕ) (
   pub connections : Conns pool_side m layout log s.words s.views
   pub stored : StoredWords pool_side layout s.words s.views
   pub locks : Locks lock_side layout s.words s.views
-  pub turns : Turns turn_side layout (state_of m log) s.words s.homes s.views
+  pub turns : Turns turn_side layout (unreclaimed death_side s.views (state_of m log)) s.words s.homes s.views
   pub deaths : Deaths death_side layout (state_of m log) s.words s.views
+  pub known : Known (seen_side m) pool_side (state_of m log) s.views
+  pub notes : Notes turn_side pool_side layout (trie_words layout s.words).cell (state_of m log) s.words s.views
   pub alone : AllFitAlone s.views
 
 -- the first pass, which owns all reader places

@@ -1,5 +1,6 @@
 pub mod Cells
 pub mod DeathLaw
+pub mod NoteLaw
 pub mod Passes
 pub mod Readers
 pub mod Stood

@@ -1,8 +1,12 @@
 -- The sides of a view, and views of which one side changes.
-use Rattle.std.specs.Prelude.{ℕ, Option, Some, None, List}
+use Rattle.std.specs.Prelude.{ℕ, Option, Some, None, List, []}
 use Rattle.atomic_table.specs.Table.{Me}
 use Rattle.npf_core.specs.declared.conn_id.ConnId.{ConnId}
 use Rattle.npf_core.specs.declared.entry.Entry.{Entry}
+use Rattle.npf_core.specs.declared.found.Found.{Found}
+use Rattle.npf_core.specs.History.{state_of}
+use Rattle.npf_core.specs.Machine.{Machine}
+use Rattle.npf_core.specs.Meaning.{Meaning}
 use Rattle.npf_paths.specs.declared.place.Lock.{Lock}
 use Rattle.npf_seats.specs.declared.side.SeatSide.{SeatSide}
 use Rattle.npf_seats.specs.Moves.{spent_seat}
@@ -35,6 +39,10 @@ trie_side v = v.trie
 abbrev pub lock_side : {S A R : Type 0} → CellView S A R → List Lock
 lock_side v = v.trie.locks
 
+-- the connections as a pass has seen them
+abbrev pub seen_side : {S A R : Type 0} → Meaning S A R → CellView S A R → Machine S
+seen_side m v = state_of m v.seats.history
+
 -- the turn that a pass has
 abbrev pub turn_side : {S A R : Type 0} → CellView S A R → Option (Turn S)
 turn_side v = v.turn
@@ -49,9 +57,23 @@ abbrev pub leaf_id : Option LoadedLeaf → Option ConnId
 leaf_id None = None
 leaf_id (Some leaf) = Some (record { slot = leaf.slot; inc = leaf.inc })
 
+-- which dead connections a pass has, of which it gave keys up, and the greatest epoch with which it let one go
+pub record DeadHand : Type 0 where
+  pub kills : List ConnId
+  pub gave_up : List Found
+  pub reclaims : List ConnId
+  pub cleared : List ConnId
+  pub dated : ℕ
+
+abbrev pub dead_hand : PoolSide → DeadHand
+dead_hand side = record { kills = side.kills; gave_up = side.gave_up; reclaims = side.reclaims; cleared = side.cleared; dated = side.dated }
+
 abbrev pub death_side : {S A R : Type 0} → CellView S A R → DeathSide
 death_side v = record {
   kills = v.pools.kills;
+  reclaims = v.pools.reclaims;
+  cleared = v.pools.cleared;
+  dated = v.pools.dated;
   loaded = v.epochs.loaded;
   protecting = protecting_epoch v.epochs.pin;
   answered = v.trie.answered;
@@ -61,6 +83,10 @@ death_side v = record {
 -- the pass after a step that changes only what it knows of the epoch
 abbrev pub with_epochs : {S A R F : Type 0} → Me F (CellView S A R) → EpochSide → Me F (CellView S A R)
 with_epochs me side = (record me.0 { epochs = side }, me.1)
+
+-- who kills, or gives a key up, forgets the epoch that it loaded: what it lets go later is from before an epoch that it loaded since
+abbrev pub unloaded : EpochSide → EpochSide
+unloaded side = record side { loaded = 0; scanned = []; behind = [] }
 
 -- the pass after a step that changes only what it knows of the trie
 abbrev pub with_trie : {S A R F : Type 0} → Me F (CellView S A R) → TrieSide → Me F (CellView S A R)

@@ -1,8 +1,9 @@
 // What holds of every table between any two steps. The functions do nothing: each is a theorem.
 ghost use Rattle.npf_cells_words.specs.declared.layout.Layout.{Layout};
-ghost use Rattle.npf_cells_rule.specs.DeathLaw.{RestsHoldBack};
+ghost use Rattle.npf_cells_rule.specs.DeathLaw.{RestsHoldBack, SoleFindsLeft};
 ghost use Rattle.npf_cells_rule.specs.TableLaw.{OwnsAlone, BuildsAlone, HoldsBack, CountsRaises, SoleRaises};
 ghost use Rattle.npf_cells_rule.specs.Readers.{ReadersStandApart};
+ghost use Rattle.npf_cells_rule.specs.NoteLaw.{BareNotesAreZero, NotesNameKeys};
 ghost use Rattle.npf_cells_rule.specs.TrieLaw.{EndsNameHolders, LeavesAreKept, NodesAreKept};
 
 use npf_core::Law;
@@ -33,8 +34,18 @@ pub fn trie_law<L: Law>()
 {}
 
 /// The death law: while a pass may speak of a connection that was let go, the table's epoch is at most one more than that in its first note.
+/// And where a pass owns all reader places, the first note of each Dead connection that isn't its own has an epoch of the table, with which
+/// that pass, or one that was joined into it, let the connection go.
 pub fn death_law<L: Law>()
     ensures rests { (layout : Layout) → RestsHoldBack L.meaning layout }
+    ensures sole { (layout : Layout) → SoleFindsLeft L.meaning layout }
+{}
+
+/// The note law: while nobody has a slot's turn, the note of each way of which its connection holds a key names the place where that key's
+/// path ends; and the note of a way of which a Live connection holds none is 0.
+pub fn note_law<L: Law>()
+    ensures names { (layout : Layout) → NotesNameKeys L.meaning layout }
+    ensures bare { (layout : Layout) → BareNotesAreZero L.meaning layout }
 {}
 
 /// The reader law: reader places that are given one after the other lie in different cache lines.

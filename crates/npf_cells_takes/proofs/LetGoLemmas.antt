@@ -1,258 +1,161 @@
--- What stores in a pass's own words make of deaths: those of who builds there leave them, and an epoch in the first note of a connection that the pass killed lets it go.
-use Rattle.std.specs.List.{Contains, filter}
-use Rattle.std.proofs.Common.{◌≡◌, ◌≢◌, ◌⊎◌, ℕ, ◌+◌, ◌^◌, ◌<◌, ◌≤◌, Bool, true, false, cond, eqb, eq-eqb, List, [], ◌∷◌, map, set, length, slice_index, refl, sym, ap, ◌∙◌, subst, ⊎_elim, inl, inr, arith, length-set}
+-- An epoch in the first note of a connection that the pass killed lets it go.
+use Rattle.std.proofs.Common.{◌≡◌, ◌≢◌, ℕ, ◌+◌, ◌-◌, ◌^◌, ◌<◌, ◌≤◌, Some, List, set, length, refl, sym, ap, ◌∙◌, subst, ⊎_elim, inl, inr, arith}
 use Rattle.std.proofs.lemmas.Bool.{cases_eq}
-use Rattle.std.proofs.lemmas.List.{get_or-set_same, get_or-set_other}
 use mathlib.Core.Option.{some}
 use lib.ListN.{get_elem?}
 use Rattle.atomic_table.specs.Table.{State, Me, stepped, keeps}
 use Rattle.atomic_table.proofs.Lists.{at_map}
 use Rattle.npf_types.specs.declared.key.Key.{Key}
-use Rattle.npf_types.specs.declared.key.Way.{Way}
+use Rattle.npf_types.specs.declared.key.Way.TheVariants.{Forward}
 use Rattle.npf_core.specs.declared.conn_id.ConnId.{ConnId}
-use Rattle.npf_core.specs.declared.slot.Slot.{Slot}
-use Rattle.npf_core.specs.declared.stage.Stage.TheVariants.{Building, Dead}
+use Rattle.npf_core.specs.declared.stage.Stage.TheVariants.{Dead}
 use Rattle.npf_core.specs.History.{state_of}
-use Rattle.npf_core.specs.Machine.{Machine, stage_at, stage_of}
+use Rattle.npf_core.specs.Machine.{Machine}
 use Rattle.npf_core.specs.Meaning.{Meaning}
-use Rattle.npf_core.proofs.EqualityLemmas.{same_conn_id}
 use Rattle.npf_cells_words.specs.declared.layout.Layout.{Layout}
-use Rattle.npf_cells_words.specs.declared.layout.Pool.{Pool}
-use Rattle.npf_cells_words.specs.declared.layout.Pool.TheVariants.{Slots, Nodes}
-use Rattle.npf_cells_words.specs.Layout.{turn_field, phase_field, inc_field, parent_field, notes_field, key_field, field_at, field_count, pool_places, epoch_word}
-use Rattle.npf_cells_words.specs.Places.{lock_at, place_at}
-use Rattle.npf_cells_words.proofs.WordLemmas.{field_behind, field_reach, key_short, not_slot, slot_apart}
-use Rattle.npf_seats.specs.Sums.{occurs, others_than}
-use Rattle.npf_seats.proofs.ListLemmas.{one_where, occurs-cons, left_same, left_others}
-use Rattle.npf_seats.proofs.PrefixLemmas.{none_listed, cons_cases}
-use Rattle.npf_seats.proofs.SumLemmas.{sum-set, one_of_sum}
-use Rattle.npf_cells_pins.specs.declared.pin.EpochSide.{EpochSide}
-use Rattle.npf_cells_leaves.specs.declared.trie.TrieSide.{TrieSide}
-use Rattle.npf_cells_leaves.specs.Trie.{key_word, trie_words}
-use Rattle.npf_cells_leaves.proofs.TrieLemmas.{KeepsTrie, cell_kept, knows_same, trie_same}
-use Rattle.npf_cells_lives.specs.declared.pools.PoolSide.{PoolSide}
-use Rattle.npf_cells_lives.specs.Conns.{Conns}
-use Rattle.npf_cells_lives.specs.Deaths.{IsKeyless, is_dead, has_epoch, first_note, slots_named, killed_in, last_id, IsPast, FitsKill, IsLeft, Deaths}
-use Rattle.npf_cells_lives.specs.Locks.{Locks}
-use Rattle.npf_cells_lives.specs.Stored.{IsOwnField, StoredWords}
-use Rattle.npf_cells_lives.specs.Turns.{IsTurnField, Running, Turns}
-use Rattle.npf_cells_lives.proofs.ConnLemmas.{building_at, builds-kept, unstored-set, conns-same}
-use Rattle.npf_cells_lives.proofs.DeathLemmas.{spares_all, RestsNoMore, dead_at, epoch_note, low_note, past_kept, kill_kept, deaths-set}
-use Rattle.npf_cells_lives.proofs.LockLemmas.{locks-same, holders-set}
-use Rattle.npf_cells_lives.proofs.StoredLemmas.{filter_has, own_same, stored_kept, stored-set}
+use Rattle.npf_cells_words.specs.declared.layout.Pool.TheVariants.{Slots}
+use Rattle.npf_cells_words.specs.Layout.{notes_field, field_at, epoch_word}
+use Rattle.npf_seats.specs.Sums.{occurs}
+use Rattle.npf_seats.proofs.SumLemmas.{sum-set, set_there, one_of_sum}
+use Rattle.npf_cells_lives.specs.declared.turn.Said.{Said}
+use Rattle.npf_cells_lives.specs.declared.turn.Turn.{Turn}
+use Rattle.npf_cells_lives.specs.Deaths.{IsKeyless, is_dead, has_epoch, first_note, slots_named, killed_in, reclaimed_in, cleared_in, last_id, IsPast, FitsKill, Deaths}
+use Rattle.npf_cells_lives.specs.Turns.{Running}
+use Rattle.npf_cells_lives.proofs.DeathLemmas.{spares_all, RestsNoMore, KeepsDates, later_dates, epoch_note, past_kept, kill_kept, reclaim_kept, deaths-changed}
+use Rattle.npf_cells_lives.proofs.FreedLemmas.{gone_in}
 use Rattle.npf_cells_rule.specs.declared.view.CellView.{CellView}
 use Rattle.npf_cells_rule.specs.Cells.{IsCells}
-use Rattle.npf_cells_rule.specs.Views.{seat_side, lock_side, pool_side, trie_side, turn_side, death_side}
-use Rattle.npf_cells_rule.proofs.DeathFrames.{deaths_on}
-use Rattle.npf_cells_rule.proofs.Frames.{alone_still, private_step, turns_apart}
-use Rattle.npf_cells_takes.specs.PrivateKinds.{MayStoreInSlot, MayLetGo, letting_go}
+use Rattle.npf_cells_rule.specs.Views.{seat_side, death_side}
+use Rattle.npf_cells_takes.specs.PrivateKinds.{MayLetGo, letting_go}
 use Rattle.npf_cells_takes.proofs.BareLemmas.{still_bare}
+use Rattle.npf_cells_takes.proofs.DeadNoteLemmas.{ws, dead_one, same_epoch, note_else, note_here, conn_last, dead_noted}
+use Rattle.npf_cells_takes.proofs.HandLemmas.{none_here, as_many, was_elsewhere, given_elsewhere, slot_listed}
 
--- what is left of connections without those of a slot, and their slots
-abbrev but_slot : ℕ → List ConnId → List ConnId
-but_slot slot = filter (λ (id : ConnId). cond (eqb id.slot slot) false true)
-
-slots_but : (slot : ℕ) (ids : List ConnId) → slots_named (but_slot slot ids) ≡ others_than slot (slots_named ids)
-slots_but slot [] = refl
-slots_but slot (id ∷ ids) = by_test (slots_but slot ids) (eqb id.slot slot)
-  where
-    by_test : slots_named (but_slot slot ids) ≡ others_than slot (slots_named ids) → (b : Bool) →
-        slots_named (cond (cond b false true) (id ∷ but_slot slot ids) (but_slot slot ids)) ≡ cond (cond b false true) (id.slot ∷ others_than slot (slots_named ids)) (others_than slot (slots_named ids))
-    by_test same true = same
-    by_test same false = ap (λ xs. id.slot ∷ xs) same
-
-slot_listed : (id : ConnId) (ids : List ConnId) → Contains ids id → 1 ≤ occurs id.slot (slots_named ids)
-slot_listed id [] c = absurd (none_listed id c)
-slot_listed id (x ∷ xs) c =
-    let more = occurs-cons id.slot x.slot (slots_named xs) in
-    ⊎_elim
-    (λ (e : x ≡ id). let one : one_where (eqb x.slot id.slot) ≡ 1 = ap one_where (eq-eqb x.slot id.slot (ap (λ (i : ConnId). i.slot) e)) in omega (arith, more, one))
-    (λ d. let rest = slot_listed id xs d in omega (arith, more, rest))
-    (cons_cases x id xs c)
-
-module _ {S A R : Type 0} (m : Meaning S A R) (digest : Key → ℕ) (layout : Layout) (s : State (Running S) (CellView S A R)) (id : ℕ) (me : Me (Running S) (CellView S A R)) (kept : IsCells m digest layout s) (at : get_elem? s.views id ≡ some me.0) where
+module _ {S A R : Type 0} (m : Meaning S A R) (digest : Key → ℕ) (layout : Layout) (s : State (Running S) (CellView S A R)) (id : ℕ) (me : Me (Running S) (CellView S A R)) (kept : IsCells m digest layout s) (at : get_elem? s.views id ≡ some me.0)
+    (slot value : ℕ) (within : slot < layout.slots) (may : MayLetGo m me.0 slot notes_field value) where
   abbrev k : Machine S
   k = state_of m kept.log
 
-  -- no note but this one is in such a word, and the epoch isn't
-  module _ (slot field value : ℕ) (within : slot < layout.slots) (short : field < 21) where
-    abbrev word : ℕ
-    word = field_at layout Slots slot field
+  abbrev w : CellView S A R
+  w = record me.0 { pools = letting_go slot (value - 2 ^ 63) me.0.pools }
 
-    abbrev words' : List ℕ
-    words' = set s.words word value
+  abbrev conn : ConnId
+  conn = may.id
 
-    other : (j : ℕ) → j ≢ word → slice_index words' j ≡ slice_index s.words j
-    other j ne = get_or-set_other s.words word j value 0 ne
+  killed : FitsKill death_side k (epoch_word s.words) s.views me.0.epochs.loaded conn
+  killed = kept.deaths.kills id me.0 conn at may.killed
 
-    there : word < length s.words
-    there = let reach = field_reach layout Slots slot field within short in let long = kept.connections.reach in omega (arith, reach, long)
+  bare : IsKeyless k conn
+  bare = still_bare m layout.slots conn me.0.seats.history kept.log kept.connections.legal (kept.seats.each id me.0.seats (at_map seat_side s.views id me.0 at)).seen may.bare.dead may.bare.keyless
 
-    same_epoch : epoch_word s.words ≤ epoch_word words'
-    same_epoch = let same = other 0 (λ e. absurd (let far = field_behind layout Slots slot field in omega (arith, e, far))) in omega (arith, same)
+  abbrev words' : List ℕ
+  words' = ws m digest layout s id me kept at slot value within conn may.there killed.dead bare
 
-    note_else : (p : ℕ) → p ≢ slot → first_note layout words' p ≡ first_note layout s.words p
-    note_else p ne = other (field_at layout Slots p notes_field) (λ e. ne (omega (arith, e, short)))
+  less : RestsNoMore k (death_side me.0) (death_side w)
+  less = record { rests = λ i dead none rests. (rests, refl) }
 
-    -- a store of who builds in the slot
-    pub deaths_built : (w : CellView S A R) → w.pools.kills ≡ me.0.pools.kills → w.epochs ≡ me.0.epochs → w.trie ≡ me.0.trie → MayStoreInSlot m me.0 slot field value → Deaths death_side layout k words' (set s.views id w)
-    deaths_built w kills epochs trie may = ⊎_elim at_note elsewhere (cases_eq field notes_field)
-      where
-        less : RestsNoMore k (death_side me.0) (death_side w)
-        less = subst (λ (y : EpochSide × TrieSide). RestsNoMore k (death_side me.0) (death_side (record w { epochs = y.0; trie = y.1 }))) (λ i. (sym epochs i, sym trie i)) (record { rests = λ i dead bare rests. (rests, refl) })
+  goes : epoch_word s.words ≤ epoch_word words'
+  goes = same_epoch m digest layout s id me kept at slot value within conn may.there killed.dead bare
 
-        alive : is_dead (k.slot slot).stage ≡ 0
-        alive = ap is_dead (building_at (k.slot slot) may.id.inc id (subst (λ p. stage_at (k.slot p) may.id.inc ≡ Building id) may.there ((kept.connections.each id me.0 at).building may.id may.built))).1
+  else' : (p : ℕ) → p ≢ slot → first_note layout words' p ≡ first_note layout s.words p
+  else' p ne = note_else m digest layout s id me kept at slot value within conn may.there killed.dead bare p ne
 
-        elsewhere : field ≢ notes_field → Deaths death_side layout k words' (set s.views id w)
-        elsewhere ne = deaths_on m digest layout s word value id me.0 w kept at kills (ap (λ (e : EpochSide). e.loaded) epochs) less same_epoch (λ p h. other (field_at layout Slots p notes_field) (λ e. absurd (ne (omega (arith, e, short)))))
+  here : (p : ℕ) → p ≡ slot → first_note layout words' p ≡ 2 ^ 63 + me.0.epochs.loaded
+  here p e = note_here m digest layout s id me kept at slot value within conn may.there killed.dead bare p e ∙ may.epoch
 
-        at_note : field ≡ notes_field → Deaths death_side layout k words' (set s.views id w)
-        at_note is = deaths-set death_side layout k k s.words words' s.views id me.0 w kept.deaths at (spares_all k) same_epoch less counted
-            (λ i c. subst (λ n. FitsKill death_side k (epoch_word words') (set s.views id w) n i) (sym (ap (λ (e : EpochSide). e.loaded) epochs))
-            (kill_kept death_side layout k k s.words words' s.views id me.0 w kept.deaths at (spares_all k) same_epoch less me.0.epochs.loaded i (kept.deaths.kills id me.0 i at (subst (λ ids. Contains ids i) kills c))))
-            (λ p epoch h note. ⊎_elim
-            (λ (e : p ≡ slot). absurd (let low = may.epochless (omega (arith, is)) in let now : first_note layout words' p ≡ value = here p e in omega (arith, low, now, note)))
-            (λ ne. inl (sym (note_else p ne) ∙ note))
-            (cases_eq p slot))
-          where
-            here : (p : ℕ) → p ≡ slot → first_note layout words' p ≡ value
-            here p e = let same : field_at layout Slots p notes_field ≡ word = omega (arith, e, is) in ap (slice_index words') same ∙ get_or-set_same s.words word value 0 there
+  -- the note had no epoch, since the pass had the connection
+  listed : 1 ≤ occurs slot (slots_named me.0.pools.kills)
+  listed = subst (λ q. 1 ≤ occurs q (slots_named me.0.pools.kills)) may.there (slot_listed conn me.0.pools.kills may.killed)
 
-            counted : (p : ℕ) → p < layout.slots → killed_in death_side (set s.views id w) p + has_epoch (first_note layout words' p) ≡ is_dead (k.slot p).stage
-            counted p h =
-                let more = sum-set (λ (u : CellView S A R). occurs p (slots_named u.pools.kills)) s.views id me.0 w at in
-                let same = ap (λ ids. occurs p (slots_named ids)) kills in
-                let was = kept.deaths.counted p h in
-                ⊎_elim
-                (λ (e : p ≡ slot).
-                let none : is_dead (k.slot p).stage ≡ 0 = ap (λ q. is_dead (k.slot q).stage) e ∙ alive in
-                let now : has_epoch (first_note layout words' p) ≡ 0 = ap has_epoch (here p e) ∙ low_note value (may.epochless (omega (arith, is))) in
-                omega (arith, more, same, was, none, now))
-                (λ (ne : p ≢ slot). let note = ap has_epoch (note_else p ne) in omega (arith, more, same, was, note))
-                (cases_eq p slot)
+  unmarked : has_epoch (first_note layout s.words slot) ≡ 0
+  unmarked =
+      let mine = one_of_sum (λ (u : CellView S A R). occurs slot (slots_named u.pools.kills)) s.views id me.0 at in
+      let was = kept.deaths.counted slot within in
+      let once = dead_one m digest layout s id me kept at slot value within conn may.there killed.dead bare slot refl in
+      let has = listed in
+      omega (arith, mine, was, once, has)
 
-  -- a store in a node is in no note
-  pub deaths_in_node : (node field value : ℕ) (w : CellView S A R) → node < layout.nodes → field < 18 → w.pools.kills ≡ me.0.pools.kills → w.epochs ≡ me.0.epochs → w.trie ≡ me.0.trie →
-      Deaths death_side layout k (set s.words (field_at layout Nodes node field) value) (set s.views id w)
-  deaths_in_node node field value w within short kills epochs trie = deaths_on m digest layout s (field_at layout Nodes node field) value id me.0 w kept at kills (ap (λ (e : EpochSide). e.loaded) epochs)
-      (subst (λ (y : EpochSide × TrieSide). RestsNoMore k (death_side me.0) (death_side (record w { epochs = y.0; trie = y.1 }))) (λ i. (sym epochs i, sym trie i)) (record { rests = λ i dead bare rests. (rests, refl) }))
-      (let same = get_or-set_other s.words (field_at layout Nodes node field) 0 value 0 (λ e. absurd (let far = field_behind layout Nodes node field in omega (arith, e, far))) in omega (arith, same))
-      (λ slot h. get_or-set_other s.words (field_at layout Nodes node field) (field_at layout Slots slot notes_field) value 0 (λ e. absurd (omega (arith, e, within, short))))
+  killed_after : (p : ℕ) → killed_in death_side (set s.views id w) p + occurs p (slots_named me.0.pools.kills) ≡ killed_in death_side s.views p + occurs p (slots_named w.pools.kills)
+  killed_after p = sum-set (λ (u : CellView S A R). occurs p (slots_named u.pools.kills)) s.views id me.0 w at
 
-  -- a connection is let go
-  module _ (slot value : ℕ) (within : slot < layout.slots) (may : MayLetGo m me.0 slot notes_field value) where
-    abbrev note : ℕ
-    note = field_at layout Slots slot notes_field
+  counted : (p : ℕ) → p < layout.slots → killed_in death_side (set s.views id w) p + has_epoch (first_note layout words' p) + cleared_in death_side s.views p ≡ is_dead (k.slot p).stage
+  counted p h =
+      let sums = killed_after p in
+      let was = kept.deaths.counted p h in
+      ⊎_elim
+      (λ (e : p ≡ slot).
+      let mine = one_of_sum (λ (u : CellView S A R). occurs p (slots_named u.pools.kills)) s.views id me.0 at in
+      let once = dead_one m digest layout s id me kept at slot value within conn may.there killed.dead bare p e in
+      let none = none_here slot p me.0.pools.kills e in
+      let has = subst (λ q. 1 ≤ occurs q (slots_named me.0.pools.kills)) (sym e) listed in
+      let epoch : has_epoch (first_note layout words' p) ≡ 1 = ap has_epoch (here p e) ∙ epoch_note me.0.epochs.loaded in
+      omega (arith, sums, was, mine, once, none, has, epoch))
+      (λ (ne : p ≢ slot).
+      let same = as_many slot p me.0.pools.kills ne in
+      let note = ap has_epoch (else' p ne) in
+      omega (arith, sums, was, same, note))
+      (cases_eq p slot)
 
-    abbrev ws : List ℕ
-    ws = set s.words note value
+  reclaimed : (p : ℕ) → p < layout.slots → reclaimed_in death_side s.views p ≤ has_epoch (first_note layout words' p)
+  reclaimed p h =
+      let was = kept.deaths.reclaimed p h in
+      ⊎_elim
+      (λ (e : p ≡ slot). let none : has_epoch (first_note layout s.words p) ≡ 0 = ap (λ q. has_epoch (first_note layout s.words q)) e ∙ unmarked in omega (arith, was, none))
+      (λ (ne : p ≢ slot). let note = ap has_epoch (else' p ne) in omega (arith, was, note))
+      (cases_eq p slot)
 
-    abbrev w : CellView S A R
-    w = record me.0 { pools = letting_go slot me.0.pools }
+  -- it reclaims nothing
+  reclaimed_after : (p : ℕ) → reclaimed_in death_side (set s.views id w) p ≡ reclaimed_in death_side s.views p
+  reclaimed_after p = let sums = sum-set (λ (u : CellView S A R). occurs p (slots_named u.pools.reclaims)) s.views id me.0 w at in omega (arith, sums)
 
-    abbrev conn : ConnId
-    conn = may.id
+  cleared_after : (p : ℕ) → cleared_in death_side (set s.views id w) p ≡ cleared_in death_side s.views p
+  cleared_after p = let sums = sum-set (λ (u : CellView S A R). occurs p (slots_named u.pools.cleared)) s.views id me.0 w at in omega (arith, sums)
 
-    else' : (j : ℕ) → j ≢ note → slice_index ws j ≡ slice_index s.words j
-    else' j ne = get_or-set_other s.words note j value 0 ne
+  gone_same : (p : ℕ) → gone_in death_side (set s.views id w) p ≡ gone_in death_side s.views p
+  gone_same p = let one = reclaimed_after p in let two = cleared_after p in omega (arith, one, two)
 
-    killed : FitsKill death_side k (epoch_word s.words) s.views me.0.epochs.loaded conn
-    killed = kept.deaths.kills id me.0 conn at may.killed
+  -- the pass let it go with an epoch that the table reached
+  now_dated : KeepsDates death_side (epoch_word words') s.views (set s.views id w) w
+  now_dated = later_dates death_side (epoch_word words') s.views id me.0 w at (omega arith)
+      (let was = kept.deaths.dates id me.0 at in let late = (killed.past may.loaded bare).reached in let on = goes in let is = may.epoch in omega (arith, was, late, on, is))
 
-    dead_there : ((k.slot slot).inc ≡ conn.inc) × ((k.slot slot).stage ≡ Dead)
-    dead_there = subst (λ p. ((k.slot p).inc ≡ conn.inc) × ((k.slot p).stage ≡ Dead)) may.there (dead_at (k.slot conn.slot) conn.inc killed.dead)
-
-    bare : IsKeyless k conn
-    bare = still_bare m layout.slots conn me.0.seats.history kept.log kept.connections.legal (kept.seats.each id me.0.seats (at_map seat_side s.views id me.0 at)).seen may.bare.dead may.bare.keyless
-
-    -- nobody builds there
-    nobody : (j : ℕ) (u : CellView S A R) → get_elem? s.views j ≡ some u → (pool : Pool) (place field : ℕ) → IsOwnField layout u.pools pool place field → field_at layout pool place field ≢ note
-    nobody j u e Slots place field own same =
-        let there : place ≡ slot = (let short = own.3 in omega (arith, same, short)) in
-        let built = own.0 in
-        let stage = building_at (k.slot built.id.slot) built.id.inc j ((kept.connections.each j u e).building built.id built.built) in
-        let no : Building j ≡ Dead = sym stage.1 ∙ (ap (λ p. (k.slot p).stage) (built.there ∙ there) ∙ dead_there.1) in
-        absurd cc
-    nobody j u e Nodes place field own same = absurd (let low = own.1 in let short = own.2 in omega (arith, same, low, short))
-
-    less : RestsNoMore k (death_side me.0) (death_side w)
-    less = record { rests = λ i dead none rests. (rests, refl) }
-
-    same_epoch' : epoch_word s.words ≤ epoch_word ws
-    same_epoch' = let same = else' 0 (λ e. absurd (let far = field_behind layout Slots slot notes_field in omega (arith, e, far))) in omega (arith, same)
-
-    keeps_trie : KeepsTrie layout.slots k k (trie_words layout s.words) (trie_words layout ws)
-    keeps_trie = record {
-      holder = λ key. refl;
-      claimed = λ i c. c;
-      cells = λ digits are level p on. cell_kept layout s.words ws p (λ inside. else' (place_at layout p) (λ e. slot_apart layout p slot notes_field inside (sym e)));
-      parents = λ digits level p node are on is. else' (field_at layout Nodes node parent_field) (λ e. absurd (let in' = (kept.trie.nodes digits level p node are on is).exists in omega (arith, in', e)));
-      keys = λ p way right. λ i. record { 0 = key_same p way 0 (omega arith) i ∷ key_same p way 1 (omega arith) i ∷ key_same p way 2 (omega arith) i ∷ key_same p way 3 (omega arith) i ∷ key_same p way 4 (omega arith) i ∷ [] };
-      incs = λ p way right. else' (field_at layout Slots p inc_field) (λ e. absurd (omega (arith, e)));
-    }
-      where
-        key_same : (p : ℕ) (way : Way) (place : ℕ) → place < 5 → key_word layout ws p way place ≡ key_word layout s.words p way place
-        key_same p way place h = else' (field_at layout Slots p (key_field way + place)) (λ e. absurd (let near = key_short way place h in omega (arith, near, e)))
-
-    conns_stay : Conns pool_side m layout kept.log ws (set s.views id w)
-    conns_stay = conns-same pool_side m layout kept.log s.words ws s.views (set s.views id w) kept.connections (length-set s.words note value)
-        (λ p h. else' (field_at layout Slots p inc_field) (λ e. absurd (omega (arith, e)))) (builds-kept pool_side k s.views id me.0 w at refl refl kept.connections.each) (unstored-set pool_side s.views id me.0 w at refl)
-
-    stored_stay : StoredWords pool_side layout ws (set s.views id w)
-    stored_stay = stored-set pool_side layout ws s.views id w
-        (stored_kept layout s.words ws me.0.pools w.pools (kept.stored id me.0 at) refl (own_same layout me.0.pools w.pools refl refl) (λ pool place field own. else' (field_at layout pool place field) (nobody id me.0 at pool place field own)))
-        (λ j u ne e. stored_kept layout s.words ws u.pools u.pools (kept.stored j u e) refl (λ pool place field own. own) (λ pool place field own. else' (field_at layout pool place field) (nobody j u e pool place field own)))
-
-    left_kills : slots_named w.pools.kills ≡ others_than slot (slots_named me.0.pools.kills)
-    left_kills = slots_but slot me.0.pools.kills
-
-    note_else' : (p : ℕ) → p ≢ slot → first_note layout ws p ≡ first_note layout s.words p
-    note_else' p ne = else' (field_at layout Slots p notes_field) (λ e. ne (omega (arith, e)))
-
-    note_here : first_note layout ws slot ≡ value
-    note_here = get_or-set_same s.words note value 0 (let reach = field_reach layout Slots slot notes_field within (omega arith) in let long = kept.connections.reach in omega (arith, reach, long))
-
-    deaths_after : Deaths death_side layout k ws (set s.views id w)
-    deaths_after = deaths-set death_side layout k k s.words ws s.views id me.0 w kept.deaths at (spares_all k) same_epoch' less counted
-        (λ i c. kill_kept death_side layout k k s.words ws s.views id me.0 w kept.deaths at (spares_all k) same_epoch' less me.0.epochs.loaded i (kept.deaths.kills id me.0 i at (filter_has (λ (x : ConnId). cond (eqb x.slot slot) false true) me.0.pools.kills i c).0))
-        (λ p epoch h is. ⊎_elim
-        (λ (e : p ≡ slot).
-        let now : first_note layout ws p ≡ value = ap (first_note layout ws) e ∙ note_here in
-        let exact : me.0.epochs.loaded ≡ epoch = (let stored = may.epoch in omega (arith, now, stored, is)) in
-        let same : conn ≡ last_id k p = same_conn_id conn (last_id k p) (may.there ∙ sym e, sym (ap (λ q. (k.slot q).inc) e ∙ dead_there.0)) in
-        inr (record {
+  deaths_after : Deaths death_side layout k words' (set s.views id w)
+  deaths_after = deaths-changed death_side layout k k s.words words' s.views id me.0 w kept.deaths at (spares_all k) goes less
+      (λ p h. (let same = cleared_after p in let all = counted p h in omega (arith, same, all)))
+      (λ p h. (let same = reclaimed_after p in let all = reclaimed p h in omega (arith, same, all)))
+      (λ i c. kill_kept death_side layout k k s.words words' s.views id me.0 w kept.deaths at (spares_all k) goes less me.0.epochs.loaded i (kept.deaths.kills id me.0 i at (was_elsewhere slot me.0.pools.kills i c).0))
+      (λ i c. reclaim_kept death_side layout k k s.words words' s.views id me.0 w kept.deaths at (spares_all k) goes less i (kept.deaths.reclaims id me.0 i at c))
+      (λ p epoch h is. ⊎_elim
+      (λ (e : p ≡ slot).
+      let exact : me.0.epochs.loaded ≡ epoch = (let now = here p e in omega (arith, now, is)) in
+      let same : conn ≡ last_id k p = conn_last m digest layout s id me kept at slot value within conn may.there killed.dead bare ∙ ap (last_id k) (sym e) in
+      inr (
+        record {
           keyless = subst (IsKeyless k) same bare;
-          past = subst (λ (y : ConnId × ℕ). IsPast death_side (epoch_word ws) (set s.views id w) y.0 y.1) (λ i. (same i, exact i))
-              (past_kept death_side layout k k s.words ws s.views id me.0 w kept.deaths at (spares_all k) same_epoch' less conn me.0.epochs.loaded killed.dead bare (killed.past may.loaded bare));
-        }))
-        (λ ne. inl (sym (note_else' p ne) ∙ is))
-        (cases_eq p slot))
-      where
-        counted : (p : ℕ) → p < layout.slots → killed_in death_side (set s.views id w) p + has_epoch (first_note layout ws p) ≡ is_dead (k.slot p).stage
-        counted p h =
-            let more = sum-set (λ (u : CellView S A R). occurs p (slots_named u.pools.kills)) s.views id me.0 w at in
-            let mine = one_of_sum (λ (u : CellView S A R). occurs p (slots_named u.pools.kills)) s.views id me.0 at in
-            let now = ap (occurs p) left_kills in
-            let was = kept.deaths.counted p h in
-            ⊎_elim
-            (λ (e : p ≡ slot).
-            let dead : is_dead (k.slot p).stage ≡ 1 = ap (λ q. is_dead (k.slot q).stage) e ∙ ap is_dead dead_there.1 in
-            let none : occurs p (others_than slot (slots_named me.0.pools.kills)) ≡ 0 = ap (λ q. occurs q (others_than slot (slots_named me.0.pools.kills))) e ∙ left_same slot (slots_named me.0.pools.kills) in
-            let listed = subst (λ q. 1 ≤ occurs q (slots_named me.0.pools.kills)) (may.there ∙ sym e) (slot_listed conn me.0.pools.kills may.killed) in
-            let epoch : has_epoch (first_note layout ws p) ≡ 1 = ap has_epoch (ap (first_note layout ws) e ∙ (note_here ∙ may.epoch)) ∙ epoch_note me.0.epochs.loaded in
-            omega (arith, more, mine, now, was, dead, none, listed, epoch))
-            (λ (ne : p ≢ slot).
-            let same = left_others slot p (slots_named me.0.pools.kills) ne in
-            let note' = ap has_epoch (note_else' p ne) in
-            omega (arith, more, now, was, same, note'))
-            (cases_eq p slot)
+          past = subst (λ (y : ConnId × ℕ). IsPast death_side (epoch_word words') (set s.views id w) y.0 y.1) (λ i. (same i, exact i))
+              (past_kept death_side layout k k s.words words' s.views id me.0 w kept.deaths at (spares_all k) goes less conn me.0.epochs.loaded killed.dead bare (killed.past may.loaded bare));
+        },
+        record { seat = id; view = w; there = set_there s.views id me.0 w at; since = (let value' = may.epoch in omega (arith, exact, value')) },
+      ))
+      (λ ne. inl (sym (else' p ne) ∙ is))
+      (cases_eq p slot))
+      now_dated
 
-    pub lets_go : 1 ≤ length me.0.seats.readers → IsCells m digest layout (stepped s note value id me.1 w keeps)
-    lets_go seated = private_step m digest layout s note value id me.1 me.0 w kept at (field_behind layout Slots slot notes_field) refl refl refl refl (alone_still me.0 w (kept.alone id me.0 at) seated refl (λ none. none))
-        (trie_same trie_side digest layout kept.published k k s.words ws s.views id me.0 w kept.trie at (knows_same me.0.trie) keeps_trie)
-        conns_stay
-        stored_stay
-        (locks-same lock_side layout s.words ws s.views (set s.views id w) kept.locks (λ lock h. else' (lock_at layout lock) (λ e. not_slot layout slot notes_field lock h (sym e))) (holders-set lock_side layout s.views id me.0 w at refl))
-        (turns_apart m digest layout s note value id me.0 w k kept at refl (λ p field h is. else' (field_at layout Slots p field) (λ e. absurd (⊎_elim (λ (turn : field ≡ turn_field). omega (arith, turn, e)) (λ (phase : field ≡ phase_field). omega (arith, phase, e)) is))) (λ p. inl refl))
-        deaths_after
+  -- nobody has killed the slot's connection then, and nobody was told of an epoch there
+  nobodys : killed_in death_side (set s.views id w) slot ≡ 0
+  nobodys =
+      let now = counted slot within in
+      let once = dead_one m digest layout s id me kept at slot value within conn may.there killed.dead bare slot refl in
+      let epoch : has_epoch (first_note layout words' slot) ≡ 1 = ap has_epoch (here slot refl) ∙ epoch_note me.0.epochs.loaded in
+      omega (arith, now, once, epoch)
+
+  untold : (j : ℕ) (u : CellView S A R) (turn : Turn S) (said : Said) → get_elem? s.views j ≡ some u → u.turn ≡ Some turn → turn.slot ≡ slot → turn.was.stage ≡ Dead → turn.said ≡ Some said → has_epoch said.value ≡ 1 → said.field ≡ notes_field → ⊥
+  untold j u turn said e has there dead is epoch field =
+      let stands = kept.notes.said j u turn said Forward e has is (inr (dead, epoch)) field in
+      let one : has_epoch (first_note layout s.words slot) ≡ 1 = ap (λ p. has_epoch (first_note layout s.words p)) (sym there) ∙ (ap has_epoch stands ∙ epoch) in
+      let none = unmarked in
+      omega (arith, one, none)
+
+  pub lets_go : 1 ≤ length me.0.seats.readers → IsCells m digest layout (stepped s (field_at layout Slots slot notes_field) value id me.1 w keeps)
+  lets_go seated = dead_noted m digest layout s id me kept at slot value within conn may.there killed.dead bare w.pools refl refl refl refl refl
+      (λ i c. (was_elsewhere slot me.0.pools.kills i c).0) (λ g c ne. given_elsewhere slot me.0.pools.gave_up g c ne) gone_same nobodys untold seated deaths_after

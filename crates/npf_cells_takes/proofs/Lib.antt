@@ -1,5 +1,12 @@
 pub mod BareLemmas
+pub mod ClearLemmas
+pub mod DeadNoteLemmas
+pub mod DeathKeepLemmas
+pub mod FreeKeepLemmas
+pub mod FreeLemmas
+pub mod HandLemmas
 pub mod LetGoLemmas
+pub mod NoteKeepLemmas
 pub mod PhaseKeepLemmas
 pub mod PoolKeepLemmas
 pub mod PrivateKeepLemmas

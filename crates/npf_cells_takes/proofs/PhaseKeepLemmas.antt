@@ -1,5 +1,5 @@
 -- A store of a phase under the turn of its slot keeps the rule.
-use Rattle.std.proofs.Common.{◌≡◌, ◌≢◌, ℕ, ◌≤◌, Some, List, set, length, slice_index, refl, sym, ap, ◌∙◌, subst, inl, inr, arith}
+use Rattle.std.proofs.Common.{◌≡◌, ◌≢◌, ℕ, ◌≤◌, Option, Some, None, List, set, length, slice_index, refl, sym, ap, ◌∙◌, subst, inl, inr, arith}
 use Rattle.std.proofs.lemmas.List.{get_or-set_same}
 use mathlib.Core.Option.{some}
 use lib.ListN.{get_elem?}
@@ -14,11 +14,14 @@ use Rattle.npf_cells_words.specs.Layout.{turn_field, phase_field, field_at}
 use Rattle.npf_cells_words.proofs.WordLemmas.{field_reach}
 use Rattle.npf_seats.proofs.SumLemmas.{sum-set}
 use Rattle.npf_cells_lives.specs.declared.turn.Turn.{Turn}
-use Rattle.npf_cells_lives.specs.Turns.{Running, has_turn, turn_holders, FitsTurn, Turns}
+use Rattle.npf_cells_lives.specs.Deaths.{slot_by, unreclaimed}
+use Rattle.npf_cells_lives.specs.Turns.{Running, has_turn, turn_holders, StaysAt, FitsTurn, Turns}
+use Rattle.npf_cells_lives.proofs.NoteLemmas.{SameAhead, same_ahead}
 use Rattle.npf_cells_lives.proofs.TurnLemmas.{turn_held, turns_alone, turns-changed}
 use Rattle.npf_cells_rule.specs.declared.view.CellView.{CellView}
 use Rattle.npf_cells_rule.specs.Cells.{IsCells}
-use Rattle.npf_cells_rule.specs.Views.{turn_side}
+use Rattle.npf_cells_rule.specs.Views.{turn_side, death_side}
+use Rattle.npf_cells_rule.proofs.DeathFrames.{gone_same}
 use Rattle.npf_cells_rule.proofs.Frames.{alone_still}
 use Rattle.npf_cells_rule.proofs.TurnFrames.{other_word, turn_step}
 use Rattle.npf_cells_takes.specs.PrivateKinds.{with_phase}
@@ -31,8 +34,12 @@ module _ {S A R : Type 0} (m : Meaning S A R) (digest : Key → ℕ) (layout : L
     abbrev w : CellView S A R
     w = record v { turn = with_phase value v.turn }
 
-    fits : FitsTurn layout k s.words turn
+    fits : FitsTurn layout (unreclaimed death_side s.views k) s.words turn
     fits = kept.turns.each id v turn at has
+
+    -- as many have each slot reclaimed
+    same_slot : (p : ℕ) → (unreclaimed death_side (set s.views id w) k).slot p ≡ (unreclaimed death_side s.views k).slot p
+    same_slot p = ap (λ n. slot_by n (k.slot p)) (gone_same m digest layout s.views id v w at refl p)
 
     abbrev ws : List ℕ
     ws = set s.words (field_at layout Slots turn.slot phase_field) value
@@ -47,30 +54,45 @@ module _ {S A R : Type 0} (m : Meaning S A R) (digest : Key → ℕ) (layout : L
     holders_same p = let more = sum-set (λ (u : CellView S A R). has_turn p u.turn) s.views id v w at in let one = has_same p in omega (arith, more, one)
 
     held : turn_holders turn_side (set s.views id w) turn.slot ≡ 1
-    held = holders_same turn.slot ∙ turn_held turn_side layout k s.words s.homes s.views id v turn kept.turns at has
+    held = holders_same turn.slot ∙ turn_held turn_side layout (unreclaimed death_side s.views k) s.words s.homes s.views id v turn kept.turns at has
 
-    turns : Turns turn_side layout k ws s.homes (set s.views id w)
-    turns = turns-changed turn_side layout k k s.words ws s.homes s.homes s.views id v w turn.slot kept.turns at (record {
+    turns : Turns turn_side layout (unreclaimed death_side (set s.views id w) k) ws s.homes (set s.views id w)
+    turns = turns-changed turn_side layout (unreclaimed death_side s.views k) (unreclaimed death_side (set s.views id w) k) s.words ws s.homes s.homes s.views id v w turn.slot kept.turns at (record {
       reach = refl;
       turn = λ p h ne. other (field_at layout Slots p turn_field) (λ e. absurd (omega (arith, e)));
       phase = λ p h ne. other (field_at layout Slots p phase_field) (λ e. absurd (ne (omega (arith, e))));
       home = λ p ne. refl;
-      slots = λ p ne. inl refl;
+      slots = λ p ne. inl (same_slot p);
       has = λ p ne. has_same p;
-      others = λ j u theirs ne e theirs_is same. ne (sym (turns_alone turn_side layout k s.words s.homes s.views id j v u turn theirs kept.turns at e has theirs_is (sym same)));
+      others = λ j u theirs ne e theirs_is same. ne (sym (turns_alone turn_side layout (unreclaimed death_side s.views k) s.words s.homes s.views id j v u turn theirs kept.turns at e has theirs_is (sym same)));
       says = other (field_at layout Slots turn.slot turn_field) (λ e. absurd (omega (arith, e))) ∙ (kept.turns.says turn.slot fits.exists ∙ sym (holders_same turn.slot));
       alone = (let one = held in omega (arith, one));
       at_home = λ none. absurd (let one = held in omega (arith, one, none));
       mine = λ turn' is.
           let same : Some (record turn { phase = value }) ≡ Some turn' = sym (ap (with_phase value) has) ∙ is in
           let now : record turn { phase = value } ≡ turn' = cc in
-          subst (FitsTurn layout k ws) now (record {
+          subst (FitsTurn layout (unreclaimed death_side (set s.views id w) k) ws) now (record {
             exists = fits.exists;
             phase = get_or-set_same s.words (field_at layout Slots turn.slot phase_field) value 0
                 (let reach = field_reach layout Slots turn.slot phase_field fits.exists (omega arith) in let long = kept.connections.reach in omega (arith, reach, long));
-            stays = fits.stays;
+            stays = subst (StaysAt turn.was) (sym (same_slot turn.slot)) fits.stays;
           });
     })
 
+    -- the pass is ahead of what it was
+    phase_ahead : (turn' : Option (Turn S)) → SameAhead turn' (with_phase value turn')
+    phase_ahead None = same_ahead None None refl
+    phase_ahead (Some t) = record {
+      on = λ slot field is.
+          let same : t ≡ is.mine = (let e = is.has in cc) in
+          record { mine = record t { phase = value }; has = refl; there = ap (λ (y : Turn S). y.slot) same ∙ is.there; note = is.note; ahead = ap (λ (y : Turn S). y.ahead) same ∙ is.ahead; field_is = is.field_is };
+      was = λ turn' note has' ahead.
+          let same : record t { phase = value } ≡ turn' = cc in
+          (t, refl, ap (λ (y : Turn S). y.slot) same, ap (λ (y : Turn S). y.ahead) same ∙ ahead);
+      told = λ turn' said has' is.
+          let same : record t { phase = value } ≡ turn' = cc in
+          (t, refl, ap (λ (y : Turn S). y.slot) same, ap (λ (y : Turn S). y.was) same, ap (λ (y : Turn S). y.said) same ∙ is);
+    }
+
     pub phase_stored : 1 ≤ length v.seats.readers → IsCells m digest layout (record { words = ws; homes = s.homes; views = set s.views id w })
-    phase_stored seated = turn_step m digest layout s kept turn.slot phase_field value fits.exists (inr refl) id v w s.homes at refl refl refl refl (alone_still v w (kept.alone id v at) seated refl (λ none. none)) turns
+    phase_stored seated = turn_step m digest layout s kept turn.slot phase_field value fits.exists (inr refl) id v w s.homes at refl refl refl refl (phase_ahead v.turn) (alone_still v w (kept.alone id v at) seated refl (λ none. none)) turns

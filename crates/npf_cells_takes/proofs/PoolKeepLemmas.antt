@@ -55,7 +55,7 @@ module _ {S A R : Type 0} (m : Meaning S A R) (digest : Key → ℕ) (layout : L
         keeps,
         tt,
         pools_step m digest layout s i (slice_index s.words i) id me.1 me.0 w kept at refl refl (knows_same me.0.trie)
-            (stored_kept layout s.words s.words me.0.pools w.pools (kept.stored id me.0 at) refl (own_same layout me.0.pools w.pools refl refl) (λ pool place field own. refl)) refl refl refl refl (alone_still me.0 w (kept.alone id me.0 at) place refl (λ none. none))
+            (stored_kept layout s.words s.words me.0.pools w.pools (kept.stored id me.0 at) refl (own_same layout me.0.pools w.pools refl refl) (λ pool place field own. refl)) refl refl refl refl refl (alone_still me.0 w (kept.alone id me.0 at) place refl (λ none. none))
             (record { before = λ j h. ap (λ ws. slice_index ws j) words; behind = λ j h. ap (λ ws. slice_index ws j) words })
             (pools-same layout (taken pool_side kept.published (state_of m kept.log) s.views) (taken pool_side kept.published (state_of m kept.log) (set s.views id w)) s.words (set s.words i (slice_index s.words i)) kept.pools
             (length-set s.words i (slice_index s.words i)) (λ j h. ap (λ ws. slice_index ws j) words) (taken-set pool_side kept.published (state_of m kept.log) s.views id me.0 w at refl)),
@@ -67,7 +67,7 @@ module _ {S A R : Type 0} (m : Meaning S A R) (digest : Key → ℕ) (layout : L
         w,
         keeps,
         tt,
-        sight_step m digest layout s i (slice_index s.words i) id me.1 me.0 w kept at lives refl refl (knows_same me.0.trie) (seer_stored m digest layout s id me kept at lives place (slice_index s.words i)) refl refl refl refl
+        sight_step m digest layout s i (slice_index s.words i) id me.1 me.0 w kept at lives refl refl (knows_same me.0.trie) (seer_stored m digest layout s id me kept at lives place (slice_index s.words i)) refl refl refl refl refl
             (alone_still me.0 w (kept.alone id me.0 at) place refl (λ none. none))
             (record { before = λ j h. ap (λ ws. slice_index ws j) words; behind = λ j h. ap (λ ws. slice_index ws j) words })
             (pools-same layout (taken pool_side kept.published (state_of m kept.log) s.views) (taken pool_side kept.published (state_of m kept.log) (set s.views id w)) s.words (set s.words i (slice_index s.words i)) kept.pools
@@ -104,7 +104,7 @@ module _ {S A R : Type 0} (m : Meaning S A R) (digest : Key → ℕ) (layout : L
         ((i : ℕ) → i < 64 → i ≢ node % 64 → bit_at n i ≡ bit_at found i) → ((p : ℕ) → p ≢ node → occurs p nodes ≡ occurs p me.0.pools.nodes) →
         IsCells m digest layout (stepped s word n id me.1 (with_nodes nodes stored) keeps)
     node_step n nodes stored fits place here bits others =
-        pools_step m digest layout s word n id me.1 me.0 (with_nodes nodes stored) kept at refl refl (knows_same me.0.trie) fits refl refl refl refl (alone_still me.0 (with_nodes nodes stored) (kept.alone id me.0 at) place refl (λ none. none)) (pool_step layout s.words Nodes node n within)
+        pools_step m digest layout s word n id me.1 me.0 (with_nodes nodes stored) kept at refl refl (knows_same me.0.trie) fits refl refl refl refl refl (alone_still me.0 (with_nodes nodes stored) (kept.alone id me.0 at) place refl (λ none. none)) (pool_step layout s.words Nodes node n within)
         (pools-set layout (taken pool_side kept.published k s.views) (taken pool_side kept.published k (set s.views id (with_nodes nodes stored))) s.words Nodes node n kept.pools within here bits rest)
       where
         rest : (other : Pool) (p : ℕ) → (other ≡ Nodes → p ≢ node) → taken pool_side kept.published k (set s.views id (with_nodes nodes stored)) other p ≡ taken pool_side kept.published k s.views other p

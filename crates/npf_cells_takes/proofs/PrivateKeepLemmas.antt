@@ -1,12 +1,13 @@
 -- Kind 10, and the load of an incarnation, keep the rule.
 use Rattle.std.specs.List.{Contains}
-use Rattle.std.proofs.Common.{◌≤◌, ◌≡◌, ◌≢◌, ℕ, ◌+◌, ◌^◌, ◌<◌, Bool, ◌&&◌, true, false, cond, eqb, eq-eqb, ne_eqb, Some, List, ◌∷◌, set, length, slice_index, refl, sym, ap, ◌∙◌, subst, ⊎_elim, inl, arith, length-set}
-use Rattle.std.proofs.lemmas.Bool.Decides.{Decides-eqb, not_from_Decides}
+use Rattle.std.proofs.Common.{◌≤◌, ◌≡◌, ◌≢◌, ℕ, ◌+◌, ◌-◌, ◌^◌, ◌<◌, Bool, ◌&&◌, true, false, cond, eqb, eq-eqb, ne_eqb, Some, List, ◌∷◌, set, length, slice_index, refl, sym, ap, ◌∙◌, subst, ⊎_elim, inl, arith, length-set, nat_lt}
+use Rattle.std.proofs.lemmas.Bool.Decides.{Decides-eqb, not_from_Decides, Decides-ltb}
 use Rattle.std.proofs.lemmas.List.{get_or-set_same, get_or-set_other, set-get_or}
 use mathlib.Core.Option.{some}
 use lib.ListN.{get_elem?}
 use Rattle.atomic_table.specs.Table.{State, Me, Step, Act, Allows, Valid, carried_after, stepped, keeps}
 use Rattle.npf_types.specs.declared.key.Key.{Key}
+use Rattle.npf_types.specs.declared.key.Way.{Way}
 use Rattle.npf_core.specs.declared.conn_id.ConnId.{ConnId}
 use Rattle.npf_core.specs.declared.slot.Slot.{Slot}
 use Rattle.npf_core.specs.History.{state_of}
@@ -15,9 +16,9 @@ use Rattle.npf_core.proofs.IdentityLemmas.{counts_incarnations}
 use Rattle.npf_cells_words.specs.declared.layout.Layout.{Layout}
 use Rattle.npf_cells_words.specs.declared.layout.Pool.{Pool}
 use Rattle.npf_cells_words.specs.declared.layout.Pool.TheVariants.{Slots, Nodes}
-use Rattle.npf_cells_words.specs.Layout.{inc_field, phase_field, notes_field, field_at, field_count, pool_places}
+use Rattle.npf_cells_words.specs.Layout.{inc_field, phase_field, notes_field, field_at, field_count, pool_places, note_field}
 use Rattle.npf_cells_words.specs.Places.{lock_at}
-use Rattle.npf_cells_words.proofs.WordLemmas.{inc_apart, field_behind, field_reach, node_apart}
+use Rattle.npf_cells_words.proofs.WordLemmas.{inc_apart, field_behind, field_reach, node_apart, note_late}
 use Rattle.npf_seats.specs.Sums.{others_than, occurs}
 use Rattle.npf_seats.proofs.ListLemmas.{occurs_or, stands_once}
 use Rattle.npf_seats.proofs.PrefixLemmas.{cons_cases}
@@ -26,24 +27,37 @@ use Rattle.npf_cells_leaves.specs.Trie.{trie_words}
 use Rattle.npf_cells_leaves.proofs.TrieLemmas.{KeepsTrie, knows_same, trie_same}
 use Rattle.npf_cells_lives.specs.declared.pools.StoredWord.{StoredWord}
 use Rattle.npf_cells_lives.specs.Conns.{inc_word, unstored_by, Conns}
-use Rattle.npf_cells_lives.specs.Deaths.{has_epoch, Deaths}
+use Rattle.npf_cells_lives.specs.Deaths.{has_epoch, unreclaimed, Deaths}
 use Rattle.npf_cells_lives.specs.Locks.{Locks}
 use Rattle.npf_cells_lives.specs.Stored.{stored_value, IsOwnField, FitsStored, StoredWords}
 use Rattle.npf_cells_lives.proofs.ConnLemmas.{building_at, builds-kept, unstored-set, conns-same, inc_shown, conns-stored}
 use Rattle.npf_cells_lives.proofs.DeathLemmas.{epoch_note, low_note}
+use Rattle.npf_cells_lives.proofs.FreedLemmas.{still_there}
 use Rattle.npf_cells_lives.proofs.LockLemmas.{locks-same, holders-set}
-use Rattle.npf_cells_lives.proofs.StoredLemmas.{own_same, stored_kept, stored-set, no_lock, no_turn}
+use Rattle.npf_cells_lives.proofs.NoteLemmas.{same_ahead}
+use Rattle.npf_cells_lives.proofs.StoredLemmas.{own_same, stored_kept, stored-set, no_lock, no_note, no_turn}
 use Rattle.npf_cells_rule.specs.declared.view.CellView.{CellView}
 use Rattle.npf_cells_rule.specs.Cells.{IsCells}
 use Rattle.npf_cells_rule.specs.Views.{lock_side, pool_side, trie_side, turn_side, death_side, with_pools}
 use Rattle.npf_cells_rule.proofs.DeathFrames.{deaths_load}
-use Rattle.npf_cells_rule.proofs.Frames.{alone_still, private_step, trie_apart, stored_apart, locks_apart, turns_apart, turns_behind}
+use Rattle.npf_cells_rule.proofs.Frames.{alone_still, private_step, trie_apart, stored_apart, locks_apart, turns_apart, turns_behind, notes_apart, notes_still}
 use Rattle.npf_cells_rule.proofs.LawLemmas.{builds_alone, owns_alone}
-use Rattle.npf_cells_takes.specs.PrivateKinds.{ShowsInc, ShowsTurnInc, MayStore, MayStoreInNode, MayStoreInSlot, MayStorePhase, MayLetGo, storing, with_phase, letting_go, is_epoch_note, stored_in, LoadsInc, StoresPrivate}
-use Rattle.npf_cells_takes.proofs.LetGoLemmas.{deaths_built, deaths_in_node, lets_go}
+use Rattle.npf_cells_takes.specs.PrivateKinds.{ShowsInc, ShowsTurnInc, MayStore, MayStoreInNode, MayStoreInSlot, MayStorePhase, MayLetGo, storing, with_phase, letting_go, is_epoch_note, stored_in, LoadsInc, StoresPrivate, MayStoreNote, MayStoreAhead, StoresAhead, noted_in}
+use Rattle.npf_cells_takes.proofs.LetGoLemmas.{lets_go}
+use Rattle.npf_cells_takes.proofs.DeathKeepLemmas.{deaths_elsewhere, deaths_in_node}
+use Rattle.npf_cells_takes.proofs.NoteKeepLemmas.{noted, led}
 use Rattle.npf_cells_takes.proofs.PhaseKeepLemmas.{phase_stored}
 use Rattle.npf_cells_takes.proofs.PrivateTrieLemmas.{node_keeps, slot_keeps}
 use Rattle.npf_cells_lives.specs.Turns.{Running, stage_phase, Turns}
+use Rattle.npf_cells_lives.specs.Notes.{notes_but, with_ahead, Notes}
+
+-- a number isn't below one that it isn't below
+not_below : (a b : ℕ) → ¬ (a < b) → nat_lt a b ≡ false
+not_below a b above = by_test (nat_lt a b) refl
+  where
+    by_test : (test : Bool) → nat_lt a b ≡ test → nat_lt a b ≡ false
+    by_test true e = absurd (above ((Decides-ltb a b).0 e))
+    by_test false e = e
 
 -- the pass may store in a word of its own that isn't a phase
 abbrev MayStoreOwn : {S A R : Type 0} → Meaning S A R → CellView S A R → Pool → ℕ → ℕ → ℕ → Type 0
@@ -120,7 +134,7 @@ module _ {S A R : Type 0} (m : Meaning S A R) (digest : Key → ℕ) (layout : L
   shows_turn_inc : (s : State (Running S) (CellView S A R)) (kept : IsCells m digest layout s) (id : ℕ) (v : CellView S A R) → get_elem? s.views id ≡ some v → (slot : ℕ) → ShowsTurnInc v.turn slot (inc_word layout s.words slot)
   shows_turn_inc s kept id v at slot turn has there settled =
       let fits = kept.turns.each id v turn at has in
-      let same : (state_of m kept.log).slot turn.slot ≡ turn.was = ⊎_elim (λ e. e) (λ idle. absurd (settled idle.0)) fits.stays in
+      let same = (still_there death_side s.views (state_of m kept.log) turn.slot turn.was fits.stays settled).0 in
       let none = none_owes s kept id v at turn.slot (λ idle. settled (ap (λ (x : Slot S). stage_phase x.stage) (sym same) ∙ idle)) in
       let word = kept.connections.incs turn.slot fits.exists in
       let last = ap (λ (x : Slot S). x.inc) same in
@@ -134,13 +148,14 @@ module _ {S A R : Type 0} (m : Meaning S A R) (digest : Key → ℕ) (layout : L
         me.0,
         keeps,
         tt,
-        private_step m digest layout s i (slice_index s.words i) id me.1 me.0 me.0 kept at (field_behind layout Slots slot inc_field) refl refl refl refl (kept.alone id me.0 at)
+        private_step m digest layout s i (slice_index s.words i) id me.1 me.0 me.0 kept at (field_behind layout Slots slot inc_field) refl refl refl refl (λ i' c. c) (kept.alone id me.0 at)
             (trie_apart m digest layout s i (slice_index s.words i) id me.0 me.0 kept at (knows_same me.0.trie) (λ j h. ap (λ ws. slice_index ws j) (set-get_or s.words i 0)))
             (conns_else s i (slice_index s.words i) id me.0 kept at (λ p h. ap (λ ws. slice_index ws (field_at layout Slots p inc_field)) (set-get_or s.words i 0)))
             (stored_apart m digest layout s i (slice_index s.words i) id me.0 kept (kept.stored id me.0 at) (λ j h. ap (λ ws. slice_index ws j) (set-get_or s.words i 0)))
             (locks_apart m digest layout s i (slice_index s.words i) id me.0 me.0 kept at refl (λ j h. ap (λ ws. slice_index ws j) (set-get_or s.words i 0)))
-            (turns_behind m digest layout s i (slice_index s.words i) id me.0 me.0 kept at refl (λ j h. ap (λ ws. slice_index ws j) (set-get_or s.words i 0)))
-            (deaths_load m digest layout s i id me.0 me.0 kept at refl refl (record { rests = λ j dead bare rests. (rests, refl) })),
+            (turns_behind m digest layout s i (slice_index s.words i) id me.0 me.0 kept at refl refl (λ j h. ap (λ ws. slice_index ws j) (set-get_or s.words i 0)))
+            (deaths_load m digest layout s i id me.0 me.0 kept at refl refl (record { rests = λ j dead bare rests. (rests, refl) }))
+            (notes_still m digest layout s i (slice_index s.words i) id me.0 me.0 kept at refl refl refl refl (λ j h. ap (λ ws. slice_index ws j) (set-get_or s.words i 0))),
         record { is = refl; shows = shows_inc s id slot me.0 kept at within; leaf = λ leaf e there. ap (λ p. inc_word layout s.words p) (sym there) ∙ ((kept.trie.each id me.0 at).leaf leaf e).inc; turn = shows_turn_inc s kept id me.0 at slot },
       )
 
@@ -161,7 +176,7 @@ module _ {S A R : Type 0} (m : Meaning S A R) (digest : Key → ℕ) (layout : L
     reaches pool within exists = let reach = field_reach layout pool place field within exists in let long = kept.connections.reach in omega (arith, reach, long)
 
     owns : (pool : Pool) → place < pool_places layout pool → field < field_count pool → MayStoreOwn m me.0 pool place field value → IsOwnField layout me.0.pools pool place field
-    owns Slots within exists may = (record { id = may.id; built = may.built; there = may.there }, within, may.turnless, exists, may.phaseless)
+    owns Slots within exists may = (record { id = may.id; built = may.built; there = may.there }, within, may.turnless, may.noteless, may.phaseless)
     owns Nodes within exists may = (may.owned, within, exists, may.stateless)
 
     -- the trie, what passes stored, and the locks
@@ -203,23 +218,35 @@ module _ {S A R : Type 0} (m : Meaning S A R) (digest : Key → ℕ) (layout : L
     locks_stay pool unstored own = locks-same lock_side layout s.words (words' pool) s.views (set s.views id (with_stored pool unstored)) kept.locks
         (λ lock h. get_or-set_other s.words (field_at layout pool place field) (lock_at layout lock) value 0 (no_lock layout me.0.pools pool place field lock own h)) (holders-set lock_side layout s.views id me.0 (with_stored pool unstored) at refl)
 
-    turns_stay : (pool : Pool) (unstored : List ℕ) → IsOwnField layout me.0.pools pool place field → Turns turn_side layout (state_of m kept.log) (words' pool) s.homes (set s.views id (with_stored pool unstored))
-    turns_stay pool unstored own = turns_apart m digest layout s (field_at layout pool place field) value id me.0 (with_stored pool unstored) (state_of m kept.log) kept at refl
+    turns_stay : (pool : Pool) (unstored : List ℕ) → IsOwnField layout me.0.pools pool place field → Turns turn_side layout (unreclaimed death_side (set s.views id (with_stored pool unstored)) (state_of m kept.log)) (words' pool) s.homes (set s.views id (with_stored pool unstored))
+    turns_stay pool unstored own = turns_apart m digest layout s (field_at layout pool place field) value id me.0 (with_stored pool unstored) (state_of m kept.log) kept at refl refl
         (λ slot f h is. get_or-set_other s.words (field_at layout pool place field) (field_at layout Slots slot f) value 0 (no_turn layout me.0.pools pool place field slot f own h is)) (λ slot. inl refl)
 
     deaths_stay : (pool : Pool) (unstored : List ℕ) → place < pool_places layout pool → field < field_count pool → MayStoreOwn m me.0 pool place field value → Deaths death_side layout (state_of m kept.log) (words' pool) (set s.views id (with_stored pool unstored))
-    deaths_stay Slots unstored within exists may = deaths_built m digest layout s id me kept at place field value within exists (with_stored Slots unstored) refl refl refl may
+    deaths_stay Slots unstored within exists may = deaths_elsewhere m digest layout s id me kept at place field value within exists (with_stored Slots unstored) refl refl refl (λ e. omega (arith, e, may.noteless))
     deaths_stay Nodes unstored within exists may = deaths_in_node m digest layout s id me kept at place field value (with_stored Nodes unstored) within exists refl refl refl
+
+    -- no note is stored
+    notes_stay : me.0.seats.lives ≡ true → (pool : Pool) (unstored : List ℕ) → place < pool_places layout pool → field < field_count pool → MayStoreOwn m me.0 pool place field value →
+        Notes turn_side pool_side layout (trie_words layout (words' pool)).cell (state_of m kept.log) (words' pool) (set s.views id (with_stored pool unstored))
+    notes_stay lives pool unstored within exists may =
+        notes_apart m digest layout s (words' pool) id me.0 (with_stored pool unstored) (state_of m kept.log) kept at (same_ahead me.0.turn me.0.turn refl) refl refl (λ conn c. c) (record {
+          cells = (trie_stays lives pool within exists may).cells;
+          notes = λ slot way. get_or-set_other s.words (field_at layout pool place field) (field_at layout Slots slot (note_field way)) value 0 (no_note layout me.0.pools pool place field slot way (owns pool within exists may));
+          held = λ key found is. is;
+          back = λ key found is. is;
+          slots = λ slot. inl refl;
+        })
 
     -- as long as the part on connections holds
     stored_step : me.0.seats.lives ≡ true → 1 ≤ length me.0.seats.readers → (pool : Pool) (unstored : List ℕ) → place < pool_places layout pool → field < field_count pool → MayStoreOwn m me.0 pool place field value →
         Conns pool_side m layout kept.log (words' pool) (set s.views id (with_stored pool unstored)) → Stored pool (with_stored pool unstored)
     stored_step lives seated pool unstored within exists may connections =
         let own = owns pool within exists may in
-        private_step m digest layout s (field_at layout pool place field) value id me.1 me.0 (with_stored pool unstored) kept at (field_behind layout pool place field) refl refl refl refl (alone_still me.0 (with_stored pool unstored) (kept.alone id me.0 at) seated refl (λ none. none))
+        private_step m digest layout s (field_at layout pool place field) value id me.1 me.0 (with_stored pool unstored) kept at (field_behind layout pool place field) refl refl refl refl (λ i c. c) (alone_still me.0 (with_stored pool unstored) (kept.alone id me.0 at) seated refl (λ none. none))
         (trie_same trie_side digest layout kept.published (state_of m kept.log) (state_of m kept.log) s.words (words' pool) s.views id me.0 (with_stored pool unstored) kept.trie at (knows_same me.0.trie) (trie_stays lives pool within exists may))
         connections (stored_stay pool unstored own (reaches pool within exists)) (locks_stay pool unstored own) (turns_stay pool unstored own)
-        (deaths_stay pool unstored within exists may)
+        (deaths_stay pool unstored within exists may) (notes_stay lives pool unstored within exists may)
 
     conns_stay : (pool : Pool) → ((slot : ℕ) → slot < layout.slots → field_at layout Slots slot inc_field ≢ field_at layout pool place field) → Conns pool_side m layout kept.log (words' pool) (set s.views id (with_stored pool me.0.pools.unstored))
     conns_stay pool apart = conns-same pool_side m layout kept.log s.words (words' pool) s.views (set s.views id (with_stored pool me.0.pools.unstored)) kept.connections (length-set s.words (field_at layout pool place field) value)
@@ -253,17 +280,27 @@ module _ {S A R : Type 0} (m : Meaning S A R) (digest : Key → ℕ) (layout : L
     stores s id me kept at place field value lives seated Nodes within exists may,
     record { is = refl },
   )
-  may_store st id n Slots place field value me lives seated within exists may s kept homes at bound = ⊎_elim in_own (λ more. ⊎_elim in_phase in_note more) may
+  may_store st id n Slots place field value me lives seated within exists may s kept homes at bound = ⊎_elim in_own (λ more. ⊎_elim in_phase (λ rest. ⊎_elim in_note in_epoch rest) more) may
     where
       Stores : Type 0
       Stores = (w : CellView S A R) × (a : Act (Running S)) × Valid s.homes me.1 a × IsCells m digest layout (stepped s (field_at layout Slots place field) value id me.1 w a)
           × StoresPrivate m digest layout Slots place field st me value (w, carried_after me.1 a)
 
-      after' : Bool → Bool → Me (Running S) (CellView S A R)
-      after' phase epoch = cond phase (record me.0 { turn = with_phase value me.0.turn }, me.1) (cond epoch (with_pools me (letting_go place me.0.pools)) (with_pools me (storing Slots place field value me.0.pools)))
+      -- the pass after it, by whether it is a phase, whether it is a word before the notes, and whether it is an epoch in a note
+      after' : Bool → Bool → Bool → Me (Running S) (CellView S A R)
+      after' b c d = cond b (record me.0 { turn = with_phase value me.0.turn }, me.1) (cond c (with_pools me (storing Slots place field value me.0.pools)) (cond d (with_pools me (letting_go place (value - 2 ^ 63) me.0.pools)) (noted_in place field value me)))
 
-      is_after : {phase epoch : Bool} → eqb field phase_field ≡ phase → is_epoch_note field value ≡ epoch → after' phase epoch ≡ stored_in Slots place field value me
-      is_after e f = sym (λ i. after' (e i) (f i))
+      is_after : {b c d : Bool} → eqb field phase_field ≡ b → nat_lt field notes_field ≡ c → is_epoch_note field value ≡ d → after' b c d ≡ stored_in Slots place field value me
+      is_after e f g = sym (λ i. after' (e i) (f i) (g i))
+
+      noter' : ℕ → CellView S A R
+      noter' f = record me.0 { pools = record me.0.pools { notes = (record { slot = place; field = f; value = value }) ∷ notes_but place f me.0.pools.notes } }
+
+      -- a store of a note
+      is_noted : (way : Way) → field ≡ note_field way → value < 2 ^ 63 → stored_in Slots place field value me ≡ noted_in place field value me
+      is_noted way note low =
+          let late = note_late way in
+          sym (is_after (ne_eqb field phase_field (λ e. omega (arith, note, late, e))) (not_below field notes_field (λ below. omega (arith, note, late, below))) (no_epoch field value (λ _. low)))
 
       in_own : MayStoreInSlot m me.0 place field value → Stores
       in_own own = (
@@ -271,7 +308,7 @@ module _ {S A R : Type 0} (m : Meaning S A R) (digest : Key → ℕ) (layout : L
         keeps,
         tt,
         stores s id me kept at place field value lives seated Slots within exists own,
-        record { is = is_after (ne_eqb field phase_field own.phaseless) (no_epoch field value own.epochless) },
+        record { is = is_after {d = is_epoch_note field value} (ne_eqb field phase_field own.phaseless) ((Decides-ltb field notes_field).1 own.noteless) refl },
       )
 
       in_phase : MayStorePhase me.0 place field → Stores
@@ -281,15 +318,35 @@ module _ {S A R : Type 0} (m : Meaning S A R) (digest : Key → ℕ) (layout : L
         tt,
         subst (λ (y : ℕ × ℕ). IsCells m digest layout (stepped s (field_at layout Slots y.0 y.1) value id me.1 (record me.0 { turn = with_phase value me.0.turn }) keeps)) (λ i. (under.there i, sym under.phase i))
             (phase_stored m digest layout s kept id me.0 under.turn value at under.has seated),
-        record { is = is_after {epoch = is_epoch_note field value} (eq-eqb field phase_field under.phase) refl },
+        record { is = is_after {c = nat_lt field notes_field} {d = is_epoch_note field value} (eq-eqb field phase_field under.phase) refl refl },
       )
 
-      in_note : MayLetGo m me.0 place field value → Stores
-      in_note go = (
-        record me.0 { pools = letting_go place me.0.pools },
+      in_epoch : MayLetGo m me.0 place field value → Stores
+      in_epoch go = (
+        record me.0 { pools = letting_go place (value - 2 ^ 63) me.0.pools },
         keeps,
         tt,
-        subst (λ f. IsCells m digest layout (stepped s (field_at layout Slots place f) value id me.1 (record me.0 { pools = letting_go place me.0.pools }) keeps)) (sym go.note)
+        subst (λ f. IsCells m digest layout (stepped s (field_at layout Slots place f) value id me.1 (record me.0 { pools = letting_go place (value - 2 ^ 63) me.0.pools }) keeps)) (sym go.note)
             (lets_go m digest layout s id me kept at place value within (record { id = go.id; killed = go.killed; there = go.there; note = refl; bare = go.bare; loaded = go.loaded; epoch = go.epoch }) seated),
-        record { is = is_after (ne_eqb field phase_field (λ e. absurd (let note = go.note in omega (arith, e, note)))) (an_epoch field value me.0.epochs.loaded go.note go.epoch) },
+        record { is = is_after (ne_eqb field phase_field (λ e. absurd (let note = go.note in omega (arith, e, note)))) (not_below field notes_field (λ low. omega (arith, low, go.note))) (an_epoch field value me.0.epochs.loaded go.note go.epoch) },
       )
+
+      in_note : MayStoreNote m me.0 place field value → Stores
+      in_note note = (
+        noter' field,
+        keeps,
+        tt,
+        subst (λ f. IsCells m digest layout (stepped s (field_at layout Slots place f) value id me.1 (noter' f) keeps)) (sym note.note) (noted m digest layout s kept id me.0 at place note.way value within seated lives
+            (record { id = note.id; built = note.built; there = note.there; way = note.way; note = refl; bare = note.bare; low = note.low }) refl),
+        record { is = sym (is_noted note.way note.note note.low) },
+      )
+
+  pub may_store_ahead : (st : Step (Running S)) (id n slot : ℕ) (way : Way) (value : ℕ) (me : Me (Running S) (CellView S A R)) → 1 ≤ length me.0.seats.readers → slot < layout.slots → MayStoreAhead me.0 slot way value →
+      Allows (IsCells m digest layout) n id me (field_at layout Slots slot (note_field way)) (λ _. value) (λ _. StoresAhead way st me value)
+  may_store_ahead st id n slot way value me seated within may s kept homes at bound = (
+    record me.0 { turn = with_ahead (Some (record { field = note_field way; value = value })) me.0.turn },
+    keeps,
+    tt,
+    led m digest layout s kept id me.0 at slot way value within seated may,
+    record { is = refl },
+  )

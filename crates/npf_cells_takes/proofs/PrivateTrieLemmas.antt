@@ -1,6 +1,6 @@
 -- Stores in the words of a pass's own places leave the trie as it is.
 use Rattle.std.specs.List.{Contains}
-use Rattle.std.proofs.Common.{◌≡◌, ◌≢◌, ℕ, ◌+◌, ◌<◌, true, Some, [], ◌∷◌, set, length, slice_index, refl, sym, ap, ◌∙◌, subst, ⊎_elim, arith}
+use Rattle.std.proofs.Common.{◌≡◌, ◌≢◌, ◌⊎◌, ℕ, ◌+◌, ◌<◌, true, Some, [], ◌∷◌, set, length, slice_index, refl, sym, ap, ◌∙◌, subst, ⊎_elim, arith}
 use Rattle.std.proofs.lemmas.Bool.{cases_eq}
 use Rattle.std.proofs.lemmas.List.{get_or-set_same, get_or-set_other}
 use mathlib.Core.Option.{some}
@@ -11,6 +11,7 @@ use Rattle.npf_types.specs.declared.key.Key.{Key}
 use Rattle.npf_types.specs.declared.key.Way.{Way}
 use Rattle.npf_core.specs.declared.conn_id.ConnId.{ConnId}
 use Rattle.npf_core.specs.History.{state_of}
+use Rattle.npf_core.specs.declared.stage.Stage.TheVariants.{Building, Dead}
 use Rattle.npf_core.specs.Machine.{Machine}
 use Rattle.npf_core.specs.Meaning.{Meaning}
 use Rattle.npf_core.proofs.EqualityLemmas.{same_conn_id}
@@ -47,6 +48,7 @@ module _ {S A R : Type 0} (m : Meaning S A R) (digest : Key → ℕ) (layout : L
   node_keeps id v node field n at within short owns = record {
     holder = λ key. refl;
     claimed = λ identity c. c;
+    dead = λ identity e. e;
     cells = λ digits are level p on. cell_same layout s.words _ p (other (place_at layout p) (λ e. ⊎_elim
         (λ low. absurd (omega (arith, low, e)))
         (λ x. let same : x.0 ≡ node = (let there = x.2 in let d = x.3 in omega (arith, there, d, short, e)) in unowned m digest layout s kept id v node at within owns (subst (Contains kept.published) same x.5))
@@ -81,6 +83,7 @@ module _ {S A R : Type 0} (m : Meaning S A R) (digest : Key → ℕ) (layout : L
   slot_keeps id v slot field n at lives within short there may = record {
     holder = λ key. refl;
     claimed = λ identity c. c;
+    dead = λ identity e. e;
     cells = λ digits are level p on. cell_same layout s.words _ p (other (place_at layout p) (λ e. ⊎_elim
         (λ low. absurd (omega (arith, low, e)))
         (λ x. absurd (let lies = x.2 in let d = x.3 in let n' = x.4 in omega (arith, lies, d, n', e)))
@@ -108,15 +111,25 @@ module _ {S A R : Type 0} (m : Meaning S A R) (digest : Key → ℕ) (layout : L
           let seen = (kept.seats.each id v.seats (at_map seat_side s.views id v at)).seen in
           bare_in_log m layout.slots v.seats.history kept.log id may.id way kept.connections.legal seen fits.own stage bare (t.key may.id.slot way) (mine slot way refl right).1
 
-      key_same : (p : ℕ) (way : Way) → IsRightLeaf layout.slots k.holder t p way → (place : ℕ) → place < 5 →
+      -- nor is the slot that of a Dead connection
+      alive : (k.slot slot).stage ≢ Dead
+      alive dead =
+          let built = building_at (k.slot may.id.slot) may.id.inc id ((kept.connections.each id v at).building may.id may.built) in
+          let no : Building id ≡ Dead = sym built.1 ∙ (ap (λ q. (k.slot q).stage) may.there ∙ dead) in
+          absurd cc
+
+      key_same : (p : ℕ) (way : Way) → IsRightLeaf layout.slots k.holder t p way ⊎ ((k.slot p).stage ≡ Dead) → (place : ℕ) → place < 5 →
           key_word layout (set s.words (field_at layout Slots slot field) n) p way place ≡ key_word layout s.words p way place
       key_same p way right place h = other (field_at layout Slots p (key_field way + place)) (λ e. ⊎_elim
-          (λ (same : p ≡ slot). not_key way place h (subst (λ q. IsRightLeaf layout.slots k.holder t q way) same right) (omega (arith, e, same)))
+          (λ (same : p ≡ slot). ⊎_elim
+          (λ (is : IsRightLeaf layout.slots k.holder t p way). not_key way place h (subst (λ q. IsRightLeaf layout.slots k.holder t q way) same is) (omega (arith, e, same)))
+          (λ (dead : (k.slot p).stage ≡ Dead). alive (ap (λ q. (k.slot q).stage) (sym same) ∙ dead))
+          right)
           (λ (ne : p ≢ slot). absurd (ne (let low = key_short way place h in omega (arith, e, low, short))))
           (cases_eq p slot))
 
-      inc_same : (p : ℕ) (way : Way) → IsRightLeaf layout.slots k.holder t p way → slice_index (set s.words (field_at layout Slots slot field) n) (field_at layout Slots p inc_field) ≡ slice_index s.words (field_at layout Slots p inc_field)
-      inc_same p way right = ⊎_elim
+      right_inc : (p : ℕ) (way : Way) → IsRightLeaf layout.slots k.holder t p way → slice_index (set s.words (field_at layout Slots slot field) n) (field_at layout Slots p inc_field) ≡ slice_index s.words (field_at layout Slots p inc_field)
+      right_inc p way right = ⊎_elim
           (λ (same : field_at layout Slots p inc_field ≡ field_at layout Slots slot field).
           let at_slot : p ≡ slot = omega (arith, same, short) in
           let at_inc : field ≡ inc_field = omega (arith, same, at_slot) in
@@ -125,3 +138,9 @@ module _ {S A R : Type 0} (m : Meaning S A R) (digest : Key → ℕ) (layout : L
           ap (slice_index (set s.words (field_at layout Slots slot field) n)) same ∙ (stored ∙ (may.inc at_inc ∙ (sym is ∙ ap (λ q. slice_index s.words (field_at layout Slots q inc_field)) (may.there ∙ sym at_slot)))))
           (λ ne. other (field_at layout Slots p inc_field) ne)
           (cases_eq (field_at layout Slots p inc_field) (field_at layout Slots slot field))
+
+      inc_same : (p : ℕ) (way : Way) → IsRightLeaf layout.slots k.holder t p way ⊎ ((k.slot p).stage ≡ Dead) → slice_index (set s.words (field_at layout Slots slot field) n) (field_at layout Slots p inc_field) ≡ slice_index s.words (field_at layout Slots p inc_field)
+      inc_same p way right = ⊎_elim
+          (λ (is : IsRightLeaf layout.slots k.holder t p way). right_inc p way is)
+          (λ (dead : (k.slot p).stage ≡ Dead). other (field_at layout Slots p inc_field) (λ e. alive (ap (λ q. (k.slot q).stage) (let same : slot ≡ p = omega (arith, e, short) in same) ∙ dead)))
+          right

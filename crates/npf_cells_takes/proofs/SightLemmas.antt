@@ -1,5 +1,5 @@
 -- What a pass has seen once it found a word of the slots.
-use Rattle.std.proofs.Common.{◌≡◌, ℕ, ◌+◌, ◌/◌, ◌%◌, ◌≤◌, true, List, [], map, length, slice_index, refl, sym, ap, ◌∙◌, subst}
+use Rattle.std.proofs.Common.{◌≡◌, ℕ, ◌+◌, ◌/◌, ◌%◌, ◌≤◌, true, Option, Some, None, List, [], map, length, slice_index, refl, sym, ap, ◌∙◌, subst}
 use Rattle.std.specs.Int.{bit_at}
 use mathlib.Core.Option.{some}
 use lib.ListN.{get_elem?}
@@ -7,6 +7,7 @@ use Rattle.atomic_table.specs.Seated.{TableId}
 use Rattle.atomic_table.specs.Table.{State, Me}
 use Rattle.atomic_table.proofs.Lists.{at_map}
 use Rattle.npf_types.specs.declared.key.Key.{Key}
+use Rattle.npf_core.specs.declared.conn_id.ConnId.{ConnId}
 use Rattle.npf_core.specs.declared.stage.Stage.TheVariants.{Building}
 use Rattle.npf_core.specs.History.{Legal}
 use Rattle.npf_core.specs.Meaning.{Meaning}
@@ -21,11 +22,15 @@ use Rattle.npf_cells_lives.specs.Stored.{FitsStored}
 use Rattle.npf_cells_lives.proofs.StoredLemmas.{own_same, stored_kept}
 use Rattle.npf_cells_rule.specs.declared.view.CellView.{CellView}
 use Rattle.npf_cells_rule.specs.Cells.{IsCells}
-use Rattle.npf_cells_rule.specs.Passes.{IsPassOf}
+use Rattle.npf_cells_rule.specs.Passes.{CarriesByTurn, IsPassOf}
+use Rattle.npf_cells_takes.specs.PrivateKinds.{leading}
+use Rattle.npf_cells_lives.specs.declared.turn.Ahead.{Ahead}
+use Rattle.npf_cells_lives.specs.declared.turn.Turn.{Turn}
+use Rattle.npf_cells_lives.specs.Notes.{with_ahead}
 use Rattle.npf_cells_rule.specs.Views.{seat_side, with_pools}
 use Rattle.npf_cells_rule.proofs.EntryLemmas.{sees_nothing, sole_seen}
 use Rattle.npf_cells_rule.proofs.PassLemmas.{pools_on}
-use Rattle.npf_cells_takes.specs.SlotKinds.{seeing_slots, HasSeenSlots}
+use Rattle.npf_cells_takes.specs.SlotKinds.{seeing_slots, HasFreed, HasSeenSlots}
 use Rattle.npf_cells_lives.specs.Turns.{Running}
 
 module _ {S A R : Type 0} (m : Meaning S A R) (digest : Key → ℕ) (layout : Layout) (s : State (Running S) (CellView S A R)) (id : ℕ) (me : Me (Running S) (CellView S A R)) (kept : IsCells m digest layout s) (at : get_elem? s.views id ≡ some me.0)
@@ -81,3 +86,45 @@ pub swept_on : {S A R : Type 0} (m : Meaning S A R) (layout : Layout) (table sea
     IsPassOf layout table seat readers me → seat' ≡ seat → (pool ≡ Nodes → next ≡ with_pools me side) → (pool ≡ Slots → HasSeenSlots m layout word found me next) → IsPassOf layout table seat' readers next
 swept_on m layout table seat seat' readers word found me next side Nodes own same nodes slots = pools_on layout table seat seat' readers me next side own same (nodes refl)
 swept_on m layout table seat seat' readers word found me next side Slots own same nodes slots = sees_on m layout table seat seat' readers word found me next own same (slots refl)
+
+-- so it does through a Free
+pub freed_on : {S A R : Type 0} (m : Meaning S A R) (layout : Layout) (table seat seat' : TableId) (readers : List ℕ) (conn : ConnId) (found : ℕ) (me next : Me (Running S) (CellView S A R)) →
+    IsPassOf layout table seat readers me → seat' ≡ seat → HasFreed m conn found me next → IsPassOf layout table seat' readers next
+freed_on m layout table seat seat' readers conn found me next own same freed = rw freed.is (record {
+  same = same ∙ own.same;
+  words = own.words;
+  carries = own.carries;
+  sized = own.sized;
+  lives = own.lives;
+  theirs = own.theirs;
+  owns = own.owns;
+  place = own.place;
+  most = own.most;
+  reader = own.reader;
+  epoch = own.epoch;
+  unanswered = own.unanswered;
+  unlocked = own.unlocked;
+})
+
+-- so it does where only what it is ahead of changes
+pub led_carries : {S F : Type 0} (ahead : Option Ahead) (turn : Option (Turn S)) (carried : List (ℕ × F)) → CarriesByTurn turn carried → CarriesByTurn (with_ahead ahead turn) carried
+led_carries ahead None carried carries = carries
+led_carries ahead (Some turn) carried carries = carries
+
+pub led_on : {S A R : Type 0} (layout : Layout) (table seat seat' : TableId) (readers : List ℕ) (field value : ℕ) (me next : Me (Running S) (CellView S A R)) → IsPassOf layout table seat readers me → seat' ≡ seat → next ≡ leading field value me →
+    IsPassOf layout table seat' readers next
+led_on layout table seat seat' readers field value me next own same is = rw is (record {
+  same = same ∙ own.same;
+  words = own.words;
+  carries = led_carries (Some (record { field = field; value = value })) me.0.turn me.1 own.carries;
+  sized = own.sized;
+  lives = own.lives;
+  theirs = own.theirs;
+  owns = own.owns;
+  place = own.place;
+  most = own.most;
+  reader = own.reader;
+  epoch = own.epoch;
+  unanswered = own.unanswered;
+  unlocked = own.unlocked;
+})

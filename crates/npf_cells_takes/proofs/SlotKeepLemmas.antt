@@ -40,7 +40,7 @@ use Rattle.npf_cells_lives.specs.Deaths.{is_dead}
 use Rattle.npf_cells_lives.specs.Pools.{taken}
 use Rattle.npf_cells_lives.specs.Stored.{IsOwnField, FitsStored}
 use Rattle.npf_cells_lives.proofs.ConnLemmas.{BuildsIn}
-use Rattle.npf_cells_lives.proofs.DeathLemmas.{Spares, spares_held, RestsNoMore, dead_at}
+use Rattle.npf_cells_lives.proofs.DeathLemmas.{Spares, spares_held, stays_dead, RestsNoMore, dead_at}
 use Rattle.npf_cells_lives.proofs.PoolLemmas.{pools-set, taken-set}
 use Rattle.npf_cells_lives.proofs.SlotLemmas.{clear_vacant, claimed, now_taken, now_building, slot_else, taken_else, builds_more, incs_more}
 use Rattle.npf_cells_lives.proofs.StoredLemmas.{stored_kept}
@@ -137,7 +137,7 @@ module _ {S A R : Type 0} (m : Meaning S A R) (digest : Key → ℕ) (layout : L
 
     -- the claim leaves the holders, and what was claimed
     keeps_claim : (n : ℕ) → bit_at found (slot % 64) ≡ 0 → KeepsTrie layout.slots k (claimed m k id packet slot) (trie_words layout s.words) (trie_words layout (set s.words word n))
-    keeps_claim n clear = keeps_words layout k (claimed m k id packet slot) s.words (set s.words word n) (λ key. refl) (λ identity c. claimed_by m layout.slots k entry identity (follows clear) (λ e. absurd cc) c)
+    keeps_claim n clear = keeps_words layout k (claimed m k id packet slot) s.words (set s.words word n) (λ key. refl) (λ identity c. claimed_by m layout.slots k entry identity (follows clear) (λ e. absurd cc) c) (λ identity e. stays_dead k (claimed m k id packet slot) (claim_spares (follows clear)) identity e)
         (pool_step layout s.words Slots slot n within).behind
 
     -- and the pass was answered the new connection
@@ -159,7 +159,7 @@ module _ {S A R : Type 0} (m : Meaning S A R) (digest : Key → ℕ) (layout : L
         IsCells m digest layout (stepped s word n id me.1 winner keeps)
     wins n clear here bits =
         let may = follows clear in
-        entry_step m digest layout s word n id me.1 me.0 winner kept at lives place entry refl may refl refl (winner_stored clear) refl refl (slots_stay may) refl (claim_spares may) (claim_dead may) winner_rests (alone_within winner place stays) (pool_step layout s.words Slots slot n within)
+        entry_step m digest layout s word n id me.1 me.0 winner kept at lives place entry refl may refl refl (winner_stored clear) refl refl (slots_stay may) (λ key. refl) refl (claim_spares may) (claim_dead may) winner_rests refl (λ conn c. Contains-append_right (claimed_id k slot ∷ []) me.0.pools.builds conn c) (alone_within winner place stays) (pool_step layout s.words Slots slot n within)
         (pools-set layout (taken pool_side kept.published k s.views) (taken pool_side kept.published (claimed m k id packet slot) (set s.views id winner)) s.words Slots slot n kept.pools within (here ∙ sym (now_taken m k id packet slot)) bits
         (taken_else m k id packet slot pool_side s.views id me.0 winner at kept.published refl))
         (trie_kept trie_side digest layout kept.published k (claimed m k id packet slot) s.words (set s.words word n) s.views (set s.views id winner) kept.trie (keeps_claim n clear) (grown-set trie_side s.views id me.0 winner at refl)
@@ -198,7 +198,7 @@ module _ {S A R : Type 0} (m : Meaning S A R) (digest : Key → ℕ) (layout : L
         let bit = kept.pools.bits Slots slot within in
         let below = bit_at-lt found (slot % 64) in
         let one : bit_at found (slot % 64) ≡ 1 = omega (arith, some', below) in
-        sight_step m digest layout s word n id me.1 me.0 w kept at lives refl refl (knows_same me.0.trie) (seer_stored m digest layout s id me kept at lives place found) refl refl refl refl (alone_within w place stays) (pool_step layout s.words Slots slot n within)
+        sight_step m digest layout s word n id me.1 me.0 w kept at lives refl refl (knows_same me.0.trie) (seer_stored m digest layout s id me kept at lives place found) refl refl refl refl refl (alone_within w place stays) (pool_step layout s.words Slots slot n within)
         (pools-set layout (taken pool_side kept.published k s.views) (taken pool_side kept.published k (set s.views id w)) s.words Slots slot n kept.pools within (here ∙ (sym one ∙ (bit ∙ sym (taken' Slots slot)))) bits (λ other p two. taken' other p))
 
   pub may_claim_slot : (st : Step (Running S)) (id n packet slot mask : ℕ) (me : Me (Running S) (CellView S A R)) → me.0.seats.lives ≡ true → me.0.seats.theirs ≡ [] → 1 ≤ length me.0.seats.readers → IsProtected me.0.epochs.pin → slot < layout.slots → mask ≡ 1 * 2 ^ (slot % 64) % 2 ^ 64 →

@@ -18,7 +18,8 @@ use Rattle.npf_core.specs.NextState.{is_id, stepped, after_act}
 use Rattle.npf_core.specs.Replies.{step_answer}
 use Rattle.npf_core.proofs.EqualityLemmas.{is_id-Decides}
 use Rattle.npf_connections.specs.Answered.{without}
-use Rattle.npf_cells_lives.specs.Deaths.{is_dead}
+use Rattle.npf_cells_lives.specs.Deaths.{is_dead, slot_by}
+use Rattle.npf_cells_lives.proofs.FreedLemmas.{by_none, by_some}
 use Rattle.npf_cells_lives.specs.Pools.{claim_bit}
 use Rattle.npf_cells_lives.specs.Turns.{running, stage_phase, StaysAt}
 use Rattle.npf_cells_lives.proofs.ConnLemmas.{building_at}
@@ -97,6 +98,20 @@ module _ {S A R : Type 0} (m : Meaning S A R) (was now : Slot S) (stays : StaysA
 
   pub step_phase : stage_phase (stepped m way arg now.stage) ≡ stage_phase (stepped m way arg was.stage)
   step_phase = phase_stays (record was { stage = stepped m way arg was.stage }) (record now { stage = stepped m way arg now.stage }) step_stays
+
+-- a slot as turns see it goes on by a step as it does, and answers as it does where none but a Dead connection was reclaimed
+module _ {S A R : Type 0} (m : Meaning S A R) (gone : ℕ) (x : Slot S) where
+  pub step_seen : (way : Way) (arg : A) → stepped m way arg (slot_by gone x).stage ≡ (slot_by gone (record x { stage = stepped m way arg x.stage })).stage
+  step_seen way arg = ⊎_elim
+      (λ (none : gone ≡ 0). ap (λ (y : Slot S). stepped m way arg y.stage) (by_none gone x none) ∙ ap (λ (y : Slot S). y.stage) (sym (by_none gone (record x { stage = stepped m way arg x.stage }) none)))
+      (λ (some' : gone ≢ 0). ap (λ (y : Slot S). stepped m way arg y.stage) (by_some gone x some') ∙ ap (λ (y : Slot S). y.stage) (sym (by_some gone (record x { stage = stepped m way arg x.stage }) some')))
+      (cases_eq gone 0)
+
+  pub answer_seen : (gone ≢ 0 → x.stage ≡ Dead) → (way : Way) (arg : A) → step_answer m way arg (slot_by gone x).stage ≡ step_answer m way arg x.stage
+  answer_seen dead way arg = ⊎_elim
+      (λ (none : gone ≡ 0). ap (λ (y : Slot S). step_answer m way arg y.stage) (by_none gone x none))
+      (λ (some' : gone ≢ 0). ap (λ (y : Slot S). step_answer m way arg y.stage) (by_some gone x some') ∙ ap (step_answer m way arg) (sym (dead some')))
+      (cases_eq gone 0)
 
 -- an act changes the stage of this slot alone, and no holder
 pub record ActsOn {S : Type 0} (k k' : Machine S) (slot : ℕ) (stage : Stage S) : Type 0 where

@@ -1,6 +1,6 @@
 -- What the end of a turn makes of deaths: an act that kills puts the connection among the pass's kills, which forgets the epoch that it loaded; any other act spares the dead.
 use Rattle.std.specs.List.{Contains}
-use Rattle.std.proofs.Common.{◌≡◌, ◌≢◌, ◌⊎◌, ℕ, ◌+◌, ◌<◌, ◌≤◌, cond, eqb, eq-eqb, ne_eqb, List, [], ◌∷◌, map, set, slice_index, refl, sym, ap, ◌∙◌, subst, ⊎_elim, inl, inr, arith}
+use Rattle.std.proofs.Common.{◌≡◌, ◌≢◌, ℕ, ◌+◌, ◌<◌, ◌≤◌, cond, eqb, eq-eqb, ne_eqb, List, ◌∷◌, map, set, refl, sym, ap, ◌∙◌, subst, ⊎_elim, inl, arith}
 use Rattle.std.proofs.lemmas.Bool.{cases_eq}
 use Rattle.std.proofs.lemmas.List.{map-set}
 use mathlib.Core.Option.{some}
@@ -23,19 +23,18 @@ use Rattle.npf_seats.proofs.ListLemmas.{one_where, occurs-cons}
 use Rattle.npf_seats.proofs.PrefixLemmas.{none_listed, cons_cases}
 use Rattle.npf_seats.proofs.SumLemmas.{sum-set, side_same}
 use Rattle.npf_cells_pins.specs.declared.pin.EpochSide.{EpochSide}
-use Rattle.npf_cells_pins.specs.Epochs.{ReaderView, FitsEpochs, Epochs, all_raises, pin_place}
-use Rattle.npf_cells_pins.proofs.EpochLemmas.{Change, changed}
+use Rattle.npf_cells_pins.specs.Epochs.{ReaderView, FitsEpochs, Epochs, pin_place}
+use Rattle.npf_cells_pins.proofs.EpochLemmas.{changed}
 use Rattle.npf_cells_leaves.proofs.TrieLemmas.{KnowsNoMore, knows_same}
-use Rattle.npf_cells_lives.specs.Deaths.{is_dead, has_epoch, first_note, slots_named, killed_in, FitsKill, Deaths}
+use Rattle.npf_cells_lives.specs.Deaths.{is_dead, has_epoch, first_note, slots_named, killed_in, cleared_in, FitsKill, Deaths}
 use Rattle.npf_cells_lives.specs.Turns.{Running}
-use Rattle.npf_cells_lives.proofs.DeathLemmas.{Spares, spares_held, RestsNoMore, stays_dead, deaths-set}
+use Rattle.npf_cells_lives.proofs.DeathLemmas.{same_dates, Spares, spares_held, stays_dead, deaths-set}
 use Rattle.npf_cells_rule.specs.declared.view.CellView.{CellView}
 use Rattle.npf_cells_rule.specs.Cells.{IsCells}
-use Rattle.npf_cells_rule.specs.Views.{reader_view, death_side}
+use Rattle.npf_cells_rule.specs.Views.{reader_view, dead_hand, death_side, unloaded}
 use Rattle.npf_cells_rule.proofs.DeathFrames.{rests_less, deaths_spared}
 use Rattle.npf_cells_rule.proofs.Frames.{epochs_apart}
 use Rattle.npf_cells_rule.proofs.TurnFrames.{other_word, below}
-use Rattle.npf_cells_turns.specs.EndKinds.{unloaded}
 use Rattle.npf_cells_turns.proofs.ActLemmas.{ActsOn}
 
 module _ {S : Type 0} (k k' : Machine S) (slot : ℕ) (stage : Stage S) (acts : ActsOn k k' slot stage) where
@@ -70,24 +69,25 @@ module _ {S A R : Type 0} (m : Meaning S A R) (digest : Key → ℕ) (layout : L
   abbrev ws : List ℕ
   ws = set s.words word 0
 
-  same_epoch : epoch_word s.words ≤ epoch_word ws
+  pub same_epoch : epoch_word s.words ≤ epoch_word ws
   same_epoch = let same = below m digest layout s kept slot turn_field 0 within (inl refl) 0 (omega arith) in omega (arith, same)
 
-  same_notes : (p : ℕ) → p < layout.slots → first_note layout ws p ≡ first_note layout s.words p
+  pub same_notes : (p : ℕ) → p < layout.slots → first_note layout ws p ≡ first_note layout s.words p
   same_notes p h = other_word m digest layout s kept slot turn_field 0 within (inl refl) (field_at layout Slots p notes_field) (λ e. absurd (omega (arith, e)))
 
   -- an act that kills nobody
-  pub deaths_stay : (k' : Machine S) (stage : Stage S) (acts : ActsOn k k' slot stage) → is_dead stage ≡ is_dead (k.slot slot).stage → ((k.slot slot).stage ≡ Dead → stage ≡ Dead) → (w : CellView S A R) → w.pools.kills ≡ v.pools.kills → w.epochs ≡ v.epochs → w.trie ≡ v.trie →
+  pub deaths_stay : (k' : Machine S) (stage : Stage S) (acts : ActsOn k k' slot stage) → is_dead stage ≡ is_dead (k.slot slot).stage → ((k.slot slot).stage ≡ Dead → stage ≡ Dead) → (w : CellView S A R) → dead_hand w.pools ≡ dead_hand v.pools → w.epochs ≡ v.epochs → w.trie ≡ v.trie →
       Deaths death_side layout k' ws (set s.views id w)
   deaths_stay k' stage acts same stays w kills epochs trie = deaths_spared m digest layout s word 0 id v w k' kept at kills (ap (λ (e : EpochSide). e.loaded) epochs) (acts_spare k k' slot stage acts stays) (dead_stays k k' slot stage acts same)
       (rests_less k v w (subst (λ side. KnowsNoMore v.trie side) (sym trie) (knows_same v.trie)) (ap (λ (e : EpochSide). e.pin) epochs)) same_epoch same_notes
 
   -- and one that kills the slot's connection
-  pub deaths_killed : (k' : Machine S) (conn : ConnId) (acts : ActsOn k k' slot Dead) → conn.slot ≡ slot → (k.slot slot).inc ≡ conn.inc → is_dead (k.slot slot).stage ≡ 0 → (w : CellView S A R) → w.pools.kills ≡ conn ∷ v.pools.kills → w.epochs ≡ unloaded v.epochs → w.trie ≡ v.trie →
+  pub deaths_killed : (k' : Machine S) (conn : ConnId) (acts : ActsOn k k' slot Dead) → conn.slot ≡ slot → (k.slot slot).inc ≡ conn.inc → is_dead (k.slot slot).stage ≡ 0 → (w : CellView S A R) → w.pools.kills ≡ conn ∷ v.pools.kills → w.pools.reclaims ≡ v.pools.reclaims → w.pools.cleared ≡ v.pools.cleared → w.pools.dated ≡ v.pools.dated → w.epochs ≡ unloaded v.epochs → w.trie ≡ v.trie →
       Deaths death_side layout k' ws (set s.views id w)
-  deaths_killed k' conn acts there last alive w kills epochs trie = deaths-set death_side layout k k' s.words ws s.views id v w kept.deaths at spares same_epoch
+  deaths_killed k' conn acts there last alive w kills reclaims cleared dated epochs trie = deaths-set death_side layout k k' s.words ws s.views id v w kept.deaths at spares same_epoch
       (rests_less k v w (subst (λ side. KnowsNoMore v.trie side) (sym trie) (knows_same v.trie)) (ap (λ (e : EpochSide). e.pin) epochs))
-      counted mine (λ p epoch h note. inl (sym (same_notes p h) ∙ note))
+      reclaims cleared counted (λ p h. (let note = ap has_epoch (same_notes p h) in let was = kept.deaths.reclaimed p h in omega (arith, note, was))) mine (λ p epoch h note. sym (same_notes p h) ∙ note)
+      (same_dates death_side layout k s.words ws s.views id v w kept.deaths at same_epoch dated)
     where
       spares : Spares k k'
       spares = acts_spare k k' slot Dead acts (λ was. refl)
@@ -95,7 +95,7 @@ module _ {S A R : Type 0} (m : Meaning S A R) (digest : Key → ℕ) (layout : L
       here : (p : ℕ) → occurs p (slots_named w.pools.kills) ≡ one_where (eqb conn.slot p) + occurs p (slots_named v.pools.kills)
       here p = ap (λ ids. occurs p (slots_named ids)) kills ∙ occurs-cons p conn.slot (slots_named v.pools.kills)
 
-      counted : (p : ℕ) → p < layout.slots → killed_in death_side (set s.views id w) p + has_epoch (first_note layout ws p) ≡ is_dead (k'.slot p).stage
+      counted : (p : ℕ) → p < layout.slots → killed_in death_side (set s.views id w) p + has_epoch (first_note layout ws p) + cleared_in death_side s.views p ≡ is_dead (k'.slot p).stage
       counted p h =
           let more = sum-set (λ (u : CellView S A R). occurs p (slots_named u.pools.kills)) s.views id v w at in
           let mine' = here p in

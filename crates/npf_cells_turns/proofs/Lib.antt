@@ -2,7 +2,9 @@ pub mod ActLemmas
 pub mod DeathEndLemmas
 pub mod EndKeepLemmas
 pub mod EndLemmas
+pub mod NoteKeepLemmas
 pub mod PassOnLemmas
+pub mod ReclaimLemmas
 pub mod SightKeepLemmas
 pub mod TurnKeepLemmas
 pub mod WordKeepLemmas

@@ -4,17 +4,21 @@ use Rattle.std.proofs.lemmas.Bool.{cases_eq}
 use Rattle.atomic_table.specs.Seated.{TableId}
 use Rattle.atomic_table.specs.Table.{Me, Step, rest}
 use Rattle.npf_types.specs.declared.key.Key.{Key}
+use Rattle.npf_core.specs.declared.conn_id.ConnId.{ConnId}
 use Rattle.npf_core.specs.declared.entry.Entry.{Entry}
 use Rattle.npf_core.specs.Meaning.{Meaning}
 use Rattle.npf_cells_words.specs.declared.layout.Layout.{Layout}
 use Rattle.npf_cells_pins.specs.declared.pin.EpochSide.{EpochSide}
+use Rattle.npf_cells_lives.specs.declared.turn.Said.{Said}
 use Rattle.npf_cells_lives.specs.declared.turn.Turn.{Turn}
+use Rattle.npf_cells_lives.specs.Notes.{with_said}
 use Rattle.npf_cells_lives.specs.Turns.{Running, running}
 use Rattle.npf_cells_rule.specs.declared.view.CellView.{CellView}
 use Rattle.npf_cells_rule.specs.Passes.{CarriesByTurn, IsPassOf}
 use Rattle.npf_cells_turns.specs.declared.act.TurnAct.{TurnAct}
-use Rattle.npf_cells_turns.specs.declared.act.TurnAct.TheVariants.{Nothing, Start, Step as Steps, Abandoned, Expired}
-use Rattle.npf_cells_turns.specs.EndKinds.{acted, epochs_after, TellsEnd}
+use Rattle.npf_cells_turns.specs.declared.act.TurnAct.TheVariants.{Nothing, Start, Step as Steps, Abandoned, Expired, Reclaim}
+use Rattle.npf_cells_turns.specs.EndKinds.{acted, epochs_after, with_reclaim, TellsEnd}
+use Rattle.npf_cells_turns.specs.NoteKinds.{noting}
 use Rattle.npf_cells_turns.specs.TurnKinds.{TriesTurn, HasSlotTurn}
 
 -- what an act makes of what the pass knows of the epoch: its pin stays, and it may forget what it loaded
@@ -24,6 +28,7 @@ pin_after (Start id n init) side = refl
 pin_after (Steps id n way arg) side = refl
 pin_after (Abandoned id) side = refl
 pin_after (Expired id now) side = refl
+pin_after (Reclaim id) side = refl
 
 loaded_after : {S A : Type 0} (act : TurnAct S A) (side : EpochSide) → (epochs_after act side).loaded ≤ side.loaded
 loaded_after Nothing side = omega arith
@@ -31,6 +36,11 @@ loaded_after (Start id n init) side = omega arith
 loaded_after (Steps id n way arg) side = omega arith
 loaded_after (Abandoned id) side = omega arith
 loaded_after (Expired id now) side = omega arith
+loaded_after (Reclaim id) side = omega arith
+
+said_carries : {S F : Type 0} (said : Option Said) (turn : Option (Turn S)) (carried : List (ℕ × F)) → CarriesByTurn turn carried → CarriesByTurn (with_said said turn) carried
+said_carries said None carried carries = carries
+said_carries said (Some turn) carried carries = carries
 
 module _ {S A R : Type 0} (layout : Layout) (table seat : TableId) (readers : List ℕ) (me : Me (Running S) (CellView S A R)) where
   -- through one that changes its turn alone, and what it carries
@@ -51,6 +61,30 @@ module _ {S A R : Type 0} (layout : Layout) (table seat : TableId) (readers : Li
     unanswered = own.unanswered;
     unlocked = own.unlocked;
   })
+
+  -- through one by which it reclaims a connection
+  pub reclaimed_on : (seat' : TableId) (next : Me (Running S) (CellView S A R)) (conn : ConnId) → IsPassOf layout table seat readers me → seat' ≡ seat → next ≡ (record me.0 { pools = with_reclaim conn me.0.pools; turn = None }, []) →
+      IsPassOf layout table seat' readers next
+  reclaimed_on seat' next conn own same is = rw is (record {
+    same = same ∙ own.same;
+    words = own.words;
+    carries = refl;
+    sized = own.sized;
+    lives = own.lives;
+    theirs = own.theirs;
+    owns = own.owns;
+    place = own.place;
+    most = own.most;
+    reader = own.reader;
+    epoch = own.epoch;
+    unanswered = own.unanswered;
+    unlocked = own.unlocked;
+  })
+
+  -- through a load of a note under a turn
+  pub noted_on : (seat' : TableId) (next : Me (Running S) (CellView S A R)) (field found : ℕ) → IsPassOf layout table seat readers me → seat' ≡ seat → next ≡ noting field found me → IsPassOf layout table seat' readers next
+  noted_on seat' next field found own same is =
+      turned_on seat' next (with_said (Some (record { field = field; value = found })) me.0.turn) me.1 own same is (said_carries (Some (record { field = field; value = found })) me.0.turn me.1 own.carries)
 
   -- and through one that makes an entry
   pub acted_on : (seat' : TableId) (next : Me (Running S) (CellView S A R)) (act : TurnAct S A) (history : List (Entry S A R)) → IsPassOf layout table seat readers me → seat' ≡ seat →
@@ -107,3 +141,4 @@ ended_on m layout table seat seat' readers (Start id n init) me next own same te
 ended_on m layout table seat seat' readers (Steps id n way arg) me next own same tells = acted_on layout table seat readers me seat' next (Steps id n way arg) next.0.seats.history own same tells.is
 ended_on m layout table seat seat' readers (Abandoned id) me next own same tells = acted_on layout table seat readers me seat' next (Abandoned id) next.0.seats.history own same tells.is
 ended_on m layout table seat seat' readers (Expired id now) me next own same tells = acted_on layout table seat readers me seat' next (Expired id now) next.0.seats.history own same tells.is
+ended_on m layout table seat seat' readers (Reclaim id) me next own same tells = reclaimed_on layout table seat readers me seat' next id own same tells

@@ -1,5 +1,5 @@
 -- A load after which a pass has seen all of the history keeps the rule.
-use Rattle.std.proofs.Common.{◌≡◌, ℕ, ◌≤◌, true, Option, Some, None, List, [], map, set, length, slice_index, refl, sym, ap, ◌∙◌, subst, length-set}
+use Rattle.std.proofs.Common.{◌≡◌, ◌≢◌, ℕ, ◌<◌, ◌≤◌, true, Option, Some, None, List, [], map, set, length, slice_index, refl, sym, ap, ◌∙◌, subst, ⊎_elim, arith, length-set}
 use Rattle.std.proofs.lemmas.List.{set-get_or}
 use mathlib.Core.Option.{some}
 use lib.ListN.{get_elem?}
@@ -21,10 +21,16 @@ use Rattle.npf_cells_lives.proofs.PoolLemmas.{pools-same, taken-set}
 use Rattle.npf_cells_rule.specs.declared.view.CellView.{CellView}
 use Rattle.npf_cells_rule.specs.Cells.{IsCells}
 use Rattle.npf_cells_rule.specs.Passes.{IsPassOf}
-use Rattle.npf_cells_rule.specs.Views.{seat_side, pool_side}
+use Rattle.npf_cells_rule.specs.Views.{seat_side, pool_side, death_side}
+use Rattle.npf_seats.proofs.SeatLemmas.{cases_lt}
+use Rattle.npf_cells_lives.proofs.DeathLemmas.{dead_stage, gone_dead}
+use Rattle.npf_cells_lives.proofs.FreedLemmas.{gone_in, there_or_idle}
 use Rattle.npf_cells_rule.proofs.EntryLemmas.{sees_nothing, sole_seen}
 use Rattle.npf_cells_rule.proofs.Frames.{alone_still, sight_step}
 use Rattle.npf_cells_turns.specs.SightKinds.{seeing, StaysByTurn, HasSeen, Sees}
+
+pub above : (n : ℕ) → n ≢ 0 → 1 ≤ n
+above n ne = ⊎_elim (λ (low : n < 1). absurd (ne (omega (arith, low)))) (λ h. h) (cases_lt n 1)
 
 module _ {S A R : Type 0} (m : Meaning S A R) (digest : Key → ℕ) (layout : Layout) where
   module _ (s : State (Running S) (CellView S A R)) (id : ℕ) (me : Me (Running S) (CellView S A R)) (kept : IsCells m digest layout s) (at : get_elem? s.views id ≡ some me.0)
@@ -34,7 +40,11 @@ module _ {S A R : Type 0} (m : Meaning S A R) (digest : Key → ℕ) (layout : L
 
     stays : (turn : Option (Turn S)) → me.0.turn ≡ turn → StaysByTurn (state_of m kept.log) turn
     stays None has = tt
-    stays (Some turn) has = (kept.turns.each id me.0 turn at has).stays
+    stays (Some turn) has =
+        let fits = kept.turns.each id me.0 turn at has in
+        there_or_idle death_side s.views (state_of m kept.log) turn.slot turn.was
+        (λ gone. dead_stage ((state_of m kept.log).slot turn.slot).stage (let one = gone_dead death_side layout (state_of m kept.log) s.words s.views turn.slot kept.deaths fits.exists (let some' = above (gone_in death_side s.views turn.slot) gone in some') in omega (arith, one)))
+        fits.stays
 
     pub has_seen : HasSeen m me (seeing me.0 kept.log, me.1)
     has_seen = record {
@@ -60,7 +70,7 @@ module _ {S A R : Type 0} (m : Meaning S A R) (digest : Key → ℕ) (layout : L
         w,
         keeps,
         tt,
-        sight_step m digest layout s i (slice_index s.words i) id me.1 me.0 w kept at lives refl refl (knows_same me.0.trie) (kept.stored id me.0 at) refl refl refl refl
+        sight_step m digest layout s i (slice_index s.words i) id me.1 me.0 w kept at lives refl refl (knows_same me.0.trie) (kept.stored id me.0 at) refl refl refl refl refl
             (alone_still me.0 w (kept.alone id me.0 at) place refl (λ none. none))
             (record { before = λ j h. ap (λ ws. slice_index ws j) words; behind = λ j h. ap (λ ws. slice_index ws j) words })
             (pools-same layout (taken pool_side kept.published (state_of m kept.log) s.views) (taken pool_side kept.published (state_of m kept.log) (set s.views id w)) s.words (set s.words i (slice_index s.words i)) kept.pools

@@ -16,11 +16,15 @@ use Rattle.npf_cells_words.specs.Layout.{turn_field, phase_field, field_at}
 use Rattle.npf_cells_words.proofs.WordLemmas.{field_reach}
 use Rattle.npf_seats.proofs.SumLemmas.{sum-set, one_of_sum}
 use Rattle.npf_cells_lives.specs.declared.turn.Turn.{Turn}
-use Rattle.npf_cells_lives.specs.Turns.{Homes, Running, running, has_turn, turn_holders, FitsTurn, IsAtHome, Turns}
+use Rattle.npf_cells_lives.specs.Deaths.{unreclaimed}
+use Rattle.npf_cells_lives.specs.Turns.{Homes, Running, running, has_turn, turn_holders, StaysAt, FitsTurn, IsAtHome, Turns}
+use Rattle.npf_cells_lives.proofs.FreedLemmas.{freed_stays}
+use Rattle.npf_cells_lives.proofs.NoteLemmas.{SameAhead, ahead_of_none}
 use Rattle.npf_cells_lives.proofs.TurnLemmas.{has_once, has_none, turns-changed}
 use Rattle.npf_cells_rule.specs.declared.view.CellView.{CellView}
 use Rattle.npf_cells_rule.specs.Cells.{IsCells}
-use Rattle.npf_cells_rule.specs.Views.{turn_side}
+use Rattle.npf_cells_rule.specs.Views.{turn_side, death_side}
+use Rattle.npf_cells_rule.proofs.DeathFrames.{gone_same}
 use Rattle.npf_cells_rule.proofs.Frames.{alone_still}
 use Rattle.npf_cells_rule.proofs.StoodLemmas.{stood_so}
 use Rattle.npf_cells_rule.proofs.TurnFrames.{other_word, turn_step}
@@ -32,8 +36,12 @@ module _ {S A R : Type 0} (m : Meaning S A R) (digest : Key → ℕ) (layout : L
     abbrev k : Machine S
     k = state_of m kept.log
 
+    -- the connections as turns see them
+    abbrev free_k : Machine S
+    free_k = unreclaimed death_side s.views k
+
     abbrev turn : Turn S
-    turn = turn_at slot (k.slot slot)
+    turn = turn_at slot (free_k.slot slot)
 
     abbrev taker : CellView S A R
     taker = record v { turn = Some turn }
@@ -44,6 +52,12 @@ module _ {S A R : Type 0} (m : Meaning S A R) (digest : Key → ℕ) (layout : L
     abbrev homes' : Homes S
     homes' = set s.homes slot none
 
+    abbrev free_k' : Machine S
+    free_k' = unreclaimed death_side (set s.views id taker) k
+
+    same_slot : (p : ℕ) → StaysAt (free_k.slot p) (free_k'.slot p)
+    same_slot p = freed_stays death_side s.views (set s.views id taker) k k p (gone_same m digest layout s.views id v taker at refl p) (inl refl)
+
     other : (j : ℕ) → j ≢ field_at layout Slots slot turn_field → slice_index ws j ≡ slice_index s.words j
     other j ne = other_word m digest layout s kept slot turn_field 1 within (inl refl) j ne
 
@@ -51,7 +65,7 @@ module _ {S A R : Type 0} (m : Meaning S A R) (digest : Key → ℕ) (layout : L
     none_had : turn_holders turn_side s.views slot ≡ 0
     none_had = sym (kept.turns.says slot within) ∙ free
 
-    pub home : IsAtHome layout k s.words s.homes slot
+    pub home : IsAtHome layout free_k s.words s.homes slot
     home = kept.turns.home slot within none_had
 
     -- the pass alone has it then
@@ -63,13 +77,13 @@ module _ {S A R : Type 0} (m : Meaning S A R) (digest : Key → ℕ) (layout : L
         let none' = none_had in
         omega (arith, more, before, now, none')
 
-    turns : Turns turn_side layout k ws homes' (set s.views id taker)
-    turns = turns-changed turn_side layout k k s.words ws s.homes homes' s.views id v taker slot kept.turns at (record {
+    turns : Turns turn_side layout free_k' ws homes' (set s.views id taker)
+    turns = turns-changed turn_side layout free_k free_k' s.words ws s.homes homes' s.views id v taker slot kept.turns at (record {
       reach = length-set s.homes slot none;
       turn = λ p h ne. other (field_at layout Slots p turn_field) (λ e. absurd (ne (omega (arith, e))));
       phase = λ p h ne. other (field_at layout Slots p phase_field) (λ e. absurd (omega (arith, e)));
       home = λ p ne. set_else s.homes slot p none ne;
-      slots = λ p ne. inl refl;
+      slots = λ p ne. same_slot p;
       has = λ p ne. has_none turn p (λ e. ne (sym e)) ∙ sym (ap (has_turn p) turnless);
       others = λ j u theirs ne e has same.
           let mine = one_of_sum (λ (x : CellView S A R). has_turn slot x.turn) s.views j u e in
@@ -81,15 +95,18 @@ module _ {S A R : Type 0} (m : Meaning S A R) (digest : Key → ℕ) (layout : L
       at_home = λ none'. absurd (let one = one_has in omega (arith, one, none'));
       mine = λ turn' is.
           let same : turn ≡ turn' = cc in
-          subst (FitsTurn layout k ws) same (record {
+          subst (FitsTurn layout free_k' ws) same (record {
             exists = within;
             phase = other (field_at layout Slots slot phase_field) (λ e. absurd (omega (arith, e))) ∙ home.phase;
-            stays = inl refl;
+            stays = same_slot slot;
           });
     })
 
+    ahead_none : SameAhead v.turn (Some turn)
+    ahead_none = ahead_of_none v.turn (Some turn) (λ t is. absurd (let no : None ≡ Some t = sym turnless ∙ is in cc)) (λ t is. let same : turn ≡ t = cc in ap (λ (y : Turn S). y.ahead) (sym same)) (λ t is. let same : turn ≡ t = cc in ap (λ (y : Turn S). y.said) (sym same))
+
     pub got : 1 ≤ length v.seats.readers → IsCells m digest layout (record { words = ws; homes = homes'; views = set s.views id taker })
-    got seated = turn_step m digest layout s kept slot turn_field 1 within (inl refl) id v taker homes' at refl refl refl refl (alone_still v taker (kept.alone id v at) seated refl (λ none'. none')) turns
+    got seated = turn_step m digest layout s kept slot turn_field 1 within (inl refl) id v taker homes' at refl refl refl refl ahead_none (alone_still v taker (kept.alone id v at) seated refl (λ none'. none')) turns
 
   -- a try that makes the word of the turn this
   abbrev TurnTry : (st : Step (Running S)) (id slot : ℕ) (v : CellView S A R) (s : State (Running S) (CellView S A R)) → ℕ → Type 0
@@ -100,7 +117,7 @@ module _ {S A R : Type 0} (m : Meaning S A R) (digest : Key → ℕ) (layout : L
       Allows (IsCells m digest layout) n id (v, []) (field_at layout Slots slot turn_field) (λ x. either (eqb x 0) 1 x) (TriesTurn m digest layout slot st (v, []))
   tries st id n slot v lives seated within turnless s kept homes at bound = exchanged (slice_index s.words (field_at layout Slots slot turn_field)) 0 1 (TurnTry st id slot v s)
       (λ free.
-      let x = (state_of m kept.log).slot slot in (
+      let x = (unreclaimed death_side s.views (state_of m kept.log)).slot slot in (
         taker s kept id slot v at within turnless free,
         takes slot (running x.stage),
         (home s kept id slot v at within turnless free).there,

@@ -1,21 +1,32 @@
 -- A load of a node's state or parent, or of a connection's phase or note, keeps the rule.
-use Rattle.std.proofs.Common.{◌≡◌, ℕ, ◌<◌, ◌≤◌, true, List, set, slice_index, refl, sym, ap, ◌∙◌, subst, ⊎_elim, arith}
+use Rattle.std.proofs.Common.{◌≡◌, ℕ, ◌<◌, ◌≤◌, true, Some, None, List, set, slice_index, refl, sym, ap, ◌∙◌, subst, ⊎_elim, arith}
 use Rattle.std.proofs.lemmas.List.{set-get_or}
-use mathlib.Core.Option.{some}
+use mathlib.Core.Option.{some, some-injective}
 use lib.ListN.{get_elem?}
 use Rattle.atomic_table.specs.Table.{State, Me, Step, Allows, stepped, keeps}
-use Rattle.atomic_table.proofs.Lists.{set_again}
+use Rattle.atomic_table.proofs.Lists.{at_map, set_again}
 use Rattle.npf_types.specs.declared.key.Key.{Key}
+use Rattle.npf_core.specs.declared.slot.Slot.{Slot}
+use Rattle.npf_core.specs.History.{state_of}
+use Rattle.npf_core.specs.Machine.{Machine, Holds}
 use Rattle.npf_core.specs.Meaning.{Meaning}
 use Rattle.npf_cells_words.specs.declared.layout.Layout.{Layout}
 use Rattle.npf_cells_words.specs.declared.layout.Pool.{Pool}
 use Rattle.npf_cells_words.specs.declared.layout.Pool.TheVariants.{Slots, Nodes}
-use Rattle.npf_cells_words.specs.Layout.{phase_field, notes_field, field_at, field_count}
-use Rattle.npf_cells_lives.specs.Turns.{Running}
+use Rattle.npf_cells_words.specs.Layout.{phase_field, notes_field, note_field, field_at, field_count}
+use Rattle.npf_cells_lives.specs.declared.turn.Turn.{Turn}
+use Rattle.npf_cells_lives.specs.Deaths.{unreclaimed, last_id}
+use Rattle.npf_cells_lives.proofs.FreedLemmas.{still_there}
+use Rattle.npf_cells_lives.specs.Notes.{note_word, NobodyAhead}
+use Rattle.npf_cells_lives.specs.Turns.{Running, stage_phase}
+use Rattle.npf_cells_lives.proofs.TurnLemmas.{turns_alone}
+use Rattle.npf_cells_rule.specs.NoteLaw.{NamesEnd}
+use Rattle.npf_cells_rule.specs.Views.{seat_side, turn_side, death_side}
+use Rattle.npf_cells_rule.proofs.NoteLawLemmas.{code_above, names_end}
 use Rattle.npf_cells_rule.specs.declared.view.CellView.{CellView}
 use Rattle.npf_cells_rule.specs.Cells.{IsCells}
 use Rattle.npf_cells_rule.proofs.StoodLemmas.{stood_so}
-use Rattle.npf_cells_turns.specs.WordKinds.{IsLoadField, ShowsPhase, LoadsWord}
+use Rattle.npf_cells_turns.specs.WordKinds.{ShowsByTurn, ShowsNote, IsLoadField, ShowsPhase, LoadsWord}
 
 -- such a field is one of the place's words
 pub field_within : (pool : Pool) (field : ℕ) → IsLoadField pool field → field < field_count pool
@@ -34,6 +45,43 @@ module _ {S A R : Type 0} (m : Meaning S A R) (digest : Key → ℕ) (layout : L
   shows_phase s id v kept at Slots slot field = λ turn has there phase. ap (slice_index s.words) (λ i. field_at layout Slots (sym there i) (phase i)) ∙ (kept.turns.each id v turn at has).phase
   shows_phase s id v kept at Nodes node field = tt
 
+  pub shows_note : (s : State (Running S) (CellView S A R)) (id : ℕ) (v : CellView S A R) (kept : IsCells m digest layout s) → get_elem? s.views id ≡ some v → (pool : Pool) (place field : ℕ) →
+      ShowsNote v.pools.notes pool place field (slice_index s.words (field_at layout pool place field))
+  shows_note s id v kept at Slots slot field = λ value c. let fits = kept.notes.each id v (record { slot = slot; field = field; value = value }) at c in ap (λ f. slice_index s.words (field_at layout Slots slot f)) fits.field_is ∙ fits.stands
+  shows_note s id v kept at Nodes node field = tt
+
+  -- while a pass that has a slot's turn is ahead of none of its notes, nobody is
+  pub own_alone : (s : State (Running S) (CellView S A R)) (id : ℕ) (v : CellView S A R) (turn : Turn S) (kept : IsCells m digest layout s) → get_elem? s.views id ≡ some v → v.turn ≡ Some turn → turn.ahead ≡ None → (slot field : ℕ) → turn.slot ≡ slot →
+      NobodyAhead turn_side s.views slot field
+  own_alone s id v turn kept at has settled slot field there j u e a =
+      let same : j ≡ id = turns_alone turn_side layout (unreclaimed death_side s.views (state_of m kept.log)) s.words s.homes s.views j id u v a.mine turn kept.turns e at a.has has (a.there ∙ sym there) in
+      let one : u ≡ v = some-injective u v (sym e ∙ (ap (get_elem? s.views) same ∙ at)) in
+      let turns : a.mine ≡ turn = (let d : Some a.mine ≡ Some turn = sym a.has ∙ (ap (λ (y : CellView S A R). y.turn) one ∙ has) in cc) in
+      let no : None ≡ Some a.note = sym settled ∙ (ap (λ (t : Turn S). t.ahead) (sym turns) ∙ a.ahead) in
+      cc
+
+  pub shows_by_turn : (s : State (Running S) (CellView S A R)) (id : ℕ) (v : CellView S A R) (kept : IsCells m digest layout s) → get_elem? s.views id ≡ some v → v.seats.lives ≡ true → (pool : Pool) (place field : ℕ) →
+      ShowsByTurn m digest layout v pool place field (slice_index s.words (field_at layout pool place field))
+  shows_by_turn s id v kept at lives Slots slot field = λ turn way has there settled live is.
+      let k : Machine S = state_of m kept.log in
+      let fits = kept.turns.each id v turn at has in
+      let same : k.slot turn.slot ≡ turn.was = (still_there death_side s.views k turn.slot turn.was fits.stays (λ idle. absurd (let no : 1 ≡ 0 = sym live ∙ idle in cc))).0 in
+      let now : stage_phase (k.slot slot).stage ≡ 1 = ap (λ p. stage_phase (k.slot p).stage) (sym there) ∙ (ap (λ (x : Slot S). stage_phase x.stage) same ∙ live) in
+      let nobody : NobodyAhead turn_side s.views slot (note_field way) = own_alone s id v turn kept at has settled slot (note_field way) there in
+      let noted : slice_index s.words (field_at layout Slots slot field) ≡ note_word layout s.words slot way = ap (λ f. slice_index s.words (field_at layout Slots slot f)) is in
+      let names : (key : Key) → Holds k (last_id k slot) way key → NamesEnd digest layout s.words key (slice_index s.words (field_at layout Slots slot field)) = (λ key holds. subst (NamesEnd digest layout s.words key) (sym noted) (names_end m layout digest s kept slot way key nobody holds)) in
+      record {
+        state = s;
+        rule = kept;
+        seated = ap (get_elem? s.views) (((kept.seats.each id v.seats (at_map seat_side s.views id v at)).lives lives).number) ∙ at;
+        zero = (
+          λ none key holds. (let end = names key holds in let some' = code_above end.place in absurd (omega (arith, none, end.names, some'))),
+          λ none. noted ∙ kept.notes.bare slot way (subst (λ p. p < layout.slots) there fits.exists) now none,
+        );
+        names = names;
+      }
+  shows_by_turn s id v kept at lives Nodes node field = tt
+
   pub may_load_word : (st : Step (Running S)) (id n : ℕ) (pool : Pool) (place field : ℕ) (me : Me (Running S) (CellView S A R)) → me.0.seats.lives ≡ true →
       Allows (IsCells m digest layout) n id me (field_at layout pool place field) (λ k. k) (LoadsWord m digest layout pool place field st me)
   may_load_word st id n pool place field me lives s kept homes at bound =
@@ -45,6 +93,8 @@ module _ {S A R : Type 0} (m : Meaning S A R) (digest : Key → ℕ) (layout : L
         record {
           is = refl;
           stored = λ n e. (kept.stored id me.0 at).stands i n e;
+          by_turn = shows_by_turn s id me.0 kept at lives pool place field;
+          noted = shows_note s id me.0 kept at pool place field;
           phase = shows_phase s id me.0 kept at pool place field;
           stood = stood_so m digest layout s id me.0 i i kept at lives refl;
         },

@@ -1,4 +1,5 @@
 pub mod EndKinds
+pub mod NoteKinds
 pub mod SightKinds
 pub mod TurnKinds
 pub mod TurnsLaw

@@ -1,5 +1,5 @@
 -- What a try to get a slot's turn changes in the pass's own view, and what it tells.
-use Rattle.std.specs.Prelude.{◌≡◌, ◌≢◌, ℕ, ◌↔◌, Bool, true, Some, [], ◌∷◌}
+use Rattle.std.specs.Prelude.{◌≡◌, ◌≢◌, ℕ, ◌↔◌, Bool, true, Some, None, [], ◌∷◌}
 use Rattle.atomic_table.specs.Table.{Me, Step}
 use Rattle.npf_types.specs.declared.key.Key.{Key}
 use Rattle.npf_core.specs.declared.slot.Slot.{Slot}
@@ -14,7 +14,7 @@ use Rattle.npf_cells_rule.specs.Stood.{StoodSo}
 
 -- the turn of a slot that is at this
 abbrev pub turn_at : {S : Type 0} → ℕ → Slot S → Turn S
-turn_at slot x = record { slot = slot; was = x; phase = stage_phase x.stage }
+turn_at slot x = record { slot = slot; was = x; phase = stage_phase x.stage; ahead = None; said = None }
 
 -- the pass got the turn, and carries what the slot held
 pub record HasTaken {S A R : Type 0} (slot : ℕ) (old now : Me (Running S) (CellView S A R)) : Type 0 where

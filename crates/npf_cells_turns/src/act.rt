@@ -28,4 +28,8 @@ pub enum TurnAct<'a, S, A> {
         id: ConnId,
         now: u64,
     },
+    /// A Dead connection that nobody may speak of any more: its slot is the pass's own.
+    Reclaim {
+        id: ConnId,
+    },
 }

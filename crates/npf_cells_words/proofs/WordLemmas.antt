@@ -11,7 +11,7 @@ use Rattle.npf_paths.specs.Places.{lock_of}
 use Rattle.npf_cells_words.specs.declared.layout.Layout.{Layout}
 use Rattle.npf_cells_words.specs.declared.layout.Pool.{Pool}
 use Rattle.npf_cells_words.specs.declared.layout.Pool.TheVariants.{Slots, Nodes}
-use Rattle.npf_cells_words.specs.Layout.{inc_field, parent_field, field_at, root_at, word_count, pool_places, pool_words, pool_at, field_count, key_field}
+use Rattle.npf_cells_words.specs.Layout.{inc_field, parent_field, note_field, field_at, root_at, word_count, pool_places, pool_words, pool_at, field_count, key_field}
 use Rattle.npf_cells_words.specs.WordsLaw.{FieldsAreApart, PlacesAreApart, LocksAreApart}
 use Rattle.npf_cells_words.specs.Places.{IsLockOf, IsInTrie, lock_at, place_at, is_in_trie}
 
@@ -89,6 +89,28 @@ field_reach layout Nodes place field h k = omega (arith, h, k)
 -- no word of a node is an incarnation
 pub node_apart : (layout : Layout) (node field slot : ℕ) → node < layout.nodes → field < 18 → field_at layout Slots slot inc_field ≢ field_at layout Nodes node field
 node_apart layout node field slot h k e = absurd (omega (arith, h, k, e))
+
+-- the notes are a connection's last words
+pub note_late : (way : Way) → 18 ≤ note_field way
+note_late Forward = omega arith
+note_late Backward = omega arith
+note_late Port = omega arith
+
+pub note_soon : (way : Way) → note_field way < 21
+note_soon Forward = omega arith
+note_soon Backward = omega arith
+note_soon Port = omega arith
+
+pub same_note : (way other : Way) → note_field way ≡ note_field other → way ≡ other
+same_note Forward Forward e = refl
+same_note Forward Backward e = absurd (omega (arith, e))
+same_note Forward Port e = absurd (omega (arith, e))
+same_note Backward Forward e = absurd (omega (arith, e))
+same_note Backward Backward e = refl
+same_note Backward Port e = absurd (omega (arith, e))
+same_note Port Forward e = absurd (omega (arith, e))
+same_note Port Backward e = absurd (omega (arith, e))
+same_note Port Port e = refl
 
 -- the words of a key lie within those of a connection
 pub key_short : (way : Way) (place : ℕ) → place < 5 → key_field way + place < 18

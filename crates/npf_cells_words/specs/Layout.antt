@@ -5,6 +5,7 @@ use Rattle.std.specs.Prelude.{ℕ, ◌+◌, ◌*◌, ◌/◌, ◌%◌, List, sli
 use Rattle.npf_types.specs.declared.key.Way.{Way}
 use Rattle.npf_types.specs.declared.key.Way.TheVariants.{Forward, Backward, Port}
 use Rattle.npf_connections.specs.Pass.{all_places}
+use Rattle.npf_paths.specs.CellWords.{way_number}
 use Rattle.npf_cells_words.specs.declared.layout.Layout.{Layout}
 use Rattle.npf_cells_words.specs.declared.layout.Pool.{Pool}
 use Rattle.npf_cells_words.specs.declared.layout.Pool.TheVariants.{Slots, Nodes}
@@ -65,6 +66,10 @@ phase_field = 2
 -- where the notes begin, one for each way
 abbrev pub notes_field : ℕ
 notes_field = 18
+
+-- the field of the note of a way
+abbrev pub note_field : Way → ℕ
+note_field way = notes_field + way_number way
 
 -- where the five words of the key of a way begin
 abbrev pub key_field : Way → ℕ

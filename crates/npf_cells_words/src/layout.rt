@@ -2,7 +2,7 @@ ghost use Rattle.std.specs.Prelude.{◌≡◌, ◌+◌, ◌<◌};
 ghost use Rattle.npf_cells_words.specs.Codes.{place_code};
 ghost use Rattle.npf_cells_words.specs.Places.{IsLockOf, lock_at};
 ghost use Rattle.npf_cells_words.specs.Places.{IsInTrie, place_at};
-ghost use Rattle.npf_cells_words.specs.Layout.{key_field, reader_at, pool_at, pool_places, pool_words, field_at, field_count, word_count};
+ghost use Rattle.npf_cells_words.specs.Layout.{key_field, note_field, reader_at, pool_at, pool_places, pool_words, field_at, field_count, word_count};
 
 use npf_paths::{Lock, Place};
 use npf_types::Way;
@@ -154,6 +154,17 @@ pub fn reader_place(reader: u32) -> usize
     ensures { result ≡ reader_at reader }
 {
     1 + reader as usize
+}
+
+/// The field of the note of a way among a connection's words.
+pub fn note_field(way: Way) -> u32
+    ensures { result ≡ note_field way }
+{
+    match way {
+        Way::Forward => 18,
+        Way::Backward => 19,
+        Way::Port => 20,
+    }
 }
 
 /// The field of a word of a way's key among a connection's words.

@@ -10,5 +10,5 @@ mod layout;
 pub use laws::words_law;
 pub use layout::{
     EPOCH, FIRST_EPOCH, IDLE, INCARNATION, LAST_EPOCH, Layout, PARENT, PHASE, Pool, READERS, STATE,
-    TURN, key_field, place_code, reader_place,
+    TURN, key_field, note_field, place_code, reader_place,
 };

@@ -12,6 +12,7 @@ use Rattle.npf_core.specs.History.{Legal, state_of}
 use Rattle.npf_core.specs.Machine.{HoldsNone}
 use Rattle.npf_core.specs.Meaning.{Meaning}
 use Rattle.npf_connections.specs.Entries.{entry_of}
+use Rattle.npf_connections.specs.Pass.{IsPass}
 use Rattle.npf_connections.proofs.StayLemmas.{claimed_holds_none}
 use Rattle.npf_cells_words.specs.declared.layout.Layout.{Layout}
 use Rattle.npf_cells_words.specs.declared.layout.Pool.TheVariants.{Slots}
@@ -70,8 +71,8 @@ module _ {S A R F : Type 0} (m : Meaning S A R) (n slot before : ℕ) (old now :
     there = has.slot_is;
     turnless = omega arith;
     phaseless = λ e. absurd (omega (arith, e));
+    noteless = omega arith;
     inc = λ _. next_inc;
-    epochless = λ far. absurd (omega (arith, far));
     keyless = λ way _ _. bare m n slot old now has way;
   }
 
@@ -85,6 +86,7 @@ module _ {S A R F : Type 0} (m : Meaning S A R) (n slot before : ℕ) (old now :
       bare = subst (λ (y : Me F (CellView S A R)). HoldsNone (state_of m y.0.seats.history) has.id way) (sym is) (bare m n slot old now has way);
     });
     stored = unowed;
+    legal = subst (λ (y : Me F (CellView S A R)). IsPass m (cell_pass y.0)) (sym is) has.legal;
   }
     where
       built : Contains stored.0.pools.builds has.id

@@ -1,5 +1,5 @@
 -- A place is filled under its lock.
-use Rattle.std.proofs.Common.{◌≡◌, ℕ, ◌<◌, Some, length, List, [], ◌∷◌, refl, sym, ap, ◌∙◌, subst, inl}
+use Rattle.std.proofs.Common.{◌≡◌, ℕ, ◌<◌, Some, None, length, List, [], ◌∷◌, refl, sym, ap, ◌∙◌, subst, inl, arith}
 use Rattle.std.specs.List.{Contains}
 use Rattle.atomic_table.specs.Table.{Me}
 use Rattle.npf_core.specs.Meaning.{Meaning}
@@ -23,7 +23,7 @@ use Rattle.npf_cells_holds.specs.HoldKinds.{MayHoldSo}
 use Rattle.npf_cells_holds.specs.LockKinds.{locking}
 use Rattle.npf_cells_holds.specs.LookKinds.{StandsOnPath}
 use Rattle.npf_cells_rule.specs.Views.{with_trie, with_pools}
-use Rattle.npf_cells_holds.specs.PublishKinds.{HasStoredKey, MayPublish, Published}
+use Rattle.npf_cells_holds.specs.PublishKinds.{HasStoredKey, MayPublish, MayPublishFor, Published}
 use Rattle.npf_cells_holds.specs.PublishKinds.PutsFor.{fills}
 use Rattle.npf_trie.specs.declared.step.Met.{Met}
 use Rattle.npf_trie.specs.declared.step.Met.TheVariants.{Holder, Other}
@@ -33,6 +33,10 @@ use Rattle.npf_trie.specs.declared.step.Step.TheVariants.{Ends, Leads, Again}
 use Rattle.npf_trie.specs.declared.step.Wanted.{Wanted}
 use Rattle.npf_trie.specs.HoldKey.{CanHold, IsAtPlace, StepsSo, TellsMet}
 use Rattle.npf_trie.specs.LookUp.{ComparesWords}
+use Rattle.npf_trie.specs.Stores.{MayStoreKey}
+use Rattle.npf_trie.proofs.StoreLemmas.{noting}
+use Rattle.npf_cells_words.specs.Codes.{place_code}
+use Rattle.npf_cells_words.specs.Layout.{note_field}
 use Rattle.npf_trie.proofs.HoldLemmas.{comes_after, comes_then, steps_so, StaysOn, stays_after, stays_trie, stays_stored, at_after, may_after}
 use Rattle.npf_trie.proofs.StepLemmas.{Comes, Loads, node_leads, mark_stays, sees_empty, empty_stays, holder_read_ends, other_read_stays, published_ends}
 
@@ -58,6 +62,7 @@ pub record IsReady {S A R F : Type 0} (m : Meaning S A R) (digest : Key → ℕ)
   pub nodes : d.0.pools.nodes ≡ []
   pub locks : d.0.trie.locks ≡ lock_of point.place ∷ []
   pub free : a.0.trie.locks ≡ []
+  pub turnless : d.0.turn ≡ None
 
 -- it stored the key and got the lock
 pub ready_now : {S A R F : Type 0} (m : Meaning S A R) (digest : Key → ℕ) (layout : Layout) (wanted : Wanted) (point : Point) (lock : Lock) (words : List StoredWord) (a b d : Me F (CellView S A R)) →
@@ -75,6 +80,7 @@ ready_now {S} {A} {R} {F} m digest layout wanted point lock words a b d can at i
       nodes = stays.keeps.nodes ∙ can.nodes;
       locks = ap (λ (y : Me F (CellView S A R)). y.0.trie.locks) gets ∙ (ap (λ locks. lock ∷ locks) (ap (λ (y : Me F (CellView S A R)). y.0.trie.locks) stores ∙ can.locks) ∙ ap (λ l. l ∷ []) is_lock);
       free = can.locks;
+      turnless = stays.keeps.turn ∙ can.turnless;
     }
 
 module _ {S A R F : Type 0} {m : Meaning S A R} {digest : Key → ℕ} {layout : Layout} {wanted : Wanted} {point : Point} {a d : Me F (CellView S A R)} (ready : IsReady m digest layout wanted point a d) where
@@ -121,20 +127,27 @@ module _ {S A R F : Type 0} {m : Meaning S A R} {digest : Key → ℕ} {layout :
       stayed : Comes m digest layout wanted point Again d e
       stayed = empty_stays m digest layout wanted point d e loads ready.at
 
-      module _ (leaf : Cell) (aim' : Aim) (aimed' : aim' ≡ Aim.Hold wanted.id wanted.key wanted.way) where
-        pub may_fill : leaf ≡ Leaf wanted.id.slot wanted.way → MayPublish m digest layout e.0 point.place leaf (Some aim')
-        may_fill leaf_is = subst (λ (x : Cell). MayPublish m digest layout e.0 point.place x (Some aim')) (sym leaf_is) (subst (λ (x : Aim). MayPublish m digest layout e.0 point.place (Leaf wanted.id.slot wanted.way) (Some x)) (sym aimed') (record {
-          hold = may_after m d e wanted.id wanted.way stayed.comes.0 ready.may;
-          stands = stayed.comes.1.stands;
-          exists = ready.exists;
-          key_stored = subst (λ (y : Me F (CellView S A R)). HasStoredKey layout y.0.pools.stored wanted.id.slot wanted.way wanted.key) (sym (loads.nothing (inl refl))) ready.key_stored;
-          inc_stored = λ inside. ready.stored (subst (λ slots. Contains slots wanted.id.slot) stayed.comes.0.keeps.unstored inside);
-          nodes = [];
-          puts = fills (sees_empty m digest layout wanted point d e [] loads ready.locks);
-        }))
+      pub may_note : MayStoreKey m e.0 wanted.id.slot wanted.way
+      may_note = record { id = wanted.id; there = refl; hold = may_after m d e wanted.id wanted.way stayed.comes.0 ready.may }
 
-        pub came_empty : (f : Me F (CellView S A R)) → Published m digest layout point.place leaf (Some aim') e f → Comes m digest layout wanted point (Ends Held.Done) d f
+      -- once its note names the place
+      module _ (leaf : Cell) (aim' : Aim) (aimed' : aim' ≡ Aim.Hold wanted.id wanted.key wanted.way) (value : ℕ) (n : Me F (CellView S A R)) (noted : n ≡ noting wanted.id.slot wanted.way value e) where
+        pub may_fill : value ≡ place_code point.place → leaf ≡ Leaf wanted.id.slot wanted.way → MayPublish m digest layout n.0 point.place leaf (Some aim')
+        may_fill names leaf_is = subst (λ (x : Cell). MayPublish m digest layout n.0 point.place x (Some aim')) (sym leaf_is) (subst (λ (x : Aim). MayPublish m digest layout n.0 point.place (Leaf wanted.id.slot wanted.way) (Some x)) (sym aimed')
+            (subst (λ (y : Me F (CellView S A R)). MayPublishFor m digest layout y.0 wanted.id wanted.key wanted.way point.place (Leaf wanted.id.slot wanted.way)) (sym noted) (record {
+              hold = let may = may_after m d e wanted.id wanted.way stayed.comes.0 ready.may in record { built = may.built; bare = may.bare };
+              stands = stayed.comes.1.stands;
+              exists = ready.exists;
+              key_stored = subst (λ (y : Me F (CellView S A R)). HasStoredKey layout y.0.pools.stored wanted.id.slot wanted.way wanted.key) (sym (loads.nothing (inl refl))) ready.key_stored;
+              inc_stored = λ inside. ready.stored (subst (λ slots. Contains slots wanted.id.slot) stayed.comes.0.keeps.unstored inside);
+              nodes = [];
+              puts = fills (sees_empty m digest layout wanted point d e [] loads ready.locks);
+              noted = (0, omega arith, λ i. record { slot = wanted.id.slot; field = note_field wanted.way; value = names i });
+              moves = λ t has. absurd (let no : None ≡ Some t = sym (stayed.comes.0.keeps.turn ∙ ready.turnless) ∙ has in cc);
+            })))
+
+        pub came_empty : (f : Me F (CellView S A R)) → Published m digest layout point.place leaf (Some aim') n f → Comes m digest layout wanted point (Ends Held.Done) d f
         came_empty f published =
-            let held = subst (λ (x : Aim). Published m digest layout point.place leaf (Some x) e f) aimed' published in
-            let ended = published_ends m digest layout wanted point leaf e f held (stayed.comes.0.keeps.nodes ∙ ready.nodes) in
+            let held = subst (λ (x : Aim). Published m digest layout point.place leaf (Some x) n f) aimed' published in
+            let ended = published_ends m digest layout wanted point leaf value e n f noted held (stayed.comes.0.keeps.nodes ∙ ready.nodes) (stayed.comes.0.keeps.turn ∙ ready.turnless) in
             record { comes = comes_after m digest layout wanted point (Ends Held.Done) d e f stayed.comes.0 ended.comes; locks = ended.locks ∙ stayed.locks }

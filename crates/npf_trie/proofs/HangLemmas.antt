@@ -1,6 +1,6 @@
 -- What a pass meets in a place that it has locked, and what it has once it hung its new nodes there.
-use Rattle.std.proofs.Common.{◌≡◌, ◌≢◌, ℕ, ◌+◌, ◌∷◌, [], Bool, true, false, Some, List, length, refl, sym, ap, ◌∙◌, subst, arith}
-use Rattle.std.specs.Prelude.{nat_eq, Contains, ◌&&◌}
+use Rattle.std.proofs.Common.{◌≡◌, ◌≢◌, ℕ, ◌+◌, ◌^◌, ◌<◌, ◌∷◌, [], Bool, true, false, Option, Some, None, List, length, refl, sym, ap, ◌∙◌, subst, arith}
+use Rattle.std.specs.Prelude.{nat_eq, ◌&&◌}
 use Rattle.std.proofs.lemmas.Bool.Decides.{Decides-and, Decides-eqb}
 use denote.Enum.Bare.{sameb}
 use Rattle.atomic_table.specs.Table.{Me}
@@ -36,15 +36,35 @@ use Rattle.npf_cells_holds.specs.HoldKinds.{meeting, renewed, HasMetHolder, Meet
 use Rattle.npf_cells_holds.specs.LookKinds.{StandsOnPath, level_of, level_at, IsLeafIn, IsLeafOf}
 use Rattle.npf_cells_rule.specs.Views.{with_trie}
 use Rattle.npf_cells_rule.specs.Passes.{IsProtected, cell_pass}
-use Rattle.npf_cells_holds.specs.PublishKinds.{MayPublish, MayPublishFor, IsParentStored, GrowsNodes, PutsFor, HasHeld, Published, nodes_but, publishing, published_for, cell_stored}
+use Rattle.npf_cells_holds.specs.PublishKinds.{MayPublish, MayPublishFor, IsParentStored, GrowsNodes, PutsFor, IsAheadTo, MovesLeaf, HasHeld, Published, nodes_but, publishing, cell_stored}
 use Rattle.npf_cells_holds.specs.PublishKinds.PutsFor.{fills, grows}
-use Rattle.npf_cells_leaves.specs.Parents.{NameParents}
+use Rattle.npf_cells_holds.specs.LockKinds.{locking}
+use Rattle.npf_cells_leaves.specs.Parents.{foot_place, NameParents}
+use Rattle.npf_cells_leaves.specs.Sights.{SeesLocked}
+use Rattle.npf_cells_lives.specs.declared.pools.Note.{Note}
+use Rattle.npf_cells_lives.specs.declared.pools.StoredWord.{StoredWord}
+use Rattle.npf_cells_lives.specs.declared.turn.Ahead.{Ahead}
+use Rattle.npf_cells_lives.specs.declared.turn.Turn.{Turn}
+use Rattle.npf_cells_lives.specs.Notes.{notes_but, with_ahead}
+use Rattle.npf_cells_lives.specs.Turns.{Running, running}
+use Rattle.npf_cells_takes.specs.PrivateKinds.{MayStoreAhead, leading}
+use Rattle.npf_cells_turns.specs.declared.act.TurnAct.TheVariants.{Nothing}
+use Rattle.npf_cells_turns.specs.EndKinds.{MayEndBy}
+use Rattle.npf_cells_turns.specs.TurnKinds.{HasTaken, turn_at}
+use Rattle.npf_cells_words.specs.Codes.{place_code}
+use Rattle.npf_cells_words.specs.Layout.{note_field}
+use Rattle.npf_paths.specs.declared.place.Lock.{Lock}
 use Rattle.npf_cells_leaves.specs.Trie.{digits_of}
 use Rattle.npf_trie.specs.declared.step.Met.TheVariants.{Holder, Other}
 use Rattle.npf_trie.specs.declared.step.OtherLeaf.{OtherLeaf}
 use Rattle.npf_trie.specs.declared.step.Point.{Point}
 use Rattle.npf_trie.specs.declared.step.Wanted.{Wanted}
-use Rattle.npf_trie.specs.HoldKey.{IsAtPlace, TellsMet, HasGrown, HoldsNodes, HasHung}
+use Rattle.npf_trie.specs.declared.step.Branch.{Branch}
+use Rattle.npf_trie.specs.declared.step.Step.{Step}
+use Rattle.npf_trie.specs.declared.step.Step.TheVariants.{Ends, Leads, Again}
+use Rattle.npf_trie.specs.HoldKey.{IsAtPlace, TellsMet, HasNewTurn, HasGrown, SeesOtherLeaf, HoldsNodes, HasHung, HangsSo}
+use Rattle.npf_trie.specs.Stores.{MayStoreKey}
+use Rattle.npf_trie.proofs.StoreLemmas.{noting, notes_once}
 use Rattle.npf_trie.specs.LookUp.{ComparesWords}
 
 -- a branch as its first node has it: either key's leaf is there, or a node that leads on
@@ -143,13 +163,6 @@ module _ {S A R : Type 0} where
             ]
       ]
 
-  abbrev having_hung : CellView S A R → List (Entry S A R) → TrieSide → ℕ → List ℕ → CellView S A R
-  having_hung v history side grown nodes = record v {
-    seats = record v.seats { history = history };
-    pools = record v.pools { nodes = nodes; stored = [] };
-    trie = record (publishing (renewed side)) { grown = side.grown + grown };
-  }
-
 -- the pass loaded the place, met the leaf of another key there, and compared words of that
 pub record SeesOther {S A R F : Type 0} (key : Key) (p : Place) (slot : ℕ) (leaf_way : Way) (other : Key) (old now : Me F (CellView S A R)) : Type 0 where
   pub leaf : LoadedLeaf
@@ -235,79 +248,359 @@ module _ {S A R F : Type 0} (digest : Key → ℕ) (layout : Layout) where
     place_stays digest layout old.0 now.0 key point (ap (λ (y : Me F (CellView S A R)). y.0.trie.stands) sees.is) at,
   )
 
-module _ {S A R F : Type 0} (m : Meaning S A R) (digest : Key → ℕ) (layout : Layout) where
-  module _ (wanted : Wanted) (point : Point) (other : OtherLeaf) (first : ℕ) (old now : Me F (CellView S A R)) (grown : HasGrown m digest layout old.0 wanted point other first)
-      (sees : SeesOther wanted.key point.place other.slot other.way other.key old now) where
-    abbrev side : TrieSide
-    side = record (meeting wanted.key point.place (Cells.Leaf other.slot other.way) (level_at old.0.trie point.place) sees.leaf old.0.trie) { words = now.0.trie.words }
+-- who is ahead of nothing again has the turn as it was without being ahead
+led_back : {S : Type 0} (turn : Option (Turn S)) (ahead : Option Ahead) → with_ahead None (with_ahead ahead turn) ≡ with_ahead None turn
+led_back None ahead = refl
+led_back (Some turn) ahead = refl
 
-    -- what it grew is for the leaf that it met
-    grown_for : GrowsNodes digest layout (record old.0 { trie = side }) wanted.id.slot wanted.way wanted.key sees.leaf point.place (level_at side point.place) first grown.nodes
+module _ {S A R F : Type 0} (m : Meaning S A R) (digest : Key → ℕ) (layout : Layout) (wanted : Wanted) (point : Point) (branch : Branch) where
+  -- what a pass met leaves what it has built and its turn, and shows the other leaf
+  module _ (old now : Me F (CellView S A R)) (sees : SeesOther wanted.key point.place branch.other.slot branch.other.way branch.other.key old now) where
+    abbrev side : TrieSide
+    side = record (meeting wanted.key point.place (Cells.Leaf branch.other.slot branch.other.way) (level_at old.0.trie point.place) sees.leaf old.0.trie) { words = now.0.trie.words }
+
+    pub grown_still : HasGrown m digest layout old.0 wanted point branch → HasGrown m digest layout now.0 wanted point branch
+    grown_still grown = subst (λ (y : Me F (CellView S A R)). HasGrown m digest layout y.0 wanted point branch) (sym sees.is) (record {
+      may = record { built = grown.may.built; bare = grown.may.bare };
+      exists = grown.exists;
+      stored = grown.stored;
+      at = place_stays digest layout old.0 _ wanted.key point refl grown.at;
+      key_stored = grown.key_stored;
+      nodes = grown.nodes;
+      leads = grown.leads;
+      owned = grown.owned;
+      apart = grown.apart;
+      parents = grown.parents;
+      all = grown.all;
+      some = grown.some;
+      own_place = grown.own_place;
+      moved_to = grown.moved_to;
+    })
+
+    pub turn_still : HasNewTurn old.0.turn branch.other.slot → HasNewTurn now.0.turn branch.other.slot
+    turn_still turn = subst (λ (y : Me F (CellView S A R)). HasNewTurn y.0.turn branch.other.slot) (sym sees.is) turn
+
+    pub sees_leaf : old.0.trie.locks ≡ lock_of point.place ∷ [] → SeesOtherLeaf now.0.trie wanted.key point branch.other
+    sees_leaf locked = subst (λ (y : Me F (CellView S A R)). SeesOtherLeaf y.0.trie wanted.key point branch.other) (sym sees.is) (record {
+      leaf = sees.leaf;
+      known = refl;
+      is = (sees.is_leaf.slot_is, sees.is_leaf.way_is, sym sees.other_is);
+      differs = sees.differs;
+      sees = record {
+        locked = rw locked (0, omega arith, refl);
+        saw = record { key = wanted.key; level = level_at old.0.trie point.place; place = point.place; cell = Cells.Leaf branch.other.slot branch.other.way };
+        seen = refl;
+        there = refl;
+        was = λ i. Cells.Leaf (sym sees.is_leaf.slot_is i) (sym sees.is_leaf.way_is i);
+      };
+    })
+
+    -- what is hung then is hung behind it
+    pub hung_then : (next : Me F (CellView S A R)) → HasHung m wanted Held.Done now next → HasHung m wanted Held.Done old next
+    hung_then next has =
+        let history : List (Entry S A R) = next.0.seats.history in
+        let words : List StoredWord = next.0.pools.stored in
+        let last : TrieSide = next.0.trie in
+        let adds = subst (λ (y : Me F (CellView S A R)). AddsOwn (cell_pass y.0) history (hold_entries (cell_pass y.0) wanted.id wanted.key wanted.way Held.Done)) sees.is has.adds in
+        record {
+          some = has.some;
+          adds = record { adds = record { rest = adds.adds.rest; goes_on = adds.adds.goes_on; own = adds.adds.own; listed = adds.adds.listed }; ends = adds.ends };
+          legal = has.legal;
+          answered = has.answered;
+          done = λ e. has.done e ∙ ap (λ (y : Me F (CellView S A R)). (
+            record y.0 {
+              seats = record y.0.seats { history = history };
+              pools = record y.0.pools { nodes = []; stored = words; notes = notes_but wanted.id.slot (note_field wanted.way) y.0.pools.notes };
+              trie = record last { locks = y.0.trie.locks };
+              turn = with_ahead None y.0.turn;
+            },
+            y.1,
+          )) sees.is;
+          taken = λ e. absurd (e refl);
+        }
+
+  -- a pass that sees the other leaf under the lock, and has its slot's turn
+  module _ (old : Me F (CellView S A R)) (grown : HasGrown m digest layout old.0 wanted point branch) (turn : HasNewTurn old.0.turn branch.other.slot) (sees : SeesOtherLeaf old.0.trie wanted.key point branch.other)
+      (own moved : ℕ) (own_is : own ≡ place_code branch.own_place) (moved_is : moved ≡ place_code branch.moved_to) where
+    abbrev noted : Me F (CellView S A R)
+    noted = noting wanted.id.slot wanted.way own old
+
+    abbrev led : Me F (CellView S A R)
+    led = leading (note_field branch.other.way) moved noted
+
+    pub may_note_own : MayStoreKey m old.0 wanted.id.slot wanted.way
+    may_note_own = record { id = wanted.id; there = refl; hold = grown.may }
+
+    -- it may be ahead of that leaf's note
+    pub may_lead : (n : Me F (CellView S A R)) → n ≡ noted → moved < 2 ^ 63 → MayStoreAhead n.0 branch.other.slot branch.other.way moved
+    may_lead n is low = subst (λ (y : Me F (CellView S A R)). MayStoreAhead y.0 branch.other.slot branch.other.way moved) (sym is) (record {
+      turn = turn.mine;
+      has = turn.has;
+      there = turn.there;
+      settled = turn.settled;
+      from = point.place;
+      sees = subst (SeesLocked old.0.trie point.place) (λ i. Cells.Leaf (sees.is.0 i) (sees.is.1 i)) sees.sees;
+      to = branch.moved_to;
+      names = moved_is;
+      low = low;
+    })
+
+    grown_for : GrowsNodes digest layout led.0 wanted.id.slot wanted.way wanted.key sees.leaf point.place (level_at led.0.trie point.place) branch.first grown.nodes
     grown_for =
-        let level : point.level ≡ level_at side point.place = sym (level_stays point.place old.0.trie side refl ∙ grown.at.level_is) in
-        let same : Cells.Leaf other.slot other.way ≡ Cells.Leaf sees.leaf.slot sees.leaf.way = let is_leaf = sees.is_leaf in cc in
+        let level : point.level ≡ level_at led.0.trie point.place = sym grown.at.level_is in
         let cell : Place → Cell = cell_stored layout old.0.pools.stored in
         record {
-          branch = subst (λ l. IsBranch (digits_of digest wanted.key) (digits_of digest sees.leaf.key) cell (Cells.Leaf wanted.id.slot wanted.way) (Cells.Leaf sees.leaf.slot sees.leaf.way) (l + 1) first grown.nodes) level
-              (subst (λ c. IsBranch (digits_of digest wanted.key) (digits_of digest sees.leaf.key) cell (Cells.Leaf wanted.id.slot wanted.way) c (point.level + 1) first grown.nodes) same
-              (subst (λ k. IsBranch (digits_of digest wanted.key) (digits_of digest k) cell (Cells.Leaf wanted.id.slot wanted.way) (Cells.Leaf other.slot other.way) (point.level + 1) first grown.nodes) sees.other_is grown.branch));
+          branch = subst (λ l. IsBranch (digits_of digest wanted.key) (digits_of digest sees.leaf.key) cell (Cells.Leaf wanted.id.slot wanted.way) (Cells.Leaf sees.leaf.slot sees.leaf.way) (l + 1) branch.first grown.nodes) level
+              (subst (λ c. IsBranch (digits_of digest wanted.key) (digits_of digest sees.leaf.key) cell (Cells.Leaf wanted.id.slot wanted.way) c (point.level + 1) branch.first grown.nodes) (λ i. Cells.Leaf (sym sees.is.0 i) (sym sees.is.1 i))
+              (subst (λ k. IsBranch (digits_of digest wanted.key) (digits_of digest k) cell (Cells.Leaf wanted.id.slot wanted.way) (Cells.Leaf branch.other.slot branch.other.way) (point.level + 1) branch.first grown.nodes) (sym sees.is.2) grown.leads));
           owned = grown.owned;
           apart = grown.apart;
           parents = subst (λ l. NameParents (digits_of digest wanted.key) (IsParentStored layout old.0.pools.stored) (l + 1) point.place grown.nodes) level grown.parents;
         }
 
-    may_put : PutsFor digest layout (record old.0 { trie = side }) wanted.id wanted.key wanted.way point.place (Cells.Node first) grown.nodes
-    may_put =
-        let there : Contains old.0.trie.locks (lock_of point.place) = rw grown.locked (0, omega arith, refl) in
-        grows sees.leaf first grown.nodes refl (is_not sees.leaf.key wanted.key (is_key sees.leaf.key wanted.key) refl sees.differs) (record {
-          locked = there;
-          saw = record { key = wanted.key; level = level_at old.0.trie point.place; place = point.place; cell = Cells.Leaf other.slot other.way };
-          seen = refl;
-          there = refl;
-          was = let is_leaf = sees.is_leaf in cc;
-        }) grown_for
+    may_put : PutsFor digest layout led.0 wanted.id wanted.key wanted.way point.place (Cells.Node branch.first) grown.nodes
+    may_put = grows sees.leaf branch.first grown.nodes sees.known (is_not sees.leaf.key wanted.key (is_key sees.leaf.key wanted.key) refl sees.differs)
+        (record { locked = sees.sees.locked; saw = sees.sees.saw; seen = sees.sees.seen; there = sees.sees.there; was = sees.sees.was }) grown_for
 
-    -- so they may be hung there
-    pub may_hang : (aim : Aim) → aim ≡ Hold wanted.id wanted.key wanted.way → MayPublish m digest layout now.0 point.place (Cells.Node first) (Some aim)
-    may_hang aim is =
-        let may : MayPublishFor m digest layout (record old.0 { trie = side }) wanted.id wanted.key wanted.way point.place (Cells.Node first) = record {
+    -- where that leaf will stand
+    foot : (leaf : LoadedLeaf) → Some sees.leaf ≡ Some leaf → IsAheadTo led.0.turn leaf.slot leaf.way (place_code (foot_place (digits_of digest leaf.key) (level_at led.0.trie point.place + 1) point.place grown.nodes))
+    foot leaf same =
+        let here : sees.leaf ≡ leaf = cc in
+        let moved_at : moved ≡ place_code (foot_place (digits_of digest branch.other.key) (level_at led.0.trie point.place + 1) point.place grown.nodes) =
+        moved_is ∙ (ap place_code grown.moved_to ∙ ap (λ l. place_code (foot_place (digits_of digest branch.other.key) (l + 1) point.place grown.nodes)) (sym grown.at.level_is)) in
+        subst (λ (l : LoadedLeaf). IsAheadTo led.0.turn l.slot l.way (place_code (foot_place (digits_of digest l.key) (level_at led.0.trie point.place + 1) point.place grown.nodes))) here (record {
+          mine = record turn.mine { ahead = Some (record { field = note_field branch.other.way; value = moved }); said = None };
+          has = ap (with_ahead (Some (record { field = note_field branch.other.way; value = moved }))) turn.has;
+          there = turn.there ∙ sym sees.is.0;
+          ahead = λ i. Some (record {
+            field = note_field (sym sees.is.1 i);
+            value = (moved_at ∙ ap (λ k. place_code (foot_place (digits_of digest k) (level_at led.0.trie point.place + 1) point.place grown.nodes)) (sym sees.is.2)) i;
+          });
+        })
+
+    moves : (nodes : List ℕ) → nodes ≡ grown.nodes → MovesLeaf digest led.0 point.place nodes
+    moves [] none = absurd (let some = grown.some in let long = ap length none in omega (arith, some, long))
+    moves (node ∷ nodes) same = λ leaf known.
+        subst (λ ns. IsAheadTo led.0.turn leaf.slot leaf.way (place_code (foot_place (digits_of digest leaf.key) (level_at led.0.trie point.place + 1) point.place ns))) (sym same) (foot leaf (sym sees.known ∙ known))
+
+    -- so the nodes may be hung there
+    pub may_hang : (h : Me F (CellView S A R)) → h ≡ led → (aim : Aim) → aim ≡ Hold wanted.id wanted.key wanted.way → MayPublish m digest layout h.0 point.place (Cells.Node branch.first) (Some aim)
+    may_hang h h_is aim is =
+        let may : MayPublishFor m digest layout led.0 wanted.id wanted.key wanted.way point.place (Cells.Node branch.first) = record {
           hold = record { built = grown.may.built; bare = grown.may.bare };
-          stands = path_stays digest wanted.key point.place old.0.trie side refl grown.at.stands;
+          stands = path_stays digest wanted.key point.place old.0.trie led.0.trie refl grown.at.stands;
           exists = grown.exists;
           key_stored = grown.key_stored;
           inc_stored = grown.stored;
           nodes = grown.nodes;
           puts = may_put;
+          noted = (
+            0,
+            omega arith,
+            λ i. record {
+              slot = wanted.id.slot;
+              field = note_field wanted.way;
+              value = (own_is ∙ (ap place_code grown.own_place ∙ ap (λ l. place_code (foot_place (digits_of digest wanted.key) (l + 1) point.place grown.nodes)) (sym grown.at.level_is))) i;
+            },
+          );
+          moves = moves grown.nodes refl;
         } in
-        subst (λ a. MayPublish m digest layout now.0 point.place (Cells.Node first) (Some a)) (sym is)
-        (subst (λ (y : Me F (CellView S A R)). MayPublishFor m digest layout y.0 wanted.id wanted.key wanted.way point.place (Cells.Node first)) (sym sees.is) may)
+        subst (λ a. MayPublish m digest layout h.0 point.place (Cells.Node branch.first) (Some a)) (sym is)
+        (subst (λ (y : Me F (CellView S A R)). MayPublishFor m digest layout y.0 wanted.id wanted.key wanted.way point.place (Cells.Node branch.first)) (sym h_is) may)
 
     -- and once they hang there, the pass has none of them
-    pub hangs_done : (aim : Aim) (next : Me F (CellView S A R)) → aim ≡ Hold wanted.id wanted.key wanted.way →
-        Published m digest layout point.place (Cells.Node first) (Some aim) now next → HasHung m wanted Held.Done old next
-    hangs_done aim next aims published =
-        let held : HasHeld m digest layout wanted.id wanted.key wanted.way point.place (Cells.Node first) now next =
-        subst (λ a. Published m digest layout point.place (Cells.Node first) (Some a) now next) aims published in
+    pub hangs_done : (h : Me F (CellView S A R)) → h ≡ led → (aim : Aim) (next : Me F (CellView S A R)) → aim ≡ Hold wanted.id wanted.key wanted.way →
+        Published m digest layout point.place (Cells.Node branch.first) (Some aim) h next → HasHung m wanted Held.Done old next
+    hangs_done h h_is aim next aims published =
+        let held : HasHeld m digest layout wanted.id wanted.key wanted.way point.place (Cells.Node branch.first) led next =
+        subst (λ (y : Me F (CellView S A R)). HasHeld m digest layout wanted.id wanted.key wanted.way point.place (Cells.Node branch.first) y next) h_is
+        (subst (λ a. Published m digest layout point.place (Cells.Node branch.first) (Some a) h next) aims published) in
         let history : List (Entry S A R) = next.0.seats.history in
-        let puts : PutsFor digest layout (record old.0 { trie = side }) wanted.id wanted.key wanted.way point.place (Cells.Node first) held.nodes =
-        subst (λ (y : Me F (CellView S A R)). PutsFor digest layout y.0 wanted.id wanted.key wanted.way point.place (Cells.Node first) held.nodes) sees.is held.puts in
-        let none : nodes_but held.nodes old.0.pools.nodes ≡ [] =
-        ap (λ ns. nodes_but ns old.0.pools.nodes) (puts_one digest layout _ wanted.id wanted.key wanted.way point.place _ grown.nodes held.nodes may_put puts) ∙ grown.all in
-        let adds : AddsOwn (cell_pass (record old.0 { trie = side })) history (hold_entries (cell_pass old.0) wanted.id wanted.key wanted.way Held.Done) =
-        subst (λ (y : Me F (CellView S A R)). AddsOwn (cell_pass y.0) history (hold_entries (cell_pass y.0) wanted.id wanted.key wanted.way Held.Done)) sees.is held.adds in
-        let is = held.is ∙ (ap (λ (y : Me F (CellView S A R)). (published_for y.0 history held.nodes, y.1)) sees.is ∙ ap (λ ns. (having_hung old.0 history side (length held.nodes) ns, old.1)) none) in
+        let gone : List ℕ = held.nodes in
+        let none : nodes_but gone old.0.pools.nodes ≡ [] =
+        ap (λ ns. nodes_but ns old.0.pools.nodes) (puts_one digest layout _ wanted.id wanted.key wanted.way point.place _ grown.nodes gone may_put held.puts) ∙ grown.all in
+        let view = λ (nodes : List ℕ) (notes : List Note) (t : Option (Turn S)). (let w : CellView S A R = record old.0 {
+          seats = record old.0.seats { history = history };
+          pools = record old.0.pools { nodes = nodes; stored = []; notes = notes };
+          trie = record (publishing (renewed old.0.trie)) { grown = old.0.trie.grown + length gone };
+          turn = t;
+        } in w) in
+        let is : next ≡ (view [] (notes_but wanted.id.slot (note_field wanted.way) old.0.pools.notes) (with_ahead None old.0.turn), old.1) =
+        held.is ∙ (λ i. (view (none i) (notes_once wanted.id.slot (note_field wanted.way) own old.0.pools.notes i) (led_back old.0.turn (Some (record { field = note_field branch.other.way; value = moved })) i), old.1)) in
         record {
           some = λ e. cc;
-          adds = record { adds = record { rest = adds.adds.rest; goes_on = adds.adds.goes_on; own = adds.adds.own; listed = adds.adds.listed }; ends = adds.ends };
+          adds = record { adds = record { rest = held.adds.adds.rest; goes_on = held.adds.adds.goes_on; own = held.adds.adds.own; listed = held.adds.adds.listed }; ends = held.adds.ends };
           legal = held.legal;
           answered = ap (λ (y : Me F (CellView S A R)). y.0.trie.answered) is;
           done = λ e. subst (λ (y : Me F (CellView S A R)). y ≡ (
             record old.0 {
               seats = record old.0.seats { history = y.0.seats.history };
-              pools = record old.0.pools { nodes = []; stored = y.0.pools.stored };
+              pools = record old.0.pools { nodes = []; stored = y.0.pools.stored; notes = notes_but wanted.id.slot (note_field wanted.way) old.0.pools.notes };
               trie = record y.0.trie { locks = old.0.trie.locks };
+              turn = with_ahead None old.0.turn;
             },
             old.1,
           )) (sym is) refl;
           taken = λ e. absurd (e refl);
         }
+
+-- the turn of another slot's leaf was got before, and the place's lock behind it; both are given up in the other order
+module _ {S A R : Type 0} (m : Meaning S A R) (digest : Key → ℕ) (layout : Layout) (wanted : Wanted) (point : Point) (slot : ℕ) (lock : Lock) (old took locked : Me (Running S) (CellView S A R))
+    (turnless : old.0.turn ≡ None) (free : old.0.trie.locks ≡ []) (carries : old.1 ≡ []) (takes : HasTaken slot old took) (gets : locked ≡ with_trie took (locking lock took.0.trie)) where
+  abbrev Pass' : Type 0
+  Pass' = Me (Running S) (CellView S A R)
+
+  locked_is : locked ≡ (record old.0 { turn = Some (turn_at slot takes.was); trie = locking lock old.0.trie }, (slot, running takes.was.stage) ∷ [])
+  locked_is = gets ∙ ap (λ (y : Pass'). with_trie y (locking lock y.0.trie)) takes.is
+
+  pub grown_locked : (branch : Branch) → HasGrown m digest layout old.0 wanted point branch → HasGrown m digest layout locked.0 wanted point branch
+  grown_locked branch grown = subst (λ (y : Pass'). HasGrown m digest layout y.0 wanted point branch) (sym locked_is) (record {
+    may = record { built = grown.may.built; bare = grown.may.bare };
+    exists = grown.exists;
+    stored = grown.stored;
+    at = place_stays digest layout old.0 _ wanted.key point refl grown.at;
+    key_stored = grown.key_stored;
+    nodes = grown.nodes;
+    leads = grown.leads;
+    owned = grown.owned;
+    apart = grown.apart;
+    parents = grown.parents;
+    all = grown.all;
+    some = grown.some;
+    own_place = grown.own_place;
+    moved_to = grown.moved_to;
+  })
+
+  pub turn_locked : HasNewTurn locked.0.turn slot
+  turn_locked = subst (λ (y : Pass'). HasNewTurn y.0.turn slot) (sym locked_is) (record { mine = turn_at slot takes.was; has = refl; there = refl; settled = refl })
+
+  pub protected_locked : IsProtected old.0.epochs.pin → IsProtected locked.0.epochs.pin
+  protected_locked is = subst (λ (y : Pass'). IsProtected y.0.epochs.pin) (sym locked_is) is
+
+  pub locks_locked : locked.0.trie.locks ≡ lock ∷ []
+  locks_locked = ap (λ (y : Pass'). y.0.trie.locks) locked_is ∙ ap (λ ls. lock ∷ ls) free
+
+  pub loads_locked : locked.0.trie.places ≡ old.0.trie.places
+  loads_locked = ap (λ (y : Pass'). y.0.trie.places) locked_is
+
+  module _ (hung : Me (Running S) (CellView S A R)) where
+    -- what comes of it leaves the locks and the turn
+    pub locks_hung : (step : Step) → HangsSo m digest layout wanted point step locked hung → hung.0.trie.locks ≡ lock ∷ []
+    locks_hung step hangs = same step hangs ∙ locks_locked
+      where
+        by_held : (held : Held) → HasHung m wanted held locked hung → hung.0.trie.locks ≡ locked.0.trie.locks
+        by_held Held.Done has = ap (λ (y : Pass'). y.0.trie.locks) (has.done refl)
+        by_held (Held.Taken found) has = ap (λ (y : Pass'). y.0.trie.locks) (has.taken (λ e. cc))
+        by_held Held.NoNode has = absurd (has.some refl)
+
+        same : (s : Step) → HangsSo m digest layout wanted point s locked hung → hung.0.trie.locks ≡ locked.0.trie.locks
+        same (Ends held) has = by_held held has
+        same (Leads node) hangs' = ap (λ (y : Pass'). y.0.trie.locks) hangs'.0.is
+        same Again hangs' = ap (λ (y : Pass'). y.0.trie.locks) hangs'.0.is
+
+    -- so the turn may be ended with nothing
+    pub ends_nothing : (unlocked : Me (Running S) (CellView S A R)) (step : Step) → HangsSo m digest layout wanted point step locked hung → unlocked ≡ with_trie hung (record hung.0.trie { locks = [] }) → MayEndBy m Nothing slot unlocked
+    ends_nothing unlocked step hangs frees = record {
+      turn = turn_at slot takes.was;
+      has = ap (λ (y : Pass'). y.0.turn) frees ∙ turned step hangs;
+      there = refl;
+      may = tt;
+      carries = ap (λ (y : Pass'). y.1) frees ∙ (carried step hangs ∙ ap (λ (y : Pass'). y.1) locked_is);
+      phase = refl;
+      settled = refl;
+    }
+      where
+        turn_is : locked.0.turn ≡ Some (turn_at slot takes.was)
+        turn_is = ap (λ (y : Pass'). y.0.turn) locked_is
+
+        turn_held : (held : Held) → HasHung m wanted held locked hung → hung.0.turn ≡ Some (turn_at slot takes.was)
+        turn_held Held.Done has = ap (λ (y : Pass'). y.0.turn) (has.done refl) ∙ ap (with_ahead None) turn_is
+        turn_held (Held.Taken found) has = ap (λ (y : Pass'). y.0.turn) (has.taken (λ e. cc)) ∙ turn_is
+        turn_held Held.NoNode has = absurd (has.some refl)
+
+        turned : (s : Step) → HangsSo m digest layout wanted point s locked hung → hung.0.turn ≡ Some (turn_at slot takes.was)
+        turned (Ends held) has = turn_held held has
+        turned (Leads node) hangs' = ap (λ (y : Pass'). y.0.turn) hangs'.0.is ∙ turn_is
+        turned Again hangs' = ap (λ (y : Pass'). y.0.turn) hangs'.0.is ∙ turn_is
+
+        carried_held : (held : Held) → HasHung m wanted held locked hung → hung.1 ≡ locked.1
+        carried_held Held.Done has = ap (λ (y : Pass'). y.1) (has.done refl)
+        carried_held (Held.Taken found) has = ap (λ (y : Pass'). y.1) (has.taken (λ e. cc))
+        carried_held Held.NoNode has = absurd (has.some refl)
+
+        carried : (s : Step) → HangsSo m digest layout wanted point s locked hung → hung.1 ≡ locked.1
+        carried (Ends held) has = carried_held held has
+        carried (Leads node) hangs' = ap (λ (y : Pass'). y.1) hangs'.0.is
+        carried Again hangs' = ap (λ (y : Pass'). y.1) hangs'.0.is
+
+    module _ (unlocked now : Me (Running S) (CellView S A R)) (frees : unlocked ≡ with_trie hung (record hung.0.trie { locks = [] })) (ends : now ≡ (record unlocked.0 { turn = None }, [])) where
+      abbrev after : Pass' → Pass'
+      after y = (record y.0 { trie = record y.0.trie { locks = [] }; turn = None }, [])
+
+      now_is : now ≡ after hung
+      now_is = ends ∙ ap (λ (y : Pass'). let z : Pass' = (record y.0 { turn = None }, []) in z) frees
+
+      stayed : HoldsNodes locked hung → HoldsNodes old now
+      stayed stays =
+          let last : TrieSide = hung.0.trie in
+          let at_last = now_is ∙ (ap after stays.is ∙ ap (λ (y : Pass'). after (with_trie y (record last { locks = y.0.trie.locks }))) locked_is) in
+          record {
+            is = subst (λ (y : Pass'). y ≡ with_trie old (record y.0.trie { locks = old.0.trie.locks })) (sym at_last) (λ i. (record old.0 { trie = record last { locks = sym free i }; turn = sym turnless i }, sym carries i));
+            unpublished = ap (λ (y : Pass'). y.0.trie.published) now_is ∙ (stays.unpublished ∙ ap (λ (y : Pass'). y.0.trie.published) locked_is);
+          }
+
+      placed : (point' : Point) → IsAtPlace digest layout hung.0 wanted.key point' → IsAtPlace digest layout now.0 wanted.key point'
+      placed point' at = place_stays digest layout hung.0 now.0 wanted.key point' (ap (λ (y : Pass'). y.0.trie.stands) now_is) at
+
+      ended : (held : Held) → HasHung m wanted held locked hung → HasHung m wanted held old now
+      ended held has =
+          let history : List (Entry S A R) = hung.0.seats.history in
+          let words : List StoredWord = hung.0.pools.stored in
+          let last : TrieSide = hung.0.trie in
+          let adds = subst (λ (y : Pass'). AddsOwn (cell_pass y.0) history (hold_entries (cell_pass y.0) wanted.id wanted.key wanted.way held)) locked_is has.adds in
+          let mine : AddsOwn (cell_pass old.0) history (hold_entries (cell_pass old.0) wanted.id wanted.key wanted.way held) = record { adds = record { rest = adds.adds.rest; goes_on = adds.adds.goes_on; own = adds.adds.own; listed = adds.adds.listed }; ends = adds.ends } in
+          record {
+            some = has.some;
+            adds = subst (λ (h : List (Entry S A R)). AddsOwn (cell_pass old.0) h (hold_entries (cell_pass old.0) wanted.id wanted.key wanted.way held)) (sym (ap (λ (y : Pass'). y.0.seats.history) now_is)) mine;
+            legal = subst (λ (y : Pass'). IsPass m (cell_pass y.0)) (sym now_is) has.legal;
+            answered = ap (λ (y : Pass'). y.0.trie.answered) now_is ∙ has.answered;
+            done = λ e.
+                let at_last = now_is ∙ (ap after (has.done e) ∙ ap (λ (y : Pass'). after (
+                  record y.0 {
+                    seats = record y.0.seats { history = history };
+                    pools = record y.0.pools { nodes = []; stored = words; notes = notes_but wanted.id.slot (note_field wanted.way) y.0.pools.notes };
+                    trie = record last { locks = y.0.trie.locks };
+                    turn = with_ahead None y.0.turn;
+                  },
+                  y.1,
+                )) locked_is) in
+                subst (λ (y : Pass'). y ≡ (
+                  record old.0 {
+                    seats = record old.0.seats { history = y.0.seats.history };
+                    pools = record old.0.pools { nodes = []; stored = y.0.pools.stored; notes = notes_but wanted.id.slot (note_field wanted.way) old.0.pools.notes };
+                    trie = record y.0.trie { locks = old.0.trie.locks };
+                    turn = with_ahead None old.0.turn;
+                  },
+                  old.1,
+                )) (sym at_last) (λ i. (
+                  record old.0 {
+                    seats = record old.0.seats { history = history };
+                    pools = record old.0.pools { nodes = []; stored = words; notes = notes_but wanted.id.slot (note_field wanted.way) old.0.pools.notes };
+                    trie = record last { locks = sym free i };
+                    turn = sym (ap (with_ahead None) turnless) i;
+                  },
+                  sym carries i,
+                ));
+            taken = λ e.
+                let at_last = now_is ∙ (ap after (has.taken e) ∙ ap (λ (y : Pass'). after (record y.0 { seats = record y.0.seats { history = history }; trie = record last { locks = y.0.trie.locks } }, y.1)) locked_is) in
+                subst (λ (y : Pass'). y ≡ (record old.0 { seats = record old.0.seats { history = y.0.seats.history }; trie = record y.0.trie { locks = old.0.trie.locks } }, old.1))
+                (sym at_last) (λ i. (record old.0 { seats = record old.0.seats { history = history }; trie = record last { locks = sym free i }; turn = sym turnless i }, sym carries i));
+          }
+
+      pub moves_so : (step : Step) → HangsSo m digest layout wanted point step locked hung → HangsSo m digest layout wanted point step old now
+      moves_so (Ends held) has = ended held has
+      moves_so (Leads node) hangs = (stayed hangs.0, placed _ hangs.1)
+      moves_so Again hangs = (stayed hangs.0, placed point hangs.1)
+
+      pub loads_so : hung.0.trie.places ≡ now.0.trie.places
+      loads_so = sym (ap (λ (y : Pass'). y.0.trie.places) now_is)

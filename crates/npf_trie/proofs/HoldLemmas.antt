@@ -27,14 +27,14 @@ use Rattle.npf_cells_leaves.specs.declared.trie.TrieSide.{TrieSide}
 use Rattle.npf_cells_lives.specs.declared.pools.StoredWord.{StoredWord}
 use Rattle.npf_cells_holds.specs.HoldKinds.{MayHoldSo}
 use Rattle.npf_cells_holds.specs.LookKinds.{StandsOnPath, level_of, level_at}
-use Rattle.npf_cells_rule.specs.Views.{with_trie, with_pools}
+use Rattle.npf_cells_rule.specs.Views.{dead_hand, with_trie, with_pools}
 use Rattle.npf_cells_rule.specs.Passes.{cell_pass, IsProtected}
 use Rattle.npf_cells_leaves.specs.Trie.{digits_of}
 use Rattle.npf_trie.specs.declared.step.Point.{Point}
 use Rattle.npf_trie.specs.declared.step.Step.{Step}
 use Rattle.npf_trie.specs.declared.step.Step.TheVariants.{Ends, Leads, Again}
 use Rattle.npf_trie.specs.declared.step.Wanted.{Wanted}
-use Rattle.npf_trie.specs.HoldKey.{CanHold, HoldsOn, SettlesHold, IsAtPlace, StepsSo, having_held}
+use Rattle.npf_trie.specs.HoldKey.{CanHold, HoldsOn, SettlesHold, IsAtPlace, StepsSo, having_held, noted_after}
 
 -- a place on the path stays one while the pass stands where it stood
 path_stays : (digest : Key → ℕ) (side side' : TrieSide) (key : Key) (p : Place) → side'.stands ≡ side.stands → StandsOnPath digest side key p → StandsOnPath digest side' key p
@@ -78,7 +78,7 @@ module _ {S A R F : Type 0} where
     pub nodes : now.0.pools.nodes ≡ old.0.pools.nodes
     pub builds : now.0.pools.builds ≡ old.0.pools.builds
     pub unstored : now.0.pools.unstored ≡ old.0.pools.unstored
-    pub kills : now.0.pools.kills ≡ old.0.pools.kills
+    pub dead : dead_hand now.0.pools ≡ dead_hand old.0.pools
     pub turn : now.0.turn ≡ old.0.turn
     pub rest : now.1 ≡ old.1
     pub sweeps : old.0.pools.sweeps ≤ now.0.pools.sweeps
@@ -88,6 +88,7 @@ module _ {S A R F : Type 0} where
     pub keeps : KeepsPass old now
     pub history : now.0.seats.history ≡ old.0.seats.history
     pub published : now.0.trie.published ≡ old.0.trie.published
+    pub notes : now.0.pools.notes ≡ old.0.pools.notes
 
   pub keeps_after : (a b c : Me F (CellView S A R)) → KeepsPass a b → KeepsPass b c → KeepsPass a c
   keeps_after a b c ab bc = record {
@@ -96,28 +97,30 @@ module _ {S A R F : Type 0} where
     nodes = bc.nodes ∙ ab.nodes;
     builds = bc.builds ∙ ab.builds;
     unstored = bc.unstored ∙ ab.unstored;
-    kills = bc.kills ∙ ab.kills;
+    dead = bc.dead ∙ ab.dead;
     turn = bc.turn ∙ ab.turn;
     rest = bc.rest ∙ ab.rest;
     sweeps = let x = ab.sweeps in let y = bc.sweeps in omega arith;
   }
 
   pub stays_after : (a b c : Me F (CellView S A R)) → StaysOn a b → StaysOn b c → StaysOn a c
-  stays_after a b c ab bc = record { keeps = keeps_after a b c ab.keeps bc.keeps; history = bc.history ∙ ab.history; published = bc.published ∙ ab.published }
+  stays_after a b c ab bc = record { keeps = keeps_after a b c ab.keeps bc.keeps; history = bc.history ∙ ab.history; published = bc.published ∙ ab.published; notes = bc.notes ∙ ab.notes }
 
   -- steps that change only what the pass knows of the trie, or what it stored
   pub stays_trie : (old now : Me F (CellView S A R)) (side : TrieSide) → now ≡ with_trie old side → side.published ≡ old.0.trie.published → StaysOn old now
   stays_trie old now side e same = subst (λ (y : Me F (CellView S A R)). StaysOn old y) (sym e) (record {
-    keeps = record { seats = refl; epochs = refl; nodes = refl; builds = refl; unstored = refl; kills = refl; turn = refl; rest = refl; sweeps = omega arith };
+    keeps = record { seats = refl; epochs = refl; nodes = refl; builds = refl; unstored = refl; dead = refl; turn = refl; rest = refl; sweeps = omega arith };
     history = refl;
     published = same;
+    notes = refl;
   })
 
   pub stays_stored : (old now : Me F (CellView S A R)) (words : List StoredWord) → now ≡ with_pools old (record old.0.pools { stored = words }) → StaysOn old now
   stays_stored old now words e = subst (λ (y : Me F (CellView S A R)). StaysOn old y) (sym e) (record {
-    keeps = record { seats = refl; epochs = refl; nodes = refl; builds = refl; unstored = refl; kills = refl; turn = refl; rest = refl; sweeps = omega arith };
+    keeps = record { seats = refl; epochs = refl; nodes = refl; builds = refl; unstored = refl; dead = refl; turn = refl; rest = refl; sweeps = omega arith };
     history = refl;
     published = refl;
+    notes = refl;
   })
 
   -- with the same locks, what a step keeps is what a hold changes
@@ -126,7 +129,7 @@ module _ {S A R F : Type 0} where
     record now.0 {
       seats = keeps.seats i;
       epochs = keeps.epochs i;
-      pools = record now.0.pools { nodes = keeps.nodes i; builds = keeps.builds i; unstored = keeps.unstored i; kills = keeps.kills i };
+      pools = record now.0.pools { nodes = keeps.nodes i; builds = keeps.builds i; unstored = keeps.unstored i; kills = (keeps.dead i).kills; gave_up = (keeps.dead i).gave_up; reclaims = (keeps.dead i).reclaims; cleared = (keeps.dead i).cleared; dated = (keeps.dead i).dated };
       trie = record now.0.trie { locks = locks i };
       turn = keeps.turn i;
     },
@@ -134,7 +137,7 @@ module _ {S A R F : Type 0} where
   )
 
   pub holds_on : (old now : Me F (CellView S A R)) → StaysOn old now → now.0.trie.locks ≡ old.0.trie.locks → HoldsOn old now
-  holds_on old now stays locks = record { is = held_so old now stays.keeps locks; history = stays.history; sweeps = stays.keeps.sweeps; unpublished = stays.published }
+  holds_on old now stays locks = record { is = held_so old now stays.keeps locks; history = stays.history; sweeps = stays.keeps.sweeps; unpublished = stays.published; noted = stays.notes }
 
   keeps_held : (old now : Me F (CellView S A R)) → now ≡ (having_held old.0 now.0, old.1) → old.0.pools.sweeps ≤ now.0.pools.sweeps → KeepsPass old now
   keeps_held old now is sweeps = record {
@@ -143,14 +146,14 @@ module _ {S A R F : Type 0} where
     nodes = ap (λ (y : Me F (CellView S A R)). y.0.pools.nodes) is;
     builds = ap (λ (y : Me F (CellView S A R)). y.0.pools.builds) is;
     unstored = ap (λ (y : Me F (CellView S A R)). y.0.pools.unstored) is;
-    kills = ap (λ (y : Me F (CellView S A R)). y.0.pools.kills) is;
+    dead = ap (λ (y : Me F (CellView S A R)). dead_hand y.0.pools) is;
     turn = ap (λ (y : Me F (CellView S A R)). y.0.turn) is;
     rest = ap (λ (y : Me F (CellView S A R)). y.1) is;
     sweeps = sweeps;
   }
 
   pub on_stays : (old now : Me F (CellView S A R)) → HoldsOn old now → StaysOn old now
-  on_stays old now on = record { keeps = keeps_held old now on.is on.sweeps; history = on.history; published = on.unpublished }
+  on_stays old now on = record { keeps = keeps_held old now on.is on.sweeps; history = on.history; published = on.unpublished; notes = on.noted }
 
   pub same_locks : (old now : Me F (CellView S A R)) → now ≡ (having_held old.0 now.0, old.1) → now.0.trie.locks ≡ old.0.trie.locks
   same_locks old now is = ap (λ (y : Me F (CellView S A R)). y.0.trie.locks) is
@@ -184,6 +187,7 @@ module _ {S A R F : Type 0} (m : Meaning S A R) where
     stored = λ inside. can.stored (subst (λ slots. Contains slots id.slot) stays.keeps.unstored inside);
     nodes = stays.keeps.nodes ∙ can.nodes;
     locks = locks ∙ can.locks;
+    turnless = stays.keeps.turn ∙ can.turnless;
   }
 
   -- the hold ended with this answer, Done or Taken
@@ -192,6 +196,7 @@ module _ {S A R F : Type 0} (m : Meaning S A R) where
     pub adds : AddsOwn (cell_pass old.0) now.0.seats.history (hold_entries (cell_pass old.0) id key way held)
     pub legal : IsPass m (cell_pass now.0)
     pub answered : now.0.trie.answered ≡ taken_ids held
+    pub noted : now.0.pools.notes ≡ noted_after held id way old.0.pools.notes
     pub keeps : KeepsPass old now
 
   adds_after : (a b : Me F (CellView S A R)) (new : List (Entry S A R)) (id : ConnId) (key : Key) (way : Way) (held : Held) → StaysOn a b → AddsOwn (cell_pass b.0) new (hold_entries (cell_pass b.0) id key way held) →
@@ -204,6 +209,7 @@ module _ {S A R F : Type 0} (m : Meaning S A R) where
     adds = adds_after a b c.0.seats.history id key way held stays ends.adds;
     legal = ends.legal;
     answered = ends.answered;
+    noted = ends.noted ∙ ap (noted_after held id way) stays.notes;
     keeps = keeps_after a b c stays.keeps ends.keeps;
   }
 
@@ -213,7 +219,8 @@ module _ {S A R F : Type 0} (m : Meaning S A R) where
     adds = ends.adds;
     legal = subst (λ (ids : List ConnId). IsPass m (record (cell_pass b.0) { answered = ids })) (sym same) ends.legal;
     answered = same ∙ ends.answered;
-    keeps = keeps_after a b (with_trie b side) ends.keeps (record { seats = refl; epochs = refl; nodes = refl; builds = refl; unstored = refl; kills = refl; turn = refl; rest = refl; sweeps = omega arith });
+    noted = ends.noted;
+    keeps = keeps_after a b (with_trie b side) ends.keeps (record { seats = refl; epochs = refl; nodes = refl; builds = refl; unstored = refl; dead = refl; turn = refl; rest = refl; sweeps = omega arith });
   })
 
   answers_so : (layout : Layout) (old now : Me F (CellView S A R)) (id : ConnId) (key : Key) (way : Way) (held : Held) → EndsHold id key way held old now → now.0.trie.locks ≡ old.0.trie.locks → SettlesHold m layout id key way held old now
@@ -227,6 +234,7 @@ module _ {S A R F : Type 0} (m : Meaning S A R) where
     swept = λ none. absurd (ends.some none);
     met = λ none. absurd (ends.some none);
     unpublished = λ none. absurd (ends.some none);
+    noted = ends.noted;
   }
 
   pub answers_after : (layout : Layout) (a b c : Me F (CellView S A R)) (id : ConnId) (key : Key) (way : Way) (held : Held) → HoldsOn a b → SettlesHold m layout id key way held b c → SettlesHold m layout id key way held a c
@@ -244,6 +252,7 @@ module _ {S A R F : Type 0} (m : Meaning S A R) where
         swept = λ none one. let more = ans.swept none one in omega arith;
         met = ans.met;
         unpublished = λ none. ans.unpublished none ∙ on.unpublished;
+        noted = ans.noted ∙ ap (noted_after held id way) on.noted;
       }
 
   module _ (digest : Key → ℕ) (layout : Layout) (wanted : Wanted) (point : Point) where
@@ -290,7 +299,7 @@ at_next digest layout v key level next node hash hashed is at =
     subst (λ (p : Point). IsAtPlace digest layout v key p) (sym (is ∙ ap (λ h. let p : Point = record { place = Places.Node node (digit_of h key (level + 1)); level = level + 1 } in p) hashed)) at
 
 pub holds_self : {S A R F : Type 0} (a : Me F (CellView S A R)) → HoldsOn a a
-holds_self a = record { is = refl; history = refl; sweeps = omega arith; unpublished = refl }
+holds_self a = record { is = refl; history = refl; sweeps = omega arith; unpublished = refl; noted = refl }
 
 pub can_on : {S A R F : Type 0} (m : Meaning S A R) (layout : Layout) (a b : Me F (CellView S A R)) (id : ConnId) (way : Way) → HoldsOn a b → CanHold m layout a.0 id way → CanHold m layout b.0 id way
 can_on m layout a b id way on can = can_after m layout a b id way (on_stays a b on) (same_locks a b on.is) can

@@ -1,9 +1,10 @@
 -- What the loads and the store of a hold come to.
-use Rattle.std.proofs.Common.{◌≡◌, ◌≢◌, ℕ, ◌+◌, ◌≤◌, ◌<◌, Bool, true, false, Some, List, [], ◌∷◌, length, refl, sym, ap, ◌∙◌, subst, inl, inr, arith}
+use Rattle.std.proofs.Common.{◌≡◌, ◌≢◌, ℕ, ◌+◌, ◌≤◌, ◌<◌, Bool, true, false, Some, None, List, [], ◌∷◌, length, refl, sym, ap, ◌∙◌, subst, inl, inr, arith}
 use Rattle.std.specs.List.{Contains}
 use Rattle.atomic_table.specs.Table.{Me}
 use Rattle.npf_types.specs.declared.key.Key.{Key}
 use Rattle.npf_types.specs.declared.key.Way.{Way}
+use Rattle.npf_core.specs.declared.entry.Entry.{Entry}
 use Rattle.npf_core.specs.declared.found.Found.{Found}
 use Rattle.npf_core.specs.declared.held.Held.{Held}
 use Rattle.npf_core.specs.Machine.{is_key}
@@ -17,14 +18,20 @@ use Rattle.npf_paths.specs.declared.place.Place.TheVariants as Places
 use Rattle.npf_paths.specs.Places.{lock_of}
 use Rattle.npf_cells_words.specs.declared.layout.Layout.{Layout}
 use Rattle.npf_cells_rule.specs.declared.view.CellView.{CellView}
+use Rattle.npf_cells_leaves.specs.Sights.{SeesLocked}
 use Rattle.npf_cells_leaves.specs.declared.trie.LoadedLeaf.{LoadedLeaf}
 use Rattle.npf_cells_leaves.specs.declared.trie.PathPlace.{PathPlace}
 use Rattle.npf_cells_holds.specs.HoldKinds.{HoldsAt, meeting, renewed}
 use Rattle.npf_cells_holds.specs.LookKinds.{IsLeafOf, level_of, level_at, sighting}
-use Rattle.npf_cells_rule.specs.Views.{with_trie}
+use Rattle.npf_cells_rule.specs.Views.{dead_hand, with_trie}
 use Rattle.npf_cells_words.specs.Places.{IsLockOf, IsInTrie}
-use Rattle.npf_cells_rule.specs.Passes.{IsProtected}
-use Rattle.npf_cells_holds.specs.PublishKinds.{SeesLocked, HasHeld, nodes_but}
+use Rattle.npf_cells_rule.specs.Passes.{IsProtected, cell_pass}
+use Rattle.npf_connections.specs.Adding.{AddsOwn}
+use Rattle.npf_connections.specs.Entries.{hold_entries}
+use Rattle.npf_cells_lives.specs.Notes.{with_ahead}
+use Rattle.npf_cells_words.specs.Layout.{note_field}
+use Rattle.npf_trie.proofs.StoreLemmas.{noting, notes_once}
+use Rattle.npf_cells_holds.specs.PublishKinds.{HasHeld, nodes_but, published_for}
 use Rattle.npf_cells_leaves.specs.Trie.{digits_of}
 use Rattle.npf_trie.specs.declared.step.Met.{Met}
 use Rattle.npf_trie.specs.declared.step.Met.TheVariants.{Holder, Other}
@@ -144,13 +151,14 @@ module _ {S A R F : Type 0} where
               adds = has.adds;
               legal = has.legal;
               answered = ap (λ (y : Me F (CellView S A R)). y.0.trie.answered) has.is;
+              noted = ap (λ (y : Me F (CellView S A R)). y.0.pools.notes) has.is;
               keeps = record {
                 seats = ap (λ (y : Me F (CellView S A R)). y.0.seats) has.is;
                 epochs = ap (λ (y : Me F (CellView S A R)). y.0.epochs) has.is;
                 nodes = ap (λ (y : Me F (CellView S A R)). y.0.pools.nodes) has.is;
                 builds = ap (λ (y : Me F (CellView S A R)). y.0.pools.builds) has.is;
                 unstored = ap (λ (y : Me F (CellView S A R)). y.0.pools.unstored) has.is;
-                kills = ap (λ (y : Me F (CellView S A R)). y.0.pools.kills) has.is;
+                dead = ap (λ (y : Me F (CellView S A R)). dead_hand y.0.pools) has.is;
                 turn = ap (λ (y : Me F (CellView S A R)). y.0.turn) has.is;
                 rest = ap (λ (y : Me F (CellView S A R)). y.1) has.is;
                 sweeps = let e : b.0.pools.sweeps ≡ a.0.pools.sweeps = ap (λ (y : Me F (CellView S A R)). y.0.pools.sweeps) has.is in omega arith;
@@ -199,28 +207,34 @@ module _ {S A R F : Type 0} where
               unanswered = ap (λ (y : Me F (CellView S A R)). y.0.trie.answered) compares.is ∙ ap (λ (y : Me F (CellView S A R)). y.0.trie.answered) (met_now other told);
             }
 
-    -- the store of the leaf is the hold
-    pub published_ends : (cell : Cell) (a b : Me F (CellView S A R)) → HasHeld m digest layout wanted.id wanted.key wanted.way point.place cell a b → a.0.pools.nodes ≡ [] → Comes (Ends Held.Done) a b
-    published_ends cell a b held none = record {
-      comes = record {
-        some = λ e. cc;
-        adds = held.adds;
-        legal = held.legal;
-        answered = ap (λ (y : Me F (CellView S A R)). y.0.trie.answered) held.is;
-        keeps = record {
-          seats = ap (λ (y : Me F (CellView S A R)). y.0.seats) held.is;
-          epochs = ap (λ (y : Me F (CellView S A R)). y.0.epochs) held.is;
-          nodes = ap (λ (y : Me F (CellView S A R)). y.0.pools.nodes) held.is ∙ (ap (nodes_but held.nodes) none ∙ sym none);
-          builds = ap (λ (y : Me F (CellView S A R)). y.0.pools.builds) held.is;
-          unstored = ap (λ (y : Me F (CellView S A R)). y.0.pools.unstored) held.is;
-          kills = ap (λ (y : Me F (CellView S A R)). y.0.pools.kills) held.is;
-          turn = ap (λ (y : Me F (CellView S A R)). y.0.turn) held.is;
-          rest = ap (λ (y : Me F (CellView S A R)). y.1) held.is;
-          sweeps = let e : b.0.pools.sweeps ≡ a.0.pools.sweeps = ap (λ (y : Me F (CellView S A R)). y.0.pools.sweeps) held.is in omega arith;
-        };
-      };
-      locks = ap (λ (y : Me F (CellView S A R)). y.0.trie.locks) held.is;
-    }
+    -- its note is stored, and the store of the leaf is then the hold
+    pub published_ends : (cell : Cell) (value : ℕ) (a n b : Me F (CellView S A R)) → n ≡ noting wanted.id.slot wanted.way value a → HasHeld m digest layout wanted.id wanted.key wanted.way point.place cell n b → a.0.pools.nodes ≡ [] → a.0.turn ≡ None →
+        Comes (Ends Held.Done) a b
+    published_ends cell value a n b noted held none turnless =
+        let history : List (Entry S A R) = b.0.seats.history in
+        let gone : List ℕ = held.nodes in
+        let is = held.is ∙ ap (λ (y : Me F (CellView S A R)). (published_for y.0 history wanted.id wanted.way gone, y.1)) noted in
+        record {
+          comes = record {
+            some = λ e. cc;
+            adds = subst (λ (y : Me F (CellView S A R)). AddsOwn (cell_pass y.0) history (hold_entries (cell_pass y.0) wanted.id wanted.key wanted.way Held.Done)) noted held.adds;
+            legal = held.legal;
+            answered = ap (λ (y : Me F (CellView S A R)). y.0.trie.answered) is;
+            noted = ap (λ (y : Me F (CellView S A R)). y.0.pools.notes) is ∙ notes_once wanted.id.slot (note_field wanted.way) value a.0.pools.notes;
+            keeps = record {
+              seats = ap (λ (y : Me F (CellView S A R)). y.0.seats) is;
+              epochs = ap (λ (y : Me F (CellView S A R)). y.0.epochs) is;
+              nodes = ap (λ (y : Me F (CellView S A R)). y.0.pools.nodes) is ∙ (ap (nodes_but gone) none ∙ sym none);
+              builds = ap (λ (y : Me F (CellView S A R)). y.0.pools.builds) is;
+              unstored = ap (λ (y : Me F (CellView S A R)). y.0.pools.unstored) is;
+              dead = ap (λ (y : Me F (CellView S A R)). dead_hand y.0.pools) is;
+              turn = ap (λ (y : Me F (CellView S A R)). y.0.turn) is ∙ (ap (with_ahead None) turnless ∙ sym turnless);
+              rest = ap (λ (y : Me F (CellView S A R)). y.1) is;
+              sweeps = let e : b.0.pools.sweeps ≡ a.0.pools.sweeps = ap (λ (y : Me F (CellView S A R)). y.0.pools.sweeps) is in omega arith;
+            };
+          };
+          locks = ap (λ (y : Me F (CellView S A R)). y.0.trie.locks) is;
+        }
 
     -- the outcome is the step's, alone or behind it
     pub stepped : (step : Step) (a b : Me F (CellView S A R)) → Comes step a b → StepsSo m digest layout wanted point step a b

@@ -1,7 +1,8 @@
 -- What is stored of a word after a further store.
-use Rattle.std.proofs.Common.{◌≡◌, ◌≢◌, ℕ, ◌+◌, ◌<◌, ◌≤◌, ◌&&◌, cond, eqb, eq-eqb, ne_eqb, Some, List, [], ◌∷◌, refl, sym, ap, ◌∙◌, subst, ⊎_elim, arith}
-use Rattle.std.specs.Prelude.{Contains}
+use Rattle.std.proofs.Common.{◌≡◌, ◌≢◌, ℕ, ◌+◌, ◌-◌, ◌<◌, ◌≤◌, ◌^◌, ◌&&◌, Bool, true, false, not, nat_lt, cond, eqb, eq-eqb, ne_eqb, Some, List, [], ◌∷◌, refl, sym, ap, ◌∙◌, subst, ⊎_elim, arith}
+use Rattle.std.specs.Prelude.{Contains, filter}
 use Rattle.std.proofs.lemmas.Bool.{cases_eq}
+use Rattle.std.proofs.lemmas.Bool.Decides.{Decides-ltb}
 use Rattle.atomic_table.specs.Table.{Me}
 use Rattle.npf_types.specs.declared.key.Way.{Way}
 use Rattle.npf_types.specs.declared.key.Way.TheVariants.{Forward, Backward, Port}
@@ -12,15 +13,18 @@ use Rattle.npf_paths.specs.declared.cell.Cell.{Cell}
 use Rattle.npf_paths.specs.declared.place.Place.TheVariants.{Node}
 use Rattle.npf_paths.specs.CellLaw.{WordsSayCells}
 use Rattle.npf_paths.specs.CellWords.{cell_of, cell_word}
-use Rattle.npf_cells_words.proofs.WordLemmas.{key_short}
+use Rattle.npf_cells_words.proofs.WordLemmas.{key_short, note_late}
+use Rattle.npf_cells_lives.specs.declared.pools.Note.{Note}
+use Rattle.npf_cells_lives.specs.Notes.{is_note_of, notes_but}
+use Rattle.npf_cells_lives.proofs.DeathLemmas.{low_note}
 use Rattle.npf_cells_words.specs.declared.layout.Layout.{Layout}
 use Rattle.npf_cells_words.specs.declared.layout.Pool.TheVariants.{Slots, Nodes}
 use Rattle.npf_cells_rule.specs.declared.view.CellView.{CellView}
 use Rattle.npf_cells_lives.specs.declared.pools.StoredWord.{StoredWord}
-use Rattle.npf_cells_words.specs.Layout.{parent_field, key_field, field_at}
+use Rattle.npf_cells_words.specs.Layout.{parent_field, key_field, note_field, field_at}
 use Rattle.npf_cells_rule.specs.Views.{with_pools}
 use Rattle.npf_seats.specs.Sums.{others_than}
-use Rattle.npf_cells_takes.specs.PrivateKinds.{MayStoreInSlot, storing, stored_in, with_phase, letting_go}
+use Rattle.npf_cells_takes.specs.PrivateKinds.{MayStoreInSlot, storing, stored_in, with_phase, letting_go, is_epoch_note, noted_in}
 use Rattle.npf_cells_holds.specs.PublishKinds.{IsParentStored, cell_stored, stored_cell}
 use Rattle.npf_cells_lives.specs.Deaths.{has_epoch}
 use Rattle.npf_cells_lives.specs.Stored.{stored_value}
@@ -68,9 +72,47 @@ module _ {S A R F : Type 0} where
   key_word_stored me next slot field value way word low at is =
       let s : StoredWord = record { pool = Slots; place = slot; field = field; value = value } in
       let behind = behind_inc way in
+      let near = key_short way word low in
       is ∙ ((λ i. cond (ne_eqb field 2 (λ e. omega (arith, at, e, behind)) i) (record me.0 { turn = with_phase value me.0.turn }, me.1)
-      (cond (ne_eqb field 18 (λ e. (let near = key_short way word low in omega (arith, at, e, near))) i && eqb (has_epoch value) 1) (with_pools me (letting_go slot me.0.pools)) (with_pools me (storing Slots slot field value me.0.pools))))
+      (cond ((Decides-ltb field 18).1 (omega (arith, at, near)) i) (with_pools me (storing Slots slot field value me.0.pools)) (cond (is_epoch_note field value) (with_pools me (letting_go slot (value - 2 ^ 63) me.0.pools)) (noted_in slot field value me))))
       ∙ ap (λ b. with_pools me (record me.0.pools { unstored = cond b (others_than slot me.0.pools.unstored) me.0.pools.unstored; stored = s ∷ me.0.pools.stored })) (ne_eqb field 1 (λ e. omega (arith, at, e))))
+
+-- a filter does nothing twice
+filter_again : {A : Type 0} (p : A → Bool) (xs : List A) → filter p (filter p xs) ≡ filter p xs
+filter_again p [] = refl
+filter_again p (x ∷ xs) = by_test (filter_again p xs) (p x) refl
+  where
+    by_test : filter p (filter p xs) ≡ filter p xs → (b : Bool) → p x ≡ b → filter p (cond b (x ∷ filter p xs) (filter p xs)) ≡ cond b (x ∷ filter p xs) (filter p xs)
+    by_test rest true e = ap (λ b. cond b (x ∷ filter p (filter p xs)) (filter p (filter p xs))) e ∙ ap (λ ys. x ∷ ys) rest
+    by_test rest false e = rest
+
+-- a note that is stored and then forgotten
+pub notes_once : (slot field value : ℕ) (notes : List Note) → notes_but slot field ((record { slot = slot; field = field; value = value }) ∷ notes_but slot field notes) ≡ notes_but slot field notes
+notes_once slot field value notes =
+    let new : Note = record { slot = slot; field = field; value = value } in
+    ap (λ b. cond (not b) (new ∷ notes_but slot field (notes_but slot field notes)) (notes_but slot field (notes_but slot field notes))) (λ i. eq-eqb slot slot refl i && eq-eqb field field refl i)
+    ∙ filter_again (λ (note : Note). not (is_note_of slot field note)) notes
+
+module _ {S A R F : Type 0} where
+  -- the pass after it stored a note freely
+  abbrev pub noting : ℕ → Way → ℕ → Me F (CellView S A R) → Me F (CellView S A R)
+  noting slot way value me = with_pools me (record me.0.pools { notes = (record { slot = slot; field = note_field way; value = value }) ∷ notes_but slot (note_field way) me.0.pools.notes })
+
+  -- as a store in the note's field, of less than an epoch
+  pub note_stored : (me next : Me F (CellView S A R)) (slot field value : ℕ) (way : Way) → field ≡ note_field way → value < 2 ^ 63 → next ≡ stored_in Slots slot field value me → next ≡ noting slot way value me
+  note_stored me next slot field value way at low is =
+      let late = note_late way in
+      is ∙ ((λ i. cond (ne_eqb field 2 (λ e. omega (arith, at, e, late)) i) (record me.0 { turn = with_phase value me.0.turn }, me.1)
+      (cond (not_below (nat_lt field 18) refl i) (with_pools me (storing Slots slot field value me.0.pools)) (cond (no_epoch (eqb field 18) i) (with_pools me (letting_go slot (value - 2 ^ 63) me.0.pools)) (noted_in slot field value me))))
+      ∙ ap (λ f. noted_in slot f value me) at)
+    where
+      not_below : (b : Bool) → nat_lt field 18 ≡ b → b ≡ false
+      not_below true e = let late = note_late way in absurd (let below = (Decides-ltb field 18).0 e in omega (arith, below, at, late))
+      not_below false e = refl
+
+      no_epoch : (b : Bool) → b && eqb (has_epoch value) 1 ≡ false
+      no_epoch true = ap (λ n. eqb n 1) (low_note value low)
+      no_epoch false = refl
 
 module _ {S A R : Type 0} (m : Meaning S A R) where
   -- where the pass may store the key it may store each of its words
@@ -83,8 +125,8 @@ module _ {S A R : Type 0} (m : Meaning S A R) where
         there = may.there;
         turnless = omega arith;
         phaseless = λ e. absurd (omega (arith, at, e, behind));
+        noteless = let near = key_short way word low in omega (arith, at, near);
         inc = λ e. absurd (omega (arith, at, e));
-        epochless = λ far. absurd (let near = key_short way word low in omega (arith, at, far, near));
         keyless = λ way' up down. subst (λ w. HoldsNone (state_of m v.seats.history) may.id w) (same_way way way' word low (omega arith) (omega arith)) may.hold.bare;
       }
 

@@ -1,5 +1,5 @@
 -- What a hold changes in a pass's own view, and what it tells.
-use Rattle.std.specs.Prelude.{◌≡◌, ◌≢◌, ℕ, ◌+◌, ◌≤◌, ◌<◌, Some, List, [], ◌∷◌, Contains}
+use Rattle.std.specs.Prelude.{◌≡◌, ◌≢◌, ℕ, ◌+◌, ◌≤◌, ◌<◌, Option, Some, None, List, [], Contains, length}
 use Rattle.atomic_table.specs.Table.{Me}
 use Rattle.npf_types.specs.declared.key.Key.{Key}
 use Rattle.npf_types.specs.declared.key.Way.{Way}
@@ -14,7 +14,6 @@ use Rattle.npf_paths.specs.declared.cell.Cell.TheVariants.{Leaf}
 use Rattle.npf_paths.specs.declared.place.Place.TheVariants as Places
 use Rattle.npf_paths.specs.Growing.{IsBranch}
 use Rattle.npf_paths.specs.LevelLaw.{AreApart}
-use Rattle.npf_paths.specs.Places.{lock_of}
 use Rattle.npf_cells_words.specs.declared.layout.Layout.{Layout}
 use Rattle.npf_cells_rule.specs.declared.view.CellView.{CellView}
 use Rattle.npf_cells_leaves.specs.declared.trie.LoadedLeaf.{LoadedLeaf}
@@ -26,7 +25,13 @@ use Rattle.npf_cells_rule.specs.Views.{with_trie}
 use Rattle.npf_cells_rule.specs.Passes.{cell_pass}
 use Rattle.npf_cells_holds.specs.PublishKinds.{HasStoredKey, IsParentStored, cell_stored, nodes_but}
 use Rattle.npf_cells_words.specs.Places.{IsInTrie}
-use Rattle.npf_cells_leaves.specs.Parents.{NameParents}
+use Rattle.npf_cells_leaves.specs.Parents.{foot_place, NameParents}
+use Rattle.npf_cells_leaves.specs.Sights.{SeesLocked}
+use Rattle.npf_cells_lives.specs.declared.pools.Note.{Note}
+use Rattle.npf_cells_lives.specs.declared.turn.Turn.{Turn}
+use Rattle.npf_cells_lives.specs.Notes.{notes_but, with_ahead}
+use Rattle.npf_cells_words.specs.Layout.{note_field}
+use Rattle.npf_trie.specs.declared.step.Branch.{Branch}
 use Rattle.npf_cells_leaves.specs.Trie.{digits_of}
 use Rattle.npf_trie.specs.declared.step.Met.{Met}
 use Rattle.npf_trie.specs.declared.step.Met.TheVariants.{Holder, Other}
@@ -37,19 +42,20 @@ use Rattle.npf_trie.specs.declared.step.Step.TheVariants.{Ends, Leads, Again}
 use Rattle.npf_trie.specs.declared.step.Wanted.{Wanted}
 
 -- a pass that is to hold a key for a connection: it is building it, has stored its incarnation and seen it take no key of that way, and has
--- neither a node nor a lock
+-- neither a node nor a lock nor a turn
 pub record CanHold {S A R : Type 0} (m : Meaning S A R) (layout : Layout) (v : CellView S A R) (id : ConnId) (way : Way) : Type 0 where
   pub may : MayHoldSo m v id way
   pub exists : id.slot < layout.slots
   pub stored : ¬ Contains v.pools.unstored id.slot
   pub nodes : v.pools.nodes ≡ []
   pub locks : v.trie.locks ≡ []
+  pub turnless : v.turn ≡ None
 
 -- what a hold changes: what the pass loaded and stored, and the history that it has seen
 abbrev pub having_held : {S A R : Type 0} → CellView S A R → CellView S A R → CellView S A R
 having_held old now = record old {
   seats = record old.seats { history = now.seats.history };
-  pools = record old.pools { found = now.pools.found; row = now.pools.row; sweeps = now.pools.sweeps; stored = now.pools.stored };
+  pools = record old.pools { found = now.pools.found; row = now.pools.row; sweeps = now.pools.sweeps; stored = now.pools.stored; notes = now.pools.notes };
   trie = record now.trie { locks = old.trie.locks };
 }
 
@@ -59,6 +65,13 @@ pub record HoldsOn {S A R F : Type 0} (old now : Me F (CellView S A R)) : Type 0
   pub history : now.0.seats.history ≡ old.0.seats.history
   pub sweeps : old.0.pools.sweeps ≤ now.0.pools.sweeps
   pub unpublished : now.0.trie.published ≡ old.0.trie.published
+  pub noted : now.0.pools.notes ≡ old.0.pools.notes
+
+-- the notes that the pass stored freely, behind an answer: those of before, without that of the way that is now held
+abbrev pub noted_after : Held → ConnId → Way → List Note → List Note
+noted_after Held.Done id way notes = notes_but id.slot (note_field way) notes
+noted_after (Held.Taken found) id way notes = notes
+noted_after Held.NoNode id way notes = notes
 
 -- the place that a pass loaded last for a key had the leaf of another
 pub record MeetsAnother (side : TrieSide) (key : Key) : Type 0 where
@@ -79,6 +92,7 @@ pub record SettlesHold {S A R F : Type 0} (m : Meaning S A R) (layout : Layout) 
   pub swept : held ≡ Held.NoNode → 1 ≤ layout.nodes → old.0.pools.sweeps + 1 ≤ now.0.pools.sweeps
   pub met : held ≡ Held.NoNode → MeetsAnother now.0.trie key
   pub unpublished : held ≡ Held.NoNode → now.0.trie.published ≡ old.0.trie.published
+  pub noted : now.0.pools.notes ≡ noted_after held id way old.0.pools.notes
 
 -- the place where a pass is on the path of a key that is to be held
 pub record IsAtPlace {S A R : Type 0} (digest : Key → ℕ) (layout : Layout) (v : CellView S A R) (key : Key) (point : Point) : Type 0 where
@@ -110,20 +124,38 @@ pub record HasMet (side : TrieSide) (key : Key) (level : ℕ) (other : OtherLeaf
   pub meets : side.meets ≡ Some (record { key = key; other = other.key; level = level })
   pub unanswered : side.answered ≡ []
 
--- new nodes that the pass owns, built for both leaves, and nothing else: the first of them may be hung in the place, whose lock it has
-pub record HasGrown {S A R : Type 0} (m : Meaning S A R) (digest : Key → ℕ) (layout : Layout) (v : CellView S A R) (wanted : Wanted) (point : Point) (other : OtherLeaf) (first : ℕ) : Type 0 where
+-- the pass has a slot's turn, and is ahead of no note
+pub record HasNewTurn {S : Type 0} (turn : Option (Turn S)) (slot : ℕ) : Type 0 where
+  pub mine : Turn S
+  pub has : turn ≡ Some mine
+  pub there : mine.slot ≡ slot
+  pub settled : mine.ahead ≡ None
+
+-- new nodes that the pass owns, built for both leaves, and nothing else: the first of them may be hung in the place, and then the leaves stand
+-- at their foot
+pub record HasGrown {S A R : Type 0} (m : Meaning S A R) (digest : Key → ℕ) (layout : Layout) (v : CellView S A R) (wanted : Wanted) (point : Point) (branch : Branch) : Type 0 where
   pub may : MayHoldSo m v wanted.id wanted.way
   pub exists : wanted.id.slot < layout.slots
   pub stored : ¬ Contains v.pools.unstored wanted.id.slot
   pub at : IsAtPlace digest layout v wanted.key point
-  pub locked : v.trie.locks ≡ lock_of point.place ∷ []
   pub key_stored : HasStoredKey layout v.pools.stored wanted.id.slot wanted.way wanted.key
   pub nodes : List ℕ
-  pub branch : IsBranch (digits_of digest wanted.key) (digits_of digest other.key) (cell_stored layout v.pools.stored) (Leaf wanted.id.slot wanted.way) (Leaf other.slot other.way) (point.level + 1) first nodes
+  pub leads : IsBranch (digits_of digest wanted.key) (digits_of digest branch.other.key) (cell_stored layout v.pools.stored) (Leaf wanted.id.slot wanted.way) (Leaf branch.other.slot branch.other.way) (point.level + 1) branch.first nodes
   pub owned : (node : ℕ) → Contains nodes node → Contains v.pools.nodes node
   pub apart : AreApart nodes
   pub parents : NameParents (digits_of digest wanted.key) (IsParentStored layout v.pools.stored) (point.level + 1) point.place nodes
   pub all : nodes_but nodes v.pools.nodes ≡ []
+  pub some : 1 ≤ length nodes
+  pub own_place : branch.own_place ≡ foot_place (digits_of digest wanted.key) (point.level + 1) point.place nodes
+  pub moved_to : branch.moved_to ≡ foot_place (digits_of digest branch.other.key) (point.level + 1) point.place nodes
+
+-- the pass has just seen the leaf of another key there, under the place's lock
+pub record SeesOtherLeaf (side : TrieSide) (key : Key) (point : Point) (other : OtherLeaf) : Type 0 where
+  pub leaf : LoadedLeaf
+  pub known : side.leaf ≡ Some leaf
+  pub is : (leaf.slot ≡ other.slot) × (leaf.way ≡ other.way) × (leaf.key ≡ other.key)
+  pub differs : leaf.key ≢ key
+  pub sees : SeesLocked side point.place (Leaf leaf.slot leaf.way)
 
 -- the pass loaded a place, under its lock, and has its nodes still
 pub record HoldsNodes {S A R F : Type 0} (old now : Me F (CellView S A R)) : Type 0 where
@@ -139,8 +171,9 @@ pub record HasHung {S A R F : Type 0} (m : Meaning S A R) (wanted : Wanted) (hel
   pub done : held ≡ Held.Done → now ≡ (
     record old.0 {
       seats = record old.0.seats { history = now.0.seats.history };
-      pools = record old.0.pools { nodes = []; stored = now.0.pools.stored };
+      pools = record old.0.pools { nodes = []; stored = now.0.pools.stored; notes = notes_but wanted.id.slot (note_field wanted.way) old.0.pools.notes };
       trie = record now.0.trie { locks = old.0.trie.locks };
+      turn = with_ahead None old.0.turn;
     },
     old.1,
   )

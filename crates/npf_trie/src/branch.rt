@@ -27,6 +27,23 @@ pub(crate) struct Tip {
     pub(crate) leaf: Cell,
 }
 
+impl Tip {
+    ghost use Rattle.std.specs.Prelude.{◌≡◌, ◌<◌};
+    ghost use Rattle.npf_paths.specs.Digits.{digit_of};
+    ghost use Rattle.npf_paths.specs.declared.place.Place.TheVariants as Places;
+
+    /// The place of the node to which the key leads at this level.
+    pub(crate) fn place_in(&self, node: u32, level: u32) -> Place
+        requires { level < 95 }
+        ensures { result ≡ Places.Node node (digit_of self.now.hash self.now.key level) }
+    {
+        Place::Node {
+            node,
+            digit: digit(self.hash, &self.key, level),
+        }
+    }
+}
+
 /// Stores the places of nodes that the pass owns, from the last up, so that they lead two keys on: the first is to hang in this place,
 /// and the last is that of the level at which the keys part, with the leaf of either. Each names the place that is to have it.
 pub(crate) fn build_branch<L: Law, H: KeyHash>(

@@ -3,13 +3,13 @@ ghost use Rattle.npf_cells.specs.Cells.{IsPassIn};
 ghost use Rattle.npf_cells_rule.specs.Passes.{IsProtected};
 ghost use Rattle.npf_trie.specs.HoldKey.{CanHold, IsAtPlace, StepsSo};
 
-use crate::keys::store_key;
-use crate::lock::{lock, unlock};
+use crate::keys::{leaf_note, store_key, store_note};
 use crate::meet::meet;
 use crate::step::{Met, Point, Step, Wanted};
 use npf_cells::{CellPass, Cells};
 use npf_core::{Held, Law};
 use npf_paths::{Cell, KeyHash};
+use npf_turn::{lock, unlock};
 use std::sync::Wait;
 
 /// Puts the connection's leaf in the place, if nothing stands there under its lock.
@@ -32,6 +32,8 @@ pub(crate) fn fill<L: Law, H: KeyHash>(
     lock(rt, cells, pass, point.place.lock());
     let step = match cells.load_place(pass, point.place, &wanted.aim()) {
         Cell::Empty => {
+            let place = leaf_note(point.place);
+            store_note(cells, pass, wanted.id.slot, wanted.way, place);
             cells.publish_place(pass, point.place, wanted.leaf(), Some(&wanted.aim()));
             Step::Ends(Held::Done)
         }

@@ -16,8 +16,8 @@ use npf_types::{Key, Way};
 use std::sync::Wait;
 
 /// The key for a connection that the pass is building, as its key of that way: Done, or Taken by its holder. NoNode where it meets another
-/// key and too few nodes are left, as a sweep found. After each answer the pass has neither a node nor a lock, and has loaded a place in this
-/// call, so that the key which it met last is one that it met in it. It may wait for a lock.
+/// key and too few nodes are left, as a sweep found. After each answer the pass has neither a node, a lock nor a turn, and has loaded a place in
+/// this call, so that the key which it met last is one that it met in it. It may wait for a lock, and for the turn of a slot whose leaf it moves.
 pub fn hold<L: Law, H: KeyHash>(
     rt: &impl Wait,
     cells: &Cells<L, H>,

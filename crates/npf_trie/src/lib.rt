@@ -9,9 +9,10 @@
 // The contract: a look adds its entry to the history of the pass, with the answer as reply, and loads 95 places and five words of keys at
 // most. It has the locks then that it had before, and waits for nobody. A hold's entry is the pass's one new and ends its history as it
 // was seen: Done, or Taken by the key's holder. A hold for which too few nodes are left adds none, has published nothing, and met another
-// key at a place that it loaded. After each answer the pass has neither a node nor a lock.
+// key at a place that it loaded. After each answer the pass has neither a node, a lock nor a turn.
 // No clause says that a hold has one lock at a time, and so it is: it waits for that of each place in which it tries to put its leaf or
-// its nodes, and goes by what stands there then.
+// its nodes, and goes by what stands there then. Before it moves the leaf of another key it waits for the turn of that leaf's slot, and for
+// the lock behind it, never the other way round; and the note of each leaf is stored right before the store that puts the leaf there.
 #![tactic(auto)]
 
 mod branch;
@@ -19,7 +20,6 @@ mod fill;
 mod grow;
 mod holding;
 mod keys;
-mod lock;
 mod looking;
 mod meet;
 mod nodes;

@@ -27,6 +27,15 @@ pub(crate) struct OtherLeaf {
     pub(crate) key: Key,
 }
 
+/// New nodes that are to hang by the first of them in the place of the leaf of another key, and where the new leaf and that one will stand.
+#[derive(Clone, Copy, Debug, PartialEq, Eq)]
+pub(crate) struct Branch {
+    pub(crate) other: OtherLeaf,
+    pub(crate) first: u32,
+    pub(crate) own_place: Place,
+    pub(crate) moved_to: Place,
+}
+
 /// Whose key a leaf has that a pass met.
 #[derive(Clone, Copy, Debug, PartialEq, Eq)]
 pub(crate) enum Met {

@@ -1,13 +1,14 @@
 // Connections that passes start, step and kill under the turns of their slots, and the words that stand there then.
 ghost use Rattle.std.specs.Prelude.{◌≡◌, ◌<◌, IfSome, None};
 ghost use Rattle.npf_cells.specs.Cells.{IsPassIn};
-ghost use Rattle.npf_trie_tests.specs.Hands.{HasFreeHands};
+ghost use Rattle.npf_trie_tests.specs.Hands.{IsEmptyHanded};
 
 use crate::answers::{put, same};
 use crate::by_protocol::ByProtocol;
 use crate::keys::Draws;
 use crate::works::untold;
 use npf_cells::{CellPass, Cells, PHASE, Pool};
+use npf_cells_words::note_field;
 use npf_core::{ConnId, Held, Stepped};
 use npf_epoch::enter;
 use npf_flow::{Flow, FlowArg, FlowKind, FlowLaw, FlowReply};
@@ -34,7 +35,7 @@ const NOTHING: Action = Action {
     log: None,
 };
 
-const FLOW: Flow = Flow {
+pub(crate) const FLOW: Flow = Flow {
     kind: FlowKind::Other { answered: false },
     last: 1,
     opener: 7,
@@ -43,29 +44,32 @@ const FLOW: Flow = Flow {
     action: NOTHING,
 };
 
-const PACKET: FlowArg = FlowArg {
+pub(crate) const PACKET: FlowArg = FlowArg {
     now: 1,
     seg: None,
     peek: false,
 };
 
 // An hour later, in nanoseconds: the flow is due since long.
-const LATE: u64 = 3_600_000_000_000;
+pub(crate) const LATE: u64 = 3_600_000_000_000;
 
 // Begins a connection, holds the key for it and starts it. None where no slot is left, or the key is taken.
-fn open(
+pub(crate) fn open(
     rt: &impl Wait,
     cells: &Cells<FlowLaw, ByProtocol>,
     pass: &mut CellPass<FlowLaw>,
     key: Key,
 ) -> Option<ConnId>
     requires own { IsPassIn cells.now pass.old }
-    requires hands { HasFreeHands pass.old.seat.me.0 }
+    requires hands { IsEmptyHanded pass.old.seat.me.0 }
     ensures own { IsPassIn cells.now pass.new }
-    ensures hands { HasFreeHands pass.new.seat.me.0 }
+    ensures hands { IsEmptyHanded pass.new.seat.me.0 }
     ensures exists { IfSome result (λ id. id.slot < cells.now.table.shared.key.slots) }
 {
     let id = begin(rt, cells, pass)?;
+    // The notes of the ways that get no key.
+    cells.store_private(pass, Pool::Slots, id.slot, note_field(Way::Backward), 0);
+    cells.store_private(pass, Pool::Slots, id.slot, note_field(Way::Port), 0);
     match hold(rt, cells, pass, id, key, Way::Forward) {
         Held::Done => {
             start(rt, cells, pass, id, 7, FLOW);
@@ -76,16 +80,16 @@ fn open(
 }
 
 // The next step of the connection that holds the key. None where none holds it.
-fn step_by(
+pub(crate) fn step_by(
     rt: &impl Wait,
     cells: &Cells<FlowLaw, ByProtocol>,
     pass: &mut CellPass<FlowLaw>,
     key: Key,
 ) -> Option<Stepped<FlowReply>>
     requires own { IsPassIn cells.now pass.old }
-    requires hands { HasFreeHands pass.old.seat.me.0 }
+    requires hands { IsEmptyHanded pass.old.seat.me.0 }
     ensures own { IsPassIn cells.now pass.new }
-    ensures hands { HasFreeHands pass.new.seat.me.0 }
+    ensures hands { IsEmptyHanded pass.new.seat.me.0 }
 {
     let found = look(cells, pass, 9, key)?;
     if found.id.slot >= cells.layout().slots {
@@ -95,7 +99,7 @@ fn step_by(
 }
 
 // The number of the step, or none where the connection wasn't Live or nobody holds the key.
-fn place_of(stepped: Option<Stepped<FlowReply>>) -> Option<u64> {
+pub(crate) fn place_of(stepped: Option<Stepped<FlowReply>>) -> Option<u64> {
     match stepped {
         Some(Stepped::Done { place, .. }) => Some(place),
         _ => None,
@@ -111,10 +115,10 @@ fn kills(
     now: u64,
 ) -> bool
     requires own { IsPassIn cells.now pass.old }
-    requires hands { HasFreeHands pass.old.seat.me.0 }
+    requires hands { IsEmptyHanded pass.old.seat.me.0 }
     requires exists { slot < cells.now.table.shared.key.slots }
     ensures own { IsPassIn cells.now pass.new }
-    ensures hands { HasFreeHands pass.new.seat.me.0 }
+    ensures hands { IsEmptyHanded pass.new.seat.me.0 }
 {
     match expire(rt, cells, pass, slot, now) {
         Some(_) => true,
@@ -148,7 +152,7 @@ fn step_often(
     told: &[AtomicU64],
 ) -> bool
     requires own { IsPassIn cells.now pass }
-    requires hands { HasFreeHands pass.seat.me.0 }
+    requires hands { IsEmptyHanded pass.seat.me.0 }
 {
     let mut pass = pass;
     let mut each_once = true;
@@ -197,17 +201,17 @@ fn step_beside<R: Threads + Wait + Sync>(
     told: &[AtomicU64],
 ) -> (bool, bool)
     requires own { IsPassIn cells.now pass }
-    requires hands { HasFreeHands pass.seat.me.0 }
+    requires hands { IsEmptyHanded pass.seat.me.0 }
     requires other_own { IsPassIn cells.now other }
-    requires other_hands { HasFreeHands other.seat.me.0 }
+    requires other_hands { IsEmptyHanded other.seat.me.0 }
 {
     join(
         rt,
         move ||
-            requires { IsPassIn cells.now pass × HasFreeHands pass.seat.me.0 }
+            requires { IsPassIn cells.now pass × IsEmptyHanded pass.seat.me.0 }
         { step_often(rt, cells, pass, key, told) },
         move ||
-            requires { IsPassIn cells.now other × HasFreeHands other.seat.me.0 }
+            requires { IsPassIn cells.now other × IsEmptyHanded other.seat.me.0 }
         { step_often(rt, cells, other, key, told) },
     )
 }
@@ -218,9 +222,9 @@ const ROUNDS: u32 = 1000;
 // Opens a connection for each of so many keys. Answers how many it opened.
 fn open_all(rt: &impl Wait, cells: &Cells<FlowLaw, ByProtocol>, pass: &mut CellPass<FlowLaw>) -> u32
     requires own { IsPassIn cells.now pass.old }
-    requires hands { HasFreeHands pass.old.seat.me.0 }
+    requires hands { IsEmptyHanded pass.old.seat.me.0 }
     ensures own { IsPassIn cells.now pass.new }
-    ensures hands { HasFreeHands pass.new.seat.me.0 }
+    ensures hands { IsEmptyHanded pass.new.seat.me.0 }
 {
     let mut draws = Draws::new();
     let mut opened = 0u32;
@@ -235,7 +239,7 @@ fn open_all(rt: &impl Wait, cells: &Cells<FlowLaw, ByProtocol>, pass: &mut CellP
 // Steps the connection of each key. Answers how many were Live.
 fn step_all(rt: &impl Wait, cells: &Cells<FlowLaw, ByProtocol>, pass: CellPass<FlowLaw>) -> u32
     requires own { IsPassIn cells.now pass }
-    requires hands { HasFreeHands pass.seat.me.0 }
+    requires hands { IsEmptyHanded pass.seat.me.0 }
 {
     let mut pass = pass;
     let mut draws = Draws::new();
@@ -251,7 +255,7 @@ fn step_all(rt: &impl Wait, cells: &Cells<FlowLaw, ByProtocol>, pass: CellPass<F
 // Kills the connection of each slot. Answers how many it killed.
 fn kill_all(rt: &impl Wait, cells: &Cells<FlowLaw, ByProtocol>, pass: CellPass<FlowLaw>) -> u32
     requires own { IsPassIn cells.now pass }
-    requires hands { HasFreeHands pass.seat.me.0 }
+    requires hands { IsEmptyHanded pass.seat.me.0 }
 {
     let mut pass = pass;
     let mut killed = 0u32;
@@ -289,17 +293,17 @@ fn race<R: Threads + Wait + Sync>(
     other: CellPass<FlowLaw>,
 ) -> (u32, u32)
     requires own { IsPassIn cells.now pass }
-    requires hands { HasFreeHands pass.seat.me.0 }
+    requires hands { IsEmptyHanded pass.seat.me.0 }
     requires other_own { IsPassIn cells.now other }
-    requires other_hands { HasFreeHands other.seat.me.0 }
+    requires other_hands { IsEmptyHanded other.seat.me.0 }
 {
     join(
         rt,
         move ||
-            requires { IsPassIn cells.now pass × HasFreeHands pass.seat.me.0 }
+            requires { IsPassIn cells.now pass × IsEmptyHanded pass.seat.me.0 }
         { step_all(rt, cells, pass) },
         move ||
-            requires { IsPassIn cells.now other × HasFreeHands other.seat.me.0 }
+            requires { IsPassIn cells.now other × IsEmptyHanded other.seat.me.0 }
         { kill_all(rt, cells, other) },
     )
 }

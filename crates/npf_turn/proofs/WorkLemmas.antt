@@ -1,5 +1,5 @@
 -- What a pass has while it works under a turn, and what is left when it has ended it.
-use Rattle.std.proofs.Common.{◌≡◌, ℕ, ◌+◌, ◌-◌, ◌^◌, min, Some, None, List, [], ◌∷◌, refl, sym, ap, ◌∙◌, subst, inl, inr, IsTrue}
+use Rattle.std.proofs.Common.{◌≡◌, ℕ, ◌+◌, ◌-◌, ◌^◌, min, Some, None, List, [], ◌∷◌, refl, sym, ap, ◌∙◌, subst, inl, inr, IsTrue, Contains}
 use denote.Bor.{Bor}
 use Rattle.atomic_table.specs.Table.{Me}
 use Rattle.npf_types.specs.declared.key.Way.{Way}
@@ -21,8 +21,8 @@ use Rattle.npf_cells_rule.specs.declared.view.CellView.{CellView}
 use Rattle.npf_cells_rule.specs.Passes.{cell_pass}
 use Rattle.npf_cells_takes.specs.PrivateKinds.{ShowsTurnInc, MayStore, stored_in}
 use Rattle.npf_cells_turns.specs.declared.act.TurnAct.{TurnAct}
-use Rattle.npf_cells_turns.specs.declared.act.TurnAct.TheVariants.{Step as Steps, Expired}
-use Rattle.npf_cells_turns.specs.EndKinds.{stage_by, MayAct, MayEndBy}
+use Rattle.npf_cells_turns.specs.declared.act.TurnAct.TheVariants.{Start, Step as Steps, Abandoned, Expired}
+use Rattle.npf_cells_turns.specs.EndKinds.{BuildsThere, HasBareNotes, stage_by, MayAct, MayEndBy}
 use Rattle.npf_cells_turns.specs.TurnKinds.{HasTaken, HasSlotTurn}
 use Rattle.npf_cells_turns.proofs.ActLemmas.{stepped_phase}
 
@@ -46,7 +46,7 @@ stays_idle m way arg Dead e = (refl, refl)
 
 -- a turn of a slot that was at this, with this phase
 abbrev pub turn_of : {S : Type 0} → ℕ → Slot S → ℕ → Turn S
-turn_of slot was phase = record { slot = slot; was = was; phase = phase }
+turn_of slot was phase = record { slot = slot; was = was; phase = phase; ahead = None; said = None }
 
 module _ {S A R : Type 0} where
   -- the pass has the turn of a slot that was at this when it got it, with this phase, and carries this value
@@ -90,7 +90,22 @@ module _ {S A R : Type 0} where
       may = may;
       carries = ap (λ (y : Me (Running S) (CellView S A R)). y.1) so.is ∙ ap (λ v. (slot, v) ∷ []) runs;
       phase = phase_is;
+      settled = refl;
     }
+
+    -- it may end the turn by starting what it built, where it stored the notes of the ways without a key
+    pub may_start : (m : Meaning S A R) (id : ConnId) (n : ℕ) (init : S) → id.slot ≡ slot → Contains old.0.pools.builds id → ¬ Contains old.0.pools.unstored id.slot → HasBareNotes m old.0 id → phase ≡ 1 → value ≡ Some (init, 1) → MayEndBy m (Start id n init) slot now
+    may_start m id n init there built stored notes phase_is value_is =
+        may_end m (Start id n init)
+        (subst (λ (y : Me (Running S) (CellView S A R)). BuildsThere y.0 (turn_of slot was phase) id × HasBareNotes m y.0 id) (sym so.is) (record { built = built; there = there; stored = stored }, notes))
+        value_is phase_is
+
+    -- or by giving up what it built
+    pub may_abandon : (m : Meaning S A R) (id : ConnId) → id.slot ≡ slot → Contains old.0.pools.builds id → ¬ Contains old.0.pools.unstored id.slot → HasBareNotes m old.0 id → phase ≡ 2 → value ≡ None → MayEndBy m (Abandoned id) slot now
+    may_abandon m id there built stored notes phase_is value_is =
+        may_end m (Abandoned id)
+        (subst (λ (y : Me (Running S) (CellView S A R)). BuildsThere y.0 (turn_of slot was phase) id × HasBareNotes m y.0 id) (sym so.is) (record { built = built; there = there; stored = stored }, notes))
+        value_is phase_is
 
     -- it may end the turn with a step, where it carries the flow and the count that the step leaves
     pub may_step : (m : Meaning S A R) (id : ConnId) (n : ℕ) (way : Way) (arg : Bor A) (flow : S) (steps : ℕ) → id.slot ≡ slot → old.0.turn ≡ None → Knows (cell_pass old.0) id → running was.stage ≡ Some (flow, steps) → phase ≡ stage_phase was.stage →

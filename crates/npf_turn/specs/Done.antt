@@ -23,7 +23,8 @@ use Rattle.npf_cells_lives.specs.declared.pools.PoolSide.{PoolSide}
 use Rattle.npf_cells_lives.specs.Turns.{Running}
 use Rattle.npf_cells_rule.specs.declared.view.CellView.{CellView}
 use Rattle.npf_cells_rule.specs.Passes.{cell_pass}
-use Rattle.npf_cells_turns.specs.EndKinds.{without_build, with_kill, unloaded}
+use Rattle.npf_cells_rule.specs.Views.{unloaded}
+use Rattle.npf_cells_turns.specs.EndKinds.{without_build, with_kill}
 use Rattle.npf_cells_takes.specs.PrivateKinds.{letting_go}
 
 -- the pass has seen this history, and these are its sides of the epoch and of the pools
@@ -63,4 +64,4 @@ HasExpired m slot now (Some id) old next = (id.slot ≡ slot) × HasDone m (Kill
 pub record HasLetGo {S A R F : Type 0} (id : ConnId) (old now : Me F (CellView S A R)) : Type 0 where
   pub epoch : ℕ
   pub met : IsMet old.0.epochs epoch
-  pub is : now ≡ (record old.0 { epochs = loading old.0.epochs epoch; pools = letting_go id.slot old.0.pools }, old.1)
+  pub is : now ≡ (record old.0 { epochs = loading old.0.epochs epoch; pools = letting_go id.slot epoch old.0.pools }, old.1)

@@ -1,1 +1,4 @@
 pub mod Done
+pub mod Ending
+pub mod KillLaw
+pub mod Reclaiming

@@ -1,14 +1,22 @@
 // Connections of the table without locks under the turns of their slots: a turn is waited for, and a connection is started, stepped or killed
-// under it. A connection that a pass killed is its own until it lets it go.
+// under it. A connection that a pass killed is its own until it lets it go, after it gave up its keys; two epochs later any pass may free it.
 //
 // The contract: each call makes the entry that it names, and no other, with the reply that the connection then gave, and has no turn before
 // and after. It may wait for a turn that another pass has.
 #![tactic(auto)]
 
+mod ending;
+mod laws;
 mod letting_go;
+mod locking;
+mod reclaiming;
 mod turn;
 mod working;
 
+pub use ending::{end_key, end_keys, end_killed};
+pub use laws::kill_law;
 pub use letting_go::let_go;
+pub use locking::{lock, unlock};
+pub use reclaiming::reclaim;
 pub use turn::wait_turn;
 pub use working::{expire, kill, start, step};

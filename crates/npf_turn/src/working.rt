@@ -2,6 +2,7 @@ ghost use Rattle.std.specs.Prelude.{◌≡◌, ◌<◌, ◌+◌, ◌-◌, ◌^�
 ghost use Rattle.npf_connections.specs.Pass.{Knows};
 ghost use Rattle.npf_cells.specs.Cells.{IsPassIn};
 ghost use Rattle.npf_cells_rule.specs.Passes.{cell_pass};
+ghost use Rattle.npf_cells_turns.specs.EndKinds.{HasBareNotes};
 ghost use Rattle.npf_turn.specs.Done.{HasStepped, HasStarted, HasKilled, HasExpired};
 
 use crate::turn::wait_turn;
@@ -16,7 +17,8 @@ const LIVE: u64 = 1;
 
 const DEAD: u64 = 2;
 
-/// A connection that the pass is building is Live from now on, with this flow, for the packet `n`.
+/// A connection that the pass is building is Live from now on, with this flow, for the packet `n`. The pass has stored 0 as the note of each
+/// way of which it holds no key.
 pub fn start<L: Law, H: KeyHash>(
     rt: &impl Wait,
     cells: &Cells<L, H>,
@@ -30,6 +32,7 @@ pub fn start<L: Law, H: KeyHash>(
     requires turnless { pass.old.seat.me.0.turn ≡ None }
     requires builds { Contains pass.old.seat.me.0.pools.builds id }
     requires stored { ¬ Contains pass.old.seat.me.0.pools.unstored id.slot }
+    requires notes { HasBareNotes L.meaning pass.old.seat.me.0 id }
     ensures own { IsPassIn cells.now pass.new }
     ensures starts { HasStarted L.meaning id n init pass.old.seat.me pass.new.seat.me }
 {
@@ -90,7 +93,8 @@ fn step_flow<L: Law>(
     ((next, steps.saturating_add(1)), reply)
 }
 
-/// Kills a connection that the pass is building. It keeps its keys, and is the pass's own until it lets it go.
+/// Kills a connection that the pass is building, which has stored 0 as the note of each way of which it holds no key. It keeps its keys, and is
+/// the pass's own until it lets it go.
 pub fn kill<L: Law, H: KeyHash>(
     rt: &impl Wait,
     cells: &Cells<L, H>,
@@ -102,6 +106,7 @@ pub fn kill<L: Law, H: KeyHash>(
     requires turnless { pass.old.seat.me.0.turn ≡ None }
     requires builds { Contains pass.old.seat.me.0.pools.builds id }
     requires stored { ¬ Contains pass.old.seat.me.0.pools.unstored id.slot }
+    requires notes { HasBareNotes L.meaning pass.old.seat.me.0 id }
     ensures own { IsPassIn cells.now pass.new }
     ensures kills { HasKilled L.meaning id pass.old.seat.me pass.new.seat.me }
 {

@@ -3,6 +3,7 @@ use Rattle.npf_cells_holds.proofs.HoldKeepLemmas.{may_load_for_hold}
 use Rattle.npf_cells_holds.proofs.LockKeepLemmas.{may_lock, may_store_state}
 use Rattle.npf_cells_holds.proofs.LookKeepLemmas.{may_look, may_load_key}
 use Rattle.npf_cells_holds.proofs.PublishKeepLemmas.{may_publish_for}
+use Rattle.npf_cells_holds.proofs.UnlinkKeepLemmas.{may_unlink}
 use Rattle.npf_cells_holds.proofs.laws.holds_law.Goals as goal
 
 pub returns : goal.returns
@@ -15,5 +16,6 @@ returns g c = record {
     stores_state = may_store_state g.L.Law.meaning g.H.KeyHash.digest layout;
     stores_again = may_store_again g.L.Law.meaning g.H.KeyHash.digest layout;
     publishes = may_publish_for g.L.Law.meaning g.H.KeyHash.digest layout;
+    unlinks = may_unlink g.L.Law.meaning g.H.KeyHash.digest layout;
   };
 }

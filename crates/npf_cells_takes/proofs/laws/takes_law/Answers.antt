@@ -1,5 +1,7 @@
+use Rattle.npf_cells_takes.proofs.ClearLemmas.{may_clear}
+use Rattle.npf_cells_takes.proofs.FreeKeepLemmas.{may_free_slot}
 use Rattle.npf_cells_takes.proofs.PoolKeepLemmas.{may_sweep, may_claim_node, may_return_node}
-use Rattle.npf_cells_takes.proofs.PrivateKeepLemmas.{may_load_inc, may_store}
+use Rattle.npf_cells_takes.proofs.PrivateKeepLemmas.{may_load_inc, may_store, may_store_ahead}
 use Rattle.npf_cells_takes.proofs.SlotKeepLemmas.{may_claim_slot}
 use Rattle.npf_cells_takes.proofs.laws.takes_law.Goals as goal
 
@@ -12,5 +14,8 @@ returns g c = record {
     claims_slot = may_claim_slot g.L.Law.meaning g.H.KeyHash.digest layout;
     loads_inc = may_load_inc g.L.Law.meaning g.H.KeyHash.digest layout;
     stores = may_store g.L.Law.meaning g.H.KeyHash.digest layout;
+    stores_ahead = may_store_ahead g.L.Law.meaning g.H.KeyHash.digest layout;
+    clears = may_clear g.L.Law.meaning g.H.KeyHash.digest layout;
+    frees_slot = may_free_slot g.L.Law.meaning g.H.KeyHash.digest layout;
   };
 }

@@ -1,4 +1,5 @@
 use Rattle.npf_cells_turns.proofs.EndKeepLemmas.{may_end}
+use Rattle.npf_cells_turns.proofs.NoteKeepLemmas.{may_load_note}
 use Rattle.npf_cells_turns.proofs.SightKeepLemmas.{may_see}
 use Rattle.npf_cells_turns.proofs.TurnKeepLemmas.{may_take}
 use Rattle.npf_cells_turns.proofs.WordKeepLemmas.{may_load_word}
@@ -9,6 +10,7 @@ returns g c = record {
   keeps = λ layout. record {
     sees = may_see g.L.Law.meaning g.H.KeyHash.digest layout;
     loads_word = may_load_word g.L.Law.meaning g.H.KeyHash.digest layout;
+    loads_note = may_load_note g.L.Law.meaning g.H.KeyHash.digest layout;
     takes = may_take g.L.Law.meaning g.H.KeyHash.digest layout;
     ends = may_end g.L.Law.meaning g.H.KeyHash.digest layout;
   };

@@ -1,7 +1,7 @@
 use Rattle.std.proofs.Common.{refl, ap, arith}
 use Rattle.npf_trie.proofs.CountLemmas.{by_load, by_pools, by_store, by_trie, by_words}
 use Rattle.npf_trie.proofs.StepLemmas.{leaf_loaded}
-use Rattle.npf_trie.proofs.FillLemmas.{aims_there, aims_so, aim_tells, ready_now, only_lock, freed_so, may_fill, came_empty, came_node, came_holder, came_other, came_mark}
+use Rattle.npf_trie.proofs.FillLemmas.{aims_there, aims_so, aim_tells, ready_now, only_lock, freed_so, may_note, may_fill, came_empty, came_node, came_holder, came_other, came_mark}
 use Rattle.npf_trie.proofs.fill.fill.Goals as goal
 use Rattle.npf_trie.proofs.fill.fill.Goals.{in-Empty, in-Node, in-Leaf+in-Holder, in-Leaf+in-Other, in-Mark}
 
@@ -15,10 +15,15 @@ load_place-requires-clause-aim g c =
     let ready = ready_now g.L.Law.meaning g.H.KeyHash.digest c.args.cells.now.table.shared.key c.args.wanted.now c.args.point _ _ _ _ _ c.requires.can c.requires.at c.lock.ensures c.store_key.ensures.next c.store_key.ensures.stores c.lock-2.ensures.gets in
     aims_so g.L.Law.meaning _ c.args.wanted.now _ c.aim.ensures ready.may
 
+pub store_note-requires-clause-may : goal.store_note-requires-clause-may
+store_note-requires-clause-may g c =
+    let ready = ready_now g.L.Law.meaning g.H.KeyHash.digest c.args.cells.now.table.shared.key c.args.wanted.now c.args.point _ _ _ _ _ c.requires.can c.requires.at c.lock.ensures c.store_key.ensures.next c.store_key.ensures.stores c.lock-2.ensures.gets in
+    may_note ready c.aim.ensures _ c.in-Empty.ensures.tells
+
 pub publish_place-requires-clause-may : goal.publish_place-requires-clause-may
 publish_place-requires-clause-may g c =
     let ready = ready_now g.L.Law.meaning g.H.KeyHash.digest c.args.cells.now.table.shared.key c.args.wanted.now c.args.point _ _ _ _ _ c.requires.can c.requires.at c.lock.ensures c.store_key.ensures.next c.store_key.ensures.stores c.lock-2.ensures.gets in
-    may_fill ready c.aim.ensures _ c.in-Empty.ensures.tells _ _ c.aim-in-Empty.ensures c.leaf.ensures
+    may_fill ready c.aim.ensures _ c.in-Empty.ensures.tells _ _ c.aim-in-Empty.ensures _ _ c.store_note.ensures.next c.leaf_note-place.ensures.is c.leaf.ensures
 
 pub meet-requires-clause-leaf : goal.meet-requires-clause-leaf
 meet-requires-clause-leaf g c =
@@ -29,7 +34,7 @@ pub unlock-requires-clause-only : goal.unlock-requires-clause-only
 unlock-requires-clause-only g c =
     let ready = ready_now g.L.Law.meaning g.H.KeyHash.digest c.args.cells.now.table.shared.key c.args.wanted.now c.args.point _ _ _ _ _ c.requires.can c.requires.at c.lock.ensures c.store_key.ensures.next c.store_key.ensures.stores c.lock-2.ensures.gets in
     elim c.match-load_place.branch [
-      | in-Empty w ↦ only_lock ready _ _ _ _ (λ i. (w.pass-is i).seat.me) c.lock-3.ensures (came_empty ready c.aim.ensures _ w.in-Empty.ensures.tells _ _ w.aim-in-Empty.ensures _ w.publish_place.ensures.published)
+      | in-Empty w ↦ only_lock ready _ _ _ _ (λ i. (w.pass-is i).seat.me) c.lock-3.ensures (came_empty ready c.aim.ensures _ w.in-Empty.ensures.tells _ _ w.aim-in-Empty.ensures _ _ w.store_note.ensures.next _ w.publish_place.ensures.published)
       | in-Node w ↦ only_lock ready _ _ _ _ (λ i. (w.pass-is i).seat.me) c.lock-3.ensures (came_node ready c.aim.ensures _ _ w.in-Node.ensures.tells)
       | in-Leaf+in-Holder w ↦ only_lock ready _ _ _ _ (λ i. (w.pass-is i).seat.me) c.lock-3.ensures (came_holder ready c.aim.ensures _ _ _ _ w.in-Leaf.ensures.tells w.meet.ensures.compares _ w.in-Holder.ensures.met)
       | in-Leaf+in-Other w ↦ only_lock ready _ _ _ _ (λ i. (w.pass-is i).seat.me) c.lock-3.ensures (came_other ready c.aim.ensures _ _ _ _ w.in-Leaf.ensures.tells w.meet.ensures.compares _ w.in-Other.ensures.met)
@@ -40,7 +45,7 @@ pub returns-clause-steps : goal.returns-clause-steps
 returns-clause-steps g c =
     let ready = ready_now g.L.Law.meaning g.H.KeyHash.digest c.args.cells.now.table.shared.key c.args.wanted.now c.args.point _ _ _ _ _ c.requires.can c.requires.at c.lock.ensures c.store_key.ensures.next c.store_key.ensures.stores c.lock-2.ensures.gets in
     elim c.match-load_place.branch [
-      | in-Empty w ↦ freed_so ready _ _ _ _ _ w.step-is (λ i. (w.pass-is i).seat.me) c.unlock.ensures.frees (came_empty ready c.aim.ensures _ w.in-Empty.ensures.tells _ _ w.aim-in-Empty.ensures _ w.publish_place.ensures.published)
+      | in-Empty w ↦ freed_so ready _ _ _ _ _ w.step-is (λ i. (w.pass-is i).seat.me) c.unlock.ensures.frees (came_empty ready c.aim.ensures _ w.in-Empty.ensures.tells _ _ w.aim-in-Empty.ensures _ _ w.store_note.ensures.next _ w.publish_place.ensures.published)
       | in-Node w ↦ freed_so ready _ _ _ _ _ w.step-is (λ i. (w.pass-is i).seat.me) c.unlock.ensures.frees (came_node ready c.aim.ensures _ _ w.in-Node.ensures.tells)
       | in-Leaf+in-Holder w ↦ freed_so ready _ _ _ _ _ w.step-is (λ i. (w.pass-is i).seat.me) c.unlock.ensures.frees (came_holder ready c.aim.ensures _ _ _ _ w.in-Leaf.ensures.tells w.meet.ensures.compares _ w.in-Holder.ensures.met)
       | in-Leaf+in-Other w ↦ freed_so ready _ _ _ _ _ w.step-is (λ i. (w.pass-is i).seat.me) c.unlock.ensures.frees (came_other ready c.aim.ensures _ _ _ _ w.in-Leaf.ensures.tells w.meet.ensures.compares _ w.in-Other.ensures.met)
@@ -55,9 +60,10 @@ returns-clause-loads g c =
     elim c.match-load_place.branch [
       | in-Empty w ↦
           let load = by_load g.L.Law.meaning g.H.KeyHash.digest c.args.cells.now.table.shared.key c.args.wanted.now c.args.point _ c.aim.ensures _ _ _ w.in-Empty.ensures.tells in
+          let noted = ap (λ me. me.0.trie.places) w.store_note.ensures.next in
           let put = by_store g.L.Law.meaning g.H.KeyHash.digest c.args.cells.now.table.shared.key c.args.wanted.now c.args.point _ w.aim-in-Empty.ensures _ _ _ w.publish_place.ensures.published in
           let same = ap (λ pass. pass.seat.me.0.trie.places) w.pass-is in
-          omega (arith, stored, locked, freed, load, put, same)
+          omega (arith, stored, locked, freed, load, noted, put, same)
       | in-Node w ↦
           let load = by_load g.L.Law.meaning g.H.KeyHash.digest c.args.cells.now.table.shared.key c.args.wanted.now c.args.point _ c.aim.ensures _ _ _ w.in-Node.ensures.tells in
           let same = ap (λ pass. pass.seat.me.0.trie.places) w.pass-is in

@@ -10,4 +10,5 @@ hold-held-requires-clause-can g c = record {
   stored = c.in_ok-id.ensures.begun.stored;
   nodes = c.in_ok-id.ensures.keeps.nodes ∙ c.requires.hands.nodes;
   locks = ap (λ (side : TrieSide). side.locks) c.in_ok-id.ensures.keeps.trie ∙ c.requires.hands.locks;
+  turnless = c.in_ok-id.ensures.keeps.turn ∙ c.requires.hands.turn;
 }

@@ -1,9 +1,9 @@
 use Rattle.npf_cells.specs.Cells.{IsPassIn}
-use Rattle.npf_trie_tests.specs.Hands.{HasFreeHands}
+use Rattle.npf_trie_tests.specs.Hands.{IsEmptyHanded}
 use Rattle.npf_trie_tests.proofs.turning.kill_all.Given as goal
 
 abbrev pub invariant-loop-slot : goal.invariant-loop-slot
 invariant-loop-slot g l = record {
   own : IsPassIn l.cells l.pass;
-  hands : HasFreeHands l.pass.seat.me.0;
+  hands : IsEmptyHanded l.pass.seat.me.0;
 }

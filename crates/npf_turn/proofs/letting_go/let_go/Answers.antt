@@ -1,4 +1,3 @@
-use Rattle.std.proofs.Common.{refl}
 use Rattle.npf_turn.proofs.LetGoLemmas.{may_let_go, lets_go}
 use Rattle.npf_turn.proofs.letting_go.let_go.Goals as goal
 

@@ -13,6 +13,9 @@ returns-clause-own g c = pass_on c.args.self.now.table.shared.key _ _ _ _ _ _ _ 
 pub returns-clause-met : goal.returns-clause-met
 returns-clause-met g c = c.load.ensures.2.met
 
+pub returns-clause-dated : goal.returns-clause-dated
+returns-clause-dated g c = c.load.ensures.2.dated
+
 pub returns-clause-next : goal.returns-clause-next
 returns-clause-next g c = c.load.ensures.2.is
 

@@ -14,4 +14,4 @@ load-requires g c =
     let short = key_short c.args.way c.args.word c.requires.word in
     let reach = field_reach c.args.self.now.table.shared.key Slots c.args.slot (key_field c.args.way + c.args.word) c.requires.slot (omega (arith, short)) in
     rw (c.requires.aim.0, c.requires.aim.1, c.requires.aim.2, c.requires.aim.3, place)
-    (own.same, omega (arith, own.words, reach), may_load_key g.L.Law.meaning g.H.KeyHash.digest c.args.self.now.table.shared.key _ _ _ c.args.slot c.args.way c.args.word c.args.pass.now.seat.me own.place c.requires.word)
+    (own.same, omega (arith, own.words, reach), may_load_key g.L.Law.meaning g.H.KeyHash.digest c.args.self.now.table.shared.key _ _ _ c.args.slot c.args.way c.args.word c.args.pass.now.seat.me own.lives own.place c.requires.word)

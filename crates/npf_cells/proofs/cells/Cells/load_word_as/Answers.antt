@@ -4,7 +4,7 @@ use Rattle.npf_cells_words.specs.declared.layout.Pool.{Pool}
 use Rattle.npf_cells_words.specs.Layout.{field_at}
 use Rattle.npf_cells_words.proofs.WordLemmas.{field_reach}
 use Rattle.npf_cells_rule.specs.Stood.{StoodSo}
-use Rattle.npf_cells_turns.specs.WordKinds.{ShowsStored}
+use Rattle.npf_cells_turns.specs.WordKinds.{ShowsByTurn, ShowsNote, ShowsPhase, ShowsStored}
 use Rattle.npf_cells_turns.proofs.WordKeepLemmas.{may_load_word, field_within}
 use Rattle.npf_cells.proofs.cells.Cells.load_word_as.Goals as goal
 
@@ -24,6 +24,21 @@ pub returns-clause-stored : goal.returns-clause-stored
 returns-clause-stored g c =
     let aim = c.requires.aim in
     subst (λ (y : Layout × Pool × ℕ × ℕ). ShowsStored y.0 c.args.pass.now.seat.me.0.pools.stored y.1 y.2 y.3 c.load.result) (λ i. (aim.0 i, aim.1 i, aim.2 i, aim.3 i)) c.load.ensures.2.stored
+
+pub returns-clause-noted : goal.returns-clause-noted
+returns-clause-noted g c =
+    let aim = c.requires.aim in
+    subst (λ (y : Pool × ℕ × ℕ). ShowsNote c.args.pass.now.seat.me.0.pools.notes y.0 y.1 y.2 c.load.result) (λ i. (aim.1 i, aim.2 i, aim.3 i)) c.load.ensures.2.noted
+
+pub returns-clause-phase : goal.returns-clause-phase
+returns-clause-phase g c =
+    let aim = c.requires.aim in
+    subst (λ (y : Pool × ℕ × ℕ). ShowsPhase c.args.pass.now.seat.me.0.turn y.0 y.1 y.2 c.load.result) (λ i. (aim.1 i, aim.2 i, aim.3 i)) c.load.ensures.2.phase
+
+pub returns-clause-by_turn : goal.returns-clause-by_turn
+returns-clause-by_turn g c =
+    let aim = c.requires.aim in
+    subst (λ (y : Layout × Pool × ℕ × ℕ). ShowsByTurn g.L.Law.meaning g.H.KeyHash.digest y.0 c.args.pass.now.seat.me.0 y.1 y.2 y.3 c.load.result) (λ i. (aim.0 i, aim.1 i, aim.2 i, aim.3 i)) c.load.ensures.2.by_turn
 
 pub returns-clause-stood : goal.returns-clause-stood
 returns-clause-stood g c =

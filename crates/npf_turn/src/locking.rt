@@ -14,7 +14,7 @@ use std::sync::Wait;
 const FREE: u64 = 0;
 
 /// Gets a lock, and waits as long as another pass has it.
-pub(crate) fn lock<L: Law, H: KeyHash>(
+pub fn lock<L: Law, H: KeyHash>(
     rt: &impl Wait,
     cells: &Cells<L, H>,
     pass: &mut CellPass<L>,
@@ -35,7 +35,7 @@ pub(crate) fn lock<L: Law, H: KeyHash>(
 }
 
 /// Frees the one lock that the pass has.
-pub(crate) fn unlock<L: Law, H: KeyHash>(cells: &Cells<L, H>, pass: &mut CellPass<L>, lock: Lock)
+pub fn unlock<L: Law, H: KeyHash>(cells: &Cells<L, H>, pass: &mut CellPass<L>, lock: Lock)
     requires own { IsPassIn cells.now pass.old }
     requires lock { IsLockOf cells.now.table.shared.key lock }
     requires only { pass.old.seat.me.0.trie.locks ≡ lock ∷ [] }

@@ -1,6 +1,6 @@
 use Rattle.std.proofs.Common.{◌≡◌}
 use Rattle.npf_cells.specs.Cells.{IsPassIn}
-use Rattle.npf_trie.proofs.lock.lock.Given as goal
+use Rattle.npf_turn.proofs.locking.lock.Given as goal
 
 -- the pass is as it was
 abbrev pub invariant-loop : goal.invariant-loop

@@ -1,0 +1,9 @@
+pub mod BeginLemmas
+pub mod BuildLemmas
+pub mod HoldLemmas
+pub mod MoveLemmas
+pub mod NoteLemmas
+pub mod PassLemmas
+pub mod SlotLemmas
+pub mod StayLemmas
+pub mod TurnLemmas

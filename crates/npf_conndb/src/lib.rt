@@ -1,0 +1,16 @@
+// A table of connections without locks, for many threads at a time.
+//
+// A look-up enters a stay, walks the trie of keys, and leaves: it waits for nobody. A connection is begun in a slot of its own, holds its keys
+// by leaves of the trie, and lives under its slot's turn. The words are those of npf_cells; here its steps, put together by npf_epoch,
+// npf_pool, npf_trie and npf_turn, become the calls of a table.
+//
+// The contract: each call of `Conns` says what the same call of `Connections` says, clause by clause, and a pass shows what it shows there;
+// `enter`, `look` and `leave` take no handle to wait by, and a look loads at most 95 places of the trie and five words of keys. The
+// calls that end connections and that free and copy them aren't there yet.
+#![tactic(auto)]
+
+mod beginning;
+mod conns;
+
+pub use conns::{ConnPass, Conns};
+pub use npf_paths::{Fnv, KeyHash};
