@@ -1,3 +1,1 @@
-mod BuildLemmas
-mod EndedLemmas
 mod OpenLemmas

@@ -1,3 +1,2 @@
-pub mod Built
 pub mod ByProtocol
 pub mod Hands
