@@ -18,8 +18,9 @@ pub(crate) struct Crossings {
 pub(crate) fn crossings_of(alloc: Global, ifaces: &Ifaces) -> Result<Vec<Crossings>, NoMemory>
     ensures { IfOk result (λ crossings. AreCrossingsOf ifaces.now.list crossings.items) }
 {
-    let mut crossings = Vec::with_capacity(alloc, ifaces.list.as_slice().len())?;
-    for iface in ifaces.list.as_slice() {
+    let list = ifaces.list.as_slice();
+    let mut crossings = Vec::with_capacity(alloc, list.len())?;
+    for iface in list {
         crossings.push_reserved(Crossings {
             into: Crossed::of(iface.name, Dir::In),
             out_of: Crossed::of(iface.name, Dir::Out),

@@ -2,11 +2,12 @@
 ghost use Rattle.std.specs.Prelude.{◌≡◌, ◌≤◌, List, OnOk, IfErr, All, length};
 ghost use Rattle.npf_types.specs.Name.{name_bytes};
 ghost use Rattle.npf_outside.specs.Sink.{Appends, AppendsFront};
+ghost use Rattle.npf_model.specs.declared.iface.Iface.{Iface as IfaceType};
 ghost use Rattle.npf_engine.specs.declared.outcome.Outcome.{Outcome as OutcomeType};
 ghost use Rattle.npf_ctl_arrivals.specs.Within.{CrossesOneOf};
 ghost use Rattle.npf_report.specs.LineText.{line_text};
 ghost use Rattle.npf_report.specs.TotalText.{total_text, CountsOutcomes};
-ghost use Rattle.npf_ctl_output.specs.Crossings.{IsCrossed};
+ghost use Rattle.npf_ctl_output.specs.Crossings.{AreCrossingsOf, IsCrossedBy};
 ghost use Rattle.npf_ctl_output.specs.Putting.{HasPutFault};
 ghost use Rattle.npf_ctl_output.specs.Report.{report_text};
 
@@ -70,7 +71,7 @@ pub fn put_total<O: Sink>(
 // What the packet crossed, and in which direction.
 fn crossed<'a>(crossings: &'a [Crossings], packet: &Packet<'_>) -> &'a Crossed
     requires { CrossesOneOf (length crossings.now) packet.now }
-    ensures { IsCrossed crossings.now packet.now result.now }
+    ensures { (ifaces : List IfaceType) → AreCrossingsOf ifaces crossings.now → IsCrossedBy ifaces packet.now result.now }
 {
     let of_interface = &crossings[usize::from(packet.ifid.0) - 1];
     match packet.dir {
