@@ -44,7 +44,7 @@ pub fn put_report<O: Sink>(
     let mut page = [0; LINE_ROOM];
     let mut counts = Counts::new();
     for (place, packet) in packets.iter().enumerate() {
-        let crossed = crossed(crossings.as_slice(), packet);
+        let crossed = crossed_by(crossings.as_slice(), packet);
         let outcome = &outcomes[place];
         put_line(&mut page, place as u64 + 1, crossed, outcome, out)?;
         counts.add(outcome);
@@ -69,7 +69,7 @@ pub fn put_total<O: Sink>(
 }
 
 // What the packet crossed, and in which direction.
-fn crossed<'a>(crossings: &'a [Crossings], packet: &Packet<'_>) -> &'a Crossed
+fn crossed_by<'a>(crossings: &'a [Crossings], packet: &Packet<'_>) -> &'a Crossed
     requires { CrossesOneOf (length crossings.now) packet.now }
     ensures { (ifaces : List IfaceType) → AreCrossingsOf ifaces crossings.now → IsCrossedBy ifaces packet.now result.now }
 {

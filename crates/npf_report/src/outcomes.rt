@@ -19,7 +19,7 @@ pub(crate) fn write_outcome(page: &mut [u8], end: usize, outcome: &Outcome) -> u
 {
     match *outcome {
         Outcome::Skip => write_text(page, end, "skip"),
-        Outcome::Fragment { why } => write_fragment(page, end, why),
+        Outcome::Fragment { why } => write_text(page, end, fragment_text(why)),
         Outcome::Malformed { why, at } => write_malformed(page, end, why, at),
         Outcome::ByConn {
             opener,
@@ -51,17 +51,14 @@ pub(crate) fn write_outcome(page: &mut [u8], end: usize, outcome: &Outcome) -> u
     }
 }
 
-fn write_fragment(page: &mut [u8], end: usize, why: FragWhy) -> usize
-    requires room { 32 ≤ end }
-    requires within { end ≤ length page.old }
-    ensures order { result ≤ end }
-    ensures short { end ≤ result + 32 }
-    ensures written { drop result page.new ≡ fragment_text why ++ drop end page.old }
+fn fragment_text(why: FragWhy) -> &'static str
+    ensures value { result.now ≡ fragment_text why }
+    ensures short { length result.now ≤ 32 }
 {
     match why {
-        FragWhy::Held => write_text(page, end, "skip fragment"),
-        FragWhy::Overlap => write_text(page, end, "skip fragment overlap"),
-        FragWhy::Bad => write_text(page, end, "skip fragment bad"),
+        FragWhy::Held => "skip fragment",
+        FragWhy::Overlap => "skip fragment overlap",
+        FragWhy::Bad => "skip fragment bad",
     }
 }
 
@@ -168,6 +165,7 @@ fn write_return(page: &mut [u8], end: usize, answer: Return) -> usize
 }
 
 /// A packet that passes without the connection that it was to open, without the log.
+#[tactic(auto, unfolding(crate::specs::OutcomeText::unkept_text))]
 fn write_unkept(page: &mut [u8], end: usize, config: u64, rule: u32, why: Refusal) -> usize
     requires room { 96 ≤ end }
     requires within { end ≤ length page.old }
@@ -175,7 +173,7 @@ fn write_unkept(page: &mut [u8], end: usize, config: u64, rule: u32, why: Refusa
     ensures short { end ≤ result + 96 }
     ensures written { drop result page.new ≡ unkept_text config rule why ++ drop end page.old }
 {
-    let refused = write_refusal(page, end, why);
+    let refused = write_text(page, end, refusal_text(why));
     let behind = write_text(page, refused, " unkept");
     write_two(page, behind, "pass config ", config, " rule ", rule_number(rule))
 }
@@ -187,23 +185,20 @@ fn write_dropped(page: &mut [u8], end: usize, config: u64, rule: u32, why: Refus
     ensures short { end ≤ result + 96 }
     ensures written { drop result page.new ≡ dropped_text config rule why ++ drop end page.old }
 {
-    let behind = write_refusal(page, end, why);
+    let behind = write_text(page, end, refusal_text(why));
     write_two(page, behind, "drop config ", config, " rule ", rule_number(rule))
 }
 
 /// Why a packet has no connection.
-fn write_refusal(page: &mut [u8], end: usize, why: Refusal) -> usize
-    requires room { 16 ≤ end }
-    requires within { end ≤ length page.old }
-    ensures order { result ≤ end }
-    ensures short { end ≤ result + 16 }
-    ensures written { drop result page.new ≡ refusal_text why ++ drop end page.old }
+fn refusal_text(why: Refusal) -> &'static str
+    ensures value { result.now ≡ refusal_text why }
+    ensures short { length result.now ≤ 16 }
 {
     match why {
-        Refusal::Full => write_text(page, end, " full"),
-        Refusal::NoNode => write_text(page, end, " nonode"),
-        Refusal::Taken(_) => write_text(page, end, " taken"),
-        Refusal::NoPort => write_text(page, end, " noport"),
+        Refusal::Full => " full",
+        Refusal::NoNode => " nonode",
+        Refusal::Taken(_) => " taken",
+        Refusal::NoPort => " noport",
     }
 }
 
