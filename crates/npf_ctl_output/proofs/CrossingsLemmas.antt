@@ -1,5 +1,5 @@
 -- What is found at an interface's place.
-use Rattle.std.proofs.Common.{◌≡◌, ℕ, zero, suc, ◌<◌, List, [], ◌∷◌, Option, Some, length, get_or, slice_get, refl, arith}
+use Rattle.std.proofs.Common.{◌≡◌, ℕ, zero, suc, ◌<◌, List, [], ◌∷◌, Option, Some, length, get_or, slice_get, refl, ap, arith}
 use Rattle.std.specs.List.{AllZip}
 use Rattle.npf_model.specs.declared.iface.Iface.{Iface}
 use Rattle.npf_ctl_output.specs.declared.crossings.Crossings.{Crossings}
@@ -12,3 +12,9 @@ crossings_at (iface ∷ ifaces) (c ∷ cs) (suc i) default are within = crossing
 crossings_at [] [] i default are within = absurd (omega (arith, within))
 crossings_at [] (c ∷ cs) i default are within = absurd are
 crossings_at (iface ∷ ifaces) [] i default are within = absurd are
+
+pub as_many : (ifaces : List Iface) (crossings : List Crossings) → AreCrossingsOf ifaces crossings → length crossings ≡ length ifaces
+as_many [] [] are = refl
+as_many (iface ∷ ifaces) (c ∷ cs) are = ap suc (as_many ifaces cs are.1)
+as_many [] (c ∷ cs) are = absurd are
+as_many (iface ∷ ifaces) [] are = absurd are
