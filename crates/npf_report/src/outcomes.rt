@@ -119,11 +119,25 @@ fn write_verdict(
     match decision {
         Decision::Pass => {
             let behind = write_opened(page, end, opened);
-            write_two(page, behind, "pass config ", config, " rule ", rule_number(place))
+            write_two(
+                page,
+                behind,
+                "pass config ",
+                config,
+                " rule ",
+                rule_number(place),
+            )
         }
         Decision::Block(answer) => {
             let behind = write_return(page, end, answer);
-            write_two(page, behind, "block config ", config, " rule ", rule_number(place))
+            write_two(
+                page,
+                behind,
+                "block config ",
+                config,
+                " rule ",
+                rule_number(place),
+            )
         }
     }
 }
@@ -175,7 +189,14 @@ fn write_unkept(page: &mut [u8], end: usize, config: u64, rule: u32, why: Refusa
 {
     let refused = write_text(page, end, refusal_text(why));
     let behind = write_text(page, refused, " unkept");
-    write_two(page, behind, "pass config ", config, " rule ", rule_number(rule))
+    write_two(
+        page,
+        behind,
+        "pass config ",
+        config,
+        " rule ",
+        rule_number(rule),
+    )
 }
 
 fn write_dropped(page: &mut [u8], end: usize, config: u64, rule: u32, why: Refusal) -> usize
@@ -186,7 +207,14 @@ fn write_dropped(page: &mut [u8], end: usize, config: u64, rule: u32, why: Refus
     ensures written { drop result page.new ≡ dropped_text config rule why ++ drop end page.old }
 {
     let behind = write_text(page, end, refusal_text(why));
-    write_two(page, behind, "drop config ", config, " rule ", rule_number(rule))
+    write_two(
+        page,
+        behind,
+        "drop config ",
+        config,
+        " rule ",
+        rule_number(rule),
+    )
 }
 
 /// Why a packet has no connection.
@@ -219,14 +247,7 @@ fn write_log(page: &mut [u8], end: usize, log: Option<Name>) -> usize
 
 // Writes two numbers, each behind its text.
 #[inline(always)]
-fn write_two(
-    page: &mut [u8],
-    end: usize,
-    first: &str,
-    one: u64,
-    second: &str,
-    other: u64,
-) -> usize
+fn write_two(page: &mut [u8], end: usize, first: &str, one: u64, second: &str, other: u64) -> usize
     requires room { length first.now + length second.now + 40 ≤ end }
     requires within { end ≤ length page.old }
     ensures order { result ≤ end }
