@@ -11,9 +11,9 @@ use Rattle.npf_ctl_output.specs.declared.crossings.Crossings.{Crossings}
 use Rattle.npf_ctl_output.specs.Report.{name_of_interface}
 
 -- this interface, in this direction
-pub record Crosses (iface : Iface) (dir : Dir) (crossed : Crossed) : Type 0 where
+pub record Crosses (iface : Iface) (direction : Dir) (crossed : Crossed) : Type 0 where
   pub name : crossed.name ≡ iface.name
-  pub dir : crossed.dir ≡ dir
+  pub dir : crossed.dir ≡ direction
 
 -- one interface's
 pub record IsCrossingsOf (iface : Iface) (crossings : Crossings) : Type 0 where

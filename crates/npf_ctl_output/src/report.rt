@@ -1,5 +1,5 @@
 // The report, put line by line and then flushed.
-ghost use Rattle.std.specs.Prelude.{◌≡◌, ◌≤◌, List, OnOk, IfErr, All, length};
+ghost use Rattle.std.specs.Prelude.{◌≡◌, ◌≤◌, List, OnOk, IfErr, All, length, drop};
 ghost use Rattle.npf_types.specs.Name.{name_bytes};
 ghost use Rattle.npf_outside.specs.Sink.{Appends, AppendsFront};
 ghost use Rattle.npf_model.specs.declared.iface.Iface.{Iface as IfaceType};
@@ -97,7 +97,7 @@ fn put_line<O: Sink>(
     ensures counted { (O.moment out.old).faults ≤ (O.moment out.new).faults }
 {
     let start = write_line(page, LINE_ROOM, n, crossed, outcome);
-    put(&page[start..], out)
+    put(line_at(page, start), out)
 }
 
 // Puts the total line, written into the page.
@@ -115,5 +115,13 @@ fn put_last<O: Sink>(
     ensures counted { (O.moment out.old).faults ≤ (O.moment out.new).faults }
 {
     let start = write_total(page, LINE_ROOM, counts);
-    put(&page[start..], out)
+    put(line_at(page, start), out)
+}
+
+// The line that begins at this place of the page, and ends where that ends.
+fn line_at(page: &[u8; LINE_ROOM], start: usize) -> &[u8]
+    requires { start ≤ 192 }
+    ensures { result.now ≡ drop start page.now }
+{
+    &page[start..]
 }

@@ -19,8 +19,8 @@ loop-place-init g c = record {
   counted = omega arith;
 }
 
-pub crossed_by-requires : goal.crossed_by-requires
-crossed_by-requires g c =
+pub crossed_by-crossed-requires : goal.crossed_by-crossed-requires
+crossed_by-crossed-requires g c =
     let are = subst (AreCrossingsOf c.args.ifaces.now.list) (sym c.as_slice.ensures.value) c.in_ok-crossings.ensures in
     rw (as_many c.args.ifaces.now.list c.as_slice.result.now are) (search rules)
 
