@@ -29,16 +29,16 @@ module _ (ifaces : List Iface) (crossings : List Crossings) (packet : Packet) (f
   there = crossings_at ifaces crossings (packet.ifid.0 - 1) found are within
 
   its : IsCrossingsOf there.0 found
-  its = subst (IsCrossingsOf there.0) (sym found_is) there.1.1
+  its = subst (IsCrossingsOf there.0) (sym found_is) there.2
 
   pub crossed_in : packet.dir ≡ In → IsCrossedBy ifaces packet found.into
   crossed_in came = record {
-    name = ap name_bytes its.into.name ∙ sym (ap interface_name there.1.0);
+    name = ap name_bytes its.into.name ∙ sym (ap interface_name there.1);
     dir = its.into.dir ∙ sym came;
   }
 
   pub crossed_out : packet.dir ≡ Out → IsCrossedBy ifaces packet found.out_of
   crossed_out went = record {
-    name = ap name_bytes its.out_of.name ∙ sym (ap interface_name there.1.0);
+    name = ap name_bytes its.out_of.name ∙ sym (ap interface_name there.1);
     dir = its.out_of.dir ∙ sym went;
   }

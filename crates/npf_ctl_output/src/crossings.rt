@@ -21,10 +21,9 @@ pub(crate) fn crossings_of(alloc: Global, ifaces: &Ifaces) -> Result<Vec<Crossin
     let list = ifaces.list.as_slice();
     let mut crossings = Vec::with_capacity(alloc, list.len())?;
     for iface in list {
-        crossings.push_reserved(Crossings {
-            into: Crossed::of(iface.name, Dir::In),
-            out_of: Crossed::of(iface.name, Dir::Out),
-        });
+        let into = Crossed::of(iface.name, Dir::In);
+        let out_of = Crossed::of(iface.name, Dir::Out);
+        crossings.push_reserved(Crossings { into, out_of });
     }
     Ok(crossings)
 }
