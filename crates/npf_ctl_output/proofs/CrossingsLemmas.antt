@@ -1,6 +1,5 @@
 -- What is found at an interface's place.
-use Rattle.std.proofs.Common.{◌≡◌, ℕ, zero, suc, ◌-◌, ◌<◌, List, [], ◌∷◌, Option, Some, length, get_or, slice_get, refl, sym, ap, subst, ◌∙◌, arith}
-use Rattle.std.specs.List.{AllZip}
+use Rattle.std.proofs.Common.{◌≡◌, ℕ, zero, suc, ◌-◌, ◌<◌, List, [], ◌∷◌, Some, length, get_or, slice_get, refl, sym, ap, subst, ◌∙◌, arith}
 use Rattle.npf_types.specs.declared.direction.Dir.TheVariants.{In, Out}
 use Rattle.npf_types.specs.Name.{name_bytes}
 use Rattle.npf_model.specs.declared.iface.Iface.{Iface}

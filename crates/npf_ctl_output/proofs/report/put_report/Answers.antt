@@ -1,4 +1,4 @@
-use Rattle.std.proofs.Common.{rules, ◌+◌, List, [], ℕ, take, length, sym, subst, arith}
+use Rattle.std.proofs.Common.{rules, ◌+◌, List, [], sym, subst, arith}
 use Rattle.std.proofs.lemmas.List.{take_all}
 use Rattle.std.proofs.lemmas.Result.{on_ok_weaker}
 use Rattle.npf_engine.specs.declared.outcome.Outcome.{Outcome}
