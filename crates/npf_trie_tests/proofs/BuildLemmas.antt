@@ -30,6 +30,18 @@ use Rattle.npf_trie_tests.proofs.OpenLemmas.{bared, apart}
 no_way : Way → Bool
 no_way way = false
 
+-- once its third note is 0, it may hold a key
+pub can_hold_forward : {S A R F : Type 0} (m : Meaning S A R) (layout : Layout) (id : ConnId) (me noted : Me F (CellView S A R)) → noted ≡ bared id Port me → HasBegun m layout noted.0 id →
+    me.0.pools.nodes ≡ [] → me.0.trie.locks ≡ [] → me.0.turn ≡ None → CanHold m layout noted.0 id Forward
+can_hold_forward {S} {A} {R} {F} m layout id me noted is begun nodes locks turn = record {
+  may = begun.may Forward;
+  exists = begun.exists;
+  stored = begun.stored;
+  nodes = ap (λ (y : Me F (CellView S A R)). y.0.pools.nodes) is ∙ nodes;
+  locks = ap (λ (y : Me F (CellView S A R)). y.0.trie.locks) is ∙ locks;
+  turnless = ap (λ (y : Me F (CellView S A R)). y.0.turn) is ∙ turn;
+}
+
 module _ {S A R F : Type 0} (m : Meaning S A R) (layout : Layout) (id : ConnId) (forward backward : Key) (me noted first second : Me F (CellView S A R))
     (stores : noted ≡ bared id Port me) (begun : HasBegun m layout noted.0 id) (holds : SettlesHold m layout id forward Forward Held.Done noted first) where
   holding : Holding m (cell_pass noted.0) (cell_pass first.0) id forward Forward Held.Done
@@ -52,14 +64,14 @@ module _ {S A R F : Type 0} (m : Meaning S A R) (layout : Layout) (id : ConnId) 
   bare = (holding_keeps_bare m (cell_pass noted.0) (cell_pass first.0) id forward Forward Held.Done holding).others Backward (λ e. cc) (begun.may Backward).bare
 
   -- a second key may be held
-  pub can_hold_backward : noted.0.pools.nodes ≡ [] → noted.0.trie.locks ≡ [] → noted.0.turn ≡ None → CanHold m layout first.0 id Backward
+  pub can_hold_backward : me.0.pools.nodes ≡ [] → me.0.trie.locks ≡ [] → me.0.turn ≡ None → CanHold m layout first.0 id Backward
   can_hold_backward nodes locks turn = record {
     may = record { built = built; bare = bare };
     exists = begun.exists;
     stored = stored;
-    nodes = ap (λ (y : Me F (CellView S A R)). y.0.pools.nodes) holds.is ∙ nodes;
-    locks = ap (λ (y : Me F (CellView S A R)). y.0.trie.locks) holds.is ∙ locks;
-    turnless = ap (λ (y : Me F (CellView S A R)). y.0.turn) holds.is ∙ turn;
+    nodes = ap (λ (y : Me F (CellView S A R)). y.0.pools.nodes) holds.is ∙ (ap (λ (y : Me F (CellView S A R)). y.0.pools.nodes) stores ∙ nodes);
+    locks = ap (λ (y : Me F (CellView S A R)). y.0.trie.locks) holds.is ∙ (ap (λ (y : Me F (CellView S A R)). y.0.trie.locks) stores ∙ locks);
+    turnless = ap (λ (y : Me F (CellView S A R)). y.0.turn) holds.is ∙ (ap (λ (y : Me F (CellView S A R)). y.0.turn) stores ∙ turn);
   }
 
   module _ (holds_second : SettlesHold m layout id backward Backward Held.Done first second) where

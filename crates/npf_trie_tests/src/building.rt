@@ -1,5 +1,6 @@
 // Connections that are built with two keys, and what is left of them when they end.
 ghost use Rattle.std.specs.Prelude.{IfSome};
+ghost use Rattle.npf_flow.specs.Flows.{flow_law};
 ghost use Rattle.npf_cells.specs.Cells.{IsPassIn};
 ghost use Rattle.npf_trie_tests.specs.Built.{IsBuilt};
 ghost use Rattle.npf_trie_tests.specs.Hands.{IsEmptyHanded, RestsEmptyHanded, HasFreeHands};
@@ -30,7 +31,7 @@ pub(crate) fn build(
     ensures own { IsPassIn cells.now pass.new }
     ensures empty { IsEmptyHanded pass.new.seat.me.0 }
     ensures hands { HasFreeHands pass.new.seat.me.0 }
-    ensures built { IfSome result (λ id. IsBuilt FlowLaw.meaning cells.now.table.shared.key pass.new.seat.me.0 id) }
+    ensures built { IfSome result (λ id. IsBuilt flow_law cells.now.table.shared.key pass.new.seat.me.0 id) }
 {
     let id = begin(rt, cells, pass)?;
     // The note of the way without a key.
@@ -54,7 +55,7 @@ pub(crate) fn abandon(
     requires own { IsPassIn cells.now pass.old }
     requires empty { IsEmptyHanded pass.old.seat.me.0 }
     requires hands { HasFreeHands pass.old.seat.me.0 }
-    requires built { IsBuilt FlowLaw.meaning cells.now.table.shared.key pass.old.seat.me.0 id }
+    requires built { IsBuilt flow_law cells.now.table.shared.key pass.old.seat.me.0 id }
     ensures own { IsPassIn cells.now pass.new }
     ensures empty { IsEmptyHanded pass.new.seat.me.0 }
     ensures hands { HasFreeHands pass.new.seat.me.0 }

@@ -21,11 +21,8 @@ const ROUNDS: u32 = 1000;
 
 const SLOTS: u32 = 64;
 
-// A round's two forward keys need 68 nodes of their own and its two backward ones 64, and those of all rounds fewer than 1000 others.
-const NODES: u32 = ROUNDS * (68 + 64) + 1000;
-
-// How many looks a holder waits at most.
-const DELAYS: u32 = 64;
+// A round's two forward keys need 68 nodes of their own and its two backward ones one, and those of all rounds fewer than 1000 others.
+const NODES: u32 = ROUNDS * (68 + 1) + 1000;
 
 /// Who builds a connection before both passes have come to the round, and gives it up then; or builds one then.
 #[derive(Clone, Copy)]
@@ -37,20 +34,21 @@ enum Part {
 // UDP from the port of the round, of 10.0.0.1, to port 53 of the part's own address. Keys of two rounds part at level 26 or above it, and
 // those of one round at level 94.
 fn forward_key(round: u32, part: Part) -> Key {
-    key_of(0x0411_0001_1000_0035 | u64::from(round) << 16, part)
+    let ports = 0x0411_0001_1000_0035 | u64::from(round) << 16;
+    Key([ports, 0, 0x0a00_0001, 0, 0x0808_0800 | number(part)])
 }
 
-// From port 53 to the port of the round: keys of two rounds part at level 30 or above it.
+// From port 53 to the port of the round. Keys of two rounds part at level 30 or above it, and those of one round at level 31.
 fn backward_key(round: u32, part: Part) -> Key {
-    key_of(0x0411_0001_0035_1000 | u64::from(round), part)
+    let ports = 0x0411_0001_0035_1000 | u64::from(round);
+    Key([ports, number(part) << 60, 0x0808_0808, 0, 0x0a00_0001])
 }
 
-fn key_of(ports: u64, part: Part) -> Key {
-    let host = match part {
-        Part::Holder => 0x0808_0800,
-        Part::Grower => 0x0808_0801,
-    };
-    Key([ports, 0, 0x0a00_0001, 0, host])
+fn number(part: Part) -> u64 {
+    match part {
+        Part::Holder => 0,
+        Part::Grower => 1,
+    }
 }
 
 // Waits until both passes have come to this round.
@@ -62,6 +60,13 @@ fn meet(rt: &impl Wait, arrived: &AtomicU64, round: u32) {
         }
     }
     unreachable!()
+}
+
+// Lets the other pass go ahead, in some rounds by more and in some by less.
+fn delay(arrived: &AtomicU64, round: u32) {
+    for _ in 0..round % 64 * 64 {
+        arrived.load(Ordering::SeqCst);
+    }
 }
 
 // Builds a connection that holds the part's keys of the round, and gives it up. Answers whether it held both.
@@ -83,18 +88,11 @@ fn live(
     if let Part::Grower = part {
         meet(rt, arrived, round);
     }
-    let built = build(
-        rt,
-        cells,
-        pass,
-        forward_key(round, part),
-        backward_key(round, part),
-    );
+    let forward = forward_key(round, part);
+    let built = build(rt, cells, pass, forward, backward_key(round, part));
     if let Part::Holder = part {
         meet(rt, arrived, round);
-        for _ in 0..round % DELAYS {
-            find(cells, pass, forward_key(round, part));
-        }
+        delay(arrived, round);
     }
     match built {
         Some(id) => {
@@ -155,7 +153,24 @@ fn rounds_beside<R: Threads + Wait + Sync>(
     )
 }
 
-// How many of all keys have a holder.
+// Whether one of the part's keys of the round has a holder.
+fn is_held(
+    cells: &Cells<FlowLaw, ByProtocol>,
+    pass: &mut CellPass<FlowLaw>,
+    round: u32,
+    part: Part,
+) -> bool
+    requires own { IsPassIn cells.now pass.old }
+    requires empty { IsEmptyHanded pass.old.seat.me.0 }
+    ensures own { IsPassIn cells.now pass.new }
+    ensures empty { IsEmptyHanded pass.new.seat.me.0 }
+{
+    let forward = find(cells, pass, forward_key(round, part));
+    let backward = find(cells, pass, backward_key(round, part));
+    forward.is_some() || backward.is_some()
+}
+
+// How many rounds left a key with a holder.
 fn held_still(cells: &Cells<FlowLaw, ByProtocol>, pass: &mut CellPass<FlowLaw>) -> u32
     requires own { IsPassIn cells.now pass.old }
     requires empty { IsEmptyHanded pass.old.seat.me.0 }
@@ -164,12 +179,10 @@ fn held_still(cells: &Cells<FlowLaw, ByProtocol>, pass: &mut CellPass<FlowLaw>) 
 {
     let mut held = 0u32;
     for round in 0..ROUNDS {
-        for part in [Part::Holder, Part::Grower] {
-            for key in [forward_key(round, part), backward_key(round, part)] {
-                if find(cells, pass, key).is_some() {
-                    held = held.saturating_add(1);
-                }
-            }
+        let by_holder = is_held(cells, pass, round, Part::Holder);
+        let by_grower = is_held(cells, pass, round, Part::Grower);
+        if by_holder || by_grower {
+            held = held.saturating_add(1);
         }
     }
     held
@@ -197,7 +210,7 @@ fn begin_all(
     (begun, incarnations)
 }
 
-// In how many rounds each pass held its keys; how many keys are held then; and how many slots are free again, and what was ever begun in them.
+// In how many rounds each pass held its keys; how many of them left a key held; and how many slots are free again, with the incarnations in them.
 fn tell_rounds<R: Threads + Wait + Sync>(
     rt: &R,
     alloc: Global,

@@ -6,13 +6,14 @@ ghost use Rattle.npf_trie_tests.specs.Hands.{IsEmptyHanded, HasFreeHands};
 use crate::answers::{put, same};
 use crate::building::{abandon, build, collect};
 use crate::by_protocol::ByProtocol;
-use crate::holders::find;
 use crate::turning::{FLOW, LATE, place_of, step_by};
 use npf_cells::{CellPass, Cells, PHASE, Pool};
 use npf_cells_words::note_field;
+use npf_core::ConnId;
 use npf_epoch::{enter, leave};
 use npf_flow::FlowLaw;
 use npf_pool_beginning::begin;
+use npf_trie::look;
 use npf_turn::{end_killed, expire, start};
 use npf_types::{Key, Way};
 use std::alloc::Global;
@@ -44,6 +45,25 @@ fn tell_words(
     put(told, &[phase, forward, backward, port])
 }
 
+// Ends the slot's connection, which is due long since.
+fn expire_late(
+    rt: &impl Wait,
+    cells: &Cells<FlowLaw, ByProtocol>,
+    pass: &mut CellPass<FlowLaw>,
+) -> Option<ConnId>
+    requires own { IsPassIn cells.now pass.old }
+    requires empty { IsEmptyHanded pass.old.seat.me.0 }
+    requires hands { HasFreeHands pass.old.seat.me.0 }
+    requires exists { 0 < cells.now.table.shared.key.slots }
+    ensures own { IsPassIn cells.now pass.new }
+    ensures empty { IsEmptyHanded pass.new.seat.me.0 }
+    ensures hands { HasFreeHands pass.new.seat.me.0 }
+{
+    let id = expire(rt, cells, pass, 0, LATE)?;
+    end_killed(rt, cells, pass, id);
+    Some(id)
+}
+
 // A connection that is started, steps once, and expires.
 fn tell_started(
     rt: &impl Wait,
@@ -65,13 +85,10 @@ fn tell_started(
         start(rt, cells, pass, id, 7, FLOW);
     }
     let place = place_of(step_by(rt, cells, pass, BACKWARD));
-    let expired = expire(rt, cells, pass, 0, LATE);
-    if let Some(id) = expired {
-        end_killed(rt, cells, pass, id);
-    }
+    let expired = expire_late(rt, cells, pass);
     put(told, &(built, place, expired))?;
     tell_words(cells, pass, told)?;
-    put(told, &find(cells, pass, BACKWARD))
+    put(told, &look(cells, pass, 9, BACKWARD))
 }
 
 // It is freed two epochs later. Then the same keys are held for another connection, which is given up before it is started. There are exactly the

@@ -1,7 +1,7 @@
 // Connections that passes start, step and kill under the turns of their slots, and the words that stand there then.
 ghost use Rattle.std.specs.Prelude.{◌≡◌, ◌<◌, IfSome, None};
 ghost use Rattle.npf_cells.specs.Cells.{IsPassIn};
-ghost use Rattle.npf_trie_tests.specs.Hands.{IsEmptyHanded};
+ghost use Rattle.npf_trie_tests.specs.Hands.{IsEmptyHanded, HasFreeHands};
 
 use crate::answers::{put, same};
 use crate::by_protocol::ByProtocol;
@@ -90,6 +90,7 @@ pub(crate) fn step_by(
     requires hands { IsEmptyHanded pass.old.seat.me.0 }
     ensures own { IsPassIn cells.now pass.new }
     ensures hands { IsEmptyHanded pass.new.seat.me.0 }
+    ensures free { HasFreeHands pass.old.seat.me.0 → HasFreeHands pass.new.seat.me.0 }
 {
     let found = look(cells, pass, 9, key)?;
     if found.id.slot >= cells.layout().slots {
