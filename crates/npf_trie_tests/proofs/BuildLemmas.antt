@@ -42,7 +42,7 @@ can_hold_forward {S} {A} {R} {F} m layout id me noted is begun nodes locks turn 
   turnless = ap (λ (y : Me F (CellView S A R)). y.0.turn) is ∙ turn;
 }
 
-module _ {S A R F : Type 0} (m : Meaning S A R) (layout : Layout) (id : ConnId) (forward backward : Key) (me noted first second : Me F (CellView S A R))
+module _ {S A R F : Type 0} (m : Meaning S A R) (layout : Layout) (id : ConnId) (forward : Key) (me noted first : Me F (CellView S A R))
     (stores : noted ≡ bared id Port me) (begun : HasBegun m layout noted.0 id) (holds : SettlesHold m layout id forward Forward Held.Done noted first) where
   holding : Holding m (cell_pass noted.0) (cell_pass first.0) id forward Forward Held.Done
   holding = record {
@@ -74,7 +74,7 @@ module _ {S A R F : Type 0} (m : Meaning S A R) (layout : Layout) (id : ConnId) 
     turnless = ap (λ (y : Me F (CellView S A R)). y.0.turn) holds.is ∙ (ap (λ (y : Me F (CellView S A R)). y.0.turn) stores ∙ turn);
   }
 
-  module _ (holds_second : SettlesHold m layout id backward Backward Held.Done first second) where
+  module _ (backward : Key) (second : Me F (CellView S A R)) (holds_second : SettlesHold m layout id backward Backward Held.Done first second) where
     holding_second : Holding m (cell_pass first.0) (cell_pass second.0) id backward Backward Held.Done
     holding_second = record {
       before = holds.legal (λ e. cc);
