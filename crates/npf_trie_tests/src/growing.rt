@@ -64,7 +64,7 @@ fn meet(rt: &impl Wait, arrived: &AtomicU64, round: u32) {
 
 // Lets the other pass go ahead, in some rounds by more and in some by less.
 fn delay(arrived: &AtomicU64, round: u32) {
-    for _ in 0..round % 64 * 64 {
+    for _ in 0..round % 64 * 1024 {
         arrived.load(Ordering::SeqCst);
     }
 }

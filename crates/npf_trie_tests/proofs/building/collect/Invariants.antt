@@ -4,7 +4,7 @@ use Rattle.npf_trie_tests.specs.Hands.{RestsEmptyHanded, HasFreeHands}
 use Rattle.npf_trie_tests.proofs.building.collect.Given as goal
 
 abbrev pub invariant-loop-slot : goal.invariant-loop-slot
-invariant-loop-slot g l = record {
+invariant-loop-slot l = record {
   own : IsPassIn l.cells l.pass;
   rests : RestsEmptyHanded l.pass.seat.me.0;
   hands : HasFreeHands l.pass.seat.me.0;
