@@ -1,9 +1,17 @@
+pub mod AddingLemmas
 pub mod BeginLemmas
 pub mod BuildLemmas
+pub mod EndLemmas
+pub mod EndingLemmas
+pub mod ExpiryLemmas
 pub mod HoldLemmas
+pub mod KeyLemmas
+pub mod KillLemmas
+pub mod LettingLemmas
 pub mod MoveLemmas
 pub mod NoteLemmas
 pub mod PassLemmas
 pub mod SlotLemmas
 pub mod StayLemmas
 pub mod TurnLemmas
+pub mod VisitLemmas

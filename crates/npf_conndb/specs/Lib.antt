@@ -1,3 +1,5 @@
 pub mod Begins
 pub mod Between
+pub mod Ends
+pub mod Expiries
 pub mod Passes

@@ -1,12 +1,14 @@
 ghost use Rattle.std.specs.Prelude.{◌≤◌};
 
 use crate::beginning::begin;
+use crate::ending::end_killed;
+use crate::expiring::expire_all;
 use npf_cells::{CellPass, Cells};
 use npf_core::{ConnId, Found, Held, Law, Stepped};
 use npf_epoch::{enter, leave};
 use npf_paths::KeyHash;
 use npf_trie::{hold, look};
-use npf_turn::{start, step};
+use npf_turn::{kill, start, step};
 use npf_types::{Key, NoMemory, Way};
 use std::alloc::Global;
 use std::sync::Wait;
@@ -31,10 +33,12 @@ impl<L: Law, H: KeyHash> Conns<L, H> {
     ghost use Rattle.npf_core.specs.declared.reply.Reply.TheVariants.{Nothing, ToLook, ToStep};
     ghost use Rattle.npf_core.specs.History.{state_of};
     ghost use Rattle.npf_core.specs.Machine.{HoldsNone};
+    ghost use Rattle.npf_connections.specs.Abandoning.{Abandons};
     ghost use Rattle.npf_connections.specs.Adding.{Adds, AddsOwn};
     ghost use Rattle.npf_connections.specs.Answered.{found_ids, begun_ids, taken_ids, without};
     ghost use Rattle.npf_connections.specs.Beginning.{IsFullIfNone, HoldsNoneIfSome};
     ghost use Rattle.npf_connections.specs.Entries.{entry_of, claim_entries, hold_entries};
+    ghost use Rattle.npf_connections.specs.Expiring.{Expires};
     ghost use Rattle.npf_connections.specs.Joining.{IsSplit, IsJoined};
     ghost use Rattle.npf_connections.specs.Pass.{IsPass, IsFirstPass, Knows};
     ghost use Rattle.npf_connections.specs.Stay.{IsOut, IsIn, GoesOn};
@@ -170,6 +174,33 @@ impl<L: Law, H: KeyHash> Conns<L, H> {
         ensures view { GoesOn (record (shown pass.old) { builds = without id (shown pass.old).builds }) (shown pass.new) }
     {
         start(rt, &self.cells, &mut pass.cells, id, n, init);
+    }
+
+    /// Kills a connection that this pass was building, and gives up its keys.
+    pub fn abandon(&self, rt: &impl Wait, pass: &mut ConnPass<L>, id: ConnId)
+        requires inside { IsIn L.meaning (IsPassOfConns L.meaning self.now) shown pass.old }
+        requires builds { Contains (shown pass.old).builds id }
+        ensures inside { IsIn L.meaning (IsPassOfConns L.meaning self.now) shown pass.new }
+        ensures adds { Abandons L.meaning (shown pass.old) (shown pass.new).history id }
+        ensures view { GoesOn (record (shown pass.old) { builds = without id (shown pass.old).builds }) (shown pass.new) }
+    {
+        kill(rt, &self.cells, &mut pass.cells, id);
+        end_killed(rt, &self.cells, &mut pass.cells, id);
+    }
+
+    /// Kills connections that are due at that time, gives up their keys, and answers how many it killed. One that was Live in what the pass
+    /// had seen before the call and isn't killed by it was not due at some point of the history from there on.
+    pub fn expire(&self, rt: &impl Wait, pass: &mut ConnPass<L>, now: u64) -> u64
+        requires out { IsOut L.meaning (IsPassOfConns L.meaning self.now) shown pass.old }
+        ensures out { IsOut L.meaning (IsPassOfConns L.meaning self.now) shown pass.new }
+        ensures adds { Expires L.meaning (shown pass.old) (shown pass.new).history now result }
+        ensures view { GoesOn (shown pass.old) (shown pass.new) }
+    {
+        // A key is given up under its place's lock, and who gets a lock is in a stay.
+        enter(&self.cells, &mut pass.cells);
+        let count = expire_all(rt, &self.cells, &mut pass.cells, now);
+        leave(&self.cells, &mut pass.cells);
+        count
     }
 
     /// Gives one of the pass's reader places to a new pass, which has seen the same history.
