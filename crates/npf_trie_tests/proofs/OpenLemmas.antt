@@ -57,7 +57,7 @@ abbrev bare : ConnId → Way → Note
 bare id way = record { slot = id.slot; field = note_field way; value = 0 }
 
 -- a note of another field of the slot
-apart : (slot field field' : ℕ) → (field' == field) ≡ false → is_note_of slot field (record { slot = slot; field = field'; value = 0 }) ≡ false
+pub apart : (slot field field' : ℕ) → (field' == field) ≡ false → is_note_of slot field (record { slot = slot; field = field'; value = 0 }) ≡ false
 apart slot field field' ne = λ i. eq-eqb slot slot refl i && ne i
 
 module _ {S A R F : Type 0} (id : ConnId) where
@@ -84,6 +84,7 @@ module _ {S A R F : Type 0} (m : Meaning S A R) (layout : Layout) (id : ConnId) 
     exists = begun.exists;
     may = λ w. record { built = (begun.may w).built; bare = (begun.may w).bare };
     stored = begun.stored;
+    legal = begun.legal;
   })
 
   -- it may hold a key then
