@@ -88,8 +88,7 @@ module _ (words : List (List ℕ)) (before after : Moment) where
         FailsReport plan run.workers (spread_said run.spread) begun after.pass before.out after.out fault → MeetsFault words before after fault
     unreported same begun starts _ (FailsReport.unplayed nothing) = MeetsFault.in_memory (inl nothing) (inl (inl same))
     unreported same begun starts fault (FailsReport.unput {outputs = outputs} {outcomes = outcomes} plays why front) =
-        unput (Run run) (report_text plan.ifaces plan.packets outcomes) said
-        (TextOf.report {run = run} {plan = plan} {outputs = outputs} {outcomes = outcomes} (plays_run run plan begun starts outputs outcomes plays)) front same fault why
+        unput (Run run) _ said (TextOf.report (plays_run run plan begun starts outputs outcomes plays)) front same fault why
 
     module _ (outputs : List Packet) (outcomes : List Outcome) (reports : IsReported run before after plan outputs outcomes) where
       -- the report that was put is a front of itself

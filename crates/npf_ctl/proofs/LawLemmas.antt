@@ -118,11 +118,9 @@ module _ (words : List (List ℕ)) (before after : Moment) (tree : Tree) (told :
 
     plays_so : (b : Run) → SaysCommand words (Words.Run b) → (plan : RunPlan) (outputs : List Packet) (outcomes : List Outcome) → PlaysWords b before after plan outputs outcomes →
         (plan : RunPlan) × OfRun (Ok plan)
-    plays_so b said_b plan outputs outcomes plays = (
-      plays.read,
-      starts b said_b (Ok plays.read)
-          (started (names_of_run b) (given_text b.load) b.workers (spread_said b.spread) before.files after.files before.pass after.pass plan outputs outcomes plays),
-    )
+    plays_so b said_b plan outputs outcomes plays =
+        let was = started (names_of_run b) (given_text b.load) b.workers (spread_said b.spread) before.files after.files before.pass after.pass plan outputs outcomes plays in
+        (was.0, starts b said_b (Ok was.0) was.1)
 
     run_text : (command : Command) (text : List ℕ) → SaysCommand words command → TextOf before after command text → (plan : RunPlan) × OfRun (Ok plan)
     run_text _ _ said_b (TextOf.report {run = b} {plan = plan} {outputs = outputs} {outcomes = outcomes} plays) = plays_so b said_b plan outputs outcomes plays

@@ -19,19 +19,23 @@ use Rattle.npf_ctl_saved.specs.Loading.{BeginsLoaded, LacksNode, ListsConnection
 use Rattle.npf_ctl.specs.Running.{PlaysRun}
 use Rattle.npf_ctl.specs.Starting.{StartsRun}
 
--- connections that a run began with were read
-loaded : (before after : FilesMoment) (load : Option (List ℕ)) (old begun : Pass FlowEntry) (read : RunPlan) → BeginsLoaded before after load (interface_names read.ifaces) old begun →
-    (ReadsConnections before after load (interface_names read.ifaces) old.slots andthen (λ conns. gives read)) (Ok read)
-loaded before after None old begun read begins = goes_on refl refl
-loaded before after (Some file) old begun read begins = goes_on (goes_on begins.reads (ListsConnections.listed begins.loads.may)) refl
-
 -- a run that was played was started, from what was read
 pub started : (names : RunNames) (load : Option (List ℕ)) (workers : ℕ) (spread : Spread) (before after : FilesMoment) (old new : Pass FlowEntry) (plan : RunPlan)
-    (outputs : List Packet) (outcomes : List Outcome) (plays : PlaysRun names load workers spread before after old new plan outputs outcomes) →
-    StartsRun before after names load old.slots (Ok plays.read)
+    (outputs : List Packet) (outcomes : List Outcome) → PlaysRun names load workers spread before after old new plan outputs outcomes →
+    (read : RunPlan) × StartsRun before after names load old.slots (Ok read)
 started names load workers spread before after old new plan outputs outcomes plays =
-    goes_on plays.prepared (loaded before after load old plays.begun plays.read
-    (subst (λ (n : List Name). BeginsLoaded before after load n old plays.begun) (ap (λ (p : RunPlan). interface_names p.ifaces) plays.whole.same) plays.begins))
+    (read, goes_on plays.prepared (by load (subst (λ (n : List Name). BeginsLoaded before after load n old plays.begun) same_names plays.begins)))
+  where
+  read : RunPlan
+  read = plays.read
+
+  same_names : interface_names plan.ifaces ≡ interface_names read.ifaces
+  same_names = ap (λ (p : RunPlan). interface_names p.ifaces) plays.whole.same
+
+  by : (given : Option (List ℕ)) → BeginsLoaded before after given (interface_names read.ifaces) old plays.begun →
+      (ReadsConnections before after given (interface_names read.ifaces) old.slots andthen (λ conns. gives read)) (Ok read)
+  by None begins = goes_on refl refl
+  by (Some file) begins = goes_on (goes_on begins.reads (ListsConnections.listed begins.loads.may)) refl
 
 -- and so is one whose connections the table had no node for
 pub started_without : (names : RunNames) (load : Option (List ℕ)) (file : List ℕ) (before after : FilesMoment) (old new : Pass FlowEntry) (plan : RunPlan) →

@@ -7,6 +7,7 @@ ghost use Rattle.npf_ctl.specs.Fragments.{HasWholePackets};
 use npf_ctl_prepare::Prepared;
 use npf_pieces::DatagramBytes;
 use npf_reass_run::reassemble;
+use npf_reass_whole::whole_keeps;
 use npf_types::NoMemory;
 use std::alloc::Global;
 use std::sync::Wait;
@@ -25,6 +26,7 @@ pub(crate) fn put_together<'a, R: Threads + Wait + Sync>(
     ensures whole { IfOk result (λ whole. HasWholePackets (run_plan_of prepared.entry) (run_plan_of whole)) }
     ensures playable { IfOk result IsPlayable }
 {
+    whole_keeps();
     let Prepared {
         ifaces,
         configs,
