@@ -1,5 +1,5 @@
 -- A pass of the table stays one where it gave a key up.
-use Rattle.std.proofs.Common.{◌≡◌, ◌∙◌, ℕ, List, arith}
+use Rattle.std.proofs.Common.{◌≡◌, ◌∙◌, ◌≤◌, ℕ, List, arith}
 use Rattle.atomic_table.specs.Seated.{TableId}
 use Rattle.atomic_table.specs.Table.{Me}
 use Rattle.npf_core.specs.declared.conn_id.ConnId.{ConnId}

@@ -63,7 +63,9 @@ impl<L: Law, H: KeyHash> Cells<L, H> {
         ensures by_kill { ShowsKill L.meaning self.now.table.shared.key pass.old.seat.me.0 slot way result }
         ensures stood { StoodSo L.meaning H.digest self.now.table.shared.key pass.old.seat.me.0 (field_at self.now.table.shared.key Slots slot (note_field way)) result }
     {
-        let word = self.layout.field_place(Pool::Slots, slot, note_field(way));
+        let word = self
+            .layout
+            .field_place(Pool::Slots, slot, note_field(way));
         self.table
             .shared
             .load::<LoadsNoteWord<L, H, W>>(&mut pass.seat, word)

@@ -1,5 +1,5 @@
 -- What further entries add to a pass's history.
-use Rattle.std.proofs.Common.{◌≡◌, List, [], ◌∷◌, ◌++◌, refl, sym, ap, ◌∙◌, subst}
+use Rattle.std.proofs.Common.{◌≡◌, ℕ, List, [], ◌∷◌, ◌++◌, refl, sym, ap, ◌∙◌, subst}
 use Rattle.npf_core.specs.declared.entry.Entry.{Entry}
 use Rattle.npf_connections.specs.Adding.{Adds, AddsOwn, EndsWith}
 use Rattle.npf_connections.specs.Pass.{Pass}

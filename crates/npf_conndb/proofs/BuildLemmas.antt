@@ -1,17 +1,19 @@
 -- What a pass knows of the notes of what it builds, once it builds more or less, or holds a key.
-use Rattle.std.proofs.Common.{◌≡◌, ◌≢◌, ◌⊎◌, ℕ, Bool, true, false, true≢false, not, eqb, List, [], ◌∷◌, refl, sym, ◌∙◌, subst, ⊎_elim, inl, inr}
+use Rattle.std.proofs.Common.{◌≡◌, ◌≢◌, ◌⊎◌, ℕ, Bool, true, false, true≢false, not, eqb, List, [], ◌∷◌, ◌++◌, Some, refl, sym, ap, ◌∙◌, subst, ⊎_elim, inl, inr}
 use Rattle.std.specs.List.{Contains}
 use Rattle.std.proofs.lemmas.List.Elements.{Contains-append_left, Contains-push}
 use Rattle.std.proofs.lemmas.Bool.Decides.{Decides-eqb, not_from_Decides}
 use Rattle.npf_types.specs.declared.key.Key.{Key}
 use Rattle.npf_types.specs.declared.key.Way.{Way}
+use Rattle.npf_types.specs.declared.key.Way.TheVariants.{Forward, Backward, Port}
 use Rattle.npf_core.specs.declared.act.Act.TheVariants.{Hold}
 use Rattle.npf_core.specs.declared.conn_id.ConnId.{ConnId}
+use Rattle.npf_core.specs.declared.entry.Entry.{Entry}
 use Rattle.npf_core.specs.declared.held.Held.{Held}
 use Rattle.npf_core.specs.declared.reply.Reply.TheVariants.{ToHold}
 use Rattle.npf_core.specs.History.{IsPrefix, state_of}
 use Rattle.npf_core.specs.KeyLaw.{Gives}
-use Rattle.npf_core.specs.Machine.{Holds}
+use Rattle.npf_core.specs.Machine.{stage_of, IsAlive, Holds, HoldsNone}
 use Rattle.npf_core.specs.Meaning.{Meaning}
 use Rattle.npf_core.specs.NextState.{is_id, is_way}
 use Rattle.npf_core.proofs.EqualityLemmas.{is_id-Decides, is_way-Decides}
@@ -19,7 +21,7 @@ use Rattle.npf_core.proofs.KeyLemmas.{keeps_keys}
 use Rattle.npf_connections.specs.Adding.{AddsOwn}
 use Rattle.npf_connections.specs.Answered.{without}
 use Rattle.npf_connections.specs.Entries.{entry_of, hold_entries}
-use Rattle.npf_connections.specs.Pass.{IsPass}
+use Rattle.npf_connections.specs.Pass.{Pass, IsPass}
 use Rattle.npf_seats.proofs.PrefixLemmas.{cons_cases}
 use Rattle.npf_cells_words.specs.Layout.{note_field}
 use Rattle.npf_cells_lives.specs.declared.pools.Note.{Note}
@@ -47,7 +49,7 @@ module _ {S A R : Type 0} (m : Meaning S A R) (old now : CellView S A R) (was : 
       let left = not_without id other old.pools.builds (subst (λ ids. Contains ids other) builds after) in
       notes_stay m old now was is on other left.0 after
       (λ note there c. subst (λ (xs : List Note). Contains xs note) (sym notes)
-      (noted_elsewhere id.slot old.pools.notes note (λ same. left.1 (one_built (state_of m old.seats.history) old.seats.number id other (was.building id built) (was.building other left.0) (sym there ∙ same))) c))
+          (noted_elsewhere id.slot old.pools.notes note (λ same. left.1 (one_built (state_of m old.seats.history) old.seats.number id other (was.building id built) (was.building other left.0) (sym there ∙ same))) c))
       (noted other left.0)
 
   -- one more, of which all notes are 0
@@ -56,11 +58,11 @@ module _ {S A R : Type 0} (m : Meaning S A R) (old now : CellView S A R) (was : 
   noted_more id builds zero rest other after = ⊎_elim
       (λ (same : id ≡ other). subst (λ (x : ConnId). HasBareNotes m now x) same (λ way none. zero way))
       (λ (before : Contains old.pools.builds other). ⊎_elim
-      (λ (there : other.slot ≡ id.slot).
-      let mine = is.building id (subst (λ ids. Contains ids id) (sym builds) (first id old.pools.builds)) in
-      subst (λ (x : ConnId). HasBareNotes m now x) (sym (one_built (state_of m now.seats.history) now.seats.number id other mine (is.building other after) there)) (λ way none. zero way))
-      (λ (apart : other.slot ≢ id.slot). notes_stay m old now was is on other before after (λ note there c. rest note (λ same. apart (sym there ∙ same)) c) (noted other before))
-      (same_slot other.slot id.slot))
+          (λ (there : other.slot ≡ id.slot).
+          let mine = is.building id (subst (λ ids. Contains ids id) (sym builds) (first id old.pools.builds)) in
+          subst (λ (x : ConnId). HasBareNotes m now x) (sym (one_built (state_of m now.seats.history) now.seats.number id other mine (is.building other after) there)) (λ way none. zero way))
+          (λ (apart : other.slot ≢ id.slot). notes_stay m old now was is on other before after (λ note there c. rest note (λ same. apart (sym there ∙ same)) c) (noted other before))
+          (same_slot other.slot id.slot))
       (cons_cases id other old.pools.builds (subst (λ ids. Contains ids other) builds after))
     where
       first : (x : ConnId) (xs : List ConnId) → Contains (x ∷ xs) x
@@ -92,16 +94,16 @@ module _ {S A R : Type 0} (m : Meaning S A R) (old now : CellView S A R) (was : 
     pub noted_held : Contains old.pools.builds id → AddsOwn (cell_pass old) now.seats.history (hold_entries (cell_pass old) id key way Held.Done) → now.pools.notes ≡ notes_but id.slot (note_field way) old.pools.notes → (other : ConnId) → Contains now.pools.builds other → HasBareNotes m now other
     noted_held built adds notes other after w none = ⊎_elim
         (λ (same : w ≡ way). ⊎_elim
-        (λ (one : other ≡ id). absurd (none key (subst (λ (x : ConnId). Holds (state_of m now.seats.history) x w key) (sym one) (subst (λ (v : Way). Holds (state_of m now.seats.history) id v key) (sym same) (gave adds (subst (λ ids. Contains ids id) (sym builds) built))))))
-        (λ (apart : ¬ (other ≡ id)). known (inl (λ there. apart (one_built (state_of m old.seats.history) old.seats.number id other (was.building id built) (was.building other (same_builds other after)) there))))
-        (same_id other id))
+            (λ (one : other ≡ id). absurd (none key (subst (λ (x : ConnId). Holds (state_of m now.seats.history) x w key) (sym one) (subst (λ (v : Way). Holds (state_of m now.seats.history) id v key) (sym same) (gave adds (subst (λ ids. Contains ids id) (sym builds) built))))))
+            (λ (apart : ¬ (other ≡ id)). known (inl (λ there. apart (one_built (state_of m old.seats.history) old.seats.number id other (was.building id built) (was.building other (same_builds other after)) there))))
+            (same_id other id))
         (λ (apart : w ≢ way). known (inr (way_notes w way apart)))
         (same_way w way)
       where
         known : (other.slot ≢ id.slot) ⊎ (note_field w ≢ note_field way) → Contains now.pools.notes (record { slot = other.slot; field = note_field w; value = 0 })
         known apart = subst (λ (xs : List Note). Contains xs (record { slot = other.slot; field = note_field w; value = 0 })) (sym notes)
             (still_noted id.slot (note_field way) old.pools.notes (record { slot = other.slot; field = note_field w; value = 0 }) apart
-            (noted other (same_builds other after) w (bare_before m (cell_pass old) (cell_pass now) was is on other (same_builds other after) after w none)))
+                (noted other (same_builds other after) w (bare_before m (cell_pass old) (cell_pass now) was is on other (same_builds other after) after w none)))
 
         same_id : (a b : ConnId) → (a ≡ b) ⊎ (¬ (a ≡ b))
         same_id a b = by_test (is_id a b) refl

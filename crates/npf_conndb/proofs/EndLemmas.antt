@@ -1,5 +1,6 @@
 -- The keys of a killed connection, given up one after the other.
-use Rattle.std.proofs.Common.{◌≡◌, ◌↔◌, Bool, true, false, List, [], ◌∷◌, ◌++◌, cond, refl, sym, ◌∙◌, subst, append-nil}
+use Rattle.std.proofs.Common.{◌≡◌, ◌≢◌, ◌↔◌, ℕ, Bool, true, false, List, [], ◌∷◌, ◌++◌, cond, map, IsTrue, refl, sym, ap, ◌∙◌, subst, append-nil}
+use Rattle.std.specs.List.{filter}
 use Rattle.npf_types.specs.declared.key.Key.{Key}
 use Rattle.npf_types.specs.declared.key.Way.{Way}
 use Rattle.npf_types.specs.declared.key.Way.TheVariants.{Forward, Backward, Port}
@@ -11,10 +12,10 @@ use Rattle.npf_core.specs.declared.reply.Reply.TheVariants.{Nothing}
 use Rattle.npf_core.specs.History.{state_of}
 use Rattle.npf_core.specs.Machine.{Machine, Holds, HoldsNone, HoldsSome}
 use Rattle.npf_core.specs.Meaning.{Meaning}
-use Rattle.npf_connections.specs.Adding.{AddsOwn}
+use Rattle.npf_connections.specs.Adding.{Adds, AddsOwn}
 use Rattle.npf_connections.specs.Entries.{entry_of, end_entries}
 use Rattle.npf_connections.specs.Pass.{Pass}
-use Rattle.npf_connections.specs.Ways.{HoldsThese}
+use Rattle.npf_connections.specs.Ways.{all_ways, HoldsThese}
 use Rattle.npf_conndb.specs.Ends.{AddsIf, GaveUpKey}
 use Rattle.npf_conndb.proofs.AddingLemmas.{adds_one}
 

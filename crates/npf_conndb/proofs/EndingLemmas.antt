@@ -11,7 +11,7 @@ use Rattle.npf_core.specs.declared.conn_id.ConnId.{ConnId}
 use Rattle.npf_core.specs.declared.entry.Entry.{Entry}
 use Rattle.npf_core.specs.declared.found.Found.{Found}
 use Rattle.npf_core.specs.declared.reply.Reply.TheVariants.{Nothing}
-use Rattle.npf_core.specs.declared.stage.Stage.TheVariants.{Dead}
+use Rattle.npf_core.specs.declared.stage.Stage.TheVariants.{Building, Dead}
 use Rattle.npf_core.specs.History.{state_of, IsPrefix}
 use Rattle.npf_core.specs.Machine.{stage_of, Holds, HoldsSome}
 use Rattle.npf_core.specs.Meaning.{Meaning}
@@ -23,6 +23,7 @@ use Rattle.npf_connections.specs.Pass.{Pass, IsPass}
 use Rattle.npf_connections.specs.Stay.{GoesOn}
 use Rattle.npf_connections.proofs.AddLemmas.{AddsLast, adds_last}
 use Rattle.npf_cells_lives.specs.declared.pools.PoolSide.{PoolSide}
+use Rattle.npf_cells_lives.specs.Notes.{notes_elsewhere}
 use Rattle.npf_cells_lives.specs.Turns.{Running}
 use Rattle.npf_cells_pins.specs.declared.pin.Pin.{Pin}
 use Rattle.npf_cells_rule.specs.declared.view.CellView.{CellView}

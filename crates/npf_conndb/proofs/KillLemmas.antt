@@ -12,8 +12,8 @@ use Rattle.npf_core.specs.declared.reply.Reply.TheVariants.{Nothing}
 use Rattle.npf_core.specs.declared.stage.Stage.{Stage}
 use Rattle.npf_core.specs.declared.stage.Stage.TheVariants.{Vacant, Building, Live, Dead}
 use Rattle.npf_core.specs.Allowed.{Allows, IsDue}
-use Rattle.npf_core.specs.History.{Legal, LegalFrom, MayFollow, state_of, state_from, after}
-use Rattle.npf_core.specs.Machine.{Machine, opening, stage_of, Holds, IsAlive, IsClaimed}
+use Rattle.npf_core.specs.History.{Legal, LegalFrom, MayFollow, state_of, state_from, after, IsPrefix}
+use Rattle.npf_core.specs.Machine.{Machine, opening, stage_at, stage_of, Holds, IsAlive, IsClaimed}
 use Rattle.npf_core.specs.Meaning.{Meaning}
 use Rattle.npf_core.specs.NextState.{after_act}
 use Rattle.npf_core.proofs.BuildingLemmas.{builds_after}

@@ -1,8 +1,9 @@
 -- A killed connection gives its keys up, and is let go.
-use Rattle.std.proofs.Common.{◌≡◌, ◌≢◌, ◌↔◌, ◌⊎◌, ℕ, Bool, true, false, cond, eqb, eq-eqb, max, None, List, [], ◌∷◌, ◌++◌, refl, sym, ap, ◌∙◌, subst, inl, inr, arith, append-nil}
+use Rattle.std.proofs.Common.{◌≡◌, ◌≢◌, ◌↔◌, ◌≤◌, ◌⊎◌, ℕ, Bool, true, false, not, cond, eqb, eq-eqb, max, None, List, [], ◌∷◌, ◌++◌, IsTrue, refl, sym, ap, ◌∙◌, subst, inl, inr, arith, append-nil}
 use Rattle.std.specs.List.{Contains, filter}
 use Rattle.std.proofs.lemmas.List.Elements.{Contains-push}
 use Rattle.atomic_table.specs.Table.{Me}
+use Rattle.npf_types.specs.declared.key.Key.{Key}
 use Rattle.npf_types.specs.declared.key.Way.{Way}
 use Rattle.npf_types.specs.declared.key.Way.TheVariants.{Forward, Backward, Port}
 use Rattle.npf_core.specs.declared.act.Act.TheVariants.{Unhold}
@@ -12,15 +13,17 @@ use Rattle.npf_core.specs.declared.found.Found.{Found}
 use Rattle.npf_core.specs.declared.reply.Reply.TheVariants.{Nothing}
 use Rattle.npf_core.specs.declared.stage.Stage.TheVariants.{Dead}
 use Rattle.npf_core.specs.History.{Legal, MayFollow, state_of, after, IsPrefix}
-use Rattle.npf_core.specs.Machine.{Machine, stage_of, Holds, HoldsNone}
+use Rattle.npf_core.specs.Machine.{Machine, stage_of, Holds, HoldsNone, HoldsSome}
 use Rattle.npf_core.specs.Meaning.{Meaning}
 use Rattle.npf_core.proofs.HistoryLemmas.{MayFollow-split, state_of-append, IsPrefix-trans}
 use Rattle.npf_connections.specs.Adding.{AddsOwn}
 use Rattle.npf_connections.specs.Entries.{entry_of, end_entries}
 use Rattle.npf_connections.specs.Pass.{Pass, IsPass}
 use Rattle.npf_seats.proofs.PrefixLemmas.{none_listed, cons_cases}
+use Rattle.npf_cells_lives.specs.declared.pools.PoolSide.{PoolSide}
 use Rattle.npf_cells_lives.specs.Deaths.{ids_elsewhere}
 use Rattle.npf_cells_lives.specs.Turns.{Running}
+use Rattle.npf_cells_pins.specs.declared.pin.EpochSide.{EpochSide}
 use Rattle.npf_cells_pins.specs.Pinning.{loading}
 use Rattle.npf_cells_rule.specs.declared.view.CellView.{CellView}
 use Rattle.npf_cells_rule.specs.Passes.{cell_pass}
@@ -125,7 +128,7 @@ module _ {S A R : Type 0} (m : Meaning S A R) (id : ConnId) (way : Way) (old now
 
   pub ended : (held : Bool) → HasEndedKey m id way held old now → Ended
   ended true so = record {
-    is = view ∙ sym (ap (but_keys old.0) view);
+    is = view ∙ sym (ap (but_keys old.0) view) ;
     pin = ap (λ (y : Me (Running S) (CellView S A R)). y.0.epochs.pin) so.is;
     greatest = ap (λ (y : Me (Running S) (CellView S A R)). y.0.epochs.greatest) so.is;
     answered = ap (λ (y : Me (Running S) (CellView S A R)). y.0.trie.answered) so.is;
@@ -239,8 +242,8 @@ module _ {S A R : Type 0} (m : Meaning S A R) (id : ConnId) (old one two three :
       is = now_is;
       pin = ap (λ (y : Me (Running S) (CellView S A R)). y.0.epochs.pin) goes.is ∙ (ended_p.pin ∙ (ended_b.pin ∙ ended_f.pin));
       later = (let rose : now.0.epochs.greatest ≡ max three.0.epochs.greatest goes.epoch = ap (λ (y : Me (Running S) (CellView S A R)). y.0.epochs.greatest) goes.is in
-          let same = ended_p.greatest ∙ (ended_b.greatest ∙ ended_f.greatest) in
-          omega (arith, rose, same));
+      let same = ended_p.greatest ∙ (ended_b.greatest ∙ ended_f.greatest) in
+      omega (arith, rose, same));
       answered = ap (λ (y : Me (Running S) (CellView S A R)). y.0.trie.answered) goes.is ∙ (ended_p.answered ∙ (ended_b.answered ∙ ended_f.answered));
       unlocked = ap (λ (y : Me (Running S) (CellView S A R)). y.0.trie.locks) goes.is ∙ ended_p.unlocked (ended_b.unlocked (ended_f.unlocked killed.unlocked));
     }

@@ -4,6 +4,7 @@ pub mod BuildLemmas
 pub mod EndLemmas
 pub mod EndingLemmas
 pub mod ExpiryLemmas
+pub mod HeldLemmas
 pub mod HoldLemmas
 pub mod KeyLemmas
 pub mod KillLemmas

@@ -1,6 +1,7 @@
 -- Passes that are split and joined.
-use Rattle.std.proofs.Common.{◌≡◌, ◌≤◌, false, sym, subst, arith}
+use Rattle.std.proofs.Common.{◌≡◌, ◌≤◌, ◌-◌, ℕ, false, List, [], refl, sym, ap, ◌∙◌, subst, arith}
 use Rattle.std.specs.List.{Contains}
+use Rattle.npf_core.specs.declared.conn_id.ConnId.{ConnId}
 use Rattle.npf_core.specs.declared.entry.Entry.{Entry}
 use Rattle.npf_core.specs.History.{Legal}
 use Rattle.npf_core.specs.Meaning.{Meaning}

@@ -1,7 +1,8 @@
 -- What a pass knows of the notes of connections that it is building, as it goes on.
-use Rattle.std.proofs.Common.{◌≡◌, ◌≢◌, ◌⊎◌, ℕ, Bool, true, false, ◌==◌, ◌&&◌, not, List, Some, refl, sym, ap, ◌∙◌, subst, inl, inr, arith}
+use Rattle.std.proofs.Common.{◌≡◌, ◌≢◌, ◌⊎◌, ℕ, Bool, true, false, ◌==◌, ◌&&◌, not, eqb, List, Some, refl, sym, ap, ◌∙◌, subst, inl, inr, arith}
 use Rattle.std.specs.List.{Contains}
 use Rattle.std.proofs.lemmas.Bool.Decides.{Decides-eqb}
+use Rattle.npf_types.specs.declared.key.Key.{Key}
 use Rattle.npf_types.specs.declared.key.Way.{Way}
 use Rattle.npf_types.specs.declared.key.Way.TheVariants.{Forward, Backward, Port}
 use Rattle.npf_core.specs.declared.conn_id.ConnId.{ConnId}
@@ -36,8 +37,8 @@ module _ {S A R : Type 0} (m : Meaning S A R) (old now : Pass (Entry S A R)) (wa
   pub bare_before : (way : Way) → HoldsNone (state_of m now.history) id way → HoldsNone (state_of m old.history) id way
   bare_before way none key held =
       none key (subst (λ (k : Machine S). k.holder key ≡ Some (record { id = id; way = way })) (sym state)
-      (stays_holder m now.slots (state_of m old.history) on.rest key (record { id = id; way = way }) legal held (alive (state_of m old.history) old.number (was.building id before))
-      (alive (state_from m (state_of m old.history) on.rest) now.number (subst (λ (k : Machine S). stage_of k id ≡ Building now.number) state (is.building id after)))))
+          (stays_holder m now.slots (state_of m old.history) on.rest key (record { id = id; way = way }) legal held (alive (state_of m old.history) old.number (was.building id before))
+              (alive (state_from m (state_of m old.history) on.rest) now.number (subst (λ (k : Machine S). stage_of k id ≡ Building now.number) state (is.building id after)))))
 
 -- so it has its notes still, where those of its slot are still known
 pub notes_stay : {S A R : Type 0} (m : Meaning S A R) (old now : CellView S A R) → IsPass m (cell_pass old) → IsPass m (cell_pass now) → IsPrefix old.seats.history now.seats.history → (id : ConnId) → Contains old.pools.builds id → Contains now.pools.builds id →

@@ -1,5 +1,5 @@
 -- What a pass may step and start, and that it then is between calls again.
-use Rattle.std.proofs.Common.{◌≡◌, ℕ, ◌<◌, subst}
+use Rattle.std.proofs.Common.{◌≡◌, ℕ, ◌<◌, sym, ap, subst}
 use Rattle.std.specs.List.{Contains}
 use Rattle.npf_core.specs.declared.conn_id.ConnId.{ConnId}
 use Rattle.npf_core.specs.declared.entry.Entry.{Entry}

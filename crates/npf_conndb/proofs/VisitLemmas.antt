@@ -1,5 +1,5 @@
 -- A call enters, expires what is due slot by slot, and leaves.
-use Rattle.std.proofs.Common.{◌≡◌, ◌⊎◌, ℕ, ◌+◌, ◌<◌, Bool, true, false, eqb, List, [], refl, sym, ap, ◌∙◌, subst, ⊎_elim, inl, inr, arith}
+use Rattle.std.proofs.Common.{◌≡◌, ◌⊎◌, ℕ, ◌+◌, ◌<◌, Bool, true, false, eqb, List, [], refl, sym, ap, ◌∙◌, subst, ⊎_elim, inl, inr, arith, append-nil}
 use Rattle.std.proofs.lemmas.Bool.Decides.{Decides-eqb, not_from_Decides}
 use Rattle.atomic_table.specs.Table.{Me}
 use Rattle.npf_core.specs.declared.conn_id.ConnId.{ConnId}

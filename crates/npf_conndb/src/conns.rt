@@ -1,10 +1,12 @@
 ghost use Rattle.std.specs.Prelude.{◌≤◌};
 
 use crate::beginning::begin;
+use crate::collecting::collect;
+use crate::copying::copy_slot;
 use crate::ending::end_killed;
 use crate::expiring::expire_all;
 use npf_cells::{CellPass, Cells};
-use npf_core::{ConnId, Found, Held, Law, Stepped};
+use npf_core::{ConnId, Found, Held, Kept, Law, Stepped};
 use npf_epoch::{enter, leave};
 use npf_paths::KeyHash;
 use npf_trie::{hold, look};
@@ -31,16 +33,18 @@ impl<L: Law, H: KeyHash> Conns<L, H> {
     ghost use Rattle.npf_core.specs.declared.act.Act.TheVariants.{Look, Step, Start};
     ghost use Rattle.npf_core.specs.declared.held.Held.{Held};
     ghost use Rattle.npf_core.specs.declared.reply.Reply.TheVariants.{Nothing, ToLook, ToStep};
+    ghost use Rattle.npf_core.specs.Copying.{Copies};
     ghost use Rattle.npf_core.specs.History.{state_of};
     ghost use Rattle.npf_core.specs.Machine.{HoldsNone};
     ghost use Rattle.npf_connections.specs.Abandoning.{Abandons};
     ghost use Rattle.npf_connections.specs.Adding.{Adds, AddsOwn};
     ghost use Rattle.npf_connections.specs.Answered.{found_ids, begun_ids, taken_ids, without};
     ghost use Rattle.npf_connections.specs.Beginning.{IsFullIfNone, HoldsNoneIfSome};
+    ghost use Rattle.npf_connections.specs.Collecting.{FreesAlone};
     ghost use Rattle.npf_connections.specs.Entries.{entry_of, claim_entries, hold_entries};
     ghost use Rattle.npf_connections.specs.Expiring.{Expires};
     ghost use Rattle.npf_connections.specs.Joining.{IsSplit, IsJoined};
-    ghost use Rattle.npf_connections.specs.Pass.{IsPass, IsFirstPass, Knows};
+    ghost use Rattle.npf_connections.specs.Pass.{IsPass, IsFirstPass, Knows, all_places};
     ghost use Rattle.npf_connections.specs.Stay.{IsOut, IsIn, GoesOn};
     ghost use Rattle.npf_connections.specs.Ways.{KeepsWays, KeepsBare};
     ghost use Rattle.npf_trie.specs.LookUp.{RoseBy};
@@ -201,6 +205,34 @@ impl<L: Law, H: KeyHash> Conns<L, H> {
         let count = expire_all(rt, &self.cells, &mut pass.cells, now);
         leave(&self.cells, &mut pass.cells);
         count
+    }
+
+    /// Frees what may be freed.
+    pub fn collect(&self, pass: &mut ConnPass<L>)
+        requires out { IsOut L.meaning (IsPassOfConns L.meaning self.now) shown pass.old }
+        ensures out { IsOut L.meaning (IsPassOfConns L.meaning self.now) shown pass.new }
+        ensures adds { FreesAlone (shown pass.old) (shown pass.new).history }
+        ensures view { GoesOn (shown pass.old) (shown pass.new) }
+    {
+        collect(&self.cells, &mut pass.cells);
+    }
+
+    /// A copy of the slot's connection, with the keys that it holds. None exactly where none is Live there. The call adds no entry; the
+    /// pass owns all reader places, so no other is left.
+    pub fn copy_slot(
+        &self,
+        rt: &impl Wait,
+        pass: &mut ConnPass<L>,
+        slot: u32,
+    ) -> Option<Kept<L::State>>
+        requires out { IsOut L.meaning (IsPassOfConns L.meaning self.now) shown pass.old }
+        requires sole { (shown pass.old).places ≡ all_places }
+        requires exists { slot < (shown pass.old).slots }
+        ensures out { IsOut L.meaning (IsPassOfConns L.meaning self.now) shown pass.new }
+        ensures same { shown pass.new ≡ shown pass.old }
+        ensures copies { Copies (state_of L.meaning (shown pass.old).history) slot result }
+    {
+        copy_slot(rt, &self.cells, &mut pass.cells, slot)
     }
 
     /// Gives one of the pass's reader places to a new pass, which has seen the same history.

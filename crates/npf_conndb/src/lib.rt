@@ -4,15 +4,18 @@
 // by leaves of the trie, and lives under its slot's turn. The words are those of npf_cells; here its steps, put together by npf_epoch,
 // npf_pool, npf_trie and npf_turn, become the calls of a table.
 //
-// A connection that ends gives its keys up, whose leaves are unlinked, and is let go with the epoch as it is then.
+// A connection that ends gives its keys up, whose leaves are unlinked, and is let go with the epoch as it is then: two epochs later nobody that
+// could speak of it is left, and a collection frees its slot.
 //
-// The contract: each call of `Conns` says what the same call of `Connections` says, clause by clause, and a pass shows what it shows there;
-// `enter`, `look` and `leave` take no handle to wait by, and a look loads at most 95 places of the trie and five words of keys. The
-// calls that free and copy connections aren't there yet.
+// The contract: `Conns` meets `Connections` for every law whose flows may go to another thread. `enter`, `look` and `leave` take no handle to
+// wait by, and a look loads at most 95 places of the trie and five words of keys. A pass waits for one turn at most, and for one lock
+// under it; a collection waits for nobody.
 #![tactic(auto)]
 
 mod beginning;
+mod collecting;
 mod conns;
+mod copying;
 mod ending;
 mod expiring;
 

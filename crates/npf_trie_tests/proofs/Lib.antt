@@ -1,1 +1,3 @@
+mod BuildLemmas
+mod EndedLemmas
 mod OpenLemmas

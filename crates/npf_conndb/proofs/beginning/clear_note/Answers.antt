@@ -1,4 +1,4 @@
-use Rattle.std.proofs.Common.{inl, inr, arith}
+use Rattle.std.proofs.Common.{inl, inr, arith, ◌∙◌, ap, sym}
 use Rattle.npf_cells_words.proofs.WordLemmas.{note_soon}
 use Rattle.npf_conndb.proofs.BeginLemmas.{note_cleared}
 use Rattle.npf_conndb.proofs.beginning.clear_note.Goals as goal

@@ -1,5 +1,6 @@
-use Rattle.std.proofs.Common.{ap, arith}
+use Rattle.std.proofs.Common.{◌<◌, ap, subst, arith}
 use Rattle.npf_cells_rule.specs.Passes.{cell_pass}
+use Rattle.npf_conndb.specs.Expiries.{ExpiresIn}
 use Rattle.npf_conndb.proofs.VisitLemmas.{stays_here, expires_none, stays_more, expires_next}
 use Rattle.npf_conndb.proofs.expiring.expire_all.Goals as goal
 

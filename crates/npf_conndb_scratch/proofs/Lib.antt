@@ -1,0 +1,10 @@
+pub mod AddingLemmas
+pub mod BuildLemmas
+pub mod EndLemmas
+pub mod ExpiryLemmas
+pub mod HeldLemmas
+pub mod KeyLemmas
+pub mod KillLemmas
+pub mod LettingLemmas
+pub mod NoteLemmas
+pub mod PassLemmas

@@ -1,0 +1,6 @@
+pub mod Between
+pub mod Ends
+pub mod Expiries
+pub mod TurnDone
+pub mod TurnEnding
+pub mod TurnReclaiming

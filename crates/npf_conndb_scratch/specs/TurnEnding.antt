@@ -1,0 +1,74 @@
+-- What giving up a key of a killed connection leaves.
+use Rattle.std.specs.Prelude.{◌≡◌, ◌≢◌, ◌↔◌, Bool, true, false, None, List, [], ◌∷◌, filter, map}
+use Rattle.atomic_table.specs.Table.{Me}
+use Rattle.npf_types.specs.declared.key.Key.{Key}
+use Rattle.npf_types.specs.declared.key.Way.{Way}
+use Rattle.npf_types.specs.declared.key.Way.TheVariants.{Forward, Backward, Port}
+use Rattle.npf_core.specs.declared.act.Act.TheVariants.{Unhold}
+use Rattle.npf_core.specs.declared.conn_id.ConnId.{ConnId}
+use Rattle.npf_core.specs.declared.entry.Entry.{Entry}
+use Rattle.npf_core.specs.declared.reply.Reply.TheVariants.{Nothing}
+use Rattle.npf_core.specs.History.{state_of}
+use Rattle.npf_core.specs.Machine.{Holds, HoldsNone, HoldsSome}
+use Rattle.npf_core.specs.Meaning.{Meaning}
+use Rattle.npf_connections.specs.Adding.{AddsOwn}
+use Rattle.npf_connections.specs.Entries.{entry_of}
+use Rattle.npf_connections.specs.Pass.{Pass, IsPass}
+use Rattle.npf_connections.specs.Ways.{HoldsThese, all_ways}
+use Rattle.npf_cells_holds.specs.PublishKinds.{publishing}
+use Rattle.npf_cells_holds.specs.UnlinkKinds.{giving_up}
+use Rattle.npf_cells_lives.specs.Deaths.{IsKeyless}
+use Rattle.npf_cells_lives.specs.Turns.{Running}
+use Rattle.npf_cells_rule.specs.declared.view.CellView.{CellView}
+use Rattle.npf_cells_rule.specs.Passes.{cell_pass}
+use Rattle.npf_cells_rule.specs.Views.{unloaded}
+
+-- the pass after it gave a key up, and has seen this history: it forgot the epoch that it loaded, counts the store in the trie, and has no lock and no turn
+abbrev pub without_key : {S A R : Type 0} → CellView S A R → List (Entry S A R) → ConnId → Way → CellView S A R
+without_key v history id way = record v {
+  seats = record v.seats { history = history };
+  epochs = unloaded v.epochs;
+  pools = giving_up id way v.pools;
+  trie = record (publishing v.trie) { locks = [] };
+  turn = None;
+}
+
+-- the connection held a key of that way, and gave it up: this ends the history. It holds its other keys as before
+pub record GivesUpKey {S A R : Type 0} (m : Meaning S A R) (id : ConnId) (way : Way) (old now : Me (Running S) (CellView S A R)) : Type 0 where
+  pub held : HoldsSome (state_of m old.0.seats.history) id way
+  pub others : (other : Way) (key : Key) → other ≢ way → Holds (state_of m old.0.seats.history) id other key ↔ Holds (state_of m now.0.seats.history) id other key
+  pub adds : AddsOwn (cell_pass old.0) now.0.seats.history (entry_of (cell_pass old.0) (Unhold id way) Nothing ∷ [])
+  pub legal : IsPass m (cell_pass old.0) → IsPass m (cell_pass now.0)
+  pub is : now ≡ (without_key old.0 now.0.seats.history id way, [])
+
+-- or it held none, and nothing was done
+pub record HasNoKey {S A R : Type 0} (m : Meaning S A R) (id : ConnId) (way : Way) (old now : Me (Running S) (CellView S A R)) : Type 0 where
+  pub none : HoldsNone (state_of m old.0.seats.history) id way
+  pub is : now ≡ (record old.0 { turn = None }, [])
+
+-- whether it held one
+abbrev pub HasEndedKey : {S A R : Type 0} → Meaning S A R → ConnId → Way → Bool → Me (Running S) (CellView S A R) → Me (Running S) (CellView S A R) → Type 0
+HasEndedKey m id way true old now = GivesUpKey m id way old now
+HasEndedKey m id way false old now = HasNoKey m id way old now
+
+-- the pass that has seen this history
+abbrev pub seen_with : {S A R : Type 0} → CellView S A R → List (Entry S A R) → CellView S A R
+seen_with v history = record v { seats = record v.seats { history = history } }
+
+-- the pass after both: only in what a key that was given up changes
+abbrev pub key_ended : {S A R : Type 0} → Bool → ConnId → Way → CellView S A R → CellView S A R
+key_ended true id way v = without_key v v.seats.history id way
+key_ended false id way v = record v { turn = None }
+
+-- the entries by which keys of these ways are given up
+abbrev pub unhold_entries : {S A R : Type 0} → Pass (Entry S A R) → ConnId → (Way → Bool) → List (Entry S A R)
+unhold_entries pass id held = map (λ way. entry_of pass (Unhold id way) Nothing) (filter held all_ways)
+
+-- the pass gave all keys of the connection up, one after the other, which ends its history; by what it has seen the connection holds none
+pub record HasEndedKeys {S A R : Type 0} (m : Meaning S A R) (id : ConnId) (old now : Me (Running S) (CellView S A R)) : Type 0 where
+  pub held : Way → Bool
+  pub holds : HoldsThese (state_of m old.0.seats.history) id held
+  pub adds : AddsOwn (cell_pass old.0) now.0.seats.history (unhold_entries (cell_pass old.0) id held)
+  pub legal : IsPass m (cell_pass old.0) → IsPass m (cell_pass now.0)
+  pub keyless : IsKeyless (state_of m now.0.seats.history) id
+  pub is : now ≡ (seen_with (key_ended (held Port) id Port (key_ended (held Backward) id Backward (key_ended (held Forward) id Forward old.0))) now.0.seats.history, [])
