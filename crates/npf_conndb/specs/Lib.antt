@@ -1,5 +1,2 @@
-pub mod Begins
 pub mod Between
-pub mod Ends
-pub mod Expiries
-pub mod Passes
+pub mod Frees

@@ -1,20 +1,4 @@
-// A table of connections without locks, for many threads at a time.
-//
-// A look-up enters a stay, walks the trie of keys, and leaves: it waits for nobody. A connection is begun in a slot of its own, holds its keys
-// by leaves of the trie, and lives under its slot's turn. The words are those of npf_cells; here its steps, put together by npf_epoch,
-// npf_pool, npf_trie and npf_turn, become the calls of a table.
-//
-// A connection that ends gives its keys up, whose leaves are unlinked, and is let go with the epoch as it is then.
-//
-// The contract: each call of `Conns` says what the same call of `Connections` says, clause by clause, and a pass shows what it shows there;
-// `enter`, `look` and `leave` take no handle to wait by, and a look loads at most 95 places of the trie and five words of keys. The
-// calls that free and copy connections aren't there yet.
+// Scratch: collections alone.
 #![tactic(auto)]
 
-mod beginning;
-mod conns;
-mod ending;
-mod expiring;
-
-pub use conns::{ConnPass, Conns};
-pub use npf_paths::{Fnv, KeyHash};
+mod collecting;

@@ -1,5 +1,5 @@
 // The keys, each held for a connection of its own.
-ghost use Rattle.std.specs.Prelude.{◌≡◌, [], None};
+ghost use Rattle.std.specs.Prelude.{◌≡◌, []};
 ghost use Rattle.npf_cells_pins.specs.declared.pin.Pin.TheVariants.{Idle};
 ghost use Rattle.npf_cells.specs.Cells.{IsPassIn};
 ghost use Rattle.npf_cells_rule.specs.Passes.{IsProtected};
@@ -20,7 +20,6 @@ pub fn fill(rt: &impl Wait, cells: &Cells<FlowLaw, Fnv>, pass: &mut CellPass<Flo
     requires protected { IsProtected pass.old.seat.me.0.epochs.pin }
     requires nodes { pass.old.seat.me.0.pools.nodes ≡ [] }
     requires locks { pass.old.seat.me.0.trie.locks ≡ [] }
-    requires turn { pass.old.seat.me.0.turn ≡ None }
     ensures own { IsPassIn cells.now pass.new }
     ensures protected { IsProtected pass.new.seat.me.0.epochs.pin }
     ensures locks { pass.new.seat.me.0.trie.locks ≡ [] }
@@ -44,12 +43,10 @@ fn hold_next(
     requires protected { IsProtected pass.old.seat.me.0.epochs.pin }
     requires nodes { pass.old.seat.me.0.pools.nodes ≡ [] }
     requires locks { pass.old.seat.me.0.trie.locks ≡ [] }
-    requires turn { pass.old.seat.me.0.turn ≡ None }
     ensures own { IsPassIn cells.now pass.new }
     ensures protected { IsProtected pass.new.seat.me.0.epochs.pin }
     ensures nodes { pass.new.seat.me.0.pools.nodes ≡ [] }
     ensures locks { pass.new.seat.me.0.trie.locks ≡ [] }
-    ensures turn { pass.new.seat.me.0.turn ≡ None }
 {
     match begin(rt, cells, pass) {
         Some(id) => hold(rt, cells, pass, id, key(number), Way::Forward) == Held::Done,

@@ -1,4 +1,4 @@
-use Rattle.std.proofs.Common.{◌≡◌, [], None}
+use Rattle.std.proofs.Common.{◌≡◌, []}
 use Rattle.npf_cells.specs.Cells.{IsPassIn}
 use Rattle.npf_cells_rule.specs.Passes.{IsProtected}
 use Rattle.npf_trie_bench.proofs.filling.fill.Given as goal
@@ -9,5 +9,4 @@ invariant-loop-number g l = record {
   protected : IsProtected l.pass.seat.me.0.epochs.pin;
   nodes : l.pass.seat.me.0.pools.nodes ≡ [];
   locks : l.pass.seat.me.0.trie.locks ≡ [];
-  turn : l.pass.seat.me.0.turn ≡ None;
 }

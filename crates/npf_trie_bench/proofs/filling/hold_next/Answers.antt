@@ -10,5 +10,4 @@ hold-requires-clause-can g c = record {
   stored = c.in-Some.ensures.begun.stored;
   nodes = c.in-Some.ensures.keeps.nodes ∙ c.requires.nodes;
   locks = ap (λ (side : TrieSide). side.locks) c.in-Some.ensures.keeps.trie ∙ c.requires.locks;
-  turnless = c.in-Some.ensures.keeps.turn ∙ c.requires.turn;
 }
