@@ -1,4 +1,3 @@
-pub mod CrossingsLemmas
 pub mod OutputLemmas
 pub mod ReportLemmas
 pub mod WrittenLemmas

@@ -8,21 +8,11 @@ use Rattle.npf_engine.specs.declared.outcome.Outcome.{Outcome}
 use Rattle.npf_report.specs.LineText.{line_text}
 use Rattle.npf_report.specs.TotalText.{total_text}
 use Rattle.npf_traffic.specs.declared.packet.Packet.{Packet}
-use Rattle.npf_types.specs.Name.{name_bytes}
-use Rattle.npf_report.specs.declared.crossed.Crossed.{Crossed}
-use Rattle.npf_ctl_output.specs.Crossings.{IsCrossedBy}
 use Rattle.npf_ctl_output.specs.Report.{lines_from, name_of_interface, report_text}
 
 -- the line of a packet with its outcome
 abbrev pub line_of : List Iface → ℕ → Packet → Outcome → List ℕ
 line_of ifaces n packet outcome = line_text n (name_of_interface ifaces packet.ifid) packet.dir outcome
-
--- what is said of a line by what the packet crossed
-pub of_crossed : (P : List ℕ → Type 0) (ifaces : List Iface) (n : ℕ) (packet : Packet) (outcome : Outcome) (crossed : Crossed) → IsCrossedBy ifaces packet crossed →
-    P (line_text n (name_bytes crossed.name) crossed.dir outcome) → P (line_of ifaces n packet outcome)
-of_crossed P ifaces n packet outcome crossed by said =
-    let same : line_text n (name_bytes crossed.name) crossed.dir outcome ≡ line_of ifaces n packet outcome = rw (by.name, by.dir) refl in
-    subst P same said
 
 module _ (ifaces : List Iface) (packets : List Packet) (outcomes : List Outcome) (old : Option (List ℕ)) (text rest : List ℕ) where
   -- of the text the lines from the place i on and the rest are left

@@ -1,4 +1,3 @@
-pub mod Crossings
 pub mod Extents
 pub mod Outputs
 pub mod Putting

@@ -9,7 +9,6 @@
 // packet's end.
 #![tactic(auto)]
 
-mod crossings;
 mod extent;
 mod laws;
 mod putting;

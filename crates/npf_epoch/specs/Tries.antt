@@ -26,7 +26,6 @@ pub record IsHindered {S A R : Type 0} (m : Meaning S A R) (digest : Key → ℕ
   pub reader : ℕ
   pub below : reader < all_places
   pub side : EpochSide
-  pub pin : side.pin ≡ view.epochs.pin
   pub found : ℕ
   pub elsewhere : ((found == 0) || (found == epoch + 1)) ≡ false
   pub stood : StoodSo m digest layout (record view { epochs = side }) (reader_at reader) found

@@ -1,6 +1,4 @@
-ghost use Rattle.std.specs.Prelude.{◌≡◌, ◌↔◌, ◌⊎◌, ◌+◌, ◌≤◌, ◌<◌, ◌==◌, ◌||◌, true, false, [], length, if◌then◌else◌};
-ghost use Rattle.npf_connections.specs.Pass.{all_places};
-ghost use Rattle.npf_cells_pins.specs.declared.pin.Pin.TheVariants.{Idle};
+ghost use Rattle.std.specs.Prelude.{◌≡◌, ◌↔◌, ◌⊎◌, ◌+◌, ◌≤◌, ◌<◌, ◌==◌, ◌||◌, true, false, [], if◌then◌else◌};
 ghost use Rattle.npf_cells_pins.specs.Epochs.{HasScannedAll};
 ghost use Rattle.npf_cells_rule.specs.Views.{with_epochs};
 ghost use Rattle.npf_cells.specs.Cells.{IsPassIn};
@@ -12,7 +10,7 @@ use npf_core::Law;
 use npf_paths::KeyHash;
 
 /// Raises the epoch by one where no reader is pinned in an older one. Answers whether this call did; where a reader hindered it, its word
-/// stood so. A pass in no stay that owns all reader places fails at the last epoch alone.
+/// stood so.
 pub fn try_advance<L: Law, H: KeyHash>(cells: &Cells<L, H>, pass: &mut CellPass<L>) -> bool
     requires own { IsPassIn cells.now pass.old }
     ensures own { IsPassIn cells.now pass.new }
@@ -25,9 +23,6 @@ pub fn try_advance<L: Law, H: KeyHash>(cells: &Cells<L, H>, pass: &mut CellPass<
     ensures raised { result ≡ true → pass.new.seat.me.0.epochs.loaded + 1 ≤ pass.new.seat.me.0.epochs.known }
     ensures loaded { pass.old.seat.me.0.epochs.known ≤ pass.new.seat.me.0.epochs.loaded }
     ensures known { pass.old.seat.me.0.epochs.known ≤ pass.new.seat.me.0.epochs.known }
-    ensures reached { pass.new.seat.me.0.epochs.loaded ≤ pass.new.seat.me.0.epochs.known }
-    ensures greatest { pass.new.seat.me.0.epochs.loaded ≤ pass.new.seat.me.0.epochs.greatest }
-    ensures sole { length pass.old.seat.me.0.seats.readers ≡ all_places → pass.old.seat.me.0.epochs.pin ≡ Idle → result ≡ false → pass.new.seat.me.0.epochs.loaded ≡ last_epoch }
 {
     let epoch = cells.load_epoch(pass);
     if epoch == LAST_EPOCH {

@@ -1,1 +1,4 @@
+mod BuildLemmas
+mod EndLemmas
+mod EndedLemmas
 mod OpenLemmas

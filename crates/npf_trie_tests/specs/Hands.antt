@@ -17,3 +17,12 @@ pub record IsEmptyHanded {S A R : Type 0} (v : CellView S A R) : Type 0 where
   pub nodes : v.pools.nodes ≡ []
   pub locks : v.trie.locks ≡ []
   pub turn : v.turn ≡ None
+
+-- a pass that killed and reclaimed nothing, and has neither a lock nor a turn
+pub record HasFreeHands {S A R : Type 0} (v : CellView S A R) : Type 0 where
+  pub kills : v.pools.kills ≡ []
+  pub gave_up : v.pools.gave_up ≡ []
+  pub reclaims : v.pools.reclaims ≡ []
+  pub cleared : v.pools.cleared ≡ []
+  pub locks : v.trie.locks ≡ []
+  pub turn : v.turn ≡ None

@@ -8,11 +8,19 @@ mod answers;
 #[cfg(test)]
 mod beside;
 #[cfg(test)]
+mod building;
+#[cfg(test)]
 mod by_protocol;
+#[cfg(test)]
+mod ending;
+#[cfg(test)]
+mod growing;
 #[cfg(test)]
 mod holders;
 #[cfg(test)]
 mod keys;
+#[cfg(test)]
+mod lives;
 #[cfg(test)]
 mod meeting;
 #[cfg(test)]

@@ -1,7 +1,7 @@
 // Connections that passes start, step and kill under the turns of their slots, and the words that stand there then.
 ghost use Rattle.std.specs.Prelude.{◌≡◌, ◌<◌, IfSome, None};
 ghost use Rattle.npf_cells.specs.Cells.{IsPassIn};
-ghost use Rattle.npf_trie_tests.specs.Hands.{IsEmptyHanded};
+ghost use Rattle.npf_trie_tests.specs.Hands.{IsEmptyHanded, HasFreeHands};
 
 use crate::answers::{put, same};
 use crate::by_protocol::ByProtocol;
@@ -35,7 +35,7 @@ const NOTHING: Action = Action {
     log: None,
 };
 
-const FLOW: Flow = Flow {
+pub(crate) const FLOW: Flow = Flow {
     kind: FlowKind::Other { answered: false },
     last: 1,
     opener: 7,
@@ -44,17 +44,17 @@ const FLOW: Flow = Flow {
     action: NOTHING,
 };
 
-const PACKET: FlowArg = FlowArg {
+pub(crate) const PACKET: FlowArg = FlowArg {
     now: 1,
     seg: None,
     peek: false,
 };
 
 // An hour later, in nanoseconds: the flow is due since long.
-const LATE: u64 = 3_600_000_000_000;
+pub(crate) const LATE: u64 = 3_600_000_000_000;
 
 // Begins a connection, holds the key for it and starts it. None where no slot is left, or the key is taken.
-fn open(
+pub(crate) fn open(
     rt: &impl Wait,
     cells: &Cells<FlowLaw, ByProtocol>,
     pass: &mut CellPass<FlowLaw>,
@@ -80,7 +80,7 @@ fn open(
 }
 
 // The next step of the connection that holds the key. None where none holds it.
-fn step_by(
+pub(crate) fn step_by(
     rt: &impl Wait,
     cells: &Cells<FlowLaw, ByProtocol>,
     pass: &mut CellPass<FlowLaw>,
@@ -90,6 +90,7 @@ fn step_by(
     requires hands { IsEmptyHanded pass.old.seat.me.0 }
     ensures own { IsPassIn cells.now pass.new }
     ensures hands { IsEmptyHanded pass.new.seat.me.0 }
+    ensures free { HasFreeHands pass.old.seat.me.0 → HasFreeHands pass.new.seat.me.0 }
 {
     let found = look(cells, pass, 9, key)?;
     if found.id.slot >= cells.layout().slots {
@@ -99,7 +100,7 @@ fn step_by(
 }
 
 // The number of the step, or none where the connection wasn't Live or nobody holds the key.
-fn place_of(stepped: Option<Stepped<FlowReply>>) -> Option<u64> {
+pub(crate) fn place_of(stepped: Option<Stepped<FlowReply>>) -> Option<u64> {
     match stepped {
         Some(Stepped::Done { place, .. }) => Some(place),
         _ => None,

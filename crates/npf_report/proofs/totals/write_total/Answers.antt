@@ -1,16 +1,7 @@
-use Rattle.std.proofs.Common.{drop}
-use Rattle.npf_report.proofs.TextLemmas.{total_in_front}
+use Rattle.npf_report.proofs.TextLemmas.{total_behind}
 use Rattle.npf_report.proofs.totals.write_total.Goals as goal
 
-pub returns-clause-line : goal.returns-clause-line
-returns-clause-line c = λ outcomes are.
-    rw (
-      c.write_counted.ensures.written,
-      c.write_counted-passed.ensures.written,
-      c.write_counted-blocked.ensures.written,
-      c.write_counted-dropped.ensures.written,
-      c.write_counted-skipped.ensures.written,
-      c.write_counted-malformed.ensures.written,
-      c.write_text-feed.ensures.written,
-    )
-    (total_in_front outcomes c.args.counts.now are (drop c.args.end c.args.page.now))
+pub returns : goal.returns
+returns c =
+    rw (c.in_ok-push.ensures.items, c.in_ok-write_counted-6.ensures, c.in_ok-write_counted-5.ensures, c.in_ok-write_counted-4.ensures, c.in_ok-write_counted-3.ensures, c.in_ok-write_counted-2.ensures, c.in_ok-write_counted.ensures)
+    (total_behind c.args.into.now.items c.args.outcomes.now _ c.of-counts.ensures)

@@ -1,5 +1,0 @@
-pub mod Begins
-pub mod Between
-pub mod Ends
-pub mod Expiries
-pub mod Passes
