@@ -1,3 +1,4 @@
+pub mod CrossingsLemmas
 pub mod OutputLemmas
 pub mod ReportLemmas
 pub mod WrittenLemmas

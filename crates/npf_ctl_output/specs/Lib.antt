@@ -1,3 +1,4 @@
+pub mod Crossings
 pub mod Extents
 pub mod Outputs
 pub mod Putting

@@ -9,6 +9,7 @@
 // packet's end.
 #![tactic(auto)]
 
+mod crossings;
 mod extent;
 mod laws;
 mod putting;

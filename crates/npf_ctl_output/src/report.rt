@@ -1,21 +1,25 @@
 // The report, put line by line and then flushed.
-ghost use Rattle.std.specs.Prelude.{◌≡◌, ◌≤◌, OnOk, IfErr, All, length};
+ghost use Rattle.std.specs.Prelude.{◌≡◌, ◌≤◌, List, OnOk, IfErr, All, length};
 ghost use Rattle.npf_types.specs.Name.{name_bytes};
 ghost use Rattle.npf_outside.specs.Sink.{Appends, AppendsFront};
+ghost use Rattle.npf_model.specs.declared.iface.Iface.{Iface as IfaceType};
+ghost use Rattle.npf_engine.specs.declared.outcome.Outcome.{Outcome as OutcomeType};
 ghost use Rattle.npf_ctl_arrivals.specs.Within.{CrossesOneOf};
 ghost use Rattle.npf_report.specs.LineText.{line_text};
-ghost use Rattle.npf_report.specs.TotalText.{total_text};
+ghost use Rattle.npf_report.specs.TotalText.{total_text, CountsOutcomes};
+ghost use Rattle.npf_ctl_output.specs.Crossings.{AreCrossingsOf, IsCrossedBy};
 ghost use Rattle.npf_ctl_output.specs.Putting.{HasPutFault};
-ghost use Rattle.npf_ctl_output.specs.Report.{name_of_interface, report_text};
+ghost use Rattle.npf_ctl_output.specs.Report.{report_text};
 
+use crate::crossings::{Crossings, crossings_of};
 use crate::putting::{flush, put, put_text};
 use npf_ctl_messages::CommandFault;
 use npf_engine::Outcome;
 use npf_model::Ifaces;
 use npf_outside::Sink;
-use npf_report::{total, write_line, write_total};
+use npf_report::{Counts, Crossed, LINE_ROOM, total, write_line, write_total};
 use npf_runner::Packet;
-use npf_types::Name;
+use npf_types::Dir;
 use std::alloc::Global;
 
 /// Puts the report of the packets' outcomes, each line in one call, and flushes it. Each packet must have an outcome, and must have
@@ -36,19 +40,16 @@ pub fn put_report<O: Sink>(
         (report_text ifaces.now.list packets.now outcomes.now) }
     ensures fault { IfErr result (HasPutFault (O.moment out.old).faults (O.moment out.new).faults) }
 {
-    let mut text = Vec::new(alloc);
+    let crossings = crossings_of(alloc, ifaces)?;
+    let mut page = [0; LINE_ROOM];
+    let mut counts = Counts::new();
     for (place, packet) in packets.iter().enumerate() {
-        let name = crossed(ifaces, packet);
-        put_line(
-            &mut text,
-            place as u64 + 1,
-            name,
-            packet,
-            &outcomes[place],
-            out,
-        )?;
+        let crossed = crossed(crossings.as_slice(), packet);
+        let outcome = &outcomes[place];
+        put_line(&mut page, place as u64 + 1, crossed, outcome, out)?;
+        counts.add(outcome);
     }
-    put_last(&mut text, outcomes, out)?;
+    put_last(&mut page, &counts, out)?;
     flush(out)
 }
 
@@ -67,48 +68,52 @@ pub fn put_total<O: Sink>(
     put_text(text.as_slice(), out)
 }
 
-// The name of the interface that the packet crossed.
-fn crossed(ifaces: &Ifaces, packet: &Packet<'_>) -> Name
-    requires { CrossesOneOf (length ifaces.now.list) packet.now }
-    ensures { name_bytes result ≡ name_of_interface ifaces.now.list packet.now.ifid }
+// What the packet crossed, and in which direction.
+fn crossed<'a>(crossings: &'a [Crossings], packet: &Packet<'_>) -> &'a Crossed
+    requires { CrossesOneOf (length crossings.now) packet.now }
+    ensures { (ifaces : List IfaceType) → AreCrossingsOf ifaces crossings.now → IsCrossedBy ifaces packet.now result.now }
 {
-    let number = usize::from(packet.ifid.0);
-    ifaces.list.as_slice()[number - 1].name
+    let of_interface = &crossings[usize::from(packet.ifid.0) - 1];
+    match packet.dir {
+        Dir::In => &of_interface.into,
+        Dir::Out => &of_interface.out_of,
+    }
 }
 
-// Puts the line of the packet of this number, written into the buffer.
+// Puts the line of the packet of this number, written into the page.
 fn put_line<O: Sink>(
-    text: &mut Vec<u8>,
+    page: &mut [u8; LINE_ROOM],
     n: u64,
-    name: Name,
-    packet: &Packet<'_>,
+    crossed: &Crossed,
     outcome: &Outcome,
     out: &mut O,
 ) -> Result<(), CommandFault>
     ensures whole { OnOk result
-        (Appends (O.moment out.old).held (O.moment out.new).held (line_text n (name_bytes name) packet.now.dir outcome.now)) }
+        (Appends (O.moment out.old).held (O.moment out.new).held
+        (line_text n (name_bytes crossed.now.name) crossed.now.dir outcome.now)) }
     ensures front { AppendsFront (O.moment out.old).held (O.moment out.new).held
-        (line_text n (name_bytes name) packet.now.dir outcome.now) }
+        (line_text n (name_bytes crossed.now.name) crossed.now.dir outcome.now) }
     ensures fault { IfErr result (HasPutFault (O.moment out.old).faults (O.moment out.new).faults) }
     ensures counted { (O.moment out.old).faults ≤ (O.moment out.new).faults }
 {
-    text.clear();
-    write_line(text, n, name, packet.dir, outcome)?;
-    put(text.as_slice(), out)
+    let start = write_line(page, LINE_ROOM, n, crossed, outcome);
+    put(&page[start..], out)
 }
 
-// Puts the total line, written into the buffer.
+// Puts the total line, written into the page.
 fn put_last<O: Sink>(
-    text: &mut Vec<u8>,
-    outcomes: &[Outcome],
+    page: &mut [u8; LINE_ROOM],
+    counts: &Counts,
     out: &mut O,
 ) -> Result<(), CommandFault>
-    ensures whole { OnOk result (Appends (O.moment out.old).held (O.moment out.new).held (total_text outcomes.now)) }
-    ensures front { AppendsFront (O.moment out.old).held (O.moment out.new).held (total_text outcomes.now) }
+    ensures whole { OnOk result
+        ((outcomes : List OutcomeType) → CountsOutcomes outcomes counts.now
+        → Appends (O.moment out.old).held (O.moment out.new).held (total_text outcomes)) }
+    ensures front { (outcomes : List OutcomeType) → CountsOutcomes outcomes counts.now
+        → AppendsFront (O.moment out.old).held (O.moment out.new).held (total_text outcomes) }
     ensures fault { IfErr result (HasPutFault (O.moment out.old).faults (O.moment out.new).faults) }
     ensures counted { (O.moment out.old).faults ≤ (O.moment out.new).faults }
 {
-    text.clear();
-    write_total(text, outcomes)?;
-    put(text.as_slice(), out)
+    let start = write_total(page, LINE_ROOM, counts);
+    put(&page[start..], out)
 }

@@ -36,6 +36,24 @@ pub fn print_outcome(
     Ok(())
 }
 
+/// Prints the line of the packet of a number, which crossed an interface in a direction, with an outcome.
+pub fn print_packet(rt: &(impl Print + AllocGlobal), text: &str) -> Result<()> {
+    let words: Vec<&str> = text.split_whitespace().collect(rt.alloc())?;
+    let [number, name, dir, ref outcome @ ..] = *words.as_slice() else {
+        bail!("no packet");
+    };
+    let outcome = parse_outcome(outcome)?;
+    println!(rt)?;
+    let told = line(
+        rt.alloc(),
+        number.parse()?,
+        parse_name(name)?,
+        parse_dir(dir)?,
+        &outcome,
+    )?;
+    print_lines(rt, "  ", told.as_slice())
+}
+
 /// Prints the total line of the outcomes behind the last one.
 pub fn print_total(rt: &(impl Print + AllocGlobal), setting: &mut Setting) -> Result<()> {
     println!(rt)?;
@@ -152,6 +170,14 @@ fn parse_log(words: &[&str]) -> Result<Option<Name>> {
     match *words {
         [name] => Ok(Some(parse_name(name)?)),
         _ => Ok(None),
+    }
+}
+
+fn parse_dir(word: &str) -> Result<Dir> {
+    match word {
+        "in" => Ok(Dir::In),
+        "out" => Ok(Dir::Out),
+        _ => bail!("no direction"),
     }
 }
 

@@ -1,6 +1,6 @@
 // Which row a line has.
 use crate::generated::{generate_run, print_hex, print_packets, print_texts};
-use crate::outcomes::{print_outcome, print_total};
+use crate::outcomes::{print_outcome, print_packet, print_total};
 use crate::schedules::{print_counts, print_schedule};
 use crate::scripts::{print_line, print_script};
 use crate::setting::Setting;
@@ -40,6 +40,7 @@ fn answer_alone(rt: &(impl Print + AllocGlobal), word: &str, text: &str) -> Resu
         "line" => print_line(rt, text),
         "schedule" => print_schedule(rt, text),
         "counts" => print_counts(rt, text),
+        "packet" => print_packet(rt, text),
         "memory" => print_memory(rt),
         _ => bail!("no such row"),
     }

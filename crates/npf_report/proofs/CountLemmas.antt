@@ -1,5 +1,6 @@
 -- The counts of one outcome more.
-use Rattle.std.proofs.Common.{◌≡◌, ℕ, ◌+◌, ◌<◌, List, Bool, length, get_or, take, ap, ◌∙◌, sym, count_by, cond}
+use Rattle.std.proofs.Common.{◌≡◌, ℕ, ◌+◌, ◌<◌, List, Bool, length, get_or, take, ap, ◌∙◌, sym, count_by, cond, arith}
+use Rattle.std.proofs.lemmas.List.{length-take-le}
 use Rattle.std.proofs.lemmas.List.Sums.{sum_by_more}
 use Rattle.npf_engine.specs.declared.outcome.Outcome.{Outcome}
 use Rattle.npf_engine.specs.Outcome.{passes}
@@ -13,9 +14,13 @@ module _ (outcomes : List Outcome) (i : ℕ) (default : Outcome) (within : i < l
   more_of p before now counted adds =
       adds ∙ ap (λ n. n + cond (p (get_or outcomes i default)) 1 0) counted ∙ sym (sum_by_more (λ outcome. cond (p outcome) 1 0) outcomes i default within)
 
+  one_longer : length (take (i + 1) outcomes) ≡ length (take i outcomes) + 1
+  one_longer = omega (arith, within, length-take-le i outcomes (omega (arith, within)), length-take-le (i + 1) outcomes (omega (arith, within)))
+
   pub one_counted : (before now : Counts) → CountsOutcomes (take i outcomes) before → AddsOutcome (get_or outcomes i default) before now
       → CountsOutcomes (take (i + 1) outcomes) now
   one_counted before now counted adds = record {
+    packets = adds.packets ∙ ap (λ n. n + 1) counted.packets ∙ sym one_longer;
     passed = more_of passes before.passed now.passed counted.passed adds.passed;
     blocked = more_of is_blocked before.blocked now.blocked counted.blocked adds.blocked;
     dropped = more_of is_dropped before.dropped now.dropped counted.dropped adds.dropped;

@@ -10,6 +10,10 @@ abbrev pub dir_text : Dir → List ℕ
 dir_text In = codes " in "
 dir_text Out = codes " out "
 
+-- what stands between a packet's number and its outcome
+abbrev pub crossed_text : List ℕ → Dir → List ℕ
+crossed_text interface dir = codes " " ++ (interface ++ dir_text dir)
+
 -- the line of the packet of this number
 unfoldable pub line_text : ℕ → List ℕ → Dir → Outcome → List ℕ
 line_text n interface dir outcome = decimal n ++ codes " " ++ interface ++ dir_text dir ++ outcome_text outcome ++ codes "\n"

@@ -25,8 +25,9 @@ abbrev pub is_malformed : Outcome → Bool
 is_malformed (Malformed _ _) = true
 is_malformed _ = false
 
--- how many packets had each kind of outcome
+-- how many packets there were, and how many had each kind of outcome
 pub record CountsOutcomes (outcomes : List Outcome) (counts : Counts) : Type 0 where
+  pub packets : counts.packets ≡ length outcomes
   pub passed : counts.passed ≡ count_by passes outcomes
   pub blocked : counts.blocked ≡ count_by is_blocked outcomes
   pub dropped : counts.dropped ≡ count_by is_dropped outcomes
@@ -35,6 +36,7 @@ pub record CountsOutcomes (outcomes : List Outcome) (counts : Counts) : Type 0 w
 
 -- one packet more was counted
 pub record AddsOutcome (outcome : Outcome) (before now : Counts) : Type 0 where
+  pub packets : now.packets ≡ before.packets + 1
   pub passed : now.passed ≡ before.passed + (if passes outcome then 1 else 0)
   pub blocked : now.blocked ≡ before.blocked + (if is_blocked outcome then 1 else 0)
   pub dropped : now.dropped ≡ before.dropped + (if is_dropped outcome then 1 else 0)
@@ -43,6 +45,7 @@ pub record AddsOutcome (outcome : Outcome) (before now : Counts) : Type 0 where
 
 -- no count stands at its greatest value
 pub record MayCount (counts : Counts) : Type 0 where
+  pub packets : counts.packets < 2 ^ 64 - 1
   pub passed : counts.passed < 2 ^ 64 - 1
   pub blocked : counts.blocked < 2 ^ 64 - 1
   pub dropped : counts.dropped < 2 ^ 64 - 1

@@ -1,13 +1,17 @@
 // The line of a packet.
-ghost use Rattle.std.specs.Prelude.{◌≡◌, ◌++◌, OnOk, IfOk};
+ghost use Rattle.std.specs.Prelude.{◌≡◌, ◌≤◌, ◌++◌, length, drop, IfOk};
 ghost use Rattle.npf_types.specs.Name.{name_bytes};
-ghost use Rattle.npf_report.specs.LineText.{line_text, dir_text};
+ghost use Rattle.npf_report.specs.LineText.{line_text};
 
+use crate::crossed::Crossed;
 use crate::outcomes::write_outcome;
+use crate::page::{write_number, write_text};
 use npf_engine::Outcome;
-use npf_text::{write_number, write_text};
 use npf_types::{Dir, Name, NoMemory};
 use std::alloc::Global;
+
+/// No line of a report is longer, in bytes.
+pub const LINE_ROOM: usize = 192;
 
 /// The line, with its line feed, of the packet of this number, which came on this interface in this direction.
 pub fn line(
@@ -19,36 +23,28 @@ pub fn line(
 ) -> Result<Vec<u8>, NoMemory>
     ensures { IfOk result (λ line. line.items ≡ line_text n (name_bytes name) dir outcome.now) }
 {
-    let mut line = Vec::new(alloc);
-    write_line(&mut line, n, name, dir, outcome)?;
-    Ok(line)
+    let mut page = [0; LINE_ROOM];
+    let start = write_line(&mut page, LINE_ROOM, n, &Crossed::of(name, dir), outcome);
+    Ok(Vec::from_slice(alloc, &page[start..])?)
 }
 
-/// Appends that line to what the buffer has. Where memory is wanting, a part of it may be appended.
+/// Writes that line in front of a place of a page, and answers where it begins. What stands in front of it may change.
 #[tactic(auto, unfolding(crate::specs::LineText::line_text))]
 pub fn write_line(
-    into: &mut Vec<u8>,
+    page: &mut [u8],
+    end: usize,
     n: u64,
-    name: Name,
-    dir: Dir,
+    crossed: &Crossed,
     outcome: &Outcome,
-) -> Result<(), NoMemory>
-    ensures { OnOk result (into.new.items ≡ into.old.items ++ line_text n (name_bytes name) dir outcome.now) }
+) -> usize
+    requires room { 192 ≤ end }
+    requires within { end ≤ length page.old }
+    ensures order { result ≤ end }
+    ensures line { drop result page.new
+        ≡ line_text n (name_bytes crossed.now.name) crossed.now.dir outcome.now ++ drop end page.old }
 {
-    write_number(into, n)?;
-    into.push(b' ')?;
-    into.extend_from_slice(name.as_bytes())?;
-    write_text(into, dir_text(dir))?;
-    write_outcome(into, outcome)?;
-    into.push(b'\n')?;
-    Ok(())
-}
-
-fn dir_text(dir: Dir) -> &'static str
-    ensures { result.now ≡ dir_text dir }
-{
-    match dir {
-        Dir::In => " in ",
-        Dir::Out => " out ",
-    }
+    let feed = write_text(page, end, "\n");
+    let told = write_outcome(page, feed, outcome);
+    let behind = crossed.write(page, told);
+    write_number(page, behind, n)
 }

@@ -1,28 +1,33 @@
-// What a line says of a packet's outcome, by the rows of the table.
-ghost use Rattle.std.specs.Prelude.{◌≡◌, ◌+◌, ◌++◌, OnOk};
+// What a line says of a packet's outcome, by the rows of the table, written in front of a place of a page.
+ghost use Rattle.std.specs.Prelude.{◌≡◌, ◌+◌, ◌≤◌, ◌++◌, length, drop};
 ghost use Rattle.npf_report.specs.OutcomeText.{outcome_text, two_numbers, fragment_text, malformed_text, conn_text, verdict_text, unkept_text, dropped_text, refusal_text, opened_text, return_text, log_text};
 
+use crate::page::{write_bytes, write_counted, write_text};
 use npf_core::ConnId;
 use npf_engine::{Outcome, Refusal};
 use npf_packet::BadPacket;
-use npf_text::{write_counted, write_text};
 use npf_traffic::FragWhy;
-use npf_types::{Decision, Name, NoMemory, Return};
+use npf_types::{Decision, Name, Return};
 
-pub(crate) fn write_outcome(into: &mut Vec<u8>, outcome: &Outcome) -> Result<(), NoMemory>
-    ensures { OnOk result (into.new.items ≡ into.old.items ++ outcome_text outcome.now) }
+/// No outcome's text is longer than 128 bytes.
+pub(crate) fn write_outcome(page: &mut [u8], end: usize, outcome: &Outcome) -> usize
+    requires room { 128 ≤ end }
+    requires within { end ≤ length page.old }
+    ensures order { result ≤ end }
+    ensures short { end ≤ result + 128 }
+    ensures written { drop result page.new ≡ outcome_text outcome.now ++ drop end page.old }
 {
     match *outcome {
-        Outcome::Skip => write_text(into, "skip"),
-        Outcome::Fragment { why } => write_text(into, fragment_text(why)),
-        Outcome::Malformed { why, at } => write_malformed(into, why, at),
+        Outcome::Skip => write_text(page, end, "skip"),
+        Outcome::Fragment { why } => write_fragment(page, end, why),
+        Outcome::Malformed { why, at } => write_malformed(page, end, why, at),
         Outcome::ByConn {
             opener,
             place,
             pass,
             log,
             ..
-        } => write_conn(into, opener, place, pass, log),
+        } => write_conn(page, end, opener, place, pass, log),
         Outcome::ByRule {
             config,
             rule,
@@ -30,8 +35,8 @@ pub(crate) fn write_outcome(into: &mut Vec<u8>, outcome: &Outcome) -> Result<(),
             opened,
             log,
         } => {
-            write_verdict(into, config, rule, decision, opened)?;
-            write_log(into, log)
+            let logged = write_log(page, end, log);
+            write_verdict(page, logged, config, rule, decision, opened)
         }
         Outcome::Unkept {
             config,
@@ -39,73 +44,89 @@ pub(crate) fn write_outcome(into: &mut Vec<u8>, outcome: &Outcome) -> Result<(),
             why,
             log,
         } => {
-            write_unkept(into, config, rule, why)?;
-            write_log(into, log)
+            let logged = write_log(page, end, log);
+            write_unkept(page, logged, config, rule, why)
         }
-        Outcome::Dropped { config, rule, why } => write_dropped(into, config, rule, why),
+        Outcome::Dropped { config, rule, why } => write_dropped(page, end, config, rule, why),
     }
 }
 
-fn fragment_text(why: FragWhy) -> &'static str
-    ensures { result.now ≡ fragment_text why }
+fn write_fragment(page: &mut [u8], end: usize, why: FragWhy) -> usize
+    requires room { 32 ≤ end }
+    requires within { end ≤ length page.old }
+    ensures order { result ≤ end }
+    ensures short { end ≤ result + 32 }
+    ensures written { drop result page.new ≡ fragment_text why ++ drop end page.old }
 {
     match why {
-        FragWhy::Held => "skip fragment",
-        FragWhy::Overlap => "skip fragment overlap",
-        FragWhy::Bad => "skip fragment bad",
+        FragWhy::Held => write_text(page, end, "skip fragment"),
+        FragWhy::Overlap => write_text(page, end, "skip fragment overlap"),
+        FragWhy::Bad => write_text(page, end, "skip fragment bad"),
     }
 }
 
-fn write_malformed(into: &mut Vec<u8>, why: BadPacket, at: u32) -> Result<(), NoMemory>
-    ensures { OnOk result (into.new.items ≡ into.old.items ++ malformed_text why at) }
+fn write_malformed(page: &mut [u8], end: usize, why: BadPacket, at: u32) -> usize
+    requires room { 40 ≤ end }
+    requires within { end ≤ length page.old }
+    ensures order { result ≤ end }
+    ensures short { end ≤ result + 40 }
+    ensures written { drop result page.new ≡ malformed_text why at ++ drop end page.old }
 {
     match why {
-        BadPacket::Cut => write_counted(into, "malformed cut ", u64::from(at)),
-        BadPacket::Bad => write_counted(into, "malformed bad ", u64::from(at)),
+        BadPacket::Cut => write_counted(page, end, "malformed cut ", u64::from(at)),
+        BadPacket::Bad => write_counted(page, end, "malformed bad ", u64::from(at)),
     }
 }
 
 fn write_conn(
-    into: &mut Vec<u8>,
+    page: &mut [u8],
+    end: usize,
     opener: u64,
     place: u64,
     pass: bool,
     log: Option<Name>,
-) -> Result<(), NoMemory>
-    ensures { OnOk result (into.new.items ≡ into.old.items ++ conn_text opener place pass log) }
+) -> usize
+    requires room { 96 ≤ end }
+    requires within { end ≤ length page.old }
+    ensures order { result ≤ end }
+    ensures short { end ≤ result + 96 }
+    ensures written { drop result page.new ≡ conn_text opener place pass log ++ drop end page.old }
 {
     if pass {
-        write_two(into, "pass conn ", opener, " step ", place)?;
-        return write_log(into, log);
+        let logged = write_log(page, end, log);
+        return write_two(page, logged, "pass conn ", opener, " step ", place);
     }
-    write_two(into, "block conn ", opener, " step ", place)?;
-    write_text(into, " state")
+    let behind = write_text(page, end, " state");
+    write_two(page, behind, "block conn ", opener, " step ", place)
 }
 
 /// What a configuration decided, without the log.
 fn write_verdict(
-    into: &mut Vec<u8>,
+    page: &mut [u8],
+    end: usize,
     config: u64,
     rule: Option<u32>,
     decision: Decision,
     opened: Option<ConnId>,
-) -> Result<(), NoMemory>
-    ensures { OnOk result (into.new.items ≡ into.old.items ++ verdict_text config rule decision opened) }
+) -> usize
+    requires room { 96 ≤ end }
+    requires within { end ≤ length page.old }
+    ensures order { result ≤ end }
+    ensures short { end ≤ result + 96 }
+    ensures written { drop result page.new ≡ verdict_text config rule decision opened ++ drop end page.old }
 {
     let Some(place) = rule else {
-        write_counted(into, "block config ", config)?;
-        return write_text(into, " none");
+        let behind = write_text(page, end, " none");
+        return write_counted(page, behind, "block config ", config);
     };
     match decision {
         Decision::Pass => {
-            write_two(into, "pass config ", config, " rule ", rule_number(place))?;
-            write_text(into, opened_text(opened))?;
-            Ok(())
+            let behind = write_opened(page, end, opened);
+            write_two(page, behind, "pass config ", config, " rule ", rule_number(place))
         }
         Decision::Block(answer) => {
-            write_two(into, "block config ", config, " rule ", rule_number(place))?;
-            write_text(into, return_text(answer))?;
-            Ok(())
+            let behind = write_return(page, end, answer);
+            write_two(page, behind, "block config ", config, " rule ", rule_number(place))
         }
     }
 }
@@ -118,79 +139,105 @@ fn rule_number(place: u32) -> u64
 }
 
 /// Whether the packet opened a connection.
-fn opened_text(opened: Option<ConnId>) -> &'static str
-    ensures { result.now ≡ opened_text opened }
+fn write_opened(page: &mut [u8], end: usize, opened: Option<ConnId>) -> usize
+    requires room { 16 ≤ end }
+    requires within { end ≤ length page.old }
+    ensures order { result ≤ end }
+    ensures short { end ≤ result + 16 }
+    ensures written { drop result page.new ≡ opened_text opened ++ drop end page.old }
 {
     match opened {
-        None => "",
-        Some(_) => " new",
+        None => end,
+        Some(_) => write_text(page, end, " new"),
     }
 }
 
-fn return_text(answer: Return) -> &'static str
-    ensures { result.now ≡ return_text answer }
+fn write_return(page: &mut [u8], end: usize, answer: Return) -> usize
+    requires room { 16 ≤ end }
+    requires within { end ≤ length page.old }
+    ensures order { result ≤ end }
+    ensures short { end ≤ result + 16 }
+    ensures written { drop result page.new ≡ return_text answer ++ drop end page.old }
 {
     match answer {
-        Return::Nothing => "",
-        Return::Any => " return",
-        Return::Rst => " return-rst",
-        Return::Icmp => " return-icmp",
+        Return::Nothing => end,
+        Return::Any => write_text(page, end, " return"),
+        Return::Rst => write_text(page, end, " return-rst"),
+        Return::Icmp => write_text(page, end, " return-icmp"),
     }
 }
 
 /// A packet that passes without the connection that it was to open, without the log.
-fn write_unkept(into: &mut Vec<u8>, config: u64, rule: u32, why: Refusal) -> Result<(), NoMemory>
-    ensures { OnOk result (into.new.items ≡ into.old.items ++ unkept_text config rule why) }
+fn write_unkept(page: &mut [u8], end: usize, config: u64, rule: u32, why: Refusal) -> usize
+    requires room { 96 ≤ end }
+    requires within { end ≤ length page.old }
+    ensures order { result ≤ end }
+    ensures short { end ≤ result + 96 }
+    ensures written { drop result page.new ≡ unkept_text config rule why ++ drop end page.old }
 {
-    write_two(into, "pass config ", config, " rule ", rule_number(rule))?;
-    write_text(into, " unkept")?;
-    write_text(into, refusal_text(why))?;
-    Ok(())
+    let refused = write_refusal(page, end, why);
+    let behind = write_text(page, refused, " unkept");
+    write_two(page, behind, "pass config ", config, " rule ", rule_number(rule))
 }
 
-fn write_dropped(into: &mut Vec<u8>, config: u64, rule: u32, why: Refusal) -> Result<(), NoMemory>
-    ensures { OnOk result (into.new.items ≡ into.old.items ++ dropped_text config rule why) }
+fn write_dropped(page: &mut [u8], end: usize, config: u64, rule: u32, why: Refusal) -> usize
+    requires room { 96 ≤ end }
+    requires within { end ≤ length page.old }
+    ensures order { result ≤ end }
+    ensures short { end ≤ result + 96 }
+    ensures written { drop result page.new ≡ dropped_text config rule why ++ drop end page.old }
 {
-    write_two(into, "drop config ", config, " rule ", rule_number(rule))?;
-    write_text(into, refusal_text(why))?;
-    Ok(())
+    let behind = write_refusal(page, end, why);
+    write_two(page, behind, "drop config ", config, " rule ", rule_number(rule))
 }
 
 /// Why a packet has no connection.
-fn refusal_text(why: Refusal) -> &'static str
-    ensures { result.now ≡ refusal_text why }
+fn write_refusal(page: &mut [u8], end: usize, why: Refusal) -> usize
+    requires room { 16 ≤ end }
+    requires within { end ≤ length page.old }
+    ensures order { result ≤ end }
+    ensures short { end ≤ result + 16 }
+    ensures written { drop result page.new ≡ refusal_text why ++ drop end page.old }
 {
     match why {
-        Refusal::Full => " full",
-        Refusal::NoNode => " nonode",
-        Refusal::Taken(_) => " taken",
-        Refusal::NoPort => " noport",
+        Refusal::Full => write_text(page, end, " full"),
+        Refusal::NoNode => write_text(page, end, " nonode"),
+        Refusal::Taken(_) => write_text(page, end, " taken"),
+        Refusal::NoPort => write_text(page, end, " noport"),
     }
 }
 
 /// The interface that the packet is logged to.
-fn write_log(into: &mut Vec<u8>, log: Option<Name>) -> Result<(), NoMemory>
-    ensures { OnOk result (into.new.items ≡ into.old.items ++ log_text log) }
+fn write_log(page: &mut [u8], end: usize, log: Option<Name>) -> usize
+    requires room { 32 ≤ end }
+    requires within { end ≤ length page.old }
+    ensures order { result ≤ end }
+    ensures short { end ≤ result + 32 }
+    ensures written { drop result page.new ≡ log_text log ++ drop end page.old }
 {
     let Some(name) = log else {
-        return Ok(());
+        return end;
     };
-    write_text(into, " log ")?;
-    into.extend_from_slice(name.as_bytes())?;
-    Ok(())
+    let behind = write_bytes(page, end, name.as_bytes());
+    write_text(page, behind, " log ")
 }
 
-// Appends two numbers, each behind its text.
+// Writes two numbers, each behind its text.
 #[inline(always)]
 fn write_two(
-    into: &mut Vec<u8>,
+    page: &mut [u8],
+    end: usize,
     first: &str,
     one: u64,
     second: &str,
     other: u64,
-) -> Result<(), NoMemory>
-    ensures { OnOk result (into.new.items ≡ into.old.items ++ two_numbers first.now one second.now other) }
+) -> usize
+    requires room { length first.now + length second.now + 40 ≤ end }
+    requires within { end ≤ length page.old }
+    ensures order { result ≤ end }
+    ensures short { end ≤ result + (length first.now + length second.now + 40) }
+    ensures written { drop result page.new ≡ two_numbers first.now one second.now other ++ drop end page.old }
 {
-    write_counted(into, first, one)?;
-    write_counted(into, second, other)
+    let behind = write_counted(page, end, second, other);
+    write_counted(page, behind, first, one)
 }

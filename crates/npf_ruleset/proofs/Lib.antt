@@ -1,6 +1,7 @@
 mod BindingLemmas
 pub mod CompileLemmas
 mod ConfigLemmas
+mod DescribedLemmas
 mod DescribesLemmas
 mod FinalLemmas
 mod LayoutLemmas

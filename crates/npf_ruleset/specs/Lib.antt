@@ -1,5 +1,6 @@
 pub mod Binding
 pub mod Configuration
+pub mod Described
 pub mod Flat
 pub mod Invariant
 pub mod Layout

@@ -9,7 +9,7 @@ ghost use Rattle.npf_ruleset.specs.Refusal.{AreProgramsOf, IsCompilable, Refuses
 
 use crate::binding::Binding;
 use crate::fault::BuildFault;
-use crate::flat::FlatRule;
+use crate::flat::{FlatRule, describes_all};
 use crate::place::{Place, placed_at};
 use crate::row::Row;
 use npf_bpf::Program;
@@ -80,6 +80,7 @@ fn flat_rule(groups: &[Group], place: Place, program: Program) -> FlatRule
     FlatRule {
         binding: Binding::of_rule(&placed),
         last: placed.rule.last,
+        always: describes_all(&program),
         row: Row::of(placed.rule),
         program,
         place,

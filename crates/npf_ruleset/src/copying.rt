@@ -14,6 +14,7 @@ fn copy_rule(alloc: Global, rule: &FlatRule) -> Result<FlatRule, NoMemory>
     Ok(FlatRule {
         binding: rule.binding,
         last: rule.last,
+        always: rule.always,
         row: rule.row,
         program: rule.program.copy(alloc)?,
         place: rule.place,
