@@ -1,6 +1,8 @@
 pub mod AddingLemmas
 pub mod BeginLemmas
 pub mod BuildLemmas
+pub mod CollectLemmas
+pub mod CollectedLemmas
 pub mod EndLemmas
 pub mod EndingLemmas
 pub mod ExpiryLemmas
@@ -12,6 +14,8 @@ pub mod MoveLemmas
 pub mod NoteLemmas
 pub mod PassLemmas
 pub mod SlotLemmas
+pub mod SoleLemmas
 pub mod StayLemmas
 pub mod TurnLemmas
 pub mod VisitLemmas
+pub mod WithinLemmas

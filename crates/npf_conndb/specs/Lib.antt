@@ -2,4 +2,5 @@ pub mod Begins
 pub mod Between
 pub mod Ends
 pub mod Expiries
+pub mod Frees
 pub mod Passes

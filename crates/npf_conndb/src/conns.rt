@@ -1,6 +1,7 @@
 ghost use Rattle.std.specs.Prelude.{◌≤◌};
 
 use crate::beginning::begin;
+use crate::collecting::collect;
 use crate::ending::end_killed;
 use crate::expiring::expire_all;
 use npf_cells::{CellPass, Cells};
@@ -37,6 +38,7 @@ impl<L: Law, H: KeyHash> Conns<L, H> {
     ghost use Rattle.npf_connections.specs.Adding.{Adds, AddsOwn};
     ghost use Rattle.npf_connections.specs.Answered.{found_ids, begun_ids, taken_ids, without};
     ghost use Rattle.npf_connections.specs.Beginning.{IsFullIfNone, HoldsNoneIfSome};
+    ghost use Rattle.npf_connections.specs.Collecting.{FreesAlone, IsClean};
     ghost use Rattle.npf_connections.specs.Entries.{entry_of, claim_entries, hold_entries};
     ghost use Rattle.npf_connections.specs.Expiring.{Expires};
     ghost use Rattle.npf_connections.specs.Joining.{IsSplit, IsJoined};
@@ -201,6 +203,17 @@ impl<L: Law, H: KeyHash> Conns<L, H> {
         let count = expire_all(rt, &self.cells, &mut pass.cells, now);
         leave(&self.cells, &mut pass.cells);
         count
+    }
+
+    /// Frees what may be freed. Where the pass owns all reader places and isn't worn, no connection is Dead after it. It waits for nobody.
+    pub fn collect(&self, pass: &mut ConnPass<L>)
+        requires out { IsOut L.meaning (IsPassOfConns L.meaning self.now) shown pass.old }
+        ensures out { IsOut L.meaning (IsPassOfConns L.meaning self.now) shown pass.new }
+        ensures adds { FreesAlone (shown pass.old) (shown pass.new).history }
+        ensures clean { IsClean L.meaning (shown pass.new) }
+        ensures view { GoesOn (shown pass.old) (shown pass.new) }
+    {
+        collect(&self.cells, &mut pass.cells);
     }
 
     /// Gives one of the pass's reader places to a new pass, which has seen the same history.

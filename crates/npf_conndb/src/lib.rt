@@ -4,14 +4,16 @@
 // by leaves of the trie, and lives under its slot's turn. The words are those of npf_cells; here its steps, put together by npf_epoch,
 // npf_pool, npf_trie and npf_turn, become the calls of a table.
 //
-// A connection that ends gives its keys up, whose leaves are unlinked, and is let go with the epoch as it is then.
+// A connection that ends gives its keys up, whose leaves are unlinked, and is let go with the epoch as it is then. Two epochs later nobody
+// speaks of it any more, and a collection frees its slot.
 //
 // The contract: each call of `Conns` says what the same call of `Connections` says, clause by clause, and a pass shows what it shows there;
-// `enter`, `look` and `leave` take no handle to wait by, and a look loads at most 95 places of the trie and five words of keys. The
-// calls that free and copy connections aren't there yet.
+// `enter`, `look`, `leave` and `collect` take no handle to wait by, and a look loads at most 95 places of the trie and five words of
+// keys. The call that copies connections isn't there yet.
 #![tactic(auto)]
 
 mod beginning;
+mod collecting;
 mod conns;
 mod ending;
 mod expiring;

@@ -1,0 +1,136 @@
+-- What a collection has done of the slots that it visited.
+use Rattle.std.specs.List.{Contains}
+use Rattle.std.proofs.Common.{◌≡◌, ◌≢◌, ℕ, ◌+◌, ◌≤◌, ◌<◌, Option, Some, None, List, [], ◌∷◌, ◌++◌, length, refl, sym, ap, ◌∙◌, subst, ⊎_elim, inl, inr, arith}
+use Rattle.std.proofs.lemmas.Bool.{cases_eq}
+use Rattle.std.proofs.lemmas.List.{map-append}
+use Rattle.std.proofs.lemmas.List.Elements.{Contains-append_left}
+use Rattle.atomic_table.specs.Table.{Me}
+use Rattle.npf_core.specs.declared.act.Act.TheVariants.{Free}
+use Rattle.npf_core.specs.declared.conn_id.ConnId.{ConnId}
+use Rattle.npf_core.specs.declared.entry.Entry.{Entry}
+use Rattle.npf_core.specs.declared.reply.Reply.TheVariants.{Nothing}
+use Rattle.npf_core.specs.declared.slot.Slot.{Slot}
+use Rattle.npf_core.specs.declared.stage.Stage.TheVariants.{Dead}
+use Rattle.npf_core.specs.History.{Legal, state_of}
+use Rattle.npf_core.specs.Meaning.{Meaning}
+use Rattle.npf_connections.specs.Adding.{AddsOwn}
+use Rattle.npf_connections.specs.Collecting.{IsClean, IsWorn}
+use Rattle.npf_connections.specs.Entries.{entry_of, free_entries}
+use Rattle.npf_connections.specs.Pass.{Pass, IsPass, all_places}
+use Rattle.npf_connections.specs.Worn.{ClaimsLast, last_epoch}
+use Rattle.npf_cells_pins.specs.declared.pin.Pin.TheVariants.{Idle}
+use Rattle.npf_cells_lives.specs.Turns.{Running}
+use Rattle.npf_cells_lives.proofs.DeathLemmas.{dead_at}
+use Rattle.npf_cells_rule.specs.declared.view.CellView.{CellView}
+use Rattle.npf_cells_rule.specs.Passes.{cell_pass, is_pinned}
+use Rattle.npf_cells_rule.specs.Views.{with_epochs}
+use Rattle.npf_conndb.specs.Between.{IsBetweenCalls, StaysBetween}
+use Rattle.npf_conndb.specs.Frees.{CollectsSlot, freed_ids}
+use Rattle.npf_conndb.proofs.AddingLemmas.{adds_one}
+use Rattle.npf_conndb.proofs.PassLemmas.{hands, goes_between, goes_further, adds_nothing, adds_none, begins}
+use Rattle.npf_conndb.proofs.WithinLemmas.{dead_within}
+
+-- it freed these connections, which ends the history, if any; and where the pass owns all reader places and isn't worn, nothing Dead is in the
+-- slots below this one
+pub record HasCollected {S A R : Type 0} (m : Meaning S A R) (epoch i : ℕ) (old now : Me (Running S) (CellView S A R)) : Type 0 where
+  pub ids : List ConnId
+  pub adds : AddsOwn (cell_pass old.0) now.0.seats.history (free_entries (cell_pass old.0) ids)
+  pub stays : StaysBetween m old.0 now.0
+  pub loaded : now.0.epochs.loaded ≡ epoch
+  pub dated : now.0.pools.dated ≡ old.0.pools.dated
+  pub later : length old.0.seats.readers ≡ all_places → ¬ IsWorn (cell_pass now.0) → old.0.pools.dated + 2 ≤ epoch
+  pub clean : length old.0.seats.readers ≡ all_places → ¬ IsWorn (cell_pass now.0) → (p : ℕ) → p < i → ((state_of m now.0.seats.history).slot p).stage ≢ Dead
+
+module _ {S A R : Type 0} (m : Meaning S A R) (epoch : ℕ) (old : Me (Running S) (CellView S A R)) where
+  -- nothing yet
+  pub collected_none : (now : Me (Running S) (CellView S A R)) → IsPass m (cell_pass old.0) → IsBetweenCalls m old.0 → old.0.epochs.pin ≡ Idle → now ≡ with_epochs old now.0.epochs → now.0.epochs.pin ≡ Idle → now.0.epochs.loaded ≡ epoch → now.0.epochs.greatest ≡ epoch → old.0.epochs.greatest ≤ epoch → epoch ≤ last_epoch →
+      (length old.0.seats.readers ≡ all_places → epoch ≢ last_epoch → old.0.pools.dated + 2 ≤ epoch) → HasCollected m epoch 0 old now
+  collected_none now legal between out same idle loaded greatest goes most later = record {
+    ids = [];
+    adds = adds_none (cell_pass old.0) now.0.seats.history (adds_nothing (cell_pass old.0) now.0.seats.history history);
+    stays = record {
+      goes = record { view = shows ∙ (λ i. record (cell_pass old.0) { history = sym history i; epoch = now.0.epochs.greatest }); epoch = omega (arith, goes, greatest) };
+      between = goes_between m old.0 now.0 hands_same (ap (λ (y : Me (Running S) (CellView S A R)). y.0.pools.builds) same) (ap (λ (y : Me (Running S) (CellView S A R)). y.0.pools.notes) same) legal is_pass (begins (cell_pass old.0) now.0.seats.history [] (adds_nothing (cell_pass old.0) now.0.seats.history history)) between;
+      legal = is_pass;
+      pin = idle ∙ sym out;
+    };
+    loaded = loaded;
+    dated = ap (λ (y : Me (Running S) (CellView S A R)). y.0.pools.dated) same;
+    later = λ all unworn. later all (λ e. unworn (inl (greatest ∙ e)));
+    clean = λ all unworn p h. absurd (omega (arith, h));
+  }
+    where
+      history : now.0.seats.history ≡ old.0.seats.history
+      history = ap (λ (y : Me (Running S) (CellView S A R)). y.0.seats.history) same
+
+      shows : cell_pass now.0 ≡ record (cell_pass old.0) { epoch = now.0.epochs.greatest }
+      shows = ap (λ (y : Me (Running S) (CellView S A R)). cell_pass y.0) same ∙ (λ i. record (cell_pass old.0) { entered = is_pinned ((idle ∙ sym out) i); epoch = now.0.epochs.greatest })
+
+      is_pass : IsPass m (cell_pass now.0)
+      is_pass = subst (IsPass m) (sym shows) (record {
+        legal = legal.legal;
+        stays = legal.stays;
+        building = legal.building;
+        unanswered = legal.unanswered;
+        idle = legal.idle;
+        alone = legal.alone;
+        most = omega (arith, greatest, most);
+      })
+
+      hands_same : hands now.0 ≡ hands old.0
+      hands_same = ap (λ (y : Me (Running S) (CellView S A R)). hands y.0) same ∙ (λ i. ((idle ∙ sym out) i, old.0.trie.locks, old.0.turn, old.0.pools.nodes, old.0.pools.unstored, old.0.pools.kills, old.0.pools.gave_up, old.0.pools.reclaims, old.0.pools.cleared))
+
+  -- one slot more
+  module _ (slot : ℕ) (now next : Me (Running S) (CellView S A R)) (so : HasCollected m epoch slot old now) (more : CollectsSlot m slot now next) where
+    shown : cell_pass now.0 ≡ record (cell_pass old.0) { history = now.0.seats.history; epoch = now.0.epochs.greatest }
+    shown = so.stays.goes.view
+
+    all_now : length old.0.seats.readers ≡ all_places → length now.0.seats.readers ≡ all_places
+    all_now all = ap (λ (p : Pass (Entry S A R)). p.places) shown ∙ all
+
+    -- who isn't worn after it wasn't before
+    was_unworn : ¬ IsWorn (cell_pass next.0) → ¬ IsWorn (cell_pass now.0)
+    was_unworn unworn worn = unworn (⊎_elim
+        (λ (last : now.0.epochs.greatest ≡ last_epoch). inl (let goes = more.stays.goes.epoch in let most = more.stays.legal.most in omega (arith, last, goes, most)))
+        (λ (claims : ClaimsLast now.0.seats.history). inr (record { id = claims.id; claimed = record { entry = claims.claimed.entry; stands = subst (λ h. Contains h claims.claimed.entry) (sym more.adds.adds.goes_on) (Contains-append_left now.0.seats.history more.adds.adds.rest claims.claimed.entry claims.claimed.stands); replied = claims.claimed.replied }; last = claims.last }))
+        worn)
+
+    clean_more : length old.0.seats.readers ≡ all_places → ¬ IsWorn (cell_pass next.0) → (p : ℕ) → p < slot + 1 → ((state_of m next.0.seats.history).slot p).stage ≢ Dead
+    clean_more all unworn p h = ⊎_elim
+        (λ (e : p ≡ slot). subst (λ q. ((state_of m next.0.seats.history).slot q).stage ≢ Dead) (sym e)
+        (more.clean (all_now all) (was_unworn unworn) (let later = so.later all (was_unworn unworn) in let dated = so.dated in let loaded = so.loaded in omega (arith, later, dated, loaded))))
+        (λ (ne : p ≢ slot) dead. so.clean all (was_unworn unworn) p (omega (arith, h, ne)) (ap (λ (x : Slot S). x.stage) (sym (more.others (all_now all) p ne)) ∙ dead))
+        (cases_eq p slot)
+
+    entries_same : (ids : List ConnId) → free_entries (cell_pass now.0) ids ≡ free_entries (cell_pass old.0) ids
+    entries_same ids = ap (λ (p : Pass (Entry S A R)). free_entries p ids) shown
+
+    adds_both : (freed : Option ConnId) → AddsOwn (cell_pass now.0) next.0.seats.history (free_entries (cell_pass now.0) (freed_ids freed)) → (freed ≡ None → next.0.seats.history ≡ now.0.seats.history) →
+        (ids : List ConnId) × AddsOwn (cell_pass old.0) next.0.seats.history (free_entries (cell_pass old.0) ids)
+    adds_both None adds same = (so.ids, subst (λ h. AddsOwn (cell_pass old.0) h (free_entries (cell_pass old.0) so.ids)) (sym (same refl)) so.adds)
+    adds_both (Some id) adds same = (
+      so.ids ++ id ∷ [],
+      subst (AddsOwn (cell_pass old.0) next.0.seats.history) (sym (map-append (λ (i : ConnId). entry_of (cell_pass old.0) (Free i) Nothing) so.ids (id ∷ [])))
+          (adds_one (cell_pass old.0) (cell_pass now.0) next.0.seats.history (free_entries (cell_pass old.0) so.ids) (entry_of (cell_pass old.0) (Free id) Nothing) (ap (λ (p : Pass (Entry S A R)). p.number) shown) (ap (λ (p : Pass (Entry S A R)). p.joined) shown) so.adds.adds
+          (subst (AddsOwn (cell_pass now.0) next.0.seats.history) (entries_same (id ∷ [])) adds)),
+    )
+
+    pub collected_more : HasCollected m epoch (slot + 1) old next
+    collected_more =
+        let both = adds_both more.freed more.adds more.same in
+        record {
+          ids = both.0;
+          adds = both.1;
+          stays = record { goes = goes_further (cell_pass old.0) (cell_pass now.0) (cell_pass next.0) so.stays.goes more.stays.goes; between = more.stays.between; legal = more.stays.legal; pin = more.stays.pin ∙ so.stays.pin };
+          loaded = more.loaded ∙ so.loaded;
+          dated = more.dated ∙ so.dated;
+          later = λ all unworn. so.later all (was_unworn unworn);
+          clean = clean_more;
+        }
+
+  -- each slot: no connection is Dead
+  pub collected_all : (slots i : ℕ) (now : Me (Running S) (CellView S A R)) → HasCollected m epoch i old now → now.0.seats.about ≡ slots → slots ≤ i → IsClean m (cell_pass now.0)
+  collected_all slots i now so sized past all unworn id dead =
+      let legal = subst (λ n. Legal m n now.0.seats.history) sized so.stays.legal.legal in
+      let within = dead_within m slots now.0.seats.history id legal dead in
+      so.clean (ap (λ (p : Pass (Entry S A R)). p.places) (sym so.stays.goes.view) ∙ all) unworn id.slot (omega (arith, within, past)) (dead_at ((state_of m now.0.seats.history).slot id.slot) id.inc dead).1

@@ -1,0 +1,85 @@
+ghost use Rattle.std.specs.Prelude.{◌≡◌, ◌≢◌, ◌<◌, ◌≤◌, ◌+◌, None, length};
+ghost use Rattle.npf_connections.specs.Worn.{last_epoch};
+ghost use Rattle.npf_cells_rule.specs.Views.{with_epochs};
+ghost use Rattle.npf_connections.specs.Collecting.{FreesAlone, IsClean};
+ghost use Rattle.npf_connections.specs.Pass.{IsPass, all_places};
+ghost use Rattle.npf_cells.specs.Cells.{IsPassIn};
+ghost use Rattle.npf_cells_pins.specs.declared.pin.Pin.TheVariants.{Idle};
+ghost use Rattle.npf_cells_rule.specs.Passes.{cell_pass};
+ghost use Rattle.npf_conndb.specs.Between.{IsBetweenCalls, StaysBetween};
+ghost use Rattle.npf_conndb.specs.Frees.{CollectsSlot};
+
+use npf_cells::{CellPass, Cells, Pool, READERS};
+use npf_core::Law;
+use npf_epoch::try_advance;
+use npf_paths::KeyHash;
+use npf_turn::reclaim;
+
+/// The field of the first note among a connection's words.
+const FIRST_NOTE: u32 = 18;
+
+/// A note of this and more has an epoch.
+const EPOCHS: u64 = 1 << 63;
+
+/// Raises the epoch, twice where no other pass is left that could hinder it, and frees each connection that was let go two epochs before or
+/// more. A slot whose turn another pass has is left for the next time.
+pub(crate) fn collect<L: Law, H: KeyHash>(cells: &Cells<L, H>, pass: &mut CellPass<L>)
+    requires own { IsPassIn cells.now pass.old }
+    requires legal { IsPass L.meaning (cell_pass pass.old.seat.me.0) }
+    requires between { IsBetweenCalls L.meaning pass.old.seat.me.0 }
+    requires out { pass.old.seat.me.0.epochs.pin ≡ Idle }
+    ensures own { IsPassIn cells.now pass.new }
+    ensures stays { StaysBetween L.meaning pass.old.seat.me.0 pass.new.seat.me.0 }
+    ensures frees { FreesAlone (cell_pass pass.old.seat.me.0) pass.new.seat.me.0.seats.history }
+    ensures clean { IsClean L.meaning (cell_pass pass.new.seat.me.0) }
+{
+    let epoch = raise_epoch(cells, pass);
+    for slot in 0..cells.layout().slots {
+        collect_slot(cells, pass, slot, epoch);
+    }
+}
+
+// Raises the epoch, twice where no other pass is left, and answers the one that it then is.
+fn raise_epoch<L: Law, H: KeyHash>(cells: &Cells<L, H>, pass: &mut CellPass<L>) -> u64
+    requires own { IsPassIn cells.now pass.old }
+    requires out { pass.old.seat.me.0.epochs.pin ≡ Idle }
+    ensures own { IsPassIn cells.now pass.new }
+    ensures same { pass.new.seat.me ≡ with_epochs pass.old.seat.me pass.new.seat.me.0.epochs }
+    ensures out { pass.new.seat.me.0.epochs.pin ≡ Idle }
+    ensures loaded { pass.new.seat.me.0.epochs.loaded ≡ result }
+    ensures greatest { pass.new.seat.me.0.epochs.greatest ≡ result }
+    ensures goes { pass.old.seat.me.0.epochs.greatest ≤ result }
+    ensures most { result ≤ last_epoch }
+    ensures later { length pass.old.seat.me.0.seats.readers ≡ all_places → result ≢ last_epoch → pass.old.seat.me.0.pools.dated + 2 ≤ result }
+{
+    cells.load_epoch(pass);
+    if pass.places() < READERS as usize {
+        try_advance(cells, pass);
+        return cells.load_epoch(pass);
+    }
+    try_advance(cells, pass);
+    try_advance(cells, pass);
+    cells.load_epoch(pass)
+}
+
+// Frees the slot's connection, where it may be freed by this epoch. A slot whose first note says that it may not isn't touched.
+fn collect_slot<L: Law, H: KeyHash>(
+    cells: &Cells<L, H>,
+    pass: &mut CellPass<L>,
+    slot: u32,
+    epoch: u64,
+)
+    requires own { IsPassIn cells.now pass.old }
+    requires exists { slot < cells.now.table.shared.key.slots }
+    requires legal { IsPass L.meaning (cell_pass pass.old.seat.me.0) }
+    requires between { IsBetweenCalls L.meaning pass.old.seat.me.0 }
+    requires loaded { pass.old.seat.me.0.epochs.loaded ≡ epoch }
+    ensures own { IsPassIn cells.now pass.new }
+    ensures collects { CollectsSlot L.meaning slot pass.old.seat.me pass.new.seat.me }
+{
+    let note = cells.load_word(pass, Pool::Slots, slot, FIRST_NOTE);
+    if note < EPOCHS || note - EPOCHS + 2 > epoch {
+        return;
+    }
+    reclaim(cells, pass, slot, epoch);
+}
