@@ -3,9 +3,11 @@ pub mod BeginLemmas
 pub mod BuildLemmas
 pub mod CollectLemmas
 pub mod CollectedLemmas
+pub mod CopyLemmas
 pub mod EndLemmas
 pub mod EndingLemmas
 pub mod ExpiryLemmas
+pub mod HeldLemmas
 pub mod HoldLemmas
 pub mod KeyLemmas
 pub mod KillLemmas

@@ -1,5 +1,6 @@
 pub mod Begins
 pub mod Between
+pub mod Copying
 pub mod Ends
 pub mod Expiries
 pub mod Frees

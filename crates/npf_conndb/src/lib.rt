@@ -15,6 +15,7 @@
 mod beginning;
 mod collecting;
 mod conns;
+mod copying;
 mod ending;
 mod expiring;
 
