@@ -34,7 +34,7 @@ use Rattle.npf_cells_turns.specs.SightKinds.{HasSeen, StaysByTurn, seeing}
 use Rattle.npf_cells_turns.specs.TurnKinds.{HasTaken, turn_at}
 use Rattle.npf_cells_turns.specs.WordKinds.{ShowsByTurn}
 use Rattle.npf_turn.proofs.WorkLemmas.{Works, is_live, may_end}
-use Rattle.npf_conndb.specs.Copying.{CopiesKey, HasFound, HasLiveOne, having_read}
+use Rattle.npf_conndb.specs.Copying.{CopiesKey, FoundInSlot, HasLiveOne, having_read}
 use Rattle.npf_conndb.proofs.HeldLemmas.{some_or_none}
 use Rattle.npf_conndb.proofs.SoleLemmas.{sole_log}
 
@@ -123,16 +123,16 @@ module _ {S A R : Type 0} (m : Meaning S A R) (slot : ℕ) (v : CellView S A R) 
   k = state_of m v.seats.history
 
   -- by what the pass has seen the slot is at what it was, or isn't Live
-  stays : (found : Running S) (so : HasFound m slot found v) → (k.slot slot ≡ so.was) ⊎ ((stage_phase so.was.stage ≡ 0) × ¬ IsLive (k.slot slot).stage)
+  stays : (found : Running S) (so : FoundInSlot m slot found v) → (k.slot slot ≡ so.was) ⊎ ((stage_phase so.was.stage ≡ 0) × ¬ IsLive (k.slot slot).stage)
   stays found so = subst (StaysByTurn k) so.turn so.stays
 
-  pub found_none : HasFound m slot None v → ¬ IsLive (k.slot slot).stage
+  pub found_none : FoundInSlot m slot None v → ¬ IsLive (k.slot slot).stage
   found_none so = ⊎_elim
       (λ (same : k.slot slot ≡ so.was). subst (λ (x : Slot S). ¬ IsLive x.stage) (sym same) (none_live so.was.stage so.held))
       (λ (other : (stage_phase so.was.stage ≡ 0) × ¬ IsLive (k.slot slot).stage). other.1)
       (stays None so)
 
-  module _ (flow : S) (steps : ℕ) (so : HasFound m slot (Some (flow, steps)) v) where
+  module _ (flow : S) (steps : ℕ) (so : FoundInSlot m slot (Some (flow, steps)) v) where
     live : so.was.stage ≡ Live flow steps
     live = is_live so.was.stage flow steps (sym so.held)
 
@@ -192,7 +192,7 @@ module _ {S A R : Type 0} (m : Meaning S A R) (slot : ℕ) (old taken seen : Me 
   works_seen = record { is = nothing_new ∙ got.is }
 
   -- what it found in the slot stands still
-  pub found_still : (now : Me (Running S) (CellView S A R)) (found : Running S) → running got.was.stage ≡ found → Works old slot got.was (stage_phase got.was.stage) found now → HasFound m slot found now.0
+  pub found_still : (now : Me (Running S) (CellView S A R)) (found : Running S) → running got.was.stage ≡ found → Works old slot got.was (stage_phase got.was.stage) found now → FoundInSlot m slot found now.0
   found_still now found is works = record {
     was = got.was;
     turn = ap (λ (y : Me (Running S) (CellView S A R)). y.0.turn) works.is;

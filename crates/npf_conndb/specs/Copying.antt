@@ -19,7 +19,7 @@ abbrev pub having_read : {S A R : Type 0} → CellView S A R → CellView S A R 
 having_read v now = record v { trie = record v.trie { words = now.trie.words } }
 
 -- the pass has the slot's turn, under which it stored nothing; the slot held this when it got it, and is so still by what the pass has seen
-pub record HasFound {S A R : Type 0} (m : Meaning S A R) (slot : ℕ) (found : Running S) (v : CellView S A R) : Type 0 where
+pub record FoundInSlot {S A R : Type 0} (m : Meaning S A R) (slot : ℕ) (found : Running S) (v : CellView S A R) : Type 0 where
   pub was : Slot S
   pub turn : v.turn ≡ Some (turn_at slot was)
   pub held : found ≡ running was.stage

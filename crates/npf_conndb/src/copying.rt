@@ -2,7 +2,7 @@ ghost use Rattle.std.specs.Prelude.{◌≡◌, ◌<◌, None};
 ghost use Rattle.npf_connections.specs.Pass.{IsPass, all_places};
 ghost use Rattle.npf_cells.specs.Cells.{IsPassIn};
 ghost use Rattle.npf_cells_rule.specs.Passes.{cell_pass};
-ghost use Rattle.npf_conndb.specs.Copying.{HasCopied, HasFound, HasLiveOne, CopiesKey};
+ghost use Rattle.npf_conndb.specs.Copying.{HasCopied, FoundInSlot, HasLiveOne, CopiesKey};
 
 use npf_cells::{CellPass, Cells, Pool, TurnAct};
 use npf_cells_words::note_field;
@@ -50,7 +50,7 @@ fn copy_running<L: Law, H: KeyHash>(
     requires own { IsPassIn cells.now pass.old }
     requires sole { (cell_pass pass.old.seat.me.0).places ≡ all_places }
     requires exists { slot < cells.now.table.shared.key.slots }
-    requires found { HasFound L.meaning slot running pass.old.seat.me.0 }
+    requires found { FoundInSlot L.meaning slot running pass.old.seat.me.0 }
     ensures own { IsPassIn cells.now pass.new }
     ensures copied { HasCopied L.meaning slot result pass.old.seat.me pass.new.seat.me }
 {

@@ -7,9 +7,8 @@
 // A connection that ends gives its keys up, whose leaves are unlinked, and is let go with the epoch as it is then. Two epochs later nobody
 // speaks of it any more, and a collection frees its slot.
 //
-// The contract: each call of `Conns` says what the same call of `Connections` says, clause by clause, and a pass shows what it shows there;
-// `enter`, `look`, `leave` and `collect` take no handle to wait by, and a look loads at most 95 places of the trie and five words of
-// keys. The call that copies connections isn't there yet.
+// The contract: `Conns` meets `Connections<L>` for every law `L` whose flows may go to another thread. Its own `enter`, `look` and `leave` say
+// the same as those, take no handle to wait by, and a look loads at most 95 places of the trie and five words of keys.
 #![tactic(auto)]
 
 mod beginning;

@@ -1,6 +1,6 @@
 use Rattle.std.proofs.Common.{subst}
 use Rattle.npf_types.specs.declared.key.Way.TheVariants.{Forward, Backward, Port}
-use Rattle.npf_conndb.specs.Copying.{HasFound}
+use Rattle.npf_conndb.specs.Copying.{FoundInSlot}
 use Rattle.npf_conndb.proofs.CopyLemmas.{read_none, read_more, key_so, kept_so}
 use Rattle.npf_conndb.proofs.copying.copy_running.Goals as goal
 
@@ -16,7 +16,7 @@ returns-clause-copied g c =
     let one = read_more old c.load_inc-inc.new.pass.seat.me c.copy_key-forward.new.pass.seat.me none forward.is in
     let two = read_more old c.copy_key-forward.new.pass.seat.me c.copy_key-port.new.pass.seat.me one port.is in
     record {
-      copies = kept_so m slot old.0 _ _ (subst (λ found. HasFound m slot found old.0) c.in-Some.is c.requires.found) c.load_inc-inc.result _ _ _ c.load_inc-inc.ensures.turn
+      copies = kept_so m slot old.0 _ _ (subst (λ found. FoundInSlot m slot found old.0) c.in-Some.is c.requires.found) c.load_inc-inc.result _ _ _ c.load_inc-inc.ensures.turn
           (key_so m slot Forward _ old c.load_inc-inc.new.pass.seat.me c.copy_key-forward.new.pass.seat.me none forward)
           (key_so m slot Port _ old c.copy_key-forward.new.pass.seat.me c.copy_key-port.new.pass.seat.me one port)
           (key_so m slot Backward _ old c.copy_key-port.new.pass.seat.me c.copy_key-backward.new.pass.seat.me two backward);

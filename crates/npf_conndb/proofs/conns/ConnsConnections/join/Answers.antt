@@ -1,7 +1,7 @@
 use Rattle.std.proofs.Common.{ap, ◌∙◌}
 use Rattle.npf_cells_rule.specs.Passes.{is_pinned}
 use Rattle.npf_conndb.proofs.PassLemmas.{idle_pin, rests_between}
-use Rattle.npf_conndb.proofs.conns.Conns.join.Goals as goal
+use Rattle.npf_conndb.proofs.conns.ConnsConnections.join.Goals as goal
 
 pub join-requires-clause-out : goal.join-requires-clause-out
 join-requires-clause-out g c = idle_pin _ c.requires.out.out

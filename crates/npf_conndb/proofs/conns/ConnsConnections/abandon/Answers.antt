@@ -4,7 +4,7 @@ use Rattle.npf_cells_rule.specs.Passes.{is_pinned}
 use Rattle.npf_seats.proofs.PrefixLemmas.{none_listed}
 use Rattle.npf_conndb.proofs.EndingLemmas.{killed_one, is_dead, abandons, abandoned_between, abandoned_pin, abandoned_goes}
 use Rattle.npf_conndb.proofs.TurnLemmas.{known_exists}
-use Rattle.npf_conndb.proofs.conns.Conns.abandon.Goals as goal
+use Rattle.npf_conndb.proofs.conns.ConnsConnections.abandon.Goals as goal
 
 pub kill-requires-clause-exists : goal.kill-requires-clause-exists
 kill-requires-clause-exists g c = known_exists g.L.Law.meaning _ _ c.args.id c.requires.inside.own.own.sized c.requires.inside.legal (inr c.requires.builds)

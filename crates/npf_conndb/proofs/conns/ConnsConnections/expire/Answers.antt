@@ -1,7 +1,7 @@
 use Rattle.npf_conndb.proofs.PassLemmas.{idle_pin}
 use Rattle.npf_conndb.proofs.StayLemmas.{entered_pass, entered_between}
 use Rattle.npf_conndb.proofs.VisitLemmas.{visit_between, visit_pass, visit_out, visit_expires, visit_goes}
-use Rattle.npf_conndb.proofs.conns.Conns.expire.Goals as goal
+use Rattle.npf_conndb.proofs.conns.ConnsConnections.expire.Goals as goal
 
 pub enter-requires-clause-idle : goal.enter-requires-clause-idle
 enter-requires-clause-idle g c = idle_pin _ c.requires.out.out

@@ -2,7 +2,7 @@ use Rattle.std.proofs.Common.{ap, ◌∙◌, arith}
 use Rattle.npf_cells_rule.specs.Passes.{cell_pass, is_pinned}
 use Rattle.npf_conndb.proofs.PassLemmas.{hands, goes_between, goes_on, begins}
 use Rattle.npf_conndb.proofs.TurnLemmas.{known_exists}
-use Rattle.npf_conndb.proofs.conns.Conns.step.Goals as goal
+use Rattle.npf_conndb.proofs.conns.ConnsConnections.step.Goals as goal
 
 pub step-requires-clause-exists : goal.step-requires-clause-exists
 step-requires-clause-exists g c = known_exists g.L.Law.meaning _ _ c.args.id c.requires.inside.own.own.sized c.requires.inside.legal c.requires.known

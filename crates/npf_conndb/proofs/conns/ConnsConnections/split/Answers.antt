@@ -2,7 +2,7 @@ use Rattle.std.proofs.Common.{ap, ◌∙◌}
 use Rattle.npf_cells_rule.specs.Passes.{is_pinned}
 use Rattle.npf_conndb.proofs.MoveLemmas.{giver_pass}
 use Rattle.npf_conndb.proofs.PassLemmas.{idle_pin, rests_between}
-use Rattle.npf_conndb.proofs.conns.Conns.split.Goals as goal
+use Rattle.npf_conndb.proofs.conns.ConnsConnections.split.Goals as goal
 
 pub split-requires-clause-out : goal.split-requires-clause-out
 split-requires-clause-out g c = idle_pin _ c.requires.out.out

@@ -1,7 +1,7 @@
 use Rattle.std.proofs.Common.{ap, ◌∙◌}
 use Rattle.npf_cells_rule.specs.Passes.{is_pinned}
 use Rattle.npf_conndb.proofs.PassLemmas.{idle_pin}
-use Rattle.npf_conndb.proofs.conns.Conns.collect.Goals as goal
+use Rattle.npf_conndb.proofs.conns.ConnsConnections.collect.Goals as goal
 
 pub collect-requires-clause-out : goal.collect-requires-clause-out
 collect-requires-clause-out g c = idle_pin _ c.requires.out.out

@@ -5,7 +5,7 @@ use Rattle.npf_seats.proofs.PrefixLemmas.{none_listed}
 use Rattle.npf_conndb.proofs.HoldLemmas.{held_shows, held_pass, held_between, holding}
 use Rattle.npf_conndb.proofs.PassLemmas.{goes_on}
 use Rattle.npf_conndb.proofs.TurnLemmas.{known_exists}
-use Rattle.npf_conndb.proofs.conns.Conns.hold.Goals as goal
+use Rattle.npf_conndb.proofs.conns.ConnsConnections.hold.Goals as goal
 
 pub hold-requires-clause-can : goal.hold-requires-clause-can
 hold-requires-clause-can g c =

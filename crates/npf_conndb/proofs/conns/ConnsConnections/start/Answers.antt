@@ -3,7 +3,7 @@ use Rattle.npf_cells_rule.specs.Passes.{cell_pass, is_pinned}
 use Rattle.npf_seats.proofs.PrefixLemmas.{none_listed}
 use Rattle.npf_conndb.proofs.PassLemmas.{hands, goes_on, begins}
 use Rattle.npf_conndb.proofs.TurnLemmas.{known_exists, started_between}
-use Rattle.npf_conndb.proofs.conns.Conns.start.Goals as goal
+use Rattle.npf_conndb.proofs.conns.ConnsConnections.start.Goals as goal
 
 pub start-requires-clause-exists : goal.start-requires-clause-exists
 start-requires-clause-exists g c = known_exists g.L.Law.meaning _ _ c.args.id c.requires.inside.own.own.sized c.requires.inside.legal (inr c.requires.builds)

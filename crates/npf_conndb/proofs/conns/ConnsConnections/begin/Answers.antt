@@ -2,7 +2,7 @@ use Rattle.std.proofs.Common.{ap, ◌∙◌, arith}
 use Rattle.npf_cells_rule.specs.Passes.{is_pinned}
 use Rattle.npf_conndb.proofs.BeginLemmas.{asked}
 use Rattle.npf_conndb.proofs.PassLemmas.{goes_on}
-use Rattle.npf_conndb.proofs.conns.Conns.begin.Goals as goal
+use Rattle.npf_conndb.proofs.conns.ConnsConnections.begin.Goals as goal
 
 pub begin-requires-clause-protected : goal.begin-requires-clause-protected
 begin-requires-clause-protected g c = c.requires.inside.own.between.protected c.requires.inside.entered
