@@ -9,11 +9,12 @@ use npf_cells::{CellPass, Cells};
 use npf_core::Law;
 use npf_paths::{KeyHash, Lock};
 use std::sync::Wait;
+use std::thread::yield_now;
 
 /// The state that frees a lock.
 const FREE: u64 = 0;
 
-/// Gets a lock, and waits as long as another pass has it.
+/// Gets a lock, and waits as long as another pass has it. After each refused try another thread may run.
 pub fn lock<L: Law, H: KeyHash>(
     rt: &impl Wait,
     cells: &Cells<L, H>,
@@ -30,6 +31,7 @@ pub fn lock<L: Law, H: KeyHash>(
         if cells.try_lock(pass, lock) {
             return;
         }
+        yield_now();
     }
     unreachable!()
 }

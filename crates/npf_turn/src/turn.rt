@@ -6,8 +6,9 @@ use npf_cells::{CellPass, Cells};
 use npf_core::Law;
 use npf_paths::KeyHash;
 use std::sync::Wait;
+use std::thread::yield_now;
 
-/// Gets the slot's turn, once no other pass has it.
+/// Gets the slot's turn, once no other pass has it. After each refused try another thread may run.
 pub fn wait_turn<L: Law, H: KeyHash>(
     rt: &impl Wait,
     cells: &Cells<L, H>,
@@ -24,6 +25,7 @@ pub fn wait_turn<L: Law, H: KeyHash>(
         if cells.try_turn(pass, slot) {
             return;
         }
+        yield_now();
     }
     unreachable!()
 }
