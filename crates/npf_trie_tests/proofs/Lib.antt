@@ -1,2 +1,3 @@
 mod BuildLemmas
+mod FoundLemmas
 mod OpenLemmas

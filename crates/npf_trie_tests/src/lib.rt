@@ -24,6 +24,8 @@ mod meeting;
 #[cfg(test)]
 mod paths;
 #[cfg(test)]
+mod reader;
+#[cfg(test)]
 mod slots;
 #[cfg(test)]
 mod stays;

@@ -45,8 +45,8 @@ fn tell_words(
     put(told, &[phase, forward, backward, port])
 }
 
-// Ends the slot's connection, which is due long since.
-fn expire_late(
+/// Ends the first slot's connection, which is due long since.
+pub(crate) fn expire_late(
     rt: &impl Wait,
     cells: &Cells<FlowLaw, ByProtocol>,
     pass: &mut CellPass<FlowLaw>,

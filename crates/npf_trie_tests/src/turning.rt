@@ -1,6 +1,8 @@
 // Connections that passes start, step and kill under the turns of their slots, and the words that stand there then.
 ghost use Rattle.std.specs.Prelude.{◌≡◌, ◌<◌, IfSome, None};
+ghost use Rattle.npf_connections.specs.Pass.{Knows};
 ghost use Rattle.npf_cells.specs.Cells.{IsPassIn};
+ghost use Rattle.npf_cells_rule.specs.Passes.{cell_pass};
 ghost use Rattle.npf_trie_tests.specs.Hands.{IsEmptyHanded, HasFreeHands};
 
 use crate::answers::{put, same};
@@ -9,7 +11,7 @@ use crate::keys::Draws;
 use crate::works::untold;
 use npf_cells::{CellPass, Cells, PHASE, Pool};
 use npf_cells_words::note_field;
-use npf_core::{ConnId, Held, Stepped};
+use npf_core::{ConnId, Found, Held, Stepped};
 use npf_epoch::enter;
 use npf_flow::{Flow, FlowArg, FlowKind, FlowLaw, FlowReply};
 use npf_pool_beginning::begin;
@@ -93,6 +95,24 @@ pub(crate) fn step_by(
     ensures free { HasFreeHands pass.old.seat.me.0 → HasFreeHands pass.new.seat.me.0 }
 {
     let found = look(cells, pass, 9, key)?;
+    step_found(rt, cells, pass, found)
+}
+
+/// The next step of a connection that the pass found in its stay. None where the table has no such
+/// slot.
+pub(crate) fn step_found(
+    rt: &impl Wait,
+    cells: &Cells<FlowLaw, ByProtocol>,
+    pass: &mut CellPass<FlowLaw>,
+    found: Found,
+) -> Option<Stepped<FlowReply>>
+    requires own { IsPassIn cells.now pass.old }
+    requires hands { IsEmptyHanded pass.old.seat.me.0 }
+    requires known { Knows (cell_pass pass.old.seat.me.0) found.id }
+    ensures own { IsPassIn cells.now pass.new }
+    ensures hands { IsEmptyHanded pass.new.seat.me.0 }
+    ensures free { HasFreeHands pass.old.seat.me.0 → HasFreeHands pass.new.seat.me.0 }
+{
     if found.id.slot >= cells.layout().slots {
         return None;
     }

@@ -1,9 +1,5 @@
-use Rattle.std.proofs.Common.{rules, ap, sym, subst, inl, List}
-use Rattle.std.specs.Prelude.{Contains}
-use Rattle.npf_core.specs.declared.conn_id.ConnId.{ConnId}
+use Rattle.npf_trie_tests.proofs.FoundLemmas.{knows_found}
 use Rattle.npf_trie_tests.proofs.turning.step_by.Goals as goal
 
-pub step-requires-clause-known : goal.step-requires-clause-known
-step-requires-clause-known g c =
-    let answered = ap (λ y. y.0.trie.answered) c.in_ok-found.ensures.looks.is in
-    inl (subst (λ (ids : List ConnId). Contains ids c.in_ok-found.found.id) (sym answered) (search rules))
+pub step_found-requires-clause-known : goal.step_found-requires-clause-known
+step_found-requires-clause-known g c = knows_found _ _ _ c.in_ok-found.found _ _ c.in_ok-found.ensures.looks
