@@ -39,9 +39,8 @@ module _ {S A R : Type 0} (m : Meaning S A R) (digest : Key → ℕ) (layout : L
   hand = record { kills = between.let_go; reclaims = between.reclaimed; cleared = between.freed }
 
   -- nothing was added
-  left_so : (now : Me (Running S) (CellView S A R)) → now ≡ (record old.0 { turn = None }, []) → (length old.0.seats.readers ≡ all_places → ¬ IsWorn (cell_pass old.0) → old.0.pools.dated + 2 ≤ old.0.epochs.loaded → (k.slot slot).stage ≢ Dead) → CollectsSlot m slot old now
+  left_so : (now : Me (Running S) (CellView S A R)) → now ≡ (record old.0 { turn = None }, []) → (length old.0.seats.readers ≡ all_places → ¬ IsWorn (cell_pass old.0) → old.0.pools.dated + 2 ≤ old.0.epochs.loaded → (k.slot slot).stage ≢ Dead) → CollectsSlot m slot None old now
   left_so now is alive = rw is (record {
-    freed = None;
     there = λ id e. absurd cc;
     adds = record { adds = record { rest = []; goes_on = sym (append-nil old.0.seats.history); own = refl; listed = λ n c. refl }; ends = λ init last e. absurd (none_ends init last e) };
     same = λ e. refl;
@@ -62,11 +61,15 @@ module _ {S A R : Type 0} (m : Meaning S A R) (digest : Key → ℕ) (layout : L
       none_ends [] last e = cc
       none_ends (x ∷ xs) last e = cc
 
-  pub kept_so : (now : Me (Running S) (CellView S A R)) → now ≡ old → old.1 ≡ [] → (note : ℕ) → StoodSo m digest layout old.0 (field_at layout Slots slot notes_field) note → ¬ IsLongLeft note old.0.epochs.loaded → CollectsSlot m slot old now
+  pub kept_so : (now : Me (Running S) (CellView S A R)) → now ≡ old → old.1 ≡ [] → (note : ℕ) → StoodSo m digest layout old.0 (field_at layout Slots slot notes_field) note → ¬ IsLongLeft note old.0.epochs.loaded → CollectsSlot m slot None old now
   kept_so now is empty note stood early = left_so now (is ∙ (λ i. (record old.0 { turn = between.turnless i }, empty i)))
       (λ all unworn later. early_alive m digest layout old.0 lives settled all hand between.turnless slot old.0.epochs.loaded within old.0.seats.about legal.legal (λ c. unworn (inr c)) later note stood early)
 
-  pub left_for : (now : Me (Running S) (CellView S A R)) → LeavesSlot m digest layout slot old.0.epochs.loaded old now → CollectsSlot m slot old now
+  -- a vacant slot is left
+  pub vacant_so : old.1 ≡ [] → (k.slot slot).stage ≡ Vacant → CollectsSlot m slot None old old
+  vacant_so empty vacant = left_so old (λ i. (record old.0 { turn = between.turnless i }, empty i)) (λ all unworn later dead. let no : Vacant ≡ Dead = sym vacant ∙ dead in cc)
+
+  pub left_for : (now : Me (Running S) (CellView S A R)) → LeavesSlot m digest layout slot old.0.epochs.loaded old now → CollectsSlot m slot None old now
   left_for now left = left_so now left.is (λ all unworn later. left_alive m digest layout old.0 lives settled all hand between.turnless slot old.0.epochs.loaded within old.0.seats.about legal.legal (λ c. unworn (inr c)) later left.why)
 
   -- the slot's connection was freed
@@ -87,9 +90,8 @@ module _ {S A R : Type 0} (m : Meaning S A R) (digest : Key → ℕ) (layout : L
         let whole = adds_alone m (cell_pass old.0) (cell_pass now.0) (entry ∷ []) is_pass (ap (λ (y : Me (Running S) (CellView S A R)). length y.0.seats.readers) freed.is ∙ all) (ap (λ (y : Me (Running S) (CellView S A R)). y.0.seats.number) freed.is) (ap (λ (y : Me (Running S) (CellView S A R)). y.0.seats.joined) freed.is) freed.adds.adds in
         ap (λ h. (state_of m h).slot p) whole ∙ (ap (λ (x : Machine S). x.slot p) (state_of-append m old.0.seats.history entry) ∙ freed_else m k old.0.seats.number id p (λ e. ne (e ∙ freed.there)))
 
-    pub freed_so : CollectsSlot m slot old now
+    pub freed_so : CollectsSlot m slot (Some id) old now
     freed_so = record {
-      freed = Some id;
       there = λ i e. (let same : id ≡ i = cc in ap (λ (x : ConnId). x.slot) (sym same) ∙ freed.there);
       adds = freed.adds;
       same = λ e. absurd cc;
@@ -114,6 +116,6 @@ module _ {S A R : Type 0} (m : Meaning S A R) (digest : Key → ℕ) (layout : L
             ∙ (λ i. (old.0.epochs.pin, old.0.trie.locks, sym between.turnless i, old.0.pools.nodes, old.0.pools.unstored, old.0.pools.kills, old.0.pools.gave_up, old.0.pools.reclaims, old.0.pools.cleared))
 
   -- as a try to free it ends
-  pub reclaimed_so : (epoch : ℕ) → old.0.epochs.loaded ≡ epoch → (result : Option ConnId) (now : Me (Running S) (CellView S A R)) → HasReclaimed m digest layout slot epoch result old now → CollectsSlot m slot old now
+  pub reclaimed_so : (epoch : ℕ) → old.0.epochs.loaded ≡ epoch → (result : Option ConnId) (now : Me (Running S) (CellView S A R)) → HasReclaimed m digest layout slot epoch result old now → CollectsSlot m slot result old now
   reclaimed_so epoch is None now left = left_for now (subst (λ e. LeavesSlot m digest layout slot e old now) (sym is) left)
   reclaimed_so epoch is (Some id) now freed = freed_so id now freed

@@ -1,6 +1,7 @@
 -- What a collection has done of the slots that it visited.
 use Rattle.std.specs.List.{Contains}
-use Rattle.std.proofs.Common.{◌≡◌, ◌≢◌, ℕ, ◌+◌, ◌≤◌, ◌<◌, Option, Some, None, List, [], ◌∷◌, ◌++◌, length, refl, sym, ap, ◌∙◌, subst, ⊎_elim, inl, inr, arith}
+use Rattle.std.specs.Prelude.{is_some}
+use Rattle.std.proofs.Common.{◌≡◌, ◌≢◌, ℕ, ◌+◌, ◌≤◌, ◌<◌, false, Option, Some, None, List, [], ◌∷◌, ◌++◌, length, append-nil, refl, sym, ap, ◌∙◌, subst, ⊎_elim, inl, inr, arith}
 use Rattle.std.proofs.lemmas.Bool.{cases_eq}
 use Rattle.std.proofs.lemmas.List.{map-append}
 use Rattle.std.proofs.lemmas.List.Elements.{Contains-append_left}
@@ -11,13 +12,14 @@ use Rattle.npf_core.specs.declared.entry.Entry.{Entry}
 use Rattle.npf_core.specs.declared.reply.Reply.TheVariants.{Nothing}
 use Rattle.npf_core.specs.declared.slot.Slot.{Slot}
 use Rattle.npf_core.specs.declared.stage.Stage.TheVariants.{Dead}
-use Rattle.npf_core.specs.History.{Legal, state_of}
+use Rattle.npf_core.specs.History.{IsPrefix, Legal, state_of}
 use Rattle.npf_core.specs.Meaning.{Meaning}
-use Rattle.npf_connections.specs.Adding.{AddsOwn}
+use Rattle.npf_connections.specs.Adding.{Adds, AddsOwn}
 use Rattle.npf_connections.specs.Collecting.{IsClean, IsWorn}
 use Rattle.npf_connections.specs.Entries.{entry_of, free_entries}
 use Rattle.npf_connections.specs.Pass.{Pass, IsPass, all_places}
 use Rattle.npf_connections.specs.Worn.{ClaimsLast, last_epoch}
+use Rattle.npf_connections.proofs.AddLemmas.{adds_alone, adds_more}
 use Rattle.npf_cells_pins.specs.declared.pin.Pin.TheVariants.{Idle}
 use Rattle.npf_cells_lives.specs.Turns.{Running}
 use Rattle.npf_cells_lives.proofs.DeathLemmas.{dead_at}
@@ -25,21 +27,25 @@ use Rattle.npf_cells_rule.specs.declared.view.CellView.{CellView}
 use Rattle.npf_cells_rule.specs.Passes.{cell_pass, is_pinned}
 use Rattle.npf_cells_rule.specs.Views.{with_epochs}
 use Rattle.npf_conndb.specs.Between.{IsBetweenCalls, StaysBetween}
-use Rattle.npf_conndb.specs.Frees.{CollectsSlot, freed_ids}
+use Rattle.npf_pool.specs.Take.{HasSeenMore}
+use Rattle.npf_conndb.specs.Frees.{CollectsSlot, HasCollected, VisitsSlot, freed_ids}
 use Rattle.npf_conndb.proofs.AddingLemmas.{adds_one}
 use Rattle.npf_conndb.proofs.PassLemmas.{hands, goes_between, goes_further, adds_nothing, adds_none, begins}
+use Rattle.npf_conndb.proofs.SeenLemmas.{seen_stays}
+use Rattle.npf_conndb.proofs.VisitLemmas.{stays_more}
 use Rattle.npf_conndb.proofs.WithinLemmas.{dead_within}
 
--- it freed these connections, which ends the history, if any; and where the pass owns all reader places and isn't worn, nothing Dead is in the
--- slots below this one
-pub record HasCollected {S A R : Type 0} (m : Meaning S A R) (epoch i : ℕ) (old now : Me (Running S) (CellView S A R)) : Type 0 where
-  pub ids : List ConnId
-  pub adds : AddsOwn (cell_pass old.0) now.0.seats.history (free_entries (cell_pass old.0) ids)
-  pub stays : StaysBetween m old.0 now.0
-  pub loaded : now.0.epochs.loaded ≡ epoch
-  pub dated : now.0.pools.dated ≡ old.0.pools.dated
-  pub later : length old.0.seats.readers ≡ all_places → ¬ IsWorn (cell_pass now.0) → old.0.pools.dated + 2 ≤ epoch
-  pub clean : length old.0.seats.readers ≡ all_places → ¬ IsWorn (cell_pass now.0) → (p : ℕ) → p < i → ((state_of m now.0.seats.history).slot p).stage ≢ Dead
+-- what isn't something is none
+pub none_freed : (freed : Option ConnId) → is_some freed ≡ false → freed ≡ None
+none_freed None e = refl
+none_freed (Some id) e = absurd cc
+
+-- who isn't worn now wasn't before
+was_unworn : {S A R : Type 0} (m : Meaning S A R) (old now : CellView S A R) → StaysBetween m old now → IsPrefix old.seats.history now.seats.history → ¬ IsWorn (cell_pass now) → ¬ IsWorn (cell_pass old)
+was_unworn m old now stays on unworn worn = unworn (⊎_elim
+    (λ (last : old.epochs.greatest ≡ last_epoch). inl (let goes = stays.goes.epoch in let most = stays.legal.most in omega (arith, last, goes, most)))
+    (λ (claims : ClaimsLast old.seats.history). inr (record { id = claims.id; claimed = record { entry = claims.claimed.entry; stands = subst (λ h. Contains h claims.claimed.entry) (sym on.goes_on) (Contains-append_left old.seats.history on.rest claims.claimed.entry claims.claimed.stands); replied = claims.claimed.replied }; last = claims.last }))
+    worn)
 
 module _ {S A R : Type 0} (m : Meaning S A R) (epoch : ℕ) (old : Me (Running S) (CellView S A R)) where
   -- nothing yet
@@ -80,26 +86,53 @@ module _ {S A R : Type 0} (m : Meaning S A R) (epoch : ℕ) (old : Me (Running S
       hands_same : hands now.0 ≡ hands old.0
       hands_same = ap (λ (y : Me (Running S) (CellView S A R)). hands y.0) same ∙ (λ i. ((idle ∙ sym out) i, old.0.trie.locks, old.0.turn, old.0.pools.nodes, old.0.pools.unstored, old.0.pools.kills, old.0.pools.gave_up, old.0.pools.reclaims, old.0.pools.cleared))
 
+  -- the pass has seen more, while nothing was freed
+  module _ (slot : ℕ) (now next : Me (Running S) (CellView S A R)) (so : HasCollected m epoch slot old now) (none : Adds (cell_pass old.0) now.0.seats.history []) (sees : HasSeenMore m now next) where
+    seen : StaysBetween m now.0 next.0
+    seen = seen_stays m now next sees so.stays.legal so.stays.between
+
+    begun : cell_pass now.0 ≡ record (cell_pass old.0) { history = now.0.seats.history; epoch = now.0.epochs.greatest }
+    begun = so.stays.goes.view
+
+    pub sees_none : Adds (cell_pass old.0) next.0.seats.history []
+    sees_none = adds_more (cell_pass old.0) (cell_pass now.0) next.0.seats.history [] [] (ap (λ (p : Pass (Entry S A R)). p.number) begun) (ap (λ (p : Pass (Entry S A R)). p.joined) begun) none sees.adds
+
+    before : ¬ IsWorn (cell_pass next.0) → ¬ IsWorn (cell_pass now.0)
+    before = was_unworn m now.0 next.0 seen (begins (cell_pass now.0) next.0.seats.history [] sees.adds)
+
+    -- who owns all reader places sees no more
+    whole : length old.0.seats.readers ≡ all_places → next.0.seats.history ≡ now.0.seats.history
+    whole all = adds_alone m (cell_pass now.0) (cell_pass next.0) [] seen.legal
+        (ap (λ (y : Me (Running S) (CellView S A R)). length y.0.seats.readers) sees.is ∙ (ap (λ (p : Pass (Entry S A R)). p.places) begun ∙ all))
+        (ap (λ (y : Me (Running S) (CellView S A R)). y.0.seats.number) sees.is) (ap (λ (y : Me (Running S) (CellView S A R)). y.0.seats.joined) sees.is) sees.adds ∙ append-nil now.0.seats.history
+
+    pub collected_seen : HasCollected m epoch slot old next
+    collected_seen = record {
+      ids = [];
+      adds = adds_none (cell_pass old.0) next.0.seats.history sees_none;
+      stays = stays_more m 0 0 0 0 old.0 now.0 next.0 so.stays seen;
+      loaded = ap (λ (y : Me (Running S) (CellView S A R)). y.0.epochs.loaded) sees.is ∙ so.loaded;
+      dated = ap (λ (y : Me (Running S) (CellView S A R)). y.0.pools.dated) sees.is ∙ so.dated;
+      later = λ all unworn. so.later all (before unworn);
+      clean = λ all unworn p h dead. so.clean all (before unworn) p h (ap (λ hist. ((state_of m hist).slot p).stage) (sym (whole all)) ∙ dead);
+    }
+
   -- one slot more
-  module _ (slot : ℕ) (now next : Me (Running S) (CellView S A R)) (so : HasCollected m epoch slot old now) (more : CollectsSlot m slot now next) where
+  module _ (slot : ℕ) (freed : Option ConnId) (now next : Me (Running S) (CellView S A R)) (so : HasCollected m epoch slot old now) (more : CollectsSlot m slot freed now next) where
     shown : cell_pass now.0 ≡ record (cell_pass old.0) { history = now.0.seats.history; epoch = now.0.epochs.greatest }
     shown = so.stays.goes.view
 
     all_now : length old.0.seats.readers ≡ all_places → length now.0.seats.readers ≡ all_places
     all_now all = ap (λ (p : Pass (Entry S A R)). p.places) shown ∙ all
 
-    -- who isn't worn after it wasn't before
-    was_unworn : ¬ IsWorn (cell_pass next.0) → ¬ IsWorn (cell_pass now.0)
-    was_unworn unworn worn = unworn (⊎_elim
-        (λ (last : now.0.epochs.greatest ≡ last_epoch). inl (let goes = more.stays.goes.epoch in let most = more.stays.legal.most in omega (arith, last, goes, most)))
-        (λ (claims : ClaimsLast now.0.seats.history). inr (record { id = claims.id; claimed = record { entry = claims.claimed.entry; stands = subst (λ h. Contains h claims.claimed.entry) (sym more.adds.adds.goes_on) (Contains-append_left now.0.seats.history more.adds.adds.rest claims.claimed.entry claims.claimed.stands); replied = claims.claimed.replied }; last = claims.last }))
-        worn)
+    still : ¬ IsWorn (cell_pass next.0) → ¬ IsWorn (cell_pass now.0)
+    still = was_unworn m now.0 next.0 more.stays (record { rest = more.adds.adds.rest; goes_on = more.adds.adds.goes_on })
 
     clean_more : length old.0.seats.readers ≡ all_places → ¬ IsWorn (cell_pass next.0) → (p : ℕ) → p < slot + 1 → ((state_of m next.0.seats.history).slot p).stage ≢ Dead
     clean_more all unworn p h = ⊎_elim
         (λ (e : p ≡ slot). subst (λ q. ((state_of m next.0.seats.history).slot q).stage ≢ Dead) (sym e)
-        (more.clean (all_now all) (was_unworn unworn) (let later = so.later all (was_unworn unworn) in let dated = so.dated in let loaded = so.loaded in omega (arith, later, dated, loaded))))
-        (λ (ne : p ≢ slot) dead. so.clean all (was_unworn unworn) p (omega (arith, h, ne)) (ap (λ (x : Slot S). x.stage) (sym (more.others (all_now all) p ne)) ∙ dead))
+        (more.clean (all_now all) (still unworn) (let later = so.later all (still unworn) in let dated = so.dated in let loaded = so.loaded in omega (arith, later, dated, loaded))))
+        (λ (ne : p ≢ slot) dead. so.clean all (still unworn) p (omega (arith, h, ne)) (ap (λ (x : Slot S). x.stage) (sym (more.others (all_now all) p ne)) ∙ dead))
         (cases_eq p slot)
 
     entries_same : (ids : List ConnId) → free_entries (cell_pass now.0) ids ≡ free_entries (cell_pass old.0) ids
@@ -117,16 +150,28 @@ module _ {S A R : Type 0} (m : Meaning S A R) (epoch : ℕ) (old : Me (Running S
 
     pub collected_more : HasCollected m epoch (slot + 1) old next
     collected_more =
-        let both = adds_both more.freed more.adds more.same in
+        let both = adds_both freed more.adds more.same in
         record {
           ids = both.0;
           adds = both.1;
           stays = record { goes = goes_further (cell_pass old.0) (cell_pass now.0) (cell_pass next.0) so.stays.goes more.stays.goes; between = more.stays.between; legal = more.stays.legal; pin = more.stays.pin ∙ so.stays.pin };
           loaded = more.loaded ∙ so.loaded;
           dated = more.dated ∙ so.dated;
-          later = λ all unworn. so.later all (was_unworn unworn);
+          later = λ all unworn. so.later all (still unworn);
           clean = clean_more;
         }
+
+  -- where the pass saw more before it, and nothing was freed until then
+  module _ (slot : ℕ) (freed : Option ConnId) (now next : Me (Running S) (CellView S A R)) (so : HasCollected m epoch slot old now) (none : Adds (cell_pass old.0) now.0.seats.history []) (more : VisitsSlot m slot freed now next) where
+    pub visited_more : HasCollected m epoch (slot + 1) old next
+    visited_more = collected_more slot freed more.between next (collected_seen slot now more.between so none more.sees) more.collects
+
+    pub visited_none : freed ≡ None → Adds (cell_pass old.0) next.0.seats.history []
+    visited_none is = subst (λ h. Adds (cell_pass old.0) h []) (sym (more.collects.same is)) (sees_none slot now more.between so none more.sees)
+
+  -- of more slots, and so of fewer
+  pub collected_below : (i j : ℕ) (now : Me (Running S) (CellView S A R)) → j ≤ i → HasCollected m epoch i old now → HasCollected m epoch j old now
+  collected_below i j now fewer so = record { ids = so.ids; adds = so.adds; stays = so.stays; loaded = so.loaded; dated = so.dated; later = so.later; clean = λ all unworn p h. so.clean all unworn p (omega (arith, h, fewer)) }
 
   -- each slot: no connection is Dead
   pub collected_all : (slots i : ℕ) (now : Me (Running S) (CellView S A R)) → HasCollected m epoch i old now → now.0.seats.about ≡ slots → slots ≤ i → IsClean m (cell_pass now.0)

@@ -15,14 +15,15 @@ use Rattle.npf_core.specs.NextState.{changed, is_at, stepped}
 use Rattle.npf_seats.proofs.SeatLemmas.{cases_lt}
 use Rattle.npf_cells_lives.proofs.DeathLemmas.{dead_at}
 
-module _ {S A R : Type 0} (m : Meaning S A R) (slots : ℕ) where
-  vacant_of : (k : Machine S) (id : ConnId) (p : ℕ) → id.slot ≡ p → (k.slot p).stage ≡ Vacant → stage_of k id ≡ Vacant
-  vacant_of k id p there vacant = by_test (eqb (k.slot id.slot).inc id.inc)
-    where
-      by_test : (b : Bool) → cond b (k.slot id.slot).stage Vacant ≡ Vacant
-      by_test true = ap (λ q. (k.slot q).stage) there ∙ vacant
-      by_test false = refl
+-- a connection of a vacant slot is vacant
+pub vacant_of : {S : Type 0} (k : Machine S) (id : ConnId) (p : ℕ) → id.slot ≡ p → (k.slot p).stage ≡ Vacant → stage_of k id ≡ Vacant
+vacant_of k id p there vacant = by_test (eqb (k.slot id.slot).inc id.inc)
+  where
+    by_test : (b : Bool) → cond b (k.slot id.slot).stage Vacant ≡ Vacant
+    by_test true = ap (λ q. (k.slot q).stage) there ∙ vacant
+    by_test false = refl
 
+module _ {S A R : Type 0} (m : Meaning S A R) (slots : ℕ) where
   acts_past : (k : Machine S) (seat : ℕ) (act : Act S A) → Allows m slots k seat act → (p : ℕ) → slots ≤ p → (k.slot p).stage ≡ Vacant → (b : Bool) → is_at p act ≡ b → (cond b (changed m seat act (k.slot p)) (k.slot p)).stage ≡ Vacant
   acts_past k seat act allowed p past vacant false is = vacant
   acts_past k seat (Claim packet slot) allowed p past vacant true is = absurd (let here = (Decides-eqb slot p).0 is in let exists = allowed.exists in omega (arith, here, exists, past))

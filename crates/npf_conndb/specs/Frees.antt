@@ -1,5 +1,5 @@
 -- How slots are freed.
-use Rattle.std.specs.Prelude.{◌≡◌, ◌≢◌, ℕ, ◌+◌, ◌≤◌, Option, Some, None, List, [], ◌∷◌, length}
+use Rattle.std.specs.Prelude.{◌≡◌, ◌≢◌, ℕ, ◌+◌, ◌≤◌, ◌<◌, Option, Some, None, List, [], ◌∷◌, length}
 use Rattle.atomic_table.specs.Table.{Me}
 use Rattle.npf_core.specs.declared.conn_id.ConnId.{ConnId}
 use Rattle.npf_core.specs.declared.stage.Stage.TheVariants.{Dead}
@@ -11,6 +11,7 @@ use Rattle.npf_connections.specs.Entries.{free_entries}
 use Rattle.npf_connections.specs.Pass.{all_places}
 use Rattle.npf_cells_rule.specs.declared.view.CellView.{CellView}
 use Rattle.npf_cells_rule.specs.Passes.{cell_pass}
+use Rattle.npf_pool.specs.Take.{HasSeenMore}
 use Rattle.npf_conndb.specs.Between.{StaysBetween}
 
 -- the connections of a slot that was freed, or none
@@ -18,10 +19,9 @@ abbrev pub freed_ids : Option ConnId → List ConnId
 freed_ids None = []
 freed_ids (Some id) = id ∷ []
 
--- the slot's connection was freed, which ends the history, or nothing was added to it. Where the pass owns all reader places no other slot changed, and where it isn't worn and
+-- this connection of the slot was freed, which ends the history, or nothing was added to it. Where the pass owns all reader places no other slot changed, and where it isn't worn and
 -- loaded an epoch two after each with which it let a connection go, none is Dead in the slot
-pub record CollectsSlot {S A R F : Type 0} (m : Meaning S A R) (slot : ℕ) (old now : Me F (CellView S A R)) : Type 0 where
-  pub freed : Option ConnId
+pub record CollectsSlot {S A R F : Type 0} (m : Meaning S A R) (slot : ℕ) (freed : Option ConnId) (old now : Me F (CellView S A R)) : Type 0 where
   pub there : (id : ConnId) → freed ≡ Some id → id.slot ≡ slot
   pub adds : AddsOwn (cell_pass old.0) now.0.seats.history (free_entries (cell_pass old.0) (freed_ids freed))
   pub same : freed ≡ None → now.0.seats.history ≡ old.0.seats.history
@@ -30,3 +30,20 @@ pub record CollectsSlot {S A R F : Type 0} (m : Meaning S A R) (slot : ℕ) (old
   pub dated : now.0.pools.dated ≡ old.0.pools.dated
   pub others : length old.0.seats.readers ≡ all_places → (p : ℕ) → p ≢ slot → (state_of m now.0.seats.history).slot p ≡ (state_of m old.0.seats.history).slot p
   pub clean : length old.0.seats.readers ≡ all_places → ¬ IsWorn (cell_pass old.0) → old.0.pools.dated + 2 ≤ old.0.epochs.loaded → ((state_of m now.0.seats.history).slot slot).stage ≢ Dead
+
+-- the pass saw more of the history, to which it added nothing, and then did that
+pub record VisitsSlot {S A R F : Type 0} (m : Meaning S A R) (slot : ℕ) (freed : Option ConnId) (old now : Me F (CellView S A R)) : Type 0 where
+  pub between : Me F (CellView S A R)
+  pub sees : HasSeenMore m old between
+  pub collects : CollectsSlot m slot freed between now
+
+-- with this epoch the pass freed these connections, which ends the history, if any; and where it owns all reader places and isn't worn, nothing
+-- Dead is in the slots below this one
+pub record HasCollected {S A R F : Type 0} (m : Meaning S A R) (epoch i : ℕ) (old now : Me F (CellView S A R)) : Type 0 where
+  pub ids : List ConnId
+  pub adds : AddsOwn (cell_pass old.0) now.0.seats.history (free_entries (cell_pass old.0) ids)
+  pub stays : StaysBetween m old.0 now.0
+  pub loaded : now.0.epochs.loaded ≡ epoch
+  pub dated : now.0.pools.dated ≡ old.0.pools.dated
+  pub later : length old.0.seats.readers ≡ all_places → ¬ IsWorn (cell_pass now.0) → old.0.pools.dated + 2 ≤ epoch
+  pub clean : length old.0.seats.readers ≡ all_places → ¬ IsWorn (cell_pass now.0) → (p : ℕ) → p < i → ((state_of m now.0.seats.history).slot p).stage ≢ Dead

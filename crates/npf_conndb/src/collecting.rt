@@ -7,10 +7,11 @@ ghost use Rattle.npf_cells.specs.Cells.{IsPassIn};
 ghost use Rattle.npf_cells_pins.specs.declared.pin.Pin.TheVariants.{Idle};
 ghost use Rattle.npf_cells_rule.specs.Passes.{cell_pass};
 ghost use Rattle.npf_conndb.specs.Between.{IsBetweenCalls, StaysBetween};
-ghost use Rattle.npf_conndb.specs.Frees.{CollectsSlot};
+ghost use Rattle.npf_conndb.specs.Frees.{CollectsSlot, HasCollected, VisitsSlot};
 
+use crate::vacancy::is_vacant;
 use npf_cells::{CellPass, Cells, Pool, READERS};
-use npf_core::Law;
+use npf_core::{ConnId, Law};
 use npf_epoch::try_advance;
 use npf_paths::KeyHash;
 use npf_turn::reclaim;
@@ -33,10 +34,30 @@ pub(crate) fn collect<L: Law, H: KeyHash>(cells: &Cells<L, H>, pass: &mut CellPa
     ensures frees { FreesAlone (cell_pass pass.old.seat.me.0) pass.new.seat.me.0.seats.history }
     ensures clean { IsClean L.meaning (cell_pass pass.new.seat.me.0) }
 {
-    let epoch = raise_epoch(cells, pass);
-    for slot in 0..cells.layout().slots {
+    let (epoch, visited) = free_first(cells, pass);
+    for slot in visited..cells.layout().slots {
         collect_slot(cells, pass, slot, epoch);
     }
+}
+
+// Raises the epoch, and visits the slots up to the first that it frees. Answers the epoch, and how many slots it visited. What is freed ends
+// what the pass adds, so behind it the pass may see no more, and can't tell vacant slots.
+fn free_first<L: Law, H: KeyHash>(cells: &Cells<L, H>, pass: &mut CellPass<L>) -> (u64, u32)
+    requires own { IsPassIn cells.now pass.old }
+    requires legal { IsPass L.meaning (cell_pass pass.old.seat.me.0) }
+    requires between { IsBetweenCalls L.meaning pass.old.seat.me.0 }
+    requires out { pass.old.seat.me.0.epochs.pin ≡ Idle }
+    ensures own { IsPassIn cells.now pass.new }
+    ensures collected { HasCollected L.meaning result.0 result.1 pass.old.seat.me pass.new.seat.me }
+{
+    let epoch = raise_epoch(cells, pass);
+    let slots = cells.layout().slots;
+    for slot in 0..slots {
+        if visit_slot(cells, pass, slot, epoch).is_some() {
+            return (epoch, slot + 1);
+        }
+    }
+    (epoch, slots)
 }
 
 // Raises the epoch, twice where no other pass is left, and answers the one that it then is.
@@ -62,24 +83,45 @@ fn raise_epoch<L: Law, H: KeyHash>(cells: &Cells<L, H>, pass: &mut CellPass<L>) 
     cells.load_epoch(pass)
 }
 
-// Frees the slot's connection, where it may be freed by this epoch. A slot whose first note says that it may not isn't touched.
-fn collect_slot<L: Law, H: KeyHash>(
+// Frees the slot's connection, where it may be freed by this epoch, and answers it. The pass first sees whether anybody has claimed the slot.
+fn visit_slot<L: Law, H: KeyHash>(
     cells: &Cells<L, H>,
     pass: &mut CellPass<L>,
     slot: u32,
     epoch: u64,
-)
+) -> Option<ConnId>
     requires own { IsPassIn cells.now pass.old }
     requires exists { slot < cells.now.table.shared.key.slots }
     requires legal { IsPass L.meaning (cell_pass pass.old.seat.me.0) }
     requires between { IsBetweenCalls L.meaning pass.old.seat.me.0 }
     requires loaded { pass.old.seat.me.0.epochs.loaded ≡ epoch }
     ensures own { IsPassIn cells.now pass.new }
-    ensures collects { CollectsSlot L.meaning slot pass.old.seat.me pass.new.seat.me }
+    ensures visits { VisitsSlot L.meaning slot result pass.old.seat.me pass.new.seat.me }
+{
+    if is_vacant(cells, pass, slot) {
+        return None;
+    }
+    collect_slot(cells, pass, slot, epoch)
+}
+
+// Frees the slot's connection, where it may be freed by this epoch, and answers it. A slot whose first note says that it may not isn't touched.
+fn collect_slot<L: Law, H: KeyHash>(
+    cells: &Cells<L, H>,
+    pass: &mut CellPass<L>,
+    slot: u32,
+    epoch: u64,
+) -> Option<ConnId>
+    requires own { IsPassIn cells.now pass.old }
+    requires exists { slot < cells.now.table.shared.key.slots }
+    requires legal { IsPass L.meaning (cell_pass pass.old.seat.me.0) }
+    requires between { IsBetweenCalls L.meaning pass.old.seat.me.0 }
+    requires loaded { pass.old.seat.me.0.epochs.loaded ≡ epoch }
+    ensures own { IsPassIn cells.now pass.new }
+    ensures collects { CollectsSlot L.meaning slot result pass.old.seat.me pass.new.seat.me }
 {
     let note = cells.load_word(pass, Pool::Slots, slot, FIRST_NOTE);
     if note < EPOCHS || note - EPOCHS + 2 > epoch {
-        return;
+        return None;
     }
-    reclaim(cells, pass, slot, epoch);
+    reclaim(cells, pass, slot, epoch)
 }

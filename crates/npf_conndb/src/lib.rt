@@ -17,6 +17,7 @@ mod conns;
 mod copying;
 mod ending;
 mod expiring;
+mod vacancy;
 
 pub use conns::{ConnPass, Conns};
 pub use npf_paths::{Fnv, KeyHash};

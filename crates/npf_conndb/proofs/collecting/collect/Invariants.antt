@@ -1,5 +1,5 @@
-use Rattle.npf_conndb.proofs.CollectedLemmas.{HasCollected}
 use Rattle.npf_cells.specs.Cells.{IsPassIn}
+use Rattle.npf_conndb.specs.Frees.{HasCollected}
 use Rattle.npf_conndb.proofs.collecting.collect.Given as goal
 
 abbrev pub invariant-loop-slot : goal.invariant-loop-slot

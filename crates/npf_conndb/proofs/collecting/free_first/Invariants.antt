@@ -1,0 +1,14 @@
+use Rattle.std.proofs.Common.{◌≡◌, []}
+use Rattle.npf_connections.specs.Adding.{Adds}
+use Rattle.npf_cells.specs.Cells.{IsPassIn}
+use Rattle.npf_cells_rule.specs.Passes.{cell_pass}
+use Rattle.npf_conndb.specs.Frees.{HasCollected}
+use Rattle.npf_conndb.proofs.collecting.free_first.Given as goal
+
+abbrev pub invariant-loop-slot : goal.invariant-loop-slot
+invariant-loop-slot g l = record {
+  own : IsPassIn l.cells l.pass;
+  sized : l.slots ≡ l.cells.table.shared.key.slots;
+  collected : HasCollected g.L.Law.meaning l.epoch l.slot l.fn.pass.seat.me l.pass.seat.me;
+  none : Adds (cell_pass l.fn.pass.seat.me.0) l.pass.seat.me.0.seats.history [];
+}
