@@ -25,6 +25,8 @@ pub struct Setting {
     pub folder: Folder,
     /// The slots of the table of connections.
     pub slots: u32,
+    /// The nodes of a table without locks, where the runs are over one whose keys have one hash.
+    pub nodes: Option<u32>,
     pub failing: Failing,
     /// Whether the gate of the next run tells what it counted.
     pub gate: bool,
@@ -37,6 +39,7 @@ impl Setting {
             alloc,
             folder: Folder::new(alloc),
             slots: FEW_SLOTS,
+            nodes: None,
             failing: NOTHING,
             gate: false,
         }
