@@ -12,7 +12,7 @@ use crate::sharing::shared;
 use crate::sum::{KEY, OTHER_KEY, Sum};
 use npf_conndb::{Conns, Fnv};
 use npf_connections::Connections;
-use npf_new_tables::{NewTable, OneHash};
+use npf_connections_fixtures::{NewTable, OneHash};
 use npf_oneturn::OneTurn;
 use std::alloc::Global;
 use std::sync::Wait;
@@ -116,7 +116,8 @@ Some((ConnId { slot: 0, inc: 2 }, Done))
 
 ";
 
-// What a table without locks answers that has 16 nodes: these two keys part at their last half-byte, so a hold of the second wants 94.
+// What a table without locks answers that has 16 nodes: these two keys part at their last
+// half-byte, so a hold of the second wants 94.
 const FEW_NODES: &[Act] = &[
     Act::Ask(KEY),
     Act::Ask(OTHER_KEY),

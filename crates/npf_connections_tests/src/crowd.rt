@@ -1,5 +1,5 @@
-// Many passes at work in one small table, each in a thread of its own: connections are opened, stepped, abandoned, expired and freed by all
-// of them at a time.
+// Many passes at work in one small table, each in a thread of its own: connections are opened,
+// stepped, abandoned, expired and freed by all of them at a time.
 ghost use Rattle.std.specs.Prelude.{◌≡◌, ℕ, ◌≤◌, ◌<◌};
 ghost use Rattle.std.specs.Thread.{IsSync};
 ghost use Rattle.npf_connections.specs.Pass.{all_places};
@@ -41,7 +41,8 @@ struct Told {
 /// What steps were told, unless memory ran out.
 type Steps = Result<Vec<Told>, AllocError>;
 
-// A number that looks random, by SplitMix64 (Steele, Lea, Flood, "Fast splittable pseudorandom number generators", 2014).
+// A number that looks random, by SplitMix64 (Steele, Lea, Flood, "Fast splittable pseudorandom
+// number generators", 2014).
 fn drawn(number: u64) -> u64 {
     let state = number.wrapping_add(1).wrapping_mul(0x9e37_79b9_7f4a_7c15);
     let mixed = (state ^ state >> 30).wrapping_mul(0xbf58_476d_1ce4_e5b9);
@@ -119,7 +120,8 @@ fn both(some: Steps, others: Steps) -> Steps {
     Ok(all)
 }
 
-// The acts of the passes from this number down to 0, of which all but the last are split off, and joined again.
+// The acts of the passes from this number down to 0, of which all but the last are split off, and
+// joined again.
 fn work_beside<R: Threads + Wait + Sync, C: Connections<Sum>>(
     rt: &R,
     alloc: Global,
@@ -156,8 +158,8 @@ fn work_beside<R: Threads + Wait + Sync, C: Connections<Sum>>(
     (whole, both(steps, others))
 }
 
-// Whether the places that the steps of each connection were told are 1, 2 and so on, each once, and each was answered the sum of those
-// before it. Each brings 7 to what is 100 at the start.
+// Whether the places that the steps of each connection were told are 1, 2 and so on, each once, and
+// each was answered the sum of those before it. Each brings 7 to what is 100 at the start.
 fn count_up(steps: &[Told]) -> bool {
     let mut id = None;
     let mut place = 0u64;
@@ -176,8 +178,9 @@ fn count_up(steps: &[Told]) -> bool {
     true
 }
 
-/// Tells of ten runs of 64 passes beside each other whether the steps of each connection were told places that count up, whether there were
-/// any, and how many connections are opened of 33 once all are expired and collected.
+/// Tells of ten runs of 64 passes beside each other whether the steps of each connection were told
+/// places that count up, whether there were any, and how many connections are opened of 33 once all
+/// are expired and collected.
 pub(crate) fn tell_crowds<R: Threads + Wait + Sync, C: Connections<Sum>>(
     rt: &R,
     alloc: Global,

@@ -1,5 +1,7 @@
-// The tests of tables of connections, each over any table, through the calls of `Connections` alone, and put to each that there is: under one
-// turn, and without locks, with the program's hash and with one hash of all keys. Expected values are counted by hand. What is answered is put into lines of text, which are compared.
+// The tests of tables of connections, each over any table, through the calls of `Connections`
+// alone, and put to each that there is: under one turn, and without locks, with the program's hash
+// and with one hash of all keys. Expected values are counted by hand. What is answered is put into
+// lines of text, which are compared.
 #![tactic(auto)]
 
 #[cfg(test)]

@@ -1,7 +1,8 @@
-// The connections of tables saved and loaded, row by row: packets open connections or are taken by them, connections expire, a table's
-// text is saved, and a text is loaded into a new table. Standard input has a row a line, and its head tells which there are; each row is
-// printed with its answer, which each kind of table has to give. What stdout wants comes from docs/FORMATS.md and from counting by hand,
-// not from this program.
+// The connections of tables saved and loaded, row by row: packets open connections or are taken by
+// them, connections expire, a table's text is saved, and a text is loaded into a new table.
+// Standard input has a row a line, and its head tells which there are; each row is printed with its
+// answer, which each kind of table has to give. What stdout wants comes from docs/FORMATS.md and
+// from counting by hand, not from this program.
 #![tactic(auto)]
 
 mod attempts;
@@ -10,8 +11,8 @@ mod tables;
 
 use anyhow::{Context, Result, bail};
 use npf_conndb::{Conns, Fnv};
+use npf_connections_fixtures::NewTable;
 use npf_flow::FlowLaw;
-use npf_new_tables::NewTable;
 use npf_oneturn::OneTurn;
 use rows::Texts;
 use std::alloc::Global;

@@ -1,4 +1,5 @@
-// Rows that prepare a run: files, the calls that fail, the slots and nodes of the table of connections, and whether the gate tells what it counted.
+// Rows that prepare a run: files, the calls that fail, the slots and nodes of the table of
+// connections, and whether the gate tells what it counted.
 use crate::captures::{addresses, capture_header, frame, record, spaces};
 use crate::setting::Setting;
 use anyhow::{Context, Result, bail};

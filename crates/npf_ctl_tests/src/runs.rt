@@ -9,10 +9,10 @@ use crate::setting::{NOTHING, Setting};
 use anyhow::{Result, anyhow, bail};
 use npf_conndb::{Conns, Fnv};
 use npf_connections::Connections;
+use npf_connections_fixtures::{NewTable, OneHash};
 use npf_ctl::npfctl_top;
 use npf_fixtures::texts::{put_lines, words_in};
 use npf_flow::FlowLaw;
-use npf_new_tables::{NewTable, OneHash};
 use npf_oneturn::OneTurn;
 use npf_outside::{Files, MemFiles, MemSink};
 use npf_types::NoMemory;
@@ -31,9 +31,10 @@ struct Answer {
     gate: Around,
 }
 
-/// Prints what the top call answers to these words over the files: its status, and what is put on both sinks. Where it wrote the file `o`,
-/// that has the bytes of the file `w`, and where it wrote `p`, of `v`. The kinds of tables have to answer alike; but where the setting names
-/// nodes, the run is over a table without locks that has so many, and one hash for all keys.
+/// Prints what the top call answers to these words over the files: its status, and what is put on
+/// both sinks. Where it wrote the file `o`, that has the bytes of the file `w`, and where it wrote
+/// `p`, of `v`. The kinds of tables have to answer alike; but where the setting names nodes, the
+/// run is over a table without locks that has so many, and one hash for all keys.
 pub fn run<R: Print + AllocGlobal + Threads + Wait + Sync>(
     rt: &R,
     setting: &mut Setting,

@@ -1,7 +1,8 @@
-// What a run costs over each kind of table of connections. The first word names the table: `conns`, which is the program's, or `oneturn`. With
-// `phases`, a number of workers, a configuration and a script behind it, the packets are dealt by flow, and what their phases took is told,
-// apart from reading and reporting; with npfctl's words behind it, npfctl is run. With no words generated input is run over both. bench/run
-// runs it beside npfctl.
+// What a run costs over each kind of table of connections. The first word names the table: `conns`,
+// which is the program's, or `oneturn`. With `phases`, a number of workers, a configuration and a
+// script behind it, the packets are dealt by flow, and what their phases took is told, apart from
+// reading and reporting; with npfctl's words behind it, npfctl is run. With no words generated
+// input is run over both. bench/run runs it beside npfctl.
 #![tactic(auto)]
 
 mod phases;

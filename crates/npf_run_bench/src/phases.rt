@@ -16,7 +16,8 @@ use std::sync::Wait;
 use std::thread::Threads;
 use std::time::Instant;
 
-/// Plays a script under a configuration, by the words `WORKERS CONF SCRIPT`, and tells how many packets pass and what the phases took a packet.
+/// Plays a script under a configuration, by the words `WORKERS CONF SCRIPT`, and tells how many
+/// packets pass and what the phases took a packet.
 pub fn time_phases<R: Threads + Wait + Sync, C: Connections<FlowLaw>>(
     host: &HostRuntime,
     rt: &R,

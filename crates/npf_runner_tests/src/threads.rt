@@ -7,9 +7,9 @@ use crate::packets::{datagrams, syns};
 use crate::run::{Published, SLOTS, publishing, run, under};
 use crate::watched::Watched;
 use npf_conndb::{Conns, Fnv};
+use npf_connections_fixtures::NewTable;
 use npf_engine::{Outcome, Refusal};
 use npf_flow::FlowLaw;
-use npf_new_tables::NewTable;
 use npf_oneturn::OneTurn;
 use npf_runner::{NoGate, Packet};
 use std::alloc::Global;
@@ -59,7 +59,8 @@ fn tell_passed(told: &mut String, outcomes: &[Outcome]) -> Result<(), Fail> {
     Ok(())
 }
 
-// Whether the one packet opened a connection, and the other is its first step, or found that it had begun and wasn't live yet.
+// Whether the one packet opened a connection, and the other is its first step, or found that it had
+// begun and wasn't live yet.
 fn is_one_flow(one: &Outcome, other: &Outcome) -> bool {
     let Outcome::ByRule {
         opened: Some(opened),
@@ -114,7 +115,8 @@ fn tell_shared<R: Threads + Wait + Sync, C: NewTable<FlowLaw>>(
     Ok(told)
 }
 
-// What a gate is told of packets 1 and 2, which go to workers 0 and 1: each tells it before its packet and after it, once.
+// What a gate is told of packets 1 and 2, which go to workers 0 and 1: each tells it before its
+// packet and after it, once.
 fn tell_gate<R: Threads + Wait + Sync, C: NewTable<FlowLaw>>(
     rt: &R,
     alloc: Global,
@@ -143,7 +145,8 @@ fn tell_published<R: Threads + Wait + Sync, C: NewTable<FlowLaw>>(
     put(told, &outcomes.as_slice())
 }
 
-// What is published in front of the expiry decides the packet, and what is published behind it doesn't.
+// What is published in front of the expiry decides the packet, and what is published behind it
+// doesn't.
 fn tell_commands<R: Threads + Wait + Sync, C: NewTable<FlowLaw>>(
     rt: &R,
     alloc: Global,

@@ -1,7 +1,8 @@
 // npfctl: what a configuration of npf.conf(5) does to the packets of captures.
 //
-// `main` makes the table of connections, and hands the words of the command line, the files of the current folder and both standard
-// streams to the top call of `npf_ctl`, whose contract says the rest.
+// `main` makes the table of connections, and hands the words of the command line, the files of the
+// current folder and both standard streams to the top call of `npf_ctl`, whose contract says the
+// rest.
 #![tactic(auto)]
 
 ghost use Rattle.std.specs.Prelude.{◌≤◌};
@@ -69,7 +70,8 @@ fn room(words: &[String]) -> Room
     }
 }
 
-/// The words behind the program's name; none where one of them isn't UTF-8, which is no command line.
+/// The words behind the program's name; none where one of them isn't UTF-8, which is no command
+/// line.
 fn words(rt: &HostRuntime) -> Result<Vec<String>, AllocError> {
     match env::args(rt) {
         Ok(args) => args.skip(1).collect(rt.alloc()),
