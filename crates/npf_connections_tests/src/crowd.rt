@@ -15,8 +15,9 @@ use npf_core::{ConnId, Stepped};
 use npf_types::Key;
 use std::alloc::{AllocError, Global};
 use std::sync::Wait;
+use std::sync::atomic::{AtomicU64, Ordering};
 use std::test::Fail;
-use std::thread::{Threads, join};
+use std::thread::{Threads, join, yield_now};
 
 /// How often all passes are split off and joined again.
 const RUNS: u32 = 10;
@@ -24,8 +25,11 @@ const RUNS: u32 = 10;
 /// The number of the last of 64 passes.
 const LAST: u64 = 63;
 
-/// The acts of a pass in a run.
-const ACTS: u64 = 200;
+/// The acts of a pass in a run, which begin once all passes have come.
+const ACTS: u64 = 20;
+
+/// A pass goes ahead after so many turns, whoever has come.
+const TURNS: u64 = 100_000;
 
 /// The keys that are asked for: half as many again as there are slots.
 const KEYS: u64 = 48;
@@ -92,12 +96,24 @@ fn act<R: Wait, C: Connections<Sum>>(
     Ok(())
 }
 
+// Waits until all passes have come.
+fn meet(come: &AtomicU64) {
+    come.fetch_add(1, Ordering::SeqCst);
+    for _ in 0..TURNS {
+        if come.load(Ordering::SeqCst) > LAST {
+            return;
+        }
+        yield_now();
+    }
+}
+
 // The acts of the pass of this number, and what its steps were told.
 fn work<R: Wait, C: Connections<Sum>>(
     rt: &R,
     alloc: Global,
     conns: &C,
     pass: &mut C::Pass,
+    come: &AtomicU64,
     number: u64,
 ) -> Steps
     requires out { IsOut sum_law (C.fits conns.now) C.view pass.old }
@@ -106,9 +122,11 @@ fn work<R: Wait, C: Connections<Sum>>(
     ensures places { (C.view pass.new).places ≡ (C.view pass.old).places }
 {
     let mut steps = Vec::new(alloc);
+    meet(come);
     for n in 0..ACTS {
         let draw = drawn(number.wrapping_mul(ACTS).wrapping_add(n));
         act(rt, conns, pass, draw, &mut steps)?;
+        yield_now();
     }
     Ok(steps)
 }
@@ -127,6 +145,7 @@ fn work_beside<R: Threads + Wait + Sync, C: Connections<Sum>>(
     alloc: Global,
     conns: &C,
     pass: C::Pass,
+    come: &AtomicU64,
     number: u64,
 ) -> (C::Pass, Steps)
     requires out { IsOut sum_law (C.fits conns.now) C.view pass }
@@ -136,7 +155,7 @@ fn work_beside<R: Threads + Wait + Sync, C: Connections<Sum>>(
 {
     let mut pass = pass;
     if number == 0 {
-        let steps = work(rt, alloc, conns, &mut pass, 0);
+        let steps = work(rt, alloc, conns, &mut pass, come, 0);
         return (pass, steps);
     }
     let other = conns.split(rt, &mut pass);
@@ -146,12 +165,12 @@ fn work_beside<R: Threads + Wait + Sync, C: Connections<Sum>>(
             requires { IsOut sum_law (C.fits conns.now) C.view other × (1 ≤ (C.view other).places) }
         {
             let mut pass = other;
-            let steps = work(rt, alloc, conns, &mut pass, number);
+            let steps = work(rt, alloc, conns, &mut pass, come, number);
             (pass, steps)
         },
         move ||
             requires { IsSync R.row × IsOut sum_law (C.fits conns.now) C.view pass × (0 < number) × (number ≤ (C.view pass).places) }
-        { work_beside(rt, alloc, conns, pass, number - 1) },
+        { work_beside(rt, alloc, conns, pass, come, number - 1) },
     );
     let mut whole = whole;
     conns.join(rt, &mut whole, other);
@@ -193,7 +212,8 @@ pub(crate) fn tell_crowds<R: Threads + Wait + Sync, C: Connections<Sum>>(
 {
     let mut pass = pass;
     for _ in 0..RUNS {
-        let (whole, steps) = work_beside(rt, alloc, conns, pass, LAST);
+        let come = AtomicU64::new(0);
+        let (whole, steps) = work_beside(rt, alloc, conns, pass, &come, LAST);
         pass = whole;
         let mut steps = steps?;
         steps.sort()?;
