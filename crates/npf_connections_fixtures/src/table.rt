@@ -6,8 +6,9 @@ use npf_oneturn::OneTurn;
 use npf_types::NoMemory;
 use std::alloc::Global;
 
-/// How many nodes a table without locks has here: far more than the keys of a test need.
-const NODES: u32 = 65_536;
+/// How many nodes a table without locks has here besides one for each slot: more than the keys of
+/// a test need, also where all have one hash.
+const NODES: u32 = 1024;
 
 /// A table of connections that can be made.
 pub trait NewTable<L: Law>: Connections<L> + Sized + Drop {
@@ -36,6 +37,6 @@ where
     L::State: Send,
 {
     fn new_table(alloc: Global, slots: u32) -> Result<(Self, Self::Pass), NoMemory> {
-        Conns::new(alloc, slots, NODES)
+        Conns::new(alloc, slots, slots + NODES)
     }
 }
