@@ -1,9 +1,9 @@
 -- The paths where an emptied node is taken off.
-use Rattle.std.proofs.Common.{◌≡◌, ◌≢◌, ℕ, ◌+◌, ◌<◌, ◌⊎◌, inl, inr, refl, ap, sym, ◌∙◌, arith}
+use Rattle.std.proofs.Common.{◌≡◌, ◌≢◌, ℕ, ◌+◌, inl, inr, refl, ap, sym, ◌∙◌, arith}
 use Rattle.npf_paths.specs.declared.cell.Cell.{Cell}
 use Rattle.npf_paths.specs.declared.cell.Cell.TheVariants as Cells
 use Rattle.npf_paths.specs.declared.place.Place.{Place}
-use Rattle.npf_paths.specs.declared.place.Place.TheVariants.{Root, Node}
+use Rattle.npf_paths.specs.declared.place.Place.TheVariants.{Node}
 use Rattle.npf_paths.specs.FillingLaw.{FillsPlace}
 use Rattle.npf_paths.specs.LevelLaw.{MeetsAtOneLevel}
 use Rattle.npf_paths.specs.Paths.{AreDigits, IsOnPath, IsEnd, EndsAt}
