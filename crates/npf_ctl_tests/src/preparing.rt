@@ -31,6 +31,7 @@ pub fn prepare(setting: &mut Setting, word: &str, text: &str) -> Result<()> {
         }
         "gate" => {
             setting.gate = true;
+            setting.in_turn = text == "in turn";
             Ok(())
         }
         "fail" => plan_fault(setting, text),

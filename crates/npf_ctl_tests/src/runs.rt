@@ -40,14 +40,24 @@ pub fn run<R: Print + AllocGlobal + Threads + Wait + Sync>(
     setting: &mut Setting,
     text: &str,
 ) -> Result<()> {
-    let told = match setting.nodes {
-        Some(nodes) => tell_few_nodes(rt, setting, text, nodes)?,
-        None => tell_alike(rt, setting, text)?,
-    };
+    let told = tell_run(rt, setting, text)?;
     setting.failing = NOTHING;
     setting.gate = false;
+    setting.in_turn = false;
     print!(rt; "{told}")?;
     Ok(())
+}
+
+/// What `run` prints.
+pub fn tell_run<R: AllocGlobal + Threads + Wait + Sync>(
+    rt: &R,
+    setting: &Setting,
+    text: &str,
+) -> Result<String> {
+    match setting.nodes {
+        Some(nodes) => tell_few_nodes(rt, setting, text, nodes),
+        None => tell_alike(rt, setting, text),
+    }
 }
 
 fn tell_few_nodes<R: AllocGlobal + Threads + Wait + Sync>(
@@ -136,7 +146,7 @@ fn call<R: AllocGlobal + Threads + Wait + Sync, C: Connections<FlowLaw>>(
     files.fail(setting.failing.file)?;
     let mut out = sink(alloc, setting.failing.out)?;
     let mut err = sink(alloc, setting.failing.err)?;
-    let gate = Around::new();
+    let gate = Around::new(setting.in_turn);
     let status = npfctl_top(
         rt,
         alloc,

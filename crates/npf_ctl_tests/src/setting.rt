@@ -30,6 +30,8 @@ pub struct Setting {
     pub failing: Failing,
     /// Whether the gate of the next run tells what it counted.
     pub gate: bool,
+    /// Whether it holds each packet until the one before is answered.
+    pub in_turn: bool,
 }
 
 impl Setting {
@@ -42,6 +44,7 @@ impl Setting {
             nodes: None,
             failing: NOTHING,
             gate: false,
+            in_turn: false,
         }
     }
 }
