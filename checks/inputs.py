@@ -1,7 +1,7 @@
 """Inputs of the program that are made by chance: configurations, scripts, files of interfaces and of tables, and captures.
 
 Each function takes a source of chance, `random.Random`, and makes a text that is mostly in its grammar, about the same few names and
-addresses, so that rules, maps and connections meet. Captures are bytes.
+addresses, so that rules, maps and connections meet. Captures are bytes. `swollen` makes files of which one repeats a line very often.
 """
 
 import struct
@@ -195,3 +195,73 @@ def capture(rng):
         whole += struct.pack(order + "IIII", second, rng.choice([0, 1, 999_999, 10**9]), len(record), len(record)) + record
         second += rng.choice([0, 1, 1, 40])
     return whole
+
+
+DEFAULT, WHOLE = "group default {\n", "\n}\n"
+CONNECTION = "conn 0411000113880035.0000000000000000.000000000a{n:06x}.0000000000000000.00000000c0000201 - - o0 1 -/-/0 -/-/0 -,-,0,-\n"
+# A file, what stands before the lines, the line with its number n, the number before m, and bytes a, b and c of n, and what stands behind.
+SWELLING = [
+    ("c", "", "$v{n} = 10.{a}.{b}.{c}\n", DEFAULT + "pass all" + WHOLE),
+    ("c", "$v0 = 10.0.0.1\n", "$v{n} = $v{m}\n", DEFAULT + "pass from $v9" + WHOLE),
+    ("c", "$v0 = 10.0.0.1\n", "$v{n} = {{ $v{m}, 10.{a}.{b}.{c} }}\n", DEFAULT + "pass from $v9" + WHOLE),
+    ("c", "$v0 = 10.0.0.1\n", "$v{n} = {{ $v{m}, $v{m} }}\n", DEFAULT + "pass from $v9" + WHOLE),
+    ("c", "$v = { 10.0.0.1, 10.0.0.2 }\n" + DEFAULT + "pass from {", "$v,", "$v }" + WHOLE),
+    ("c", DEFAULT + "pass from {", "10.{a}.{b}.{c},", "10.0.0.1 }" + WHOLE),
+    ("c", DEFAULT + "pass to any port {", "{n},", "1 }" + WHOLE),
+    ("c", DEFAULT + "pass proto {", "{c},", "1 } all" + WHOLE),
+    ("c", DEFAULT, "pass from 10.{a}.{b}.{c} to any port {c}\n", WHOLE),
+    ("c", DEFAULT, "ruleset \"r{n}\"\n", WHOLE),
+    ("c", DEFAULT + "pass all" + WHOLE, "group \"g{n}\" {{ pass from 10.{a}.{b}.{c} }}\n", ""),
+    ("c", DEFAULT + "pass all" + WHOLE, "group \"g{n}\" on e{n} {{ }}\n", ""),
+    ("c", DEFAULT + "pass from <t9>" + WHOLE, "table <t{n}> type lpm file \"t.txt\"\n", ""),
+    ("c", DEFAULT + "pass all" + WHOLE, "map wm0 dynamic 10.0.0.0/8 -> 203.0.113.1 pass from 10.{a}.{b}.{c}\n", ""),
+    ("c", DEFAULT + "pass all apply \"p9\"" + WHOLE, "procedure \"p{n}\" {{ log: npflog0 }}\n", ""),
+    ("c", DEFAULT + "pass all apply \"p\"" + WHOLE + "procedure \"p\" {", "log: npflog{c}; normalize: \"no-df\", \"min-ttl\" {c};", "}"),
+    ("c", DEFAULT + "pass all" + WHOLE, ";", ""),
+    ("c", DEFAULT + "pass all" + WHOLE, "\\\n", ""),
+    ("c", DEFAULT + "pass all" + WHOLE + "set a.b ", ":", ""),
+    ("c", DEFAULT + "pass all" + WHOLE + "set a.b ", "1:", ""),
+    ("c", DEFAULT + "pass all" + WHOLE + "set a.b ", "a-", ""),
+    ("c", DEFAULT + "pass all" + WHOLE + "set a.b ", "0", ""),
+    ("c", "group \"", "g", "\" { pass all }\n" + DEFAULT + WHOLE),
+    ("c", DEFAULT + "pass all" + WHOLE, "{{", ""),
+    ("s", "phase\n", "rule dyn add pass from 10.{a}.{b}.{c}\n", ""),
+    ("s", "phase\n", "table u add 10.{a}.{b}.{c}\n", ""),
+    ("s", "phase\n", "reload \"c\"\n", ""),
+    ("s", "phase\nrule dyn add pass from {", "10.{a}.{b}.{c},", "10.0.0.1 }"),
+    ("s", "", "phase\n", ""),
+    ("s", "phase\n", "expire {n}\n", ""),
+    ("s", "", "capture wm0 in \"k\"\n", ""),
+    ("s", "", "capture e{n} in \"k\"\n", ""),
+    ("s", "phase\nexpire 1.", "0", ""),
+    ("s", "", " \t\n#\n", ""),
+    ("i", "", "e{n} 10.{a}.{b}.{c}\n", ""),
+    ("i", "wm0", " 10.{a}.{b}.{c}", "\n"),
+    ("i", "wm0", " fd00::{n:x}", "\n"),
+    ("t.txt", "", "10.{a}.{b}.{c}\n", ""),
+    ("t.txt", "", "2001:db8:{n:x}::/48\n", ""),
+    ("t.txt", "", "10.0.0.1 # \n", ""),
+    ("f", "npf-connections 1\n", CONNECTION, ""),
+    ("f", "npf-connections 1\nif wm0\n", CONNECTION, ""),
+    ("f", "npf-connections 1\n", "if e{n}\n", ""),
+]
+
+
+def repeated(head, line, tail, most):
+    """A text of one line as often as it stays within so many bytes."""
+    parts, size, n = [head], len(head) + len(tail), 0
+    while True:
+        n += 1
+        part = line.format(n=n, m=n - 1, a=n >> 16 & 255, b=n >> 8 & 255, c=n & 255)
+        size += len(part)
+        if size > most:
+            return "".join([*parts, tail]).encode()
+        parts.append(part)
+
+
+def swollen(rng):
+    """Files of which one nears the length of a text, or a part of it."""
+    name, head, line, tail = rng.choice(SWELLING)
+    files = {"c": b'$i = inet4(wm0)\ntable <u> type lpm file "t.txt"\ngroup default { pass from { $i, <u> }; ruleset "dyn" }\n', "i": b"wm0 10.0.0.1\n",
+             "t.txt": b"", "k": capture(rng), "s": b'capture wm0 in "k"\n', "f": b"npf-connections 1\nif wm0\n"}
+    return {**files, name: repeated(head, line, tail, rng.choice([40_000, 400_000, 4_194_304]))}
