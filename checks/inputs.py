@@ -202,6 +202,10 @@ CONNECTION = "conn 0411000113880035.0000000000000000.000000000a{n:06x}.000000000
 # A file, what stands before the lines, the line with its number n, the number before m, and bytes a, b and c of n, and what stands behind.
 SWELLING = [
     ("c", "", "$v{n} = 10.{a}.{b}.{c}\n", DEFAULT + "pass all" + WHOLE),
+    ("c", "$v0 = 10.0.0.1\n", "$v{n} = {{ ifaddrs(wm0), $v{m} }}\n", DEFAULT + "pass from $v9" + WHOLE),
+    ("c", "", "$v{n} = inet4(wm0)\n", DEFAULT + "pass from $v9" + WHOLE),
+    ("c", DEFAULT, "pass from inet4(wm0)\n", WHOLE),
+    ("c", DEFAULT + "pass all" + WHOLE, "map wm0 dynamic inet4(wm0) -> inet4(wm0)\n", ""),
     ("c", "$v0 = 10.0.0.1\n", "$v{n} = $v{m}\n", DEFAULT + "pass from $v9" + WHOLE),
     ("c", "$v0 = 10.0.0.1\n", "$v{n} = {{ $v{m}, 10.{a}.{b}.{c} }}\n", DEFAULT + "pass from $v9" + WHOLE),
     ("c", "$v0 = 10.0.0.1\n", "$v{n} = {{ $v{m}, $v{m} }}\n", DEFAULT + "pass from $v9" + WHOLE),
@@ -260,8 +264,9 @@ def repeated(head, line, tail, most):
 
 
 def swollen(rng):
-    """Files of which one nears the length of a text, or a part of it."""
-    name, head, line, tail = rng.choice(SWELLING)
+    """Files of which one or two near the length of a text, or a part of it."""
     files = {"c": b'$i = inet4(wm0)\ntable <u> type lpm file "t.txt"\ngroup default { pass from { $i, <u> }; ruleset "dyn" }\n', "i": b"wm0 10.0.0.1\n",
              "t.txt": b"", "k": capture(rng), "s": b'capture wm0 in "k"\n', "f": b"npf-connections 1\nif wm0\n"}
-    return {**files, name: repeated(head, line, tail, rng.choice([40_000, 400_000, 4_194_304]))}
+    for name, head, line, tail in rng.sample(SWELLING, rng.choice([1, 1, 2])):
+        files[name] = repeated(head, line, tail, rng.choice([40_000, 400_000, 4_194_304]))
+    return files
