@@ -48,20 +48,24 @@ def element(rng):
     return rng.choice([address, prefix, lambda _: "<t>", lambda _: "<u>", lambda _: "$a", lambda _: f"inet4({interface(rng)})"])(rng)
 
 
-def port(rng):
+def ports(rng):
     low, high = sorted(rng.choices(PORTS, k=2))
-    return rng.choice([str(low), f"{low}-{high}", "$p", "ssh", "https"])
+    return rng.choice([str(low), f"{low}-{high}"])
 
 
-def end(rng):
-    if rng.random() < 0.2:
-        return "any " + maybe(rng, "port " + listed(rng, port), 0.5)
-    return listed(rng, element) + " " + maybe(rng, "port " + listed(rng, port), 0.3)
+def port(rng):
+    return rng.choice([ports(rng), ports(rng), "$p", "ssh", "https"])
+
+
+def end(rng, chance):
+    """Addresses and maybe ports."""
+    return rng.choice(["any", listed(rng, element), listed(rng, element)]) + " " + maybe(rng, "port " + listed(rng, port), chance)
 
 
 def filtered(rng):
     proto = rng.choice(["", "", "proto tcp ", "proto udp ", "proto tcp flags S/SA ", "proto icmp icmp-type 8 code 0 ", "proto { tcp, udp } ", "proto 47 "])
-    ends = rng.choice(["all", f"from {end(rng)}", f"to {end(rng)}", f"from {end(rng)}to {end(rng)}"])
+    chance = 0.01 if "icmp" in proto or "47" in proto else 0.3
+    ends = rng.choice(["all", f"from {end(rng, chance)}", f"to {end(rng, chance)}", f"from {end(rng, chance)}to {end(rng, chance)}"])
     return maybe(rng, f"family {rng.choice(['inet4', 'inet6'])}", 0.1) + proto + ends
 
 
@@ -76,7 +80,7 @@ def map_statement(rng):
     inner, outer = rng.choice([(0, 0), (1, 1), (2, 1), (3, 3)])
     return rng.choice([
         f"map {on} dynamic 10.1.0.0/16 -> {OUTER[outer % 3]}",
-        f"map {on} dynamic proto udp {INNER[inner % 3]} -> {OUTER[outer % 3]} port {port(rng)}",
+        f"map {on} dynamic proto udp {INNER[inner % 3]} -> {OUTER[outer % 3]} port {ports(rng)}",
         f"map {on} dynamic proto tcp {INNER[inner % 3]} port 22 <- {OUTER[outer % 3]} port 9022",
         f"map {on} dynamic {INNER[inner]} <-> {OUTER[outer]}",
         f"map {on} static 10.1.1.0/24 {rng.choice(['->', '<-', '<->'])} 203.0.113.0/24",
@@ -101,11 +105,12 @@ def conf(rng):
 
 
 def ifaces(rng):
-    return "".join(f"{it} {' '.join(some(rng, address))}\n" for it in INTERFACES).encode()
+    return "".join(f"{it} {rng.choice(INNER[:3])} {' '.join(some(rng, address))}\n" for it in INTERFACES).encode()
 
 
 def table(rng):
-    return "".join(f"{rng.choice([address, address, prefix])(rng)}\n" for _ in range(rng.randint(0, 12))).encode()
+    makes = rng.choice([address, address, address, prefix])
+    return "".join(f"{makes(rng)}\n" for _ in range(rng.randint(0, 12))).encode()
 
 
 def change(rng):
