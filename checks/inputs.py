@@ -268,10 +268,10 @@ def repeated(head, line, tail, most):
         parts.append(part)
 
 
-def swollen(rng):
-    """Files of which one or two near the length of a text, or a part of it."""
+def swollen(rng, sizes):
+    """Files of which one or two have as many lines as come to one of these sizes."""
     files = {"c": b'$i = inet4(wm0)\ntable <u> type lpm file "t.txt"\ngroup default { pass from { $i, <u> }; ruleset "dyn" }\n', "i": b"wm0 10.0.0.1\n",
              "t.txt": b"", "k": capture(rng), "s": b'capture wm0 in "k"\n', "f": b"npf-connections 1\nif wm0\n"}
     for name, head, line, tail in rng.sample(SWELLING, rng.choice([1, 1, 2])):
-        files[name] = repeated(head, line, tail, rng.choice([40_000, 400_000, 4_194_304]))
+        files[name] = repeated(head, line, tail, rng.choice(sizes))
     return files
