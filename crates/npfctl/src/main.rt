@@ -39,7 +39,7 @@ fn main(rt: HostRuntime) -> ExitCode {
         return ExitCode::FAILURE;
     };
     let alloc = rt.alloc();
-    let Room { slots, nodes } = room(words.as_slice());
+    let Room { slots, nodes } = room_for(words.as_slice());
     let Ok((conns, mut pass)) = Conns::<FlowLaw, Fnv>::new(alloc, slots, nodes) else {
         return ExitCode::FAILURE;
     };
@@ -60,7 +60,7 @@ fn main(rt: HostRuntime) -> ExitCode {
 }
 
 /// The room of the table: a command that runs no packets asks it nothing.
-fn room(words: &[String]) -> Room
+fn room_for(words: &[String]) -> Room
     ensures slots { (1 ≤ result.slots) × (result.slots ≤ 65536) }
     ensures nodes { (16 ≤ result.nodes) × (result.nodes ≤ 262144) }
 {
