@@ -170,7 +170,7 @@ fn work_beside<R: Threads + Wait + Sync, C: Connections<Sum>>(
         },
         move || -> (C::Pass, Steps)
             requires { IsSync R.row × IsOut sum_law (C.fits conns.now) C.view pass × (0 < number) × (number ≤ (C.view pass).places) }
-            ensures { IsOut sum_law (C.fits conns.now) C.view result.0 × ((C.view result.0).places ≡ (C.view pass).places) }
+            ensures { IsOut sum_law (C.fits conns.entry.now) C.view result.0 × ((C.view result.0).places ≡ (C.view pass).places) }
         { work_beside(rt, alloc, conns, pass, come, number - 1) },
     );
     let mut whole = whole;
