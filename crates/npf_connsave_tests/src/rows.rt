@@ -13,35 +13,43 @@ use npf_engine_opening::{Attempt, Opened, open};
 use npf_flow::FlowLaw;
 use npf_types::Name;
 use std::alloc::Global;
+use std::fmt::Write;
 use std::str;
 use std::sync::Wait;
 
-/// Prints each row with its answer. The text is the one that was saved last, with the lines that were added.
+/// The text that was saved last, with the lines that were added, and what was told of all rows.
+#[derive(Drop)]
+pub struct Texts {
+    pub saved: Vec<u8>,
+    pub told: String,
+}
+
+/// Tells each row with its answer.
 pub fn answer_rows<C: Connections<FlowLaw>>(
-    rt: &(impl Wait + Print),
+    rt: &impl Wait,
     alloc: Global,
     conns: &C,
     pass: &mut C::Pass,
     rows: &[String],
-    text: &mut Vec<u8>,
+    texts: &mut Texts,
 ) -> Result<()>
     requires out { IsOut flow_law (C.fits conns.now) C.view pass.old }
     requires sole { (C.view pass.old).places ≡ all_places }
 {
     for row in rows {
-        answer_row(rt, alloc, conns, pass, row.as_str(), text)?;
+        answer_row(rt, alloc, conns, pass, row.as_str(), texts)?;
     }
     Ok(())
 }
 
-/// Prints the row of a line, if it has one, and its answer.
+/// Tells the row of a line, if it has one, and its answer.
 fn answer_row<C: Connections<FlowLaw>>(
-    rt: &(impl Wait + Print),
+    rt: &impl Wait,
     alloc: Global,
     conns: &C,
     pass: &mut C::Pass,
     line: &str,
-    text: &mut Vec<u8>,
+    texts: &mut Texts,
 ) -> Result<()>
     requires out { IsOut flow_law (C.fits conns.now) C.view pass.old }
     requires sole { (C.view pass.old).places ≡ all_places }
@@ -51,25 +59,25 @@ fn answer_row<C: Connections<FlowLaw>>(
     if line.is_empty() || line.starts_with('#') {
         return Ok(());
     }
-    print!(rt; "{line}")?;
+    texts.told.push_str(line)?;
     let (word, rest) = line.split_once(' ').unwrap_or((line, ""));
     match word {
-        "case" => Ok(println!(rt)?),
+        "case" => Ok(texts.told.push('\n')?),
         "open" => {
             let attempt = attempt_of(rest)?;
             let opened = open_one(rt, conns, pass, &attempt);
-            print_opened(rt, &opened)
+            tell_opened(&mut texts.told, &opened)
         }
         "expire" => {
             let now = number(Some(rest))?;
             let count = conns.expire(rt, pass, now);
-            Ok(println!(rt; " -> {count}")?)
+            Ok(write!(texts.told, " -> {count}\n")?)
         }
-        "save" => print_saved(rt, alloc, conns, pass, rest, text),
+        "save" => tell_saved(rt, alloc, conns, pass, rest, texts),
         "line" => {
-            text.extend_from_slice(rest.as_bytes())?;
-            text.push(b'\n')?;
-            Ok(println!(rt)?)
+            texts.saved.extend_from_slice(rest.as_bytes())?;
+            texts.saved.push(b'\n')?;
+            Ok(texts.told.push('\n')?)
         }
         _ => bail!("no such row"),
     }
@@ -93,28 +101,28 @@ fn open_one<C: Connections<FlowLaw>>(
     opened
 }
 
-/// Prints what became of a packet: of a connection that took it, the packet that opened it, and its step.
-fn print_opened(rt: &impl Print, opened: &Opened) -> Result<()> {
+/// Tells what became of a packet: of a connection that took it, the packet that opened it, and its step.
+fn tell_opened(told: &mut String, opened: &Opened) -> Result<()> {
     match opened {
-        Opened::Open { .. } => println!(rt; " -> opened")?,
+        Opened::Open { .. } => write!(told, " -> opened\n")?,
         Opened::Known {
             answer: Stepped::Done { reply, place },
             ..
-        } => println!(rt; " -> conn {} step {place}", reply.opener)?,
-        Opened::Known { .. } => println!(rt; " -> not live")?,
-        Opened::Refused(_) => println!(rt; " -> refused")?,
+        } => write!(told, " -> conn {} step {place}\n", reply.opener)?,
+        Opened::Known { .. } => write!(told, " -> not live\n")?,
+        Opened::Refused(_) => write!(told, " -> refused\n")?,
     }
     Ok(())
 }
 
-/// Prints the table's text for a run of these interfaces, and keeps it.
-fn print_saved<C: Connections<FlowLaw>>(
-    rt: &(impl Wait + Print),
+/// Tells the table's text for a run of these interfaces, and keeps it.
+fn tell_saved<C: Connections<FlowLaw>>(
+    rt: &impl Wait,
     alloc: Global,
     conns: &C,
     pass: &mut C::Pass,
     names: &str,
-    text: &mut Vec<u8>,
+    texts: &mut Texts,
 ) -> Result<()>
     requires out { IsOut flow_law (C.fits conns.now) C.view pass.old }
     requires sole { (C.view pass.old).places ≡ all_places }
@@ -122,9 +130,11 @@ fn print_saved<C: Connections<FlowLaw>>(
     ensures sole { (C.view pass.new).places ≡ all_places }
 {
     let names = names_of(alloc, names)?;
-    *text = save(rt, alloc, conns, pass, names.as_slice())?;
-    println!(rt)?;
-    print!(rt; "{}", str::from_utf8(text.as_slice())?)?;
+    texts.saved = save(rt, alloc, conns, pass, names.as_slice())?;
+    texts.told.push('\n')?;
+    texts
+        .told
+        .push_str(str::from_utf8(texts.saved.as_slice())?)?;
     Ok(())
 }
 

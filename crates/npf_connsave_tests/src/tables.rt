@@ -4,46 +4,51 @@ ghost use Rattle.npf_connections.specs.Pass.{all_places};
 ghost use Rattle.npf_connections.specs.Stay.{IsOut};
 ghost use Rattle.npf_flow.specs.Flows.{flow_law};
 
-use crate::rows::{answer_rows, names_of};
+use crate::rows::{Texts, answer_rows, names_of};
 use anyhow::{Context, Result, bail};
 use npf_connections::Connections;
+use npf_connections_fixtures::NewTable;
 use npf_connsave::load;
 use npf_flow::FlowLaw;
-use npf_oneturn::OneTurn;
 use npf_saved_file::MAX_SAVED_BYTES;
 use std::alloc::Global;
+use std::fmt::Write;
 use std::sync::Wait;
 
 /// The slots of a table that nothing is loaded into.
 const SLOTS: u32 = 8;
 
-/// Answers the rows of one table.
-pub fn answer_table(
-    rt: &(impl Wait + Print),
+/// Tells the rows of one table of this kind.
+pub fn answer_table<C: NewTable<FlowLaw>>(
+    rt: &impl Wait,
     alloc: Global,
     rows: &[String],
-    text: &mut Vec<u8>,
+    texts: &mut Texts,
 ) -> Result<()> {
     let (first, rest) = rows.split_first().context("no row")?;
     let Some(run) = first.strip_prefix("load ") else {
-        let (conns, mut pass) = OneTurn::<FlowLaw>::new(alloc, SLOTS)?;
-        return answer_rows(rt, alloc, &conns, &mut pass, rows, text);
+        let (conns, mut pass) = C::new_table(alloc, SLOTS)?;
+        return answer_rows(rt, alloc, &conns, &mut pass, rows, texts);
     };
     let (slots, names) = run.split_once(' ').unwrap_or((run, ""));
-    let (conns, mut pass) = OneTurn::<FlowLaw>::new(alloc, slots.parse::<u32>()?)?;
-    print!(rt; "{first}")?;
-    print_loaded(rt, alloc, &conns, &mut pass, names, text)?;
-    answer_rows(rt, alloc, &conns, &mut pass, rest, text)
+    let slots = slots.parse::<u32>()?;
+    if !(1..=65_536).contains(&slots) {
+        bail!("no table has so many slots");
+    }
+    let (conns, mut pass) = C::new_table(alloc, slots)?;
+    texts.told.push_str(first.as_str())?;
+    tell_loaded(rt, alloc, &conns, &mut pass, names, texts)?;
+    answer_rows(rt, alloc, &conns, &mut pass, rest, texts)
 }
 
-/// Loads the text into a new table, for a run of these interfaces, and prints what becomes of it.
-fn print_loaded<C: Connections<FlowLaw>>(
-    rt: &(impl Wait + Print),
+/// Loads the text into a new table, for a run of these interfaces, and tells what becomes of it.
+fn tell_loaded<C: Connections<FlowLaw>>(
+    rt: &impl Wait,
     alloc: Global,
     conns: &C,
     pass: &mut C::Pass,
     names: &str,
-    text: &[u8],
+    texts: &mut Texts,
 ) -> Result<()>
     requires out { IsOut flow_law (C.fits conns.now) C.view pass.old }
     requires sole { (C.view pass.old).places ≡ all_places }
@@ -51,13 +56,20 @@ fn print_loaded<C: Connections<FlowLaw>>(
     ensures out { IsOut flow_law (C.fits conns.now) C.view pass.new }
     ensures sole { (C.view pass.new).places ≡ all_places }
 {
-    if text.len() > MAX_SAVED_BYTES {
+    if texts.saved.len() > MAX_SAVED_BYTES {
         bail!("the text is too long");
     }
     let names = names_of(alloc, names)?;
-    match load(rt, alloc, conns, pass, names.as_slice(), text) {
-        Ok(()) => println!(rt; " -> loaded")?,
-        Err(fault) => println!(rt; " -> {fault}")?,
+    match load(
+        rt,
+        alloc,
+        conns,
+        pass,
+        names.as_slice(),
+        texts.saved.as_slice(),
+    ) {
+        Ok(()) => write!(texts.told, " -> loaded\n")?,
+        Err(fault) => write!(texts.told, " -> {fault}\n")?,
     }
     Ok(())
 }

@@ -1,7 +1,7 @@
 -- How the work on a command ends before it is done.
 use Rattle.std.proofs.Common.{◌≡◌, Contains, inl, inr, ⊎_elim, ℕ, List, [], Some, Ok, Err, Result, OnOk, IfErr, sym, subst, arith}
 use Rattle.npf_engine.specs.Histories.{FlowEntry, History}
-use Rattle.npf_runner.specs.Plays.{IsUnnumbered}
+use Rattle.npf_runner.specs.Plays.{IsUnnumbered, PlaysPhases}
 use Rattle.npf_outside.specs.Counts.{Rose}
 use Rattle.npf_outside.specs.Files.{FilesMoment, SameFiles}
 use Rattle.npf_outside.specs.Sink.{Appends, AppendsFront}
@@ -24,7 +24,8 @@ use Rattle.npf_ctl.specs.Commands.{names_of_run, spread_said}
 use Rattle.npf_ctl_output.specs.Writing.{IsUnwritten}
 use Rattle.npf_ctl.specs.Ends.{EndsIn, FailsReport}
 use Rattle.npf_ctl.specs.Faults.{ChangesNoFile, MeetsFault, PutsFront, PutsNothing}
-use Rattle.npf_ctl.specs.Running.{Moment, IsReported}
+use Rattle.npf_ctl.specs.Fragments.{HasWholePackets}
+use Rattle.npf_ctl.specs.Running.{Moment, IsReported, PlaysWords}
 use Rattle.npf_ctl.specs.Texts.{TextOf}
 use Rattle.npf_ctl.specs.Top.{DoesCommand, PutsText}
 use Rattle.npf_ctl.proofs.FileLemmas.{front_of_whole}
@@ -59,19 +60,36 @@ module _ (words : List (List ℕ)) (before after : Moment) where
     unput same NoMemory why = MeetsFault.in_memory (inr puts_front) (inl (inl same))
     unput same _ why = absurd why
 
-  -- a run's plan was prepared, and its connections were loaded
+  -- a run's plan was prepared, its fragments were put together, and its connections were loaded
   pub record Starts (run : RunWords) (plan : RunPlan) (begun : Pass FlowEntry) : Type 0 where
-    pub prepared : PreparesRun before.files after.files (names_of_run run) (Ok plan)
+    pub read : RunPlan
+    pub prepared : PreparesRun before.files after.files (names_of_run run) (Ok read)
+    pub whole : HasWholePackets read plan
     pub same : StaysSole before.pass begun
     pub begins : BeginsLoaded before.files after.files (given_text run.load) (interface_names plan.ifaces) before.pass begun
+
+  -- what was started and played is the run of its words
+  pub plays_run : (run : RunWords) (plan : RunPlan) (begun : Pass FlowEntry) → Starts run plan begun → (outputs : List Packet) (outcomes : List Outcome) →
+      PlaysPhases plan.configs run.workers (spread_said run.spread) begun after.pass plan.phases plan.packets outputs outcomes →
+      PlaysWords run before after plan outputs outcomes
+  plays_run run plan begun starts outputs outcomes plays = record {
+    read = starts.read;
+    prepared = starts.prepared;
+    whole = starts.whole;
+    begun = begun;
+    same = starts.same;
+    begins = starts.begins;
+    played = plays;
+  }
 
   module _ (run : RunWords) (plan : RunPlan) (said : SaysCommand words (Run run)) where
     -- a plan wasn't reported
     pub unreported : ChangesNoFile before after → (begun : Pass FlowEntry) → Starts run plan begun → (fault : CommandFault) →
         FailsReport plan run.workers (spread_said run.spread) begun after.pass before.out after.out fault → MeetsFault words before after fault
     unreported same begun starts _ (FailsReport.unplayed nothing) = MeetsFault.in_memory (inl nothing) (inl (inl same))
-    unreported same begun starts fault (FailsReport.unput plays why front) =
-        unput (Run run) _ said (TextOf.report (record { prepared = starts.prepared; begun = begun; same = starts.same; begins = starts.begins; played = plays })) front same fault why
+    unreported same begun starts fault (FailsReport.unput {outputs = outputs} {outcomes = outcomes} plays why front) =
+        unput (Run run) (report_text plan.ifaces plan.packets outcomes) said
+        (TextOf.report {run = run} {plan = plan} {outputs = outputs} {outcomes = outcomes} (plays_run run plan begun starts outputs outcomes plays)) front same fault why
 
     module _ (outputs : List Packet) (outcomes : List Outcome) (reports : IsReported run before after plan outputs outcomes) where
       -- the report that was put is a front of itself

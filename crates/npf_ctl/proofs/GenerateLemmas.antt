@@ -16,6 +16,7 @@ use Rattle.npf_ctl_words.specs.declared.command.Command.TheVariants.{Gen}
 use Rattle.npf_ctl_words.specs.CommandLine.{SaysCommand}
 use Rattle.npf_ctl.specs.Ends.{EndsIn, PreparesGenerated}
 use Rattle.npf_ctl.specs.Faults.{IsUntouched, MeetsFault}
+use Rattle.npf_ctl.specs.Fragments.{HasWholePackets}
 use Rattle.npf_ctl.specs.Generated.{PreparesOf}
 use Rattle.npf_ctl.specs.Running.{Moment}
 use Rattle.npf_ctl.specs.Texts.{TextOf}
@@ -27,12 +28,13 @@ module _ (words : List (List ℕ)) (before after : Moment) (number : ℕ) (said 
   unprepared untouched fault (PreparesGenerated.made {tree = tree} holds comes) =
       early words before after (λ why. PreparesOf tree (Err why)) (λ why says. MeetsFault.in_workload said holds says untouched) untouched.put untouched.files fault comes
 
-  module _ (prepared : Prepared) (outputs : List Packet) (outcomes : List Outcome) where
-    pub generated_ends : SameFiles before.files.contents after.files.contents → PreparesGenerated number (Ok prepared) →
-        PlaysPhases (run_plan_of prepared).configs 1 Rr before.pass after.pass prepared.phases.items prepared.packets.items outputs outcomes →
+  module _ (read whole : Prepared) (outputs : List Packet) (outcomes : List Outcome) where
+    pub generated_ends : SameFiles before.files.contents after.files.contents → PreparesGenerated number (Ok read) → HasWholePackets (run_plan_of read) (run_plan_of whole) →
+        PlaysPhases (run_plan_of whole).configs 1 Rr before.pass after.pass whole.phases.items whole.packets.items outputs outcomes →
         (result : Result (Unit {0}) CommandFault) → OnOk result (Appends before.out.held after.out.held (total_text outcomes)) → OnOk result (after.out.waiting ≡ 0) →
         AppendsFront before.out.held after.out.held (total_text outcomes) → IfErr result (HasPutFault before.out.faults after.out.faults) → EndsIn words before after result
-    generated_ends same (PreparesGenerated.made {tree = tree} holds comes) plays =
+    generated_ends same (PreparesGenerated.made {tree = tree} holds comes) has_whole plays =
         text_ends words before after (Gen number) (total_text outcomes) said
-        (TextOf.total {tree = tree} {plan = run_plan_of prepared} {outputs = outputs} holds
-        (record { prepared = comes; begun = before.pass; same = sole_self before.pass; begins = refl; played = plays })) same (λ puts. puts)
+        (TextOf.total {tree = tree} {plan = run_plan_of whole} {outputs = outputs} holds
+        (record { read = run_plan_of read; prepared = comes; whole = has_whole; begun = before.pass; same = sole_self before.pass; begins = refl; played = plays })) same
+        (λ puts. puts)

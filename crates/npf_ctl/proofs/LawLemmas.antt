@@ -118,8 +118,11 @@ module _ (words : List (List ℕ)) (before after : Moment) (tree : Tree) (told :
 
     plays_so : (b : Run) → SaysCommand words (Words.Run b) → (plan : RunPlan) (outputs : List Packet) (outcomes : List Outcome) → PlaysWords b before after plan outputs outcomes →
         (plan : RunPlan) × OfRun (Ok plan)
-    plays_so b said_b plan outputs outcomes plays =
-        (plan, starts b said_b (Ok plan) (started (names_of_run b) (given_text b.load) b.workers (spread_said b.spread) before.files after.files before.pass after.pass plan outputs outcomes plays))
+    plays_so b said_b plan outputs outcomes plays = (
+      plays.read,
+      starts b said_b (Ok plays.read)
+          (started (names_of_run b) (given_text b.load) b.workers (spread_said b.spread) before.files after.files before.pass after.pass plan outputs outcomes plays),
+    )
 
     run_text : (command : Command) (text : List ℕ) → SaysCommand words command → TextOf before after command text → (plan : RunPlan) × OfRun (Ok plan)
     run_text _ _ said_b (TextOf.report {run = b} {plan = plan} {outputs = outputs} {outcomes = outcomes} plays) = plays_so b said_b plan outputs outcomes plays
@@ -251,7 +254,7 @@ module _ (words : List (List ℕ)) (before after : Moment) (one : OneCommand) (n
   generated_text _ _ said_b (TextOf.count {load = load} loads) = no_other (Words.Validate load) said_b (λ other e. cc)
   generated_text _ _ said_b (TextOf.model {load = load} loads) = no_other (Words.Show load) said_b (λ other e. cc)
   generated_text _ _ said_b (TextOf.programs {load = load} loads within) = no_other (Words.Debug load) said_b (λ other e. cc)
-  generated_text _ _ said_b (TextOf.total {number = other} {tree = held} {plan = plan} holds plays) = (plan, (held, holds_so other said_b held holds, plays.prepared))
+  generated_text _ _ said_b (TextOf.total {number = other} {tree = held} {plan = plan} holds plays) = (plays.read, (held, holds_so other said_b held holds, plays.prepared))
 
   generated_does : (command : Command) → SaysCommand words command → DoesCommand command before after → (plan : RunPlan) × OfGenerated (Ok plan)
   generated_does (Words.Run b) said_b does = no_other (Words.Run b) said_b (λ other e. cc)

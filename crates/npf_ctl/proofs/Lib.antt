@@ -1,6 +1,7 @@
 pub mod AnswerLemmas
 pub mod EndLemmas
 pub mod FileLemmas
+pub mod FragmentLemmas
 pub mod GenerateLemmas
 pub mod LawLemmas
 pub mod ListingLemmas

@@ -22,7 +22,7 @@ use Rattle.npf_ctl.specs.Commands.{names_of_run}
 use Rattle.npf_ctl.specs.Ends.{EndsIn, FailsPlan, FailsSave, FollowsPlan, IsPutOut}
 use Rattle.npf_ctl.specs.Faults.{ChangesNoFile, IsUntouched, MeetsFault, PutsFront, PutsNothing}
 use Rattle.npf_ctl.specs.Running.{IsReported, IsSavedTo, IsWrittenTo, Moment, WritesPassed}
-use Rattle.npf_ctl.proofs.EndLemmas.{Starts, early, reported_front, unreported, unwritten, unwritten_since}
+use Rattle.npf_ctl.proofs.EndLemmas.{Starts, early, plays_run, reported_front, unreported, unwritten, unwritten_since}
 use Rattle.npf_ctl.proofs.FileLemmas.{has_on, same_through}
 
 module _ (words : List (List ℕ)) (before after : Moment) (run : RunWords) (said : SaysCommand words (Run run)) where
@@ -49,7 +49,7 @@ module _ (words : List (List ℕ)) (before after : Moment) (run : RunWords) (sai
       reports_of : (outputs : List Packet) (outcomes : List Outcome) → IsPutOut run plan begun after.pass before.out after.out outputs outcomes →
           IsReported run before after plan outputs outcomes
       reports_of outputs outcomes put = record {
-        played = record { prepared = starts.prepared; begun = begun; same = starts.same; begins = starts.begins; played = put.played };
+        played = plays_run words before after run plan begun starts outputs outcomes put.played;
         reported = put.reported;
       }
 

@@ -1,5 +1,5 @@
 -- What a run is started from.
-use Rattle.std.proofs.Common.{◌≡◌, ℕ, Option, Some, None, List, Ok, refl, sym, subst}
+use Rattle.std.proofs.Common.{◌≡◌, ℕ, Option, Some, None, List, Ok, refl, sym, ap, subst}
 use Rattle.npf_types.specs.declared.name.Name.{Name}
 use Rattle.npf_types.specs.Stages.{◌andthen◌, gives, goes_on}
 use Rattle.npf_types.proofs.StageLemmas.{andthen_lasts}
@@ -19,15 +19,19 @@ use Rattle.npf_ctl_saved.specs.Loading.{BeginsLoaded, LacksNode, ListsConnection
 use Rattle.npf_ctl.specs.Running.{PlaysRun}
 use Rattle.npf_ctl.specs.Starting.{StartsRun}
 
--- a run that was played was started
+-- connections that a run began with were read
+loaded : (before after : FilesMoment) (load : Option (List ℕ)) (old begun : Pass FlowEntry) (read : RunPlan) → BeginsLoaded before after load (interface_names read.ifaces) old begun →
+    (ReadsConnections before after load (interface_names read.ifaces) old.slots andthen (λ conns. gives read)) (Ok read)
+loaded before after None old begun read begins = goes_on refl refl
+loaded before after (Some file) old begun read begins = goes_on (goes_on begins.reads (ListsConnections.listed begins.loads.may)) refl
+
+-- a run that was played was started, from what was read
 pub started : (names : RunNames) (load : Option (List ℕ)) (workers : ℕ) (spread : Spread) (before after : FilesMoment) (old new : Pass FlowEntry) (plan : RunPlan)
-    (outputs : List Packet) (outcomes : List Outcome) → PlaysRun names load workers spread before after old new plan outputs outcomes →
-    StartsRun before after names load old.slots (Ok plan)
-started names load workers spread before after old new plan outputs outcomes plays = goes_on plays.prepared (by load plays.begins) where
-  by : (given : Option (List ℕ)) → BeginsLoaded before after given (interface_names plan.ifaces) old plays.begun →
-      (ReadsConnections before after given (interface_names plan.ifaces) old.slots andthen (λ conns. gives plan)) (Ok plan)
-  by None begins = goes_on refl refl
-  by (Some file) begins = goes_on (goes_on begins.reads (ListsConnections.listed begins.loads.may)) refl
+    (outputs : List Packet) (outcomes : List Outcome) (plays : PlaysRun names load workers spread before after old new plan outputs outcomes) →
+    StartsRun before after names load old.slots (Ok plays.read)
+started names load workers spread before after old new plan outputs outcomes plays =
+    goes_on plays.prepared (loaded before after load old plays.begun plays.read
+    (subst (λ (n : List Name). BeginsLoaded before after load n old plays.begun) (ap (λ (p : RunPlan). interface_names p.ifaces) plays.whole.same) plays.begins))
 
 -- and so is one whose connections the table had no node for
 pub started_without : (names : RunNames) (load : Option (List ℕ)) (file : List ℕ) (before after : FilesMoment) (old new : Pass FlowEntry) (plan : RunPlan) →

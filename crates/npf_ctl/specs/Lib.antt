@@ -1,6 +1,7 @@
 pub mod Commands
 pub mod Ends
 pub mod Faults
+pub mod Fragments
 pub mod Generated
 pub mod Limits
 pub mod Looking

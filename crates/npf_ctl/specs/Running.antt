@@ -22,6 +22,7 @@ use Rattle.npf_ctl_saved.specs.Loading.{BeginsLoaded, interface_names}
 use Rattle.npf_ctl_words.specs.declared.command.Run.{Run}
 use Rattle.npf_ctl_words.specs.CommandLine.{given_text}
 use Rattle.npf_ctl.specs.Commands.{names_of_run, spread_said}
+use Rattle.npf_ctl.specs.Fragments.{HasWholePackets}
 
 -- what is shown at a moment: the files, the output, and the pass of the table of connections
 pub record Moment : Type 0 where
@@ -32,11 +33,13 @@ pub record Moment : Type 0 where
 abbrev pub moment : FilesMoment → SinkMoment → Pass FlowEntry → Moment
 moment files out pass = record { files = files; out = out; pass = pass }
 
--- The plan of these names, as the files say it from the one moment to the other, was played: each packet has an outcome that the pass's
--- history explains. That history begins with the entries of the connections that were loaded, where a file of them is named, and they stand
--- before the first phase.
+-- What the files of these names say from the one moment to the other was played, with its fragments put together: each packet of that plan has
+-- an outcome that the pass's history explains. That history begins with the entries of the connections that were loaded, where a file of them
+-- is named, and they stand before the first phase.
 pub record PlaysRun (names : RunNames) (load : Option (List ℕ)) (workers : ℕ) (spread : Spread) (before after : FilesMoment) (old new : Pass FlowEntry) (plan : RunPlan) (outputs : List Packet) (outcomes : List Outcome) : Type 0 where
-  pub prepared : PreparesRun before after names (Ok plan)
+  pub read : RunPlan
+  pub prepared : PreparesRun before after names (Ok read)
+  pub whole : HasWholePackets read plan
   pub begun : Pass FlowEntry
   pub same : StaysSole old begun
   pub begins : BeginsLoaded before after load (interface_names plan.ifaces) old begun

@@ -9,6 +9,7 @@ ghost use Rattle.npf_flow.specs.Flows.{flow_law};
 ghost use Rattle.npf_ctl.specs.Ends.{EndsIn, IsFresh, PreparesGenerated};
 ghost use Rattle.npf_ctl.specs.Running.{moment};
 
+use crate::fragments::put_together;
 use crate::generated_files::GeneratedFiles;
 use npf_connections::Connections;
 use npf_ctl_arrivals::Captures;
@@ -18,6 +19,7 @@ use npf_ctl_prepare::laws::contents_decide;
 use npf_ctl_prepare::{Prepared, RunFiles, prepare_run};
 use npf_flow::FlowLaw;
 use npf_outside::Sink;
+use npf_pieces::DatagramBytes;
 use npf_runner::{Gate, Played, Spread, play};
 use std::alloc::Global;
 use std::sync::Wait;
@@ -41,13 +43,15 @@ pub(crate) fn run_generated<R: Threads + Wait + Sync, O: Sink, C: Connections<Fl
     ensures later { IsLater (C.view pass.old) (C.view pass.new) }
 {
     let mut captures = Captures::new(alloc);
+    let mut datagrams = DatagramBytes::new(alloc);
     let prepared = prepare_generated(alloc, number, &mut captures)?;
+    let whole = put_together(rt, alloc, prepared, 1, &mut datagrams)?;
     let Prepared {
         ifaces: _,
         configs,
         packets,
         phases,
-    } = prepared;
+    } = whole;
     let phases = phases.as_slice();
     let configs = configs.as_slice();
     let spread = Spread::Rr;

@@ -1,7 +1,7 @@
 // What npfctl does: from the words of the command line and the bytes of its files to the lines of a report, a status and the line of a fault.
 //
-// Each command is a few steps, the first fault of which is answered: `running` prepares a run, loads its connections, plays it, puts and writes
-// what it makes, and saves its connections (`saving`);
+// Each command is a few steps, the first fault of which is answered: `running` prepares a run, puts its fragments together (`fragments`), loads
+// its connections, plays it, puts and writes what it makes, and saves its connections (`saving`);
 // `looking` loads a configuration and puts what is to be seen of it; `generating` runs a generated input from files in memory
 // (`generated_files`); `top` gives
 // the status, and puts the line of a fault.
@@ -11,6 +11,7 @@
 // other status is that of the first fault met, with its cause (specs/Faults), and its line was put on the error sink.
 #![tactic(auto)]
 
+mod fragments;
 mod generated_files;
 mod generating;
 pub mod laws;

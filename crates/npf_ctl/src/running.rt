@@ -1,4 +1,5 @@
-// A run: it is prepared, its connections are loaded, it is played and reported, what passed is written, and its connections are saved.
+// A run: it is prepared, its fragments are put together, its connections are loaded, it is played and reported, what passed is written, and
+// its connections are saved.
 // Files are loaded, written and saved where the words name them.
 ghost use Rattle.std.specs.Prelude.{◌≡◌, ◌≤◌, ℕ, List, All, IfOk, IfErr, OnOk, IsErrOf, length};
 ghost use Rattle.npf_outside.specs.Files.{SameOthers};
@@ -22,6 +23,7 @@ ghost use Rattle.npf_ctl.specs.Ends.{EndsIn, FailsPlan, FailsReport, FollowsPlan
 ghost use Rattle.npf_ctl.specs.Running.{IsWrittenTo, moment};
 ghost use Rattle.npf_ctl.specs.Top.{KeepsOtherFiles};
 
+use crate::fragments::put_together;
 use crate::saving::save_connections;
 use npf_connections::Connections;
 use npf_ctl_arrivals::Captures;
@@ -33,6 +35,7 @@ use npf_ctl_words::{Run, Spread as SpreadWord};
 use npf_flow::FlowLaw;
 use npf_outside::{Files, Sink};
 use npf_packet::IpExtent;
+use npf_pieces::DatagramBytes;
 use npf_runner::{Gate, Played, Spread, play};
 use std::alloc::Global;
 use std::sync::Wait;
@@ -66,10 +69,12 @@ pub(crate) fn run<R: Threads + Wait + Sync, F: Files, O: Sink, C: Connections<Fl
         ifaces: words.ifaces,
     };
     let mut captures = Captures::new(alloc);
+    let mut datagrams = DatagramBytes::new(alloc);
     let prepared = prepare_run(alloc, names, files, &mut captures)?;
     let interfaces = interface_names(alloc, &prepared.ifaces)?;
+    let whole = put_together(rt, alloc, prepared, words.workers, &mut datagrams)?;
     load_connections(rt, alloc, words.load, &interfaces, files, conns, pass)?;
-    run_prepared(rt, alloc, prepared, words, files, out, conns, pass, gate)?;
+    run_prepared(rt, alloc, whole, words, files, out, conns, pass, gate)?;
     save_connections(rt, alloc, words.save, &interfaces, files, conns, pass)
 }
 

@@ -21,7 +21,7 @@ pub fn generate_run(
 }
 
 /// Prints its configuration and its script.
-pub fn print_texts(rt: &impl Print, setting: &Setting) -> Result<()> {
+pub fn print_texts(rt: &(impl Print + AllocGlobal), setting: &Setting) -> Result<()> {
     let workload = workload(setting)?;
     println!(rt)?;
     print_lines(rt, "  ", workload.conf.as_slice())?;

@@ -11,6 +11,7 @@ mod preparing;
 mod rows;
 mod runs;
 mod setting;
+mod variants;
 
 use anyhow::{Context, Result};
 use rows::answer_line;

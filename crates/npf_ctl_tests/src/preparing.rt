@@ -1,4 +1,5 @@
-// Rows that prepare a run: files, the calls that fail, the slots of the table of connections, and whether the gate tells what it counted.
+// Rows that prepare a run: files, the calls that fail, the slots and nodes of the table of
+// connections, and whether the gate tells what it counted.
 use crate::captures::{addresses, capture_header, frame, record, spaces};
 use crate::setting::Setting;
 use anyhow::{Context, Result, bail};
@@ -24,8 +25,13 @@ pub fn prepare(setting: &mut Setting, word: &str, text: &str) -> Result<()> {
             setting.slots = text.parse()?;
             Ok(())
         }
+        "nodes" => {
+            setting.nodes = Some(text.parse()?);
+            Ok(())
+        }
         "gate" => {
             setting.gate = true;
+            setting.in_turn = text == "in turn";
             Ok(())
         }
         "fail" => plan_fault(setting, text),

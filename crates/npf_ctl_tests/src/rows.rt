@@ -2,6 +2,7 @@
 use crate::preparing::{prepare, prepare_times};
 use crate::runs::run;
 use crate::setting::Setting;
+use crate::variants::{Change, run_variants};
 use anyhow::Result;
 use std::sync::Wait;
 use std::thread::Threads;
@@ -20,6 +21,14 @@ pub fn answer_line<R: Print + AllocGlobal + Threads + Wait + Sync>(
         "npfctl" => {
             print!(rt; "{line}")?;
             run(rt, setting, text)
+        }
+        "cut" => {
+            println!(rt; "{line}")?;
+            run_variants(rt, setting, Change::Cut, text)
+        }
+        "spoil" => {
+            println!(rt; "{line}")?;
+            run_variants(rt, setting, Change::Spoil, text)
         }
         "case" => Ok(println!(rt; "{line}")?),
         "subject" => {

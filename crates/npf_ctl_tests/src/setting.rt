@@ -25,9 +25,13 @@ pub struct Setting {
     pub folder: Folder,
     /// The slots of the table of connections.
     pub slots: u32,
+    /// The nodes of a table without locks, where the runs are over one whose keys have one hash.
+    pub nodes: Option<u32>,
     pub failing: Failing,
     /// Whether the gate of the next run tells what it counted.
     pub gate: bool,
+    /// Whether it holds each packet until the one before is answered.
+    pub in_turn: bool,
 }
 
 impl Setting {
@@ -37,8 +41,10 @@ impl Setting {
             alloc,
             folder: Folder::new(alloc),
             slots: FEW_SLOTS,
+            nodes: None,
             failing: NOTHING,
             gate: false,
+            in_turn: false,
         }
     }
 }

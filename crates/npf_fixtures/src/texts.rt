@@ -1,6 +1,7 @@
 // Texts and bytes as rows have them.
 use anyhow::{Context, Result, bail};
 use std::alloc::Global;
+use std::fmt::Write;
 use std::str;
 
 /// The words between the spaces, of which `""` is the empty one; none in an empty text.
@@ -57,13 +58,21 @@ pub fn hex_bytes(alloc: Global, text: &str) -> Result<Vec<u8>> {
     Ok(bytes)
 }
 
-/// Prints bytes line by line, each behind a mark. Behind one without its line feed stands a `\`.
-pub fn print_lines(rt: &impl Print, mark: &str, bytes: &[u8]) -> Result<()> {
+/// Puts bytes line by line, each behind a mark. Behind one without its line feed stands a `\`.
+pub fn put_lines(told: &mut String, mark: &str, bytes: &[u8]) -> Result<()> {
     for line in str::from_utf8(bytes)?.split_inclusive('\n') {
         match line.strip_suffix('\n') {
-            Some(line) => println!(rt; "{mark}{line}")?,
-            None => println!(rt; "{mark}{line}\\")?,
+            Some(line) => write!(told, "{mark}{line}\n")?,
+            None => write!(told, "{mark}{line}\\\n")?,
         }
     }
+    Ok(())
+}
+
+/// Prints what `put_lines` puts.
+pub fn print_lines(rt: &(impl Print + AllocGlobal), mark: &str, bytes: &[u8]) -> Result<()> {
+    let mut told = String::new(rt.alloc());
+    put_lines(&mut told, mark, bytes)?;
+    print!(rt; "{told}")?;
     Ok(())
 }

@@ -1,5 +1,5 @@
 // The tests of what a run does at one time: packets through workers on threads of their own, and packets that open connections, one after
-// the other, where others may have opened them first. They are put to any table of connections and shown over the one under one turn.
+// the other, where others may have opened them first. They are put to each kind of table of connections, under one turn and without locks.
 // What is expected of a packet follows from its configuration and from the order that a gate enforces; the numbers of keys are worked
 // out by hand from their layout, which npf_key tells. What is answered is put into lines of text, which are compared.
 #![tactic(auto)]

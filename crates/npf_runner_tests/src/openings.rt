@@ -4,7 +4,9 @@ ghost use Rattle.npf_connections.specs.Stay.{IsOut};
 ghost use Rattle.npf_flow.specs.Flows.{flow_law};
 
 use crate::answers::{put, same};
+use npf_conndb::{Conns, Fnv};
 use npf_connections::Connections;
+use npf_connections_fixtures::{NewTable, OneHash};
 use npf_core::Found;
 use npf_engine_opening::{Attempt, Opened, Refusal, open};
 use npf_flow::{FlowArg, FlowLaw};
@@ -347,23 +349,35 @@ fn answer_all<C: Connections<FlowLaw>>(
     Ok(())
 }
 
-fn one_turn_answers(
+fn new_table_answers<C: NewTable<FlowLaw>>(
     rt: &impl Wait,
     alloc: Global,
     acts: &[Act],
     told: &mut String,
 ) -> Result<(), Fail> {
-    let (conns, mut pass) = OneTurn::<FlowLaw>::new(alloc, 64)?;
+    let (conns, mut pass) = C::new_table(alloc, 64)?;
     answer_all(rt, &conns, &mut pass, acts, told)
+}
+
+// What new tables of this kind answer.
+fn answers<C: NewTable<FlowLaw>>(rt: &impl Wait, alloc: Global) -> Result<String, Fail> {
+    let mut told = String::new(alloc);
+    for acts in &CASES {
+        new_table_answers::<C>(rt, alloc, acts, &mut told)?;
+        told.push('\n')?;
+    }
+    Ok(told)
 }
 
 #[test]
 fn packets_open_connections_or_are_known(rt: HostRuntime) -> Result<(), Fail> {
-    let mut told = String::new(rt.alloc());
-    for acts in &CASES {
-        one_turn_answers(&rt, rt.alloc(), acts, &mut told)?;
-        told.push('\n')?;
+    let alloc = rt.alloc();
+    for told in &[
+        answers::<OneTurn<FlowLaw>>(&rt, alloc)?,
+        answers::<Conns<FlowLaw, Fnv>>(&rt, alloc)?,
+        answers::<Conns<FlowLaw, OneHash>>(&rt, alloc)?,
+    ] {
+        same(&rt, told.as_str(), ANSWERS);
     }
-    same(&rt, told.as_str(), ANSWERS);
     Ok(())
 }

@@ -1,5 +1,5 @@
 // Counts how long the calls of tables of connections and of a published number take. The first word says which: `connections` a look and
-// a step in the table under one turn, beside flows in a hash map of the library; `trie` a look in the trie of the table without locks, beside
+// a step in a table of each kind, beside flows in a hash map of the library; `trie` a look in the trie of the table without locks, beside
 // such a map; `publish` a read of a published number, beside one by `left_right`'s own handle. The second is how many packets, hundreds
 // of looks or reads there are. With no words there are a few of each, and no times are told.
 #![tactic(auto)]
@@ -19,12 +19,12 @@ use flows::time_flows;
 use looking::time_trie;
 use mapped::{time_locked_map, time_map};
 use publishing::time_reads;
-use table::time_table;
+use table::time_tables;
 
 fn main(rt: HostRuntime) -> Result<(), Error> {
     let (measure, rounds) = asked(&rt)?;
     if measure.has(Measure::Connections) {
-        time_table(&rt, &rt, rounds)?;
+        time_tables(&rt, &rt, rounds)?;
         time_flows(&rt, rounds)?;
     }
     if measure.has(Measure::Trie) {

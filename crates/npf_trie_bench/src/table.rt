@@ -1,4 +1,4 @@
-// How long a packet's look and step take of connections in a table under one turn.
+// How long a packet's look and step take of connections in a table of each kind.
 ghost use Rattle.std.specs.Prelude.{◌≡◌, ◌≤◌, false, []};
 ghost use Rattle.npf_flow.specs.Flows.{flow_law};
 ghost use Rattle.npf_connections.specs.Stay.{IsIn, IsOut};
@@ -6,6 +6,7 @@ ghost use Rattle.npf_connections.specs.Stay.{IsIn, IsOut};
 use crate::drawn::{Draws, KEYS, key};
 use crate::flows::{PACKET, flow};
 use anyhow::Error;
+use npf_conndb::{Conns, Fnv};
 use npf_connections::Connections;
 use npf_core::{Held, Stepped};
 use npf_fixtures::work::{Work, or_few};
@@ -15,32 +16,55 @@ use npf_types::{Key, Way};
 use std::sync::Wait;
 use std::time::Instant;
 
-/// So many packets, each in a stay of its own, and again in stays of a hundred. The host has the clock and the output.
-pub fn time_table(host: &HostRuntime, rt: &impl Wait, packets: u64) -> Result<(), Error> {
-    let (conns, mut pass) = OneTurn::<FlowLaw>::new(host.alloc(), KEYS)?;
-    let opened = fill(rt, &conns, &mut pass);
-    time_runs(host, rt, &conns, &mut pass, opened, packets)
+/// How many nodes the table without locks may have.
+const NODES: u32 = 65_536;
+
+/// What packets each in a stay of its own are called, and packets in stays of a hundred.
+#[derive(Clone, Copy)]
+struct Names {
+    apart: &'static str,
+    together: &'static str,
 }
 
-fn time_runs<C: Connections<FlowLaw>>(
+const WITHOUT_LOCKS: Names = Names {
+    apart: "connections without locks, a stay for a packet",
+    together: "connections without locks, a stay for a hundred",
+};
+
+const UNDER_ONE_TURN: Names = Names {
+    apart: "connections under one turn, a stay for a packet",
+    together: "connections under one turn, a stay for a hundred",
+};
+
+/// So many packets over a table of each kind, each in a stay of its own, and again in stays of a
+/// hundred. The host has the clock and the output.
+pub fn time_tables(host: &HostRuntime, rt: &impl Wait, packets: u64) -> Result<(), Error> {
+    let (conns, mut pass) = Conns::<FlowLaw, Fnv>::new(host.alloc(), KEYS, NODES)?;
+    time_table(host, rt, &conns, &mut pass, WITHOUT_LOCKS, packets)?;
+    let (conns, mut pass) = OneTurn::<FlowLaw>::new(host.alloc(), KEYS)?;
+    time_table(host, rt, &conns, &mut pass, UNDER_ONE_TURN, packets)
+}
+
+fn time_table<C: Connections<FlowLaw>>(
     host: &HostRuntime,
     rt: &impl Wait,
     conns: &C,
     pass: &mut C::Pass,
-    opened: u32,
+    names: Names,
     packets: u64,
 ) -> Result<(), Error>
     requires out { IsOut flow_law (C.fits conns.now) C.view pass.old }
     requires place { 1 ≤ (C.view pass.old).places }
 {
+    let opened = fill(rt, conns, pass);
     let apart = Work {
         size: opened.into(),
-        name: "connections, a stay for a packet",
+        name: names.apart,
         pieces: packets,
     };
     let together = Work {
         size: opened.into(),
-        name: "connections, a stay for a hundred",
+        name: names.together,
         pieces: packets / 100 * 100,
     };
     let stays = or_few(packets, KEYS.into());

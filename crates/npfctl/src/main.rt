@@ -1,26 +1,46 @@
 // npfctl: what a configuration of npf.conf(5) does to the packets of captures.
 //
-// `main` makes the table of connections, and hands the words of the command line, the files of the current folder and both standard
-// streams to the top call of `npf_ctl`, whose contract says the rest.
+// `main` makes the table of connections, and hands the words of the command line, the files of the
+// current folder and both standard streams to the top call of `npf_ctl`, whose contract says the
+// rest.
 #![tactic(auto)]
 
+ghost use Rattle.std.specs.Prelude.{◌≤◌};
+
+use npf_conndb::{Conns, Fnv};
 use npf_ctl::npfctl_top;
 use npf_flow::FlowLaw;
-use npf_oneturn::OneTurn;
 use npf_outside::{FolderFiles, StderrSink, StdoutSink};
 use npf_runner::NoGate;
-use npf_types::limits::MAX_CONNECTIONS;
+use npf_types::limits::{MAX_CONNECTIONS, MAX_NODES};
 use std::alloc::AllocError;
 use std::env;
 use std::io::ErrorKind;
 use std::process::ExitCode;
+
+/// How many connections a table may have at a time, and how many nodes for their keys.
+struct Room {
+    slots: u32,
+    nodes: u32,
+}
+
+const MOST: Room = Room {
+    slots: MAX_CONNECTIONS as u32,
+    nodes: MAX_NODES as u32,
+};
+
+const LEAST: Room = Room {
+    slots: 1,
+    nodes: 16,
+};
 
 fn main(rt: HostRuntime) -> ExitCode {
     let Ok(words) = words(&rt) else {
         return ExitCode::FAILURE;
     };
     let alloc = rt.alloc();
-    let Ok((conns, mut pass)) = OneTurn::<FlowLaw>::new(alloc, MAX_CONNECTIONS as u32) else {
+    let Room { slots, nodes } = room_for(words.as_slice());
+    let Ok((conns, mut pass)) = Conns::<FlowLaw, Fnv>::new(alloc, slots, nodes) else {
         return ExitCode::FAILURE;
     };
     let mut files = FolderFiles::new(&rt);
@@ -39,7 +59,19 @@ fn main(rt: HostRuntime) -> ExitCode {
     ))
 }
 
-/// The words behind the program's name; none where one of them isn't UTF-8, which is no command line.
+/// The room of the table: a command that runs no packets asks it nothing.
+fn room_for(words: &[String]) -> Room
+    ensures slots { (1 ≤ result.slots) × (result.slots ≤ 65536) }
+    ensures nodes { (16 ≤ result.nodes) × (result.nodes ≤ 262144) }
+{
+    match words.first() {
+        Some(word) if word.as_str() == "run" || word.as_str() == "gen" => MOST,
+        _ => LEAST,
+    }
+}
+
+/// The words behind the program's name; none where one of them isn't UTF-8, which is no command
+/// line.
 fn words(rt: &HostRuntime) -> Result<Vec<String>, AllocError> {
     match env::args(rt) {
         Ok(args) => args.skip(1).collect(rt.alloc()),

@@ -1,9 +1,10 @@
-use Rattle.std.proofs.Common.{rules, ◌≡◌, ◌∙◌, List, Err, IfSome, OnOk, inl, inr, refl, subst}
+use Rattle.std.proofs.Common.{rules, ◌≡◌, ◌∙◌, List, Err, IfSome, OnOk, inl, inr, refl, sym, ap, subst}
 use Rattle.npf_types.specs.declared.name.Name.{Name}
 use Rattle.npf_ctl_saved.proofs.ReadLemmas.{reads_after}
 use Rattle.npf_connections.proofs.SaidLemmas.{later_more}
 use Rattle.npf_ctl_input.proofs.AroundLemmas.{around_first, around_next}
 use Rattle.npf_ctl_messages.specs.declared.fault.CommandFault.TheVariants.{NoMemory}
+use Rattle.npf_ctl_prepare.specs.Prepares.{RunPlan}
 use Rattle.npf_ctl_prepare.specs.View.{run_plan_of}
 use Rattle.npf_ctl_saved.specs.Loading.{BeginsLoaded, FailsLoad, interface_names}
 use Rattle.npf_ctl_input.specs.Unless.{IfTold}
@@ -32,6 +33,12 @@ returns-in_err-interfaces-clause-ends g c =
     rw same (λ texts said. MeetsFault.in_memory (inl (nothing_put (g.O.Sink.moment c.args.out.now)))
     (inl (inl (only_read (g.F.Files.moment c.args.files.now) (g.F.Files.moment c.prepare_run.new.files) c.prepare_run.ensures.reads))))
 
+pub returns-in_err-whole-clause-ends : goal.returns-in_err-whole-clause-ends
+returns-in_err-whole-clause-ends g c =
+    let same : c.from_residual-in_err-whole.result ≡ Err NoMemory = search rules in
+    rw same (λ texts said. MeetsFault.in_memory (inl (nothing_put (g.O.Sink.moment c.args.out.now)))
+    (inl (inl (only_read (g.F.Files.moment c.args.files.now) (g.F.Files.moment c.prepare_run.new.files) c.prepare_run.ensures.reads))))
+
 pub returns-in_err-load_connections-clause-ends : goal.returns-in_err-load_connections-clause-ends
 returns-in_err-load_connections-clause-ends g c =
     let first = g.F.Files.moment c.args.files.now in
@@ -54,6 +61,12 @@ returns-in_err-load_connections-clause-ends g c =
 
 pub returns-in_err-interfaces-clause-files : goal.returns-in_err-interfaces-clause-files
 returns-in_err-interfaces-clause-files g c = λ texts said.
+    let first = g.F.Files.moment c.args.files.now in
+    let read = g.F.Files.moment c.prepare_run.new.files in
+    same_keeps texts first.contents read.contents (only_read first read c.prepare_run.ensures.reads)
+
+pub returns-in_err-whole-clause-files : goal.returns-in_err-whole-clause-files
+returns-in_err-whole-clause-files g c = λ texts said.
     let first = g.F.Files.moment c.args.files.now in
     let read = g.F.Files.moment c.prepare_run.new.files in
     same_keeps texts first.contents read.contents (only_read first read c.prepare_run.ensures.reads)
@@ -89,9 +102,14 @@ returns-in_err-run_prepared-clause-ends g c =
     let whole = around_work first loaded last c.run_prepared.ensures.reads in
     let fault = c.in_err-run_prepared.field-0.0 in
     let same : c.from_residual-in_err-run_prepared.result ≡ Err fault = search rules in
-    let plan = run_plan_of c.in_ok-prepared.prepared in
-    let names : c.deref.result.now ≡ interface_names plan.ifaces = c.deref.ensures.value ∙ c.in_ok-interfaces.ensures in
+    let prepared = run_plan_of c.in_ok-prepared.prepared in
+    let plan = run_plan_of c.in_ok-whole.whole in
+    let has_whole = c.in_ok-whole.ensures.whole in
+    let ifaces : interface_names prepared.ifaces ≡ interface_names plan.ifaces = ap (λ (p : RunPlan). interface_names p.ifaces) (sym has_whole.same) in
+    let names : c.deref.result.now ≡ interface_names plan.ifaces = c.deref.ensures.value ∙ c.in_ok-interfaces.ensures ∙ ifaces in
     rw same (λ texts said. run_unfollowed texts before after c.args.words said plan begun (record {
+      read = prepared;
+      whole = has_whole;
       prepared = c.in_ok-prepared.ensures.comes first last (around_first first first read loaded last whole c.load_connections.ensures.reads);
       same = c.load_connections.ensures.same;
       begins = subst (λ (n : List Name). BeginsLoaded first last (given_text c.args.words.load) n old begun) names
@@ -129,13 +147,18 @@ returns-clause-ends g c = λ texts said.
     let after = moment last (g.O.Sink.moment c.run_prepared.new.out) (g.C.Connections.view c.run_prepared.new.pass) in
     let reads = reads_after first read loaded c.prepare_run.ensures.reads c.load_connections.ensures.reads in
     let whole = around_work first loaded last (read_on_through loaded mid last c.run_prepared.ensures.reads c.save_connections.ensures.reads) in
-    let plan = run_plan_of c.in_ok-prepared.prepared in
-    let names : c.deref.result.now ≡ interface_names plan.ifaces = c.deref.ensures.value ∙ c.in_ok-interfaces.ensures in
-    let again : c.deref-2.result.now ≡ interface_names plan.ifaces = c.deref-2.ensures.value ∙ c.in_ok-interfaces.ensures in
+    let prepared = run_plan_of c.in_ok-prepared.prepared in
+    let plan = run_plan_of c.in_ok-whole.whole in
+    let has_whole = c.in_ok-whole.ensures.whole in
+    let ifaces : interface_names prepared.ifaces ≡ interface_names plan.ifaces = ap (λ (p : RunPlan). interface_names p.ifaces) (sym has_whole.same) in
+    let names : c.deref.result.now ≡ interface_names plan.ifaces = c.deref.ensures.value ∙ c.in_ok-interfaces.ensures ∙ ifaces in
+    let again : c.deref-2.result.now ≡ interface_names plan.ifaces = c.deref-2.ensures.value ∙ c.in_ok-interfaces.ensures ∙ ifaces in
     let saved = subst (λ (n : List Name). OnOk c.save_connections.result (IfSome (given_text c.args.words.save) (IsSavedTo last (g.C.Connections.view c.run_prepared.new.pass) n))) again
     c.save_connections.ensures.saved in
     rw c.save_connections.ensures.same
     (saving_ends texts before after c.args.words said plan begun (record {
+      read = prepared;
+      whole = has_whole;
       prepared = c.in_ok-prepared.ensures.comes first last (around_first first first read loaded last whole c.load_connections.ensures.reads);
       same = c.load_connections.ensures.same;
       begins = subst (λ (n : List Name). BeginsLoaded first last (given_text c.args.words.load) n old begun) names

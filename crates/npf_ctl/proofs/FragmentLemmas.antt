@@ -1,0 +1,20 @@
+-- A run whose fragments are put together is one that can be played.
+use Rattle.std.proofs.Common.{◌≡◌, ◌<◌, ℕ, List, length, get_or, sym, subst, arith}
+use Rattle.std.specs.Prelude.{All}
+use Rattle.std.proofs.lemmas.List.Elements.{All-get_or}
+use Rattle.npf_types.specs.declared.interface.IfId.{IfId}
+use Rattle.npf_pcap.specs.Spelling.{IsCaptureTime}
+use Rattle.npf_traffic.specs.declared.packet.Packet.{Packet}
+use Rattle.npf_reass_whole.specs.Whole.{Whole, WholeKeeps}
+use Rattle.npf_ctl_arrivals.specs.Within.{CrossesOneOf, HasCaptureTime, IsInterfaceNumber}
+
+module _ (keeps : WholeKeeps) (packets whole : List Packet) (is : Whole packets whole) where
+  pub whole_crosses : (count : ℕ) → All (CrossesOneOf count) packets → All (CrossesOneOf count) whole
+  whole_crosses count all k d h =
+      let here : k < length packets = omega (arith, h, is.count) in
+      subst (λ (ifid : IfId). IsInterfaceNumber count ifid) (sym (keeps packets whole is k d here).ifid) (All-get_or (CrossesOneOf count) packets k d here all)
+
+  pub whole_timed : All HasCaptureTime packets → All HasCaptureTime whole
+  whole_timed all k d h =
+      let here : k < length packets = omega (arith, h, is.count) in
+      subst (λ (time : ℕ). IsCaptureTime time) (sym (keeps packets whole is k d here).time) (All-get_or HasCaptureTime packets k d here all)

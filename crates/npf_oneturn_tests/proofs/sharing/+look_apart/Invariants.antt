@@ -1,4 +1,0 @@
-use Rattle.npf_oneturn_tests.proofs.sharing.+look_apart.Given as goal
-
-abbrev pub decreases-look_apart : goal.decreases-look_apart
-decreases-look_apart g l = l.count
