@@ -50,7 +50,7 @@ equal x y h = grind (arith, nat_tests, h)
 equal_true : (x y : ℕ) → x ≡ y → (x == y) ≡ true
 equal_true x y h = grind (arith, nat_tests, h)
 
-same_numbers : (xs ys : List ℕ) → pointwise nat_eq xs ys ≡ true → xs ≡ ys
+pub same_numbers : (xs ys : List ℕ) → pointwise nat_eq xs ys ≡ true → xs ≡ ys
 same_numbers [] [] h = refl
 same_numbers [] (y ∷ ys) h = absurd (grind (arith, h))
 same_numbers (x ∷ xs) [] h = absurd (grind (arith, h))

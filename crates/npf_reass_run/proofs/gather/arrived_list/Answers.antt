@@ -1,0 +1,19 @@
+use Rattle.std.proofs.Common.{rules, ℕ, List, subst, arith}
+use Rattle.std.proofs.lemmas.List.{take_all}
+use Rattle.std.specs.List.{AllZip}
+use Rattle.npf_pieces.specs.declared.piece.Piece.{Piece}
+use Rattle.npf_reass_run.specs.Gathering.{IsArrivedOffer}
+use Rattle.npf_reass_run.proofs.ListLemmas.{arrived_more}
+use Rattle.npf_reass_run.proofs.gather.arrived_list.Goals as goal
+
+pub loop-place-preserved : goal.loop-place-preserved
+loop-place-preserved c =
+    rw c.push_reserved.ensures.items (record {
+      so_far = arrived_more c.args.packets.now c.args.list.now c.loop-place.arrived.items c.loop-place.place c.arrived_offer.result c.loop-place-test.true
+          c.loop-place.invariant.so_far c.arrived_offer.ensures;
+      room = search rules;
+    })
+
+pub returns : goal.returns
+returns c =
+    subst (λ (os : List (ℕ × Piece)). AllZip (IsArrivedOffer c.args.packets.now) os c.loop-place.arrived.items) (take_all c.loop-place.place c.args.list.now (omega arith)) c.loop-place.invariant.so_far
