@@ -30,3 +30,7 @@ pub record IsArrivedOffer (packets : List Packet) (offer : ℕ × Piece) (a : Ar
   pub place : a.place ≡ offer.0
   pub piece : a.piece ≡ offer.1
   pub time : (d : Packet) → a.time ≡ (slice_index_or packets offer.0 d).time
+
+-- the class has the pieces of the list
+abbrev pub HasListed : List Packet → List (ℕ × Piece) → ClassSets → Type 0
+HasListed packets list class = AllZip (IsArrivedOffer packets) list class.arrived.items

@@ -8,5 +8,7 @@ use Rattle.npf_reass_sets.specs.Among.{IsSetAmong, arrived_from}
 
 -- a piece is in one set alone
 abbrev pub OneSet : Type 0
-OneSet = (packets : List Packet) (seens : List Seen) (a : Arrived) (set other : Set) → IsSetAmong (arrived_from 0 packets seens) set
-    → IsSetAmong (arrived_from 0 packets seens) other → Contains set.pieces a → Contains other.pieces a → set ≡ other
+OneSet = (packets : List Packet) (seens : List Seen) (a : Arrived) (set other : Set)
+    → IsSetAmong (arrived_from 0 packets seens) set
+    → IsSetAmong (arrived_from 0 packets seens) other
+    → Contains set.pieces a → Contains other.pieces a → set ≡ other

@@ -17,7 +17,8 @@ is_one_of numbers n = list_any (λ number. number == n) numbers
 
 -- what was offered by a pass and by those that were joined into it, in the order of its history
 abbrev pub own_pieces : ReassSight → List (ℕ × Piece)
-own_pieces sight = map offered (filter (λ offer. is_one_of (sight.number ∷ sight.joined) offer.seat) sight.history)
+own_pieces sight =
+    map offered (filter (λ offer. is_one_of (sight.number ∷ sight.joined) offer.seat) sight.history)
 
 -- a piece, with the place of its packet
 abbrev pub placed : Arrived → ℕ × Piece
@@ -27,11 +28,13 @@ placed a = (a.place, a.piece)
 abbrev pub of_place : ℕ → List (ℕ × Piece) → List (ℕ × Piece)
 of_place place = filter (λ offer. offer.0 == place)
 
--- what was offered of each packet is the piece that it is, if it is one, where the first packet has this place
+-- what was offered of each packet is the piece that it is, if it is one, where the first packet has
+-- this place
 pub record HasOffered (first : ℕ) (packets : List Packet) (sight : ReassSight) : Type 0 where
   pub seens : List Seen
   pub sees : AllZip IsSeenAs packets seens
-  pub each : (place : ℕ) → of_place place (own_pieces sight) ≡ of_place place (map placed (arrived_from first packets seens))
+  pub each : (place : ℕ) → of_place place (own_pieces sight)
+      ≡ of_place place (map placed (arrived_from first packets seens))
 
 -- and in the order of the packets
 pub record HasOfferedInOrder (first : ℕ) (packets : List Packet) (sight : ReassSight) : Type 0 where

@@ -5,7 +5,7 @@ ghost use Rattle.npf_pieces.specs.declared.piece.Piece.{Piece as PieceType};
 ghost use Rattle.npf_pieces.specs.declared.piece.Seen.TheVariants.{NoFragment};
 ghost use Rattle.npf_pieces.specs.Piece.{SeenAs};
 ghost use Rattle.npf_traffic.specs.Packet.{IsShortPacket};
-ghost use Rattle.npf_reass_run.specs.Gathering.{GathersPieces, IsArrivedOffer, IsOfferAmong};
+ghost use Rattle.npf_reass_run.specs.Gathering.{GathersPieces, HasListed, IsArrivedOffer, IsOfferAmong};
 
 use crate::offering::{Scan, offer_all};
 use npf_pieces::{Arrived, Piece, Seen, piece_of};
@@ -76,7 +76,8 @@ fn arrived_lists(
     lists: Vec<Vec<(u64, Piece)>>,
 ) -> Result<Vec<ClassSets>, NoMemory>
     requires among { All (λ list. All (IsOfferAmong packets.now) list.items) lists.items }
-    ensures { IfOk result (λ classes. AllZip (λ list class. AllZip (IsArrivedOffer packets.now) list.items class.arrived.items) lists.items classes.items) }
+    ensures { IfOk result (λ classes. AllZip (λ list class. HasListed packets.now list.items class)
+        lists.items classes.items) }
 {
     let mut classes = Vec::with_capacity(alloc, lists.len())?;
     for list in lists {
@@ -92,7 +93,7 @@ fn arrived_list(
     list: &[(u64, Piece)],
 ) -> Result<ClassSets, NoMemory>
     requires { All (IsOfferAmong packets.now) list.now }
-    ensures { IfOk result (λ class. AllZip (IsArrivedOffer packets.now) list.now class.arrived.items) }
+    ensures { IfOk result (HasListed packets.now list.now) }
 {
     let mut arrived = Vec::with_capacity(alloc, list.len())?;
     for place in 0..list.len() {
@@ -107,7 +108,8 @@ fn arrived_list(
 fn arrived_offer(packets: &[Packet<'_>], list: &[(u64, Piece)], at: usize) -> Arrived
     requires at { at < length list.now }
     requires among { All (IsOfferAmong packets.now) list.now }
-    ensures { (d : ℕ × PieceType) → IsArrivedOffer packets.now (slice_index_or list.now at d) result }
+    ensures { (d : ℕ × PieceType)
+        → IsArrivedOffer packets.now (slice_index_or list.now at d) result }
 {
     let (n, piece) = list[at];
     let place = n as usize;

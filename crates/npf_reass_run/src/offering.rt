@@ -19,8 +19,8 @@ pub(crate) struct Scan<'r, 'p, 'a> {
     pub(crate) packets: &'p [Packet<'a>],
 }
 
-/// Offers the pieces among the packets from this place up to another, by so many workers. Each has a share of them: the passes of the others are
-/// split off this one, and joined into it.
+/// Offers the pieces among the packets from this place up to another, by so many workers. Each has
+/// a share of them: the passes of the others are split off this one, and joined into it.
 pub(crate) fn offer_all<R: Threads + Wait + Sync>(
     rt: &R,
     scan: &Scan<'_, '_, '_>,
@@ -37,7 +37,8 @@ pub(crate) fn offer_all<R: Threads + Wait + Sync>(
     requires within { (first ≤ behind) × (behind ≤ length scan.now.packets.now) }
     ensures own { IsReassPass scan.now.reass.now result.0 }
     ensures places { (sight result.0).places ≡ workers }
-    ensures offers { OnOk result.1 (HasOffered first (slice_range scan.now.packets.now first behind) (sight result.0)) }
+    ensures offers { OnOk result.1 (HasOffered first
+        (slice_range scan.now.packets.now first behind) (sight result.0)) }
 {
     if workers == 1 {
         return offer_share(rt, scan, pass, first, behind);
@@ -48,16 +49,23 @@ pub(crate) fn offer_all<R: Threads + Wait + Sync>(
     let ((mut pass, offered), (other, others_offered)) = join(
         rt,
         move || -> (ReassPass, Result<(), NoMemory>)
-            requires { IsSync R.row × IsReassPass scan.now.reass.now pass × ((sight pass).places + 1 ≡ workers) × (2 ≤ workers) ×
-                (own_pieces (sight pass) ≡ []) × All IsShortPacket scan.now.packets.now × (mid ≤ behind) × (behind ≤ length scan.now.packets.now) }
-            ensures { IsReassPass scan.entry.now.reass.now result.0 × ((sight result.0).places + 1 ≡ workers) ×
-                OnOk result.1 (HasOffered mid (slice_range scan.entry.now.packets.now mid behind) (sight result.0)) }
+            requires { IsSync R.row × IsReassPass scan.now.reass.now pass
+                × ((sight pass).places + 1 ≡ workers) × (2 ≤ workers)
+                × (own_pieces (sight pass) ≡ []) × All IsShortPacket scan.now.packets.now
+                × (mid ≤ behind) × (behind ≤ length scan.now.packets.now) }
+            ensures { IsReassPass scan.entry.now.reass.now result.0
+                × ((sight result.0).places + 1 ≡ workers)
+                × OnOk result.1 (HasOffered mid
+                (slice_range scan.entry.now.packets.now mid behind) (sight result.0)) }
         { offer_all(rt, scan, pass, mid, behind, workers - 1) },
         move || -> (ReassPass, Result<(), NoMemory>)
-            requires { IsReassPass scan.now.reass.now other × ((sight other).places ≡ 1) × (own_pieces (sight other) ≡ []) ×
-                All IsShortPacket scan.now.packets.now × (first ≤ mid) × (mid ≤ length scan.now.packets.now) }
-            ensures { IsReassPass scan.entry.now.reass.now result.0 × ((sight result.0).places ≡ 1) ×
-                OnOk result.1 (HasOffered first (slice_range scan.entry.now.packets.now first mid) (sight result.0)) }
+            requires { IsReassPass scan.now.reass.now other × ((sight other).places ≡ 1)
+                × (own_pieces (sight other) ≡ []) × All IsShortPacket scan.now.packets.now
+                × (first ≤ mid) × (mid ≤ length scan.now.packets.now) }
+            ensures { IsReassPass scan.entry.now.reass.now result.0
+                × ((sight result.0).places ≡ 1)
+                × OnOk result.1 (HasOffered first
+                (slice_range scan.entry.now.packets.now first mid) (sight result.0)) }
         { offer_share(rt, scan, other, first, mid) },
     );
     scan.reass.join(&mut pass, other);
@@ -103,7 +111,8 @@ fn offer_share(
     requires within { (first ≤ behind) × (behind ≤ length scan.now.packets.now) }
     ensures own { IsReassPass scan.now.reass.now result.0 }
     ensures places { (sight result.0).places ≡ (sight pass).places }
-    ensures offers { OnOk result.1 (HasOffered first (slice_range scan.now.packets.now first behind) (sight result.0)) }
+    ensures offers { OnOk result.1 (HasOffered first
+        (slice_range scan.now.packets.now first behind) (sight result.0)) }
 {
     let mut pass = pass;
     for place in first..behind {

@@ -8,12 +8,18 @@ use Rattle.npf_reass_run.proofs.gather.arrived_list.Goals as goal
 
 pub loop-place-preserved : goal.loop-place-preserved
 loop-place-preserved c =
+    let so_far = c.loop-place.invariant.so_far in
     rw c.push_reserved.ensures.items (record {
-      so_far = arrived_more c.args.packets.now c.args.list.now c.loop-place.arrived.items c.loop-place.place c.arrived_offer.result c.loop-place-test.true
-          c.loop-place.invariant.so_far c.arrived_offer.ensures;
+      so_far = arrived_more c.args.packets.now c.args.list.now c.loop-place.arrived.items
+          c.loop-place.place c.arrived_offer.result c.loop-place-test.true so_far
+          c.arrived_offer.ensures;
       room = search rules;
     })
 
 pub returns : goal.returns
 returns c =
-    subst (λ (os : List (ℕ × Piece)). AllZip (IsArrivedOffer c.args.packets.now) os c.loop-place.arrived.items) (take_all c.loop-place.place c.args.list.now (omega arith)) c.loop-place.invariant.so_far
+    let whole = take_all c.loop-place.place c.args.list.now (omega arith) in
+    subst
+    (λ (list : List (ℕ × Piece)).
+    AllZip (IsArrivedOffer c.args.packets.now) list c.loop-place.arrived.items)
+    whole c.loop-place.invariant.so_far

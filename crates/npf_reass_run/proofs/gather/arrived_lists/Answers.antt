@@ -1,9 +1,8 @@
-use Rattle.std.proofs.Common.{rules, ◌≡◌, ◌∷◌, [], All, ap, length, subst, arith}
-use Rattle.std.specs.List.{AllZip}
+use Rattle.std.proofs.Common.{rules, ◌≡◌, ◌∷◌, [], All, ap, length, arith}
 use Rattle.std.specs.Vec.Iter.{into_iter_items}
 use Rattle.std.proofs.lemmas.List.{nil_from_length}
 use Rattle.std.proofs.lemmas.List.Elements.{All-rest}
-use Rattle.npf_reass_run.specs.Gathering.{IsArrivedOffer, IsOfferAmong}
+use Rattle.npf_reass_run.specs.Gathering.{IsOfferAmong}
 use Rattle.npf_reass_run.proofs.ListLemmas.{OfferList, all_arrived, arrived_next}
 use Rattle.npf_reass_run.proofs.gather.arrived_lists.Goals as goal
 
@@ -22,11 +21,15 @@ loop-list-preserved c =
       tt,
       tt,
       All-rest (λ (l : OfferList). All (IsOfferAmong packets) l.items) list after before items inv.2,
-      rw c.push_reserved.ensures.items (arrived_next packets c.args.lists.items before after list c.loop-list.classes.items class items inv.3 one),
+      rw c.push_reserved.ensures.items
+      (arrived_next packets c.args.lists.items before after list c.loop-list.classes.items class
+      items inv.3 one),
       search rules,
     )
 
 pub returns : goal.returns
 returns c =
-    let none : into_iter_items c.loop-list.list-iterator ≡ [] = nil_from_length (into_iter_items c.loop-list.list-iterator) (search rules) in
-    all_arrived c.args.packets.now c.args.lists.items (into_iter_items c.loop-list.list-iterator) c.loop-list.classes.items none c.loop-list.invariant.3
+    let rest = into_iter_items c.loop-list.list-iterator in
+    let none : rest ≡ [] = nil_from_length rest (search rules) in
+    all_arrived c.args.packets.now c.args.lists.items rest c.loop-list.classes.items none
+    c.loop-list.invariant.3

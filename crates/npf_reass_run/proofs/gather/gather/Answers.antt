@@ -1,10 +1,10 @@
 use Rattle.std.proofs.Common.{rules, ◌≡◌, ◌∙◌, false, is_err, length}
 use Rattle.std.specs.List.{AllZip}
-use Rattle.npf_reass_sets.specs.declared.class.ClassSets.{ClassSets}
+use Rattle.std.proofs.lemmas.Result.{IfOk-weaker}
 use Rattle.npf_reass.specs.Passes.{classes_of, sight}
-use Rattle.npf_reass_run.specs.Gathering.{GathersPieces, IsArrivedOffer}
-use Rattle.npf_reass_run.proofs.GatherLemmas.{ClassVec, all_packets, if_ok, lists_among, made_count, made_gathers}
-use Rattle.npf_reass_run.proofs.ListLemmas.{OfferList}
+use Rattle.npf_reass_run.specs.Gathering.{GathersPieces}
+use Rattle.npf_reass_run.proofs.GatherLemmas.{ClassVec, all_packets, lists_among, made_count, made_gathers}
+use Rattle.npf_reass_run.proofs.ListLemmas.{IsClassOf}
 use Rattle.npf_reass_run.proofs.OfferLemmas.{was_ok}
 use Rattle.npf_reass_run.proofs.gather.gather.Goals as goal
 
@@ -13,8 +13,12 @@ arrived_lists-requires g c =
     let packets = c.args.packets.now in
     let pass = c.offer_all-pass.result.0 in
     let ok : is_err c.offer_all-pass.result.1 ≡ false = search rules in
-    let has = all_packets packets (sight pass) (was_ok c.offer_all-pass.result.1 ok (rw c.len.ensures at c.offer_all-pass.ensures.offers)) in
-    record { among = lists_among packets (sight pass) has (c.in_ok-lists.ensures.alone tt) (classes_of c.in_ok-reass.reass) c.in_ok-lists.lists.items c.in_ok-lists.ensures.lists }
+    let offers = rw c.len.ensures at c.offer_all-pass.ensures.offers in
+    let has = all_packets packets (sight pass) (was_ok c.offer_all-pass.result.1 ok offers) in
+    record {
+      among = lists_among packets (sight pass) has (c.in_ok-lists.ensures.alone tt)
+          (classes_of c.in_ok-reass.reass) c.in_ok-lists.lists.items c.in_ok-lists.ensures.lists;
+    }
 
 pub returns-clause-count : goal.returns-clause-count
 returns-clause-count g c =
@@ -22,10 +26,14 @@ returns-clause-count g c =
     let pass = c.offer_all-pass.result.0 in
     let lists = c.in_ok-lists.lists.items in
     let ok : is_err c.offer_all-pass.result.1 ≡ false = search rules in
-    let has = all_packets packets (sight pass) (was_ok c.offer_all-pass.result.1 ok (rw c.len.ensures at c.offer_all-pass.ensures.offers)) in
-    if_ok (λ (made : ClassVec). AllZip (λ (list : OfferList) (class : ClassSets). AllZip (IsArrivedOffer packets) list.items class.arrived.items) lists made.items)
-    (λ (made : ClassVec). length made.items ≡ c.args.count) c.arrived_lists.result
-    (λ made all. made_count packets (sight pass) has (c.in_ok-lists.ensures.alone tt) (classes_of c.in_ok-reass.reass) lists c.in_ok-lists.ensures.lists made.items all ∙ c.in_ok-reass.ensures.classes)
+    let offers = rw c.len.ensures at c.offer_all-pass.ensures.offers in
+    let has = all_packets packets (sight pass) (was_ok c.offer_all-pass.result.1 ok offers) in
+    IfOk-weaker c.arrived_lists.result
+    (λ (made : ClassVec). AllZip (IsClassOf packets) lists made.items)
+    (λ (made : ClassVec). length made.items ≡ c.args.count)
+    (λ made all. made_count packets (sight pass) has (c.in_ok-lists.ensures.alone tt)
+    (classes_of c.in_ok-reass.reass) lists c.in_ok-lists.ensures.lists made.items all
+    ∙ c.in_ok-reass.ensures.classes)
     c.arrived_lists.ensures
 
 pub returns-clause-gathers : goal.returns-clause-gathers
@@ -34,8 +42,11 @@ returns-clause-gathers g c =
     let pass = c.offer_all-pass.result.0 in
     let lists = c.in_ok-lists.lists.items in
     let ok : is_err c.offer_all-pass.result.1 ≡ false = search rules in
-    let has = all_packets packets (sight pass) (was_ok c.offer_all-pass.result.1 ok (rw c.len.ensures at c.offer_all-pass.ensures.offers)) in
-    if_ok (λ (made : ClassVec). AllZip (λ (list : OfferList) (class : ClassSets). AllZip (IsArrivedOffer packets) list.items class.arrived.items) lists made.items)
-    (λ (made : ClassVec). GathersPieces packets made.items) c.arrived_lists.result
-    (λ made all. made_gathers packets (sight pass) has (c.in_ok-lists.ensures.alone tt) (classes_of c.in_ok-reass.reass) lists c.in_ok-lists.ensures.lists made.items all)
+    let offers = rw c.len.ensures at c.offer_all-pass.ensures.offers in
+    let has = all_packets packets (sight pass) (was_ok c.offer_all-pass.result.1 ok offers) in
+    IfOk-weaker c.arrived_lists.result
+    (λ (made : ClassVec). AllZip (IsClassOf packets) lists made.items)
+    (λ (made : ClassVec). GathersPieces packets made.items)
+    (λ made all. made_gathers packets (sight pass) has (c.in_ok-lists.ensures.alone tt)
+    (classes_of c.in_ok-reass.reass) lists c.in_ok-lists.ensures.lists made.items all)
     c.arrived_lists.ensures

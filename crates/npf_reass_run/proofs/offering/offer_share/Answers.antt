@@ -14,6 +14,6 @@ loop-place-preserved g c =
       own = c.offer_packet.ensures.own;
       places = c.offer_packet.ensures.places ∙ inv.places;
       order = omega (arith, inv.order);
-      so_far = offered_more c.args.first c.loop-place.place c.args.scan.now.packets.now c.index-scan-place.result old new inv.order (search rules) inv.so_far
-          offers;
+      so_far = offered_more c.args.first c.loop-place.place c.args.scan.now.packets.now
+          c.index-scan-place.result old new inv.order (search rules) inv.so_far offers;
     }
