@@ -1,14 +1,13 @@
 -- What a pass has offered goes on by its own offers and by those of the passes that it takes in.
 use Rattle.std.proofs.Common.{◌≡◌, ◌≢◌, ◌⊎◌, ℕ, ◌+◌, ◌-◌, ◌<◌, ◌≤◌, ◌==◌, ◌∙◌, ◌||◌, Bool, true, false}
 use Rattle.std.proofs.Common.{inl, inr, ⊎_elim, suc, refl, sym, ap, subst, append-nil, append_assoc, arith}
-use Rattle.std.proofs.Common.{List, [], ◌∷◌, ◌++◌, length, map, take, drop, get_or, slice_range}
+use Rattle.std.proofs.Common.{List, [], ◌∷◌, ◌++◌, length, map, take, get_or}
 use Rattle.std.proofs.Common.{Ok, Err, Result, OnOk, is_err}
 use Rattle.std.specs.Prelude.{Contains, filter}
 use Rattle.std.specs.List.{AllZip, list_any}
 use Rattle.std.specs.Result.{result_and}
 use Rattle.std.proofs.lemmas.Bool.{cases_lt, eq-eqb, eqb-true, false_from_ne_true, ne_eqb}
-use Rattle.std.proofs.Math.Seq.{take-add}
-use Rattle.std.proofs.lemmas.List.{drop-drop, get_or-drop, length-drop, length-take, map-append, take_more}
+use Rattle.std.proofs.lemmas.List.{length-take, map-append, take_more}
 use Rattle.std.proofs.lemmas.List.Elements.{filter-append}
 use Rattle.std.proofs.lemmas.List.Folds.{list_any-append, list_any_at}
 use mathlib.Core.Bool.{or_assoc, or_comm}
@@ -181,49 +180,31 @@ pub offered_none : (first : ℕ) (sight : ReassSight) → own_pieces sight ≡ [
     → HasOfferedInOrder first [] sight
 offered_none first sight none = record { seens = []; sees = search; is = none }
 
-more_of : (packets : List Packet) (first i : ℕ) (d : Packet) → first ≤ i → i < length packets
-    → slice_range packets first (i + 1) ≡ slice_range packets first i ++ get_or packets i d ∷ []
-more_of packets first i d order h =
-    let front = take (i - first) (drop first packets) in
-    let next : i + 1 - first ≡ (i - first) + 1 = omega (arith, order) in
-    let within : i - first < length (drop first packets) =
-    omega (arith, length-drop first packets, order, h) in
-    let at : get_or (drop first packets) (i - first) d ≡ get_or packets i d =
-    get_or-drop first packets (i - first) d
-    ∙ ap (λ (n : ℕ). get_or packets n d) (omega (arith, order)) in
-    ap (λ (n : ℕ). take n (drop first packets)) next
-    ∙ take_more (drop first packets) (i - first) d within
-    ∙ ap (λ (p : Packet). front ++ p ∷ []) at
-
 pub offered_more : (first i : ℕ) (packets : List Packet) (d : Packet) (old new : ReassSight)
-    → first ≤ i → i < length packets
-    → HasOfferedInOrder first (slice_range packets first i) old
-    → OffersPacket i (get_or packets i d) old new
-    → HasOfferedInOrder first (slice_range packets first (i + 1)) new
-offered_more first i packets d old new order h has offers =
-    let ps = slice_range packets first i in
+    → i < length packets → HasOfferedInOrder first (take i packets) old
+    → OffersPacket (first + i) (get_or packets i d) old new
+    → HasOfferedInOrder first (take (i + 1) packets) new
+offered_more first i packets d old new h has offers =
+    let ps = take i packets in
     let p = get_or packets i d in
     let front = arrived_from first ps has.seens in
-    let long : first + length ps ≡ i =
-    omega (arith, length-take (i - first) (drop first packets), length-drop first packets,
-    order, h) in
+    let last = arrived_at (first + i) p.time offers.seen in
+    let long : first + length ps ≡ first + i = omega (arith, length-take i packets, h) in
     let same : length ps ≡ length has.seens = all_zip_long IsSeenAs ps has.seens has.sees in
-    let last : arrived_from (first + length ps) (p ∷ []) (offers.seen ∷ [])
-    ≡ arrived_at i p.time offers.seen =
+    let is_last : arrived_from (first + length ps) (p ∷ []) (offers.seen ∷ []) ≡ last =
     append-nil (arrived_at (first + length ps) p.time offers.seen)
     ∙ ap (λ (n : ℕ). arrived_at n p.time offers.seen) long in
     let all : HasOfferedInOrder first (ps ++ p ∷ []) new = record {
       seens = has.seens ++ offers.seen ∷ [];
       sees = seen_append ps (p ∷ []) has.seens (offers.seen ∷ []) has.sees (offers.is, search);
       is = offers.adds
-          ∙ ap (λ (l : List (ℕ × Piece)). l ++ map placed (arrived_at i p.time offers.seen)) has.is
-          ∙ sym (map-append placed front (arrived_at i p.time offers.seen))
-          ∙ ap (λ (l : List Arrived). map placed (front ++ l)) (sym last)
+          ∙ ap (λ (l : List (ℕ × Piece)). l ++ map placed last) has.is
+          ∙ sym (map-append placed front last)
+          ∙ ap (λ (l : List Arrived). map placed (front ++ l)) (sym is_last)
           ∙ ap (map placed)
           (sym (arrived_append first ps (p ∷ []) has.seens (offers.seen ∷ []) same));
     } in
-    subst (λ (list : List Packet). HasOfferedInOrder first list new)
-    (sym (more_of packets first i d order h)) all
+    subst (λ (list : List Packet). HasOfferedInOrder first list new) (sym (take_more packets i d h)) all
 
 pub in_order : (first : ℕ) (packets : List Packet) (sight : ReassSight)
     → HasOfferedInOrder first packets sight → HasOffered first packets sight
@@ -326,33 +307,10 @@ module _ (first behind : ℕ) (share rest : List Packet) (old other now : ReassS
     each = λ place. ⊎_elim (in_share place) (in_rest place) (cases_lt place (first + length share));
   }
 
--- a share and the rest are parts of the packets that follow one another
-parts_of : (packets : List Packet) (first mid behind : ℕ) → first ≤ mid → mid ≤ behind
-    → slice_range packets first behind
-    ≡ slice_range packets first mid ++ slice_range packets mid behind
-parts_of packets first mid behind low high =
-    let all = drop first packets in
-    let share = take (mid - first) all in
-    let at : mid ≡ first + (mid - first) = omega (arith, low) in
-    let more : drop mid packets ≡ drop (mid - first) all =
-    ap (λ (n : ℕ). drop n packets) at ∙ sym (drop-drop (mid - first) first packets) in
-    let long : behind - first ≡ (mid - first) + (behind - mid) = omega (arith, low, high) in
-    ap (λ (n : ℕ). take n all) long
-    ∙ take-add (mid - first) (behind - mid) all
-    ∙ ap (λ (l : List Packet). share ++ take (behind - mid) l) (sym more)
-
 -- where both shares were offered, all is
-pub all_offered : (packets : List Packet) (first mid behind : ℕ) (old other now : ReassSight)
-    → first ≤ mid → mid ≤ behind → behind ≤ length packets → JoinsSight old other now
-    → HasOffered mid (slice_range packets mid behind) old
-    → HasOffered first (slice_range packets first mid) other
-    → HasOffered first (slice_range packets first behind) now
-all_offered packets first mid behind old other now low high within joins has others =
-    let share = slice_range packets first mid in
-    let long : mid ≡ first + length share =
-    omega (arith, length-take (mid - first) (drop first packets), length-drop first packets,
-    low, high, within) in
-    subst (λ (list : List Packet). HasOffered first list now)
-    (sym (parts_of packets first mid behind low high))
-    (joins_offered first mid share (slice_range packets mid behind) old other now long joins
-    has others)
+pub all_offered : (packets share rest : List Packet) (first behind : ℕ) (old other now : ReassSight)
+    → packets ≡ share ++ rest → behind ≡ first + length share → JoinsSight old other now
+    → HasOffered behind rest old → HasOffered first share other → HasOffered first packets now
+all_offered packets share rest first behind old other now is at joins has others =
+    subst (λ (list : List Packet). HasOffered first list now) (sym is)
+    (joins_offered first behind share rest old other now at joins has others)
