@@ -10,6 +10,7 @@ use atomic_table::{Play, Seat, Shared};
 use npf_core::Law;
 use std::marker::{Brand, PhantomData};
 use std::sync::Wait;
+use std::thread::yield_now;
 
 pub(crate) type Words<L: Law> = Shared<
     Contents<L::State>,
@@ -24,7 +25,7 @@ pub(crate) const FREE: u64 = 0;
 
 const TAKEN: u64 = 1;
 
-/// Takes the turn, once it is free.
+/// Takes the turn, once it is free. After each refused try another thread may run.
 pub(crate) fn take<L: Law>(rt: &impl Wait, table: &Words<L>, seat: &mut Place<L>)
     requires of { IsSeatOf table.now.table_id seat.old.table_id }
     requires rests { IsResting seat.old.me }
@@ -36,6 +37,7 @@ pub(crate) fn take<L: Law>(rt: &impl Wait, table: &Words<L>, seat: &mut Place<L>
         if table.compare_exchange::<Takes<L>>(seat, 0, FREE, TAKEN) == FREE {
             return;
         }
+        yield_now();
     }
 }
 

@@ -9,6 +9,7 @@ use atomic_table::{Play, Seat, Shared};
 use npf_pieces::Piece;
 use std::marker::{Brand, PhantomData};
 use std::sync::Wait;
+use std::thread::yield_now;
 
 pub(crate) type Words = Shared<Gathered, ReassView, ReassSize, GatheringRule>;
 
@@ -18,7 +19,7 @@ pub(crate) const FREE: u64 = 0;
 
 const TAKEN: u64 = 1;
 
-/// Takes the turn of the class, once it is free.
+/// Takes the turn of the class, once it is free. After each refused try another thread may run.
 pub(crate) fn take(rt: &impl Wait, words: &Words, seat: &mut Place, class: u32)
     requires of { IsReassSeat words.now.key words.now.table_id seat.old.table_id }
     requires rests { IsRestingPass words.now.key seat.old.me }
@@ -34,6 +35,7 @@ pub(crate) fn take(rt: &impl Wait, words: &Words, seat: &mut Place, class: u32)
         {
             return;
         }
+        yield_now();
     }
 }
 
