@@ -102,7 +102,7 @@ pub fn run_phase<'a, R: Threads + Wait + Sync, C: Connections<FlowLaw>, G: Gate>
 }
 
 /// What a phase needs that publishes so many configurations.
-fn prepare<'a, R: Wait>(
+fn prepare<'a, R: Threads + Wait + Sync>(
     rt: &R,
     alloc: Global,
     task: Task<'a>,
@@ -142,7 +142,7 @@ fn prepare<'a, R: Wait>(
         spread,
         last,
     } = task;
-    let order = Order::of(alloc, packets.as_slice(), first, spread, workers)?;
+    let order = Order::of(rt, alloc, packets.as_slice(), first, spread, workers)?;
     let (publisher, readers) = Publisher::new(rt, alloc, workers, last, last + published)?;
     match crew_of(alloc, &order, first, packets, readers) {
         Ok((crew, emptied)) => Ok(Prepared {

@@ -9,7 +9,7 @@ use std::collections::VecDeque;
 pub fn deal<T: Drop>(
     alloc: Global,
     items: Vec<T>,
-    order: &[u32],
+    order: &[u8],
     lanes: u32,
 ) -> Result<(Vec<Vec<T>>, Vec<T>), NoMemory>
     requires count { vec_len items ≡ length order.now }
@@ -29,7 +29,7 @@ pub fn deal<T: Drop>(
 }
 
 // Each lane has room for its items, so that none grows.
-fn empty_lanes<T: Drop>(alloc: Global, order: &[u32], lanes: u32) -> Result<Vec<Vec<T>>, NoMemory>
+fn empty_lanes<T: Drop>(alloc: Global, order: &[u8], lanes: u32) -> Result<Vec<Vec<T>>, NoMemory>
     requires { All (λ lane. lane < lanes) order.now }
     ensures count { IfOk result (λ made. vec_len made ≡ lanes) }
     ensures empty { IfOk result (λ made. All (λ lane. lane.items ≡ []) made.items) }
@@ -43,7 +43,7 @@ fn empty_lanes<T: Drop>(alloc: Global, order: &[u32], lanes: u32) -> Result<Vec<
 }
 
 // How many items go to each lane.
-fn sizes_of(alloc: Global, order: &[u32], lanes: u32) -> Result<Vec<usize>, NoMemory>
+fn sizes_of(alloc: Global, order: &[u8], lanes: u32) -> Result<Vec<usize>, NoMemory>
     requires { All (λ lane. lane < lanes) order.now }
     ensures { IfOk result (λ sizes. vec_len sizes ≡ lanes) }
 {
@@ -55,7 +55,7 @@ fn sizes_of(alloc: Global, order: &[u32], lanes: u32) -> Result<Vec<usize>, NoMe
 }
 
 /// All that was there, and then the lanes' items in the order of the whole. It takes no memory.
-pub fn gather<T: Drop>(order: &[u32], mut lanes: Vec<VecDeque<T>>, mut all: Vec<T>) -> Vec<T>
+pub fn gather<T: Drop>(order: &[u8], mut lanes: Vec<VecDeque<T>>, mut all: Vec<T>) -> Vec<T>
     requires dealt { (xs : List T) × IsDealt order.now xs (map queue_items lanes.items) }
     requires room { vec_len all + length order.now ≤ vec_capacity all }
     ensures gathered { (xs : List T) → IsDealt order.now xs (map queue_items lanes.items) →
