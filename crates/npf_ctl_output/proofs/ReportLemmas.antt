@@ -11,11 +11,8 @@ use Rattle.npf_traffic.specs.declared.packet.Packet.{Packet}
 use Rattle.npf_types.specs.Name.{name_bytes}
 use Rattle.npf_report.specs.declared.crossed.Crossed.{Crossed}
 use Rattle.npf_ctl_output.specs.Crossings.{IsCrossedBy}
-use Rattle.npf_ctl_output.specs.Report.{lines_from, name_of_interface, report_text}
-
--- the line of a packet with its outcome
-abbrev pub line_of : List Iface → ℕ → Packet → Outcome → List ℕ
-line_of ifaces n packet outcome = line_text n (name_of_interface ifaces packet.ifid) packet.dir outcome
+use Rattle.npf_ctl_output.specs.Lines.{IsLeft, line_of}
+use Rattle.npf_ctl_output.specs.Report.{lines_from, report_text}
 
 -- what is said of a line by what the packet crossed
 pub of_crossed : (P : List ℕ → Type 0) (ifaces : List Iface) (n : ℕ) (packet : Packet) (outcome : Outcome) (crossed : Crossed) → IsCrossedBy ifaces packet crossed →
@@ -25,9 +22,8 @@ of_crossed P ifaces n packet outcome crossed by said =
     subst P same said
 
 module _ (ifaces : List Iface) (packets : List Packet) (outcomes : List Outcome) (old : Option (List ℕ)) (text rest : List ℕ) where
-  -- of the text the lines from the place i on and the rest are left
-  abbrev pub IsLeft : Option (List ℕ) → ℕ → Type 0
-  IsLeft held k = IsPutTo old held text (lines_from ifaces (k + 1) (drop k packets) (drop k outcomes) ++ rest)
+  abbrev Left : Option (List ℕ) → ℕ → Type 0
+  Left = IsLeft ifaces packets outcomes old text rest
 
   module _ (now new : Option (List ℕ)) (i : ℕ) where
     module _ (packet : Packet) (outcome : Outcome) (within : i < length packets) (many : length outcomes ≡ length packets) (packet_is : packet ≡ get_or packets i packet) (outcome_is : outcome ≡ get_or outcomes i outcome) where
@@ -39,23 +35,23 @@ module _ (ifaces : List Iface) (packets : List Packet) (outcomes : List Outcome)
           rw (ps, os) (append_assoc (line_of ifaces (i + 1) packet outcome) (lines_from ifaces (i + 1 + 1) (drop (i + 1) packets) (drop (i + 1) outcomes)) rest)
 
       -- the next line was put
-      pub line_put : IsLeft now i → Appends now new (line_of ifaces (i + 1) packet outcome) → IsLeft new (i + 1)
+      pub line_put : Left now i → Appends now new (line_of ifaces (i + 1) packet outcome) → Left new (i + 1)
       line_put left put = IsPutTo-goes_on old now new text _ _ (subst (IsPutTo old now text) next_line left) put
 
       -- a front of it was put
-      pub line_fails : IsLeft now i → AppendsFront now new (line_of ifaces (i + 1) packet outcome) → AppendsFront old new text
+      pub line_fails : Left now i → AppendsFront now new (line_of ifaces (i + 1) packet outcome) → AppendsFront old new text
       line_fails left put = IsPutTo-fails old now new text _ _ (subst (IsPutTo old now text) next_line left) put
 
     -- behind the last line the rest comes next
-    rest_next : length packets ≤ i → IsLeft now i → IsPutTo old now text (rest ++ [])
+    rest_next : length packets ≤ i → Left now i → IsPutTo old now text (rest ++ [])
     rest_next past left = subst (IsPutTo old now text) (rw (drop_all i packets past, append-nil rest) refl) left
 
     -- a front of it was put
-    pub rest_fails : length packets ≤ i → IsLeft now i → AppendsFront now new rest → AppendsFront old new text
+    pub rest_fails : length packets ≤ i → Left now i → AppendsFront now new rest → AppendsFront old new text
     rest_fails past left put = IsPutTo-fails old now new text rest [] (rest_next past left) put
 
     -- it was put, and then nothing more
-    pub rest_put : (last : Option (List ℕ)) → length packets ≤ i → IsLeft now i → Appends now new rest → Appends new last [] → IsPutTo old last text []
+    pub rest_put : (last : Option (List ℕ)) → length packets ≤ i → Left now i → Appends now new rest → Appends new last [] → IsPutTo old last text []
     rest_put last past left put stays =
         IsPutTo-goes_on old new last text [] [] (IsPutTo-goes_on old now new text rest [] (rest_next past left) put) stays
 

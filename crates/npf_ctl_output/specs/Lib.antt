@@ -1,5 +1,6 @@
 pub mod Crossings
 pub mod Extents
+pub mod Lines
 pub mod Outputs
 pub mod Putting
 pub mod Report

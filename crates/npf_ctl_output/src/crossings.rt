@@ -1,9 +1,12 @@
 // What packets may cross, as the lines of a report have it.
-ghost use Rattle.std.specs.Prelude.{◌≡◌, IfOk, length};
-ghost use Rattle.npf_ctl_output.specs.Crossings.{AreCrossingsOf};
+ghost use Rattle.std.specs.Prelude.{◌≡◌, List, IfOk, length};
+ghost use Rattle.npf_model.specs.declared.iface.Iface.{Iface as IfaceType};
+ghost use Rattle.npf_ctl_arrivals.specs.Within.{CrossesOneOf};
+ghost use Rattle.npf_ctl_output.specs.Crossings.{AreCrossingsOf, IsCrossedBy};
 
 use npf_model::Ifaces;
 use npf_report::Crossed;
+use npf_runner::Packet;
 use npf_types::{Dir, NoMemory};
 use std::alloc::Global;
 
@@ -26,4 +29,16 @@ pub(crate) fn crossings_of(alloc: Global, ifaces: &Ifaces) -> Result<Vec<Crossin
         crossings.push_reserved(Crossings { into, out_of });
     }
     Ok(crossings)
+}
+
+// What the packet crossed, and in which direction.
+pub(crate) fn crossed_by<'a>(crossings: &'a [Crossings], packet: &Packet<'_>) -> &'a Crossed
+    requires { CrossesOneOf (length crossings.now) packet.now }
+    ensures { (ifaces : List IfaceType) → AreCrossingsOf ifaces crossings.now → IsCrossedBy ifaces packet.now result.now }
+{
+    let of_interface = &crossings[usize::from(packet.ifid.0) - 1];
+    match packet.dir {
+        Dir::In => &of_interface.into,
+        Dir::Out => &of_interface.out_of,
+    }
 }

@@ -4,16 +4,22 @@
 // A run writes over the bytes of its packets, so `ip_extents` notes before it where each record has its IP packet, and
 // `written_capture` cuts the sent bytes by these notes after it. No packet is copied but into the capture's own bytes.
 //
+// With several workers a report's lines are written by them in blocks, while those of the block before are put, each by a call of its
+// own (`blocks`). With one, each is put as soon as it is written.
+//
 // The contract: what is put is the report's text, whole, or a front of it where the sink refuses or memory runs out; and the
 // capture has exactly the packets that passed, in order, with their times, each as it was sent, from its IP header to the IP
 // packet's end.
 #![tactic(auto)]
 
+mod blocks;
 mod crossings;
 mod extent;
 mod laws;
+mod line;
 mod putting;
 mod report;
+mod reported;
 mod writing;
 mod written;
 

@@ -1,31 +1,35 @@
 // The report, put line by line and then flushed.
-ghost use Rattle.std.specs.Prelude.{◌≡◌, ◌≤◌, List, OnOk, IfErr, All, length, drop};
-ghost use Rattle.npf_types.specs.Name.{name_bytes};
+ghost use Rattle.std.specs.Prelude.{◌≡◌, ◌≤◌, List, OnOk, IfOk, IfErr, All, length};
 ghost use Rattle.npf_outside.specs.Sink.{Appends, AppendsFront};
 ghost use Rattle.npf_model.specs.declared.iface.Iface.{Iface as IfaceType};
 ghost use Rattle.npf_engine.specs.declared.outcome.Outcome.{Outcome as OutcomeType};
 ghost use Rattle.npf_ctl_arrivals.specs.Within.{CrossesOneOf};
-ghost use Rattle.npf_report.specs.LineText.{line_text};
 ghost use Rattle.npf_report.specs.TotalText.{total_text, CountsOutcomes};
-ghost use Rattle.npf_ctl_output.specs.Crossings.{AreCrossingsOf, IsCrossedBy};
+ghost use Rattle.npf_ctl_output.specs.Crossings.{AreCrossingsOf};
+ghost use Rattle.npf_ctl_output.specs.Lines.{IsReported, PutsFront, PutsLines};
 ghost use Rattle.npf_ctl_output.specs.Putting.{HasPutFault};
 ghost use Rattle.npf_ctl_output.specs.Report.{report_text};
 
-use crate::crossings::{Crossings, crossings_of};
+use crate::blocks::{BLOCK_LINES, put_blocks};
+use crate::crossings::crossings_of;
+use crate::line::Line;
 use crate::putting::{flush, put, put_text};
+use crate::reported::{Reported, write_at};
 use npf_ctl_messages::CommandFault;
 use npf_engine::Outcome;
 use npf_model::Ifaces;
 use npf_outside::Sink;
-use npf_report::{Counts, Crossed, LINE_ROOM, total, write_line, write_total};
+use npf_report::{Counts, total};
 use npf_runner::Packet;
-use npf_types::Dir;
 use std::alloc::Global;
+use std::thread::Threads;
 
 /// Puts the report of the packets' outcomes, each line in one call, and flushes it. Each packet must have an outcome, and must have
-/// crossed one of the interfaces. The fault is that of the output, or want of memory.
-pub fn put_report<O: Sink>(
+/// crossed one of the interfaces. Several workers write the lines, which are put one after the other. The fault is that of the output, or want of memory.
+pub fn put_report<R: Threads + Sync, O: Sink>(
+    rt: &R,
     alloc: Global,
+    workers: u32,
     ifaces: &Ifaces,
     packets: &[Packet<'_>],
     outcomes: &[Outcome],
@@ -41,16 +45,57 @@ pub fn put_report<O: Sink>(
     ensures fault { IfErr result (HasPutFault (O.moment out.old).faults (O.moment out.new).faults) }
 {
     let crossings = crossings_of(alloc, ifaces)?;
-    let mut page = [0; LINE_ROOM];
+    let reported = Reported {
+        crossings: crossings.as_slice(),
+        packets,
+        outcomes,
+    };
+    let counts = put_all(rt, alloc, workers, reported, out)?;
+    put_last(&counts, out)?;
+    flush(out)
+}
+
+fn put_all<R: Threads + Sync, O: Sink>(
+    rt: &R,
+    alloc: Global,
+    workers: u32,
+    reported: Reported<'_>,
+    out: &mut O,
+) -> Result<Counts, CommandFault>
+    requires reported { IsReported reported }
+    ensures whole { OnOk result ((ifaces : List IfaceType) → AreCrossingsOf ifaces reported.crossings.now
+        → PutsLines ifaces reported (O.moment out.old).held (O.moment out.new).held 0 (length reported.packets.now)) }
+    ensures counts { IfOk result (CountsOutcomes reported.outcomes.now) }
+    ensures front { (ifaces : List IfaceType) → AreCrossingsOf ifaces reported.crossings.now
+        → PutsFront ifaces reported (O.moment out.old).held (O.moment out.new).held 0 }
+    ensures fault { IfErr result (HasPutFault (O.moment out.old).faults (O.moment out.new).faults) }
+    ensures counted { (O.moment out.old).faults ≤ (O.moment out.new).faults }
+{
+    if workers <= 1 || reported.outcomes.len() <= BLOCK_LINES {
+        return put_lines(reported, out);
+    }
+    put_blocks(rt, alloc, workers, reported, out)
+}
+
+// Puts the lines, each as soon as it is written, and counts the outcomes.
+fn put_lines<O: Sink>(reported: Reported<'_>, out: &mut O) -> Result<Counts, CommandFault>
+    requires reported { IsReported reported }
+    ensures whole { OnOk result ((ifaces : List IfaceType) → AreCrossingsOf ifaces reported.crossings.now
+        → PutsLines ifaces reported (O.moment out.old).held (O.moment out.new).held 0 (length reported.packets.now)) }
+    ensures counts { IfOk result (CountsOutcomes reported.outcomes.now) }
+    ensures front { (ifaces : List IfaceType) → AreCrossingsOf ifaces reported.crossings.now
+        → PutsFront ifaces reported (O.moment out.old).held (O.moment out.new).held 0 }
+    ensures fault { IfErr result (HasPutFault (O.moment out.old).faults (O.moment out.new).faults) }
+    ensures counted { (O.moment out.old).faults ≤ (O.moment out.new).faults }
+{
     let mut counts = Counts::new();
-    for (place, packet) in packets.iter().enumerate() {
-        let crossed = crossed_by(crossings.as_slice(), packet);
-        let outcome = &outcomes[place];
-        put_line(&mut page, place as u64 + 1, crossed, outcome, out)?;
+    let mut line = Line::new();
+    for (place, outcome) in reported.outcomes.iter().enumerate() {
+        write_at(reported, place, &mut line);
+        put(line.text(), out)?;
         counts.add(outcome);
     }
-    put_last(&mut page, &counts, out)?;
-    flush(out)
+    Ok(counts)
 }
 
 /// Puts the total line of the outcomes alone, and flushes it. The fault is that of the output, or want of memory.
@@ -68,44 +113,8 @@ pub fn put_total<O: Sink>(
     put_text(text.as_slice(), out)
 }
 
-// What the packet crossed, and in which direction.
-fn crossed_by<'a>(crossings: &'a [Crossings], packet: &Packet<'_>) -> &'a Crossed
-    requires { CrossesOneOf (length crossings.now) packet.now }
-    ensures { (ifaces : List IfaceType) → AreCrossingsOf ifaces crossings.now → IsCrossedBy ifaces packet.now result.now }
-{
-    let of_interface = &crossings[usize::from(packet.ifid.0) - 1];
-    match packet.dir {
-        Dir::In => &of_interface.into,
-        Dir::Out => &of_interface.out_of,
-    }
-}
-
-// Puts the line of the packet of this number, written into the page.
-fn put_line<O: Sink>(
-    page: &mut [u8; LINE_ROOM],
-    n: u64,
-    crossed: &Crossed,
-    outcome: &Outcome,
-    out: &mut O,
-) -> Result<(), CommandFault>
-    ensures whole { OnOk result
-        (Appends (O.moment out.old).held (O.moment out.new).held
-        (line_text n (name_bytes crossed.now.name) crossed.now.dir outcome.now)) }
-    ensures front { AppendsFront (O.moment out.old).held (O.moment out.new).held
-        (line_text n (name_bytes crossed.now.name) crossed.now.dir outcome.now) }
-    ensures fault { IfErr result (HasPutFault (O.moment out.old).faults (O.moment out.new).faults) }
-    ensures counted { (O.moment out.old).faults ≤ (O.moment out.new).faults }
-{
-    let start = write_line(page, LINE_ROOM, n, crossed, outcome);
-    put(line_at(page, start), out)
-}
-
-// Puts the total line, written into the page.
-fn put_last<O: Sink>(
-    page: &mut [u8; LINE_ROOM],
-    counts: &Counts,
-    out: &mut O,
-) -> Result<(), CommandFault>
+// Puts the total line.
+fn put_last<O: Sink>(counts: &Counts, out: &mut O) -> Result<(), CommandFault>
     ensures whole { OnOk result
         ((outcomes : List OutcomeType) → CountsOutcomes outcomes counts.now
         → Appends (O.moment out.old).held (O.moment out.new).held (total_text outcomes)) }
@@ -114,14 +123,7 @@ fn put_last<O: Sink>(
     ensures fault { IfErr result (HasPutFault (O.moment out.old).faults (O.moment out.new).faults) }
     ensures counted { (O.moment out.old).faults ≤ (O.moment out.new).faults }
 {
-    let start = write_total(page, LINE_ROOM, counts);
-    put(line_at(page, start), out)
-}
-
-// The line that begins at this place of the page, and ends where that ends.
-fn line_at(page: &[u8; LINE_ROOM], start: usize) -> &[u8]
-    requires { start ≤ 192 }
-    ensures { result.now ≡ drop start page.now }
-{
-    &page[start..]
+    let mut line = Line::new();
+    line.write_total(counts);
+    put(line.text(), out)
 }

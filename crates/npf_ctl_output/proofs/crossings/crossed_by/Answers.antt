@@ -1,6 +1,6 @@
 use Rattle.std.proofs.Common.{◌≡◌, ◌-◌, ℕ, get_or, subst, arith}
 use Rattle.npf_ctl_output.proofs.CrossingsLemmas.{crossed_in, crossed_out}
-use Rattle.npf_ctl_output.proofs.report.crossed_by.Goals as goal
+use Rattle.npf_ctl_output.proofs.crossings.crossed_by.Goals as goal
 
 pub returns-in-In : goal.returns-in-In
 returns-in-In c = λ ifaces are.
