@@ -1,0 +1,41 @@
+-- What the words say.
+use Rattle.std.proofs.Common.{◌≡◌, ◌≢◌, ℕ, ◌+◌, ◌*◌, ◌/◌, ◌%◌, ◌^◌, ◌<◌, ◌≤◌, Bool, true, false, cond, eqb, refl, sym, ap, ◌∙◌, subst, ⊎_elim, arith}
+use Rattle.npf_paths.specs.declared.cell.Cell.{Cell}
+use Rattle.npf_paths.specs.declared.cell.Cell.TheVariants.{Empty, Leaf, Node, Mark}
+use Rattle.npf_types.specs.declared.key.Way.TheVariants.{Forward, Backward, Port}
+use Rattle.npf_paths.specs.CellWords.{cell_of, cell_word}
+use Rattle.npf_marks_draft.specs.MarkWords.{mark_word, shown_of, held_in}
+
+-- a mark is read as one, and leads to its node
+pub mark_read : (node : ℕ) → cell_of (mark_word node) ≡ Mark
+mark_read node = grind arith
+
+pub mark_leads : (node : ℕ) → shown_of (mark_word node) ≡ Node node
+mark_leads node = grind arith
+
+-- a node and its mark lead to the same
+pub same_shown : (node : ℕ) → shown_of (mark_word node) ≡ shown_of (cell_word (Node node))
+same_shown node = grind arith
+
+-- any other cell leads where it says
+pub real_shown : (word : ℕ) → cell_of word ≢ Mark → shown_of word ≡ cell_of word
+real_shown word real = by_kind (eqb (word % 4) 3) refl
+  where
+    by_kind : (b : Bool) → eqb (word % 4) 3 ≡ b → cond b (Node (word / 4)) (cell_of word) ≡ cell_of word
+    by_kind true e = absurd (real (grind (arith, e)))
+    by_kind false e = refl
+
+pub said_shown : (c : Cell) → c ≢ Mark → shown_of (cell_word c) ≡ c
+said_shown Empty real = refl
+said_shown (Leaf slot Forward) real = grind arith
+said_shown (Leaf slot Backward) real = grind arith
+said_shown (Leaf slot Port) real = grind arith
+said_shown (Node node) real = grind arith
+said_shown Mark real = absurd (real refl)
+
+-- who let a node go has its lock no more
+pub let_go_free : (epoch : ℕ) → held_in (2 ^ 63 + epoch) ≡ 0
+let_go_free epoch = grind arith
+
+pub marked_held : held_in 2 ≡ 1
+marked_held = refl

@@ -1,0 +1,4 @@
+pub mod Drafted
+pub mod MarkWords
+pub mod Marks
+pub mod MarkKinds
