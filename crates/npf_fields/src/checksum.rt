@@ -1,3 +1,5 @@
+// The step of a checksum. For a word that stays a sum of 0xFFFF would become 0, as in equation 3 of RFC 1624: callers adjust by words that
+// change alone.
 ghost use Rattle.std.specs.Prelude.{◌≡◌, ℕ, ◌*◌, ◌≤◌, ◌↔◌};
 ghost use Rattle.npf_fields.specs.Checksum.{adjusted_sum, end_around as carried, with_carries as once_carried, Verifies};
 

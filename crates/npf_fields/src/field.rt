@@ -1,3 +1,4 @@
+// Numbers in bytes. A put says three things, its field, the bytes in front and those behind, which with the slice's length say every byte.
 ghost use Rattle.std.specs.Prelude.{◌≡◌, ◌+◌, ◌≤◌, length};
 ghost use Rattle.npf_fields.specs.Field.{number16, number32, number128};
 ghost use Rattle.std.specs.List.{SameBelow, SameFrom};

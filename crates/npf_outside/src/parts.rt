@@ -1,4 +1,5 @@
-// Bytes that are given part by part, so that they needn't be in memory as one.
+// Bytes that are given part by part, so that they needn't be in memory as one. The room for a part is made before a file is opened, so that
+// a file stays as it was where memory runs out for it.
 ghost use Rattle.std.specs.Prelude.{◌≡◌, ℕ, ◌+◌, ◌≤◌, List, [], IfOk, OnOk, vec_len, vec_capacity};
 ghost use Rattle.std.specs.Io.KnownBytes.{Appends};
 ghost use Rattle.npf_outside.specs.Parts.{GivesPart};

@@ -1,4 +1,4 @@
-// A sink over a stream, behind a buffer.
+// A sink over a stream, behind a buffer of its own, since `BufWriter` drops its stream where memory for a buffer is wanted.
 ghost use Rattle.std.specs.Prelude.{◌≡◌, ◌⊎◌, ◌+◌, ◌<◌, ◌≤◌, [], length, OnOk, IsErrOf, vec_len, vec_capacity};
 ghost use Rattle.npf_outside.specs.Sink.{Appends, AppendsFront};
 

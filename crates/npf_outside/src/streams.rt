@@ -1,4 +1,5 @@
-// The streams of the system as sinks.
+// The streams of the system as sinks. Standard error is made of the host's runtime: the library has no writer over any runtime that can
+// print errors.
 ghost use Rattle.std.specs.Prelude.{◌≡◌, []};
 
 use crate::stream_sink::StreamSink;

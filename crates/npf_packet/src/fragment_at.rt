@@ -1,4 +1,7 @@
 // Fragments of IP packets (RFC 791 section 3.1, RFC 8200 section 4.5), which aren't looked into.
+//
+// It stands on the reading of the headers by which `decode` goes, too: what IPv4's header says is read before it is asked whether it is of
+// a fragment (`whole_v4`), and each header of IPv6's chain keeps the place of the byte that names it.
 ghost use Rattle.std.specs.Prelude.{◌≤◌, length, IfSome};
 ghost use Rattle.npf_packet.specs.declared.version.Version.TheVariants.{V4, V6};
 ghost use Rattle.npf_packet.specs.Decoding.{packet_at};

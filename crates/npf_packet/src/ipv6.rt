@@ -1,4 +1,7 @@
 // IPv6 and its extension headers (RFC 8200 sections 3 and 4); specs/Ipv6.antt has the picture of the header.
+//
+// Extension headers stand in any number and order. They are stated as the options of TCP are, by what follows one element (specs/Chain),
+// and not by how they are walked.
 ghost use Rattle.std.specs.Prelude.{◌≡◌, ◌+◌, ◌<◌, ◌≤◌, ◌==◌, ◌&&◌, nat_le, length, IfOk, IfSome};
 ghost use Rattle.npf_packet.specs.Ipv6.{IsPacketV6, HasLast, end_v6, is_extension, extension_len, next_header, payload_len, fragment_answer};
 ghost use Rattle.npf_packet.specs.Packet.{IsPlaced};

@@ -1,4 +1,7 @@
 // What holds of every packet that is decoded, and of every fragment. The functions do nothing: each is a theorem.
+//
+// What follows of a decoding is said of a packet's facts alone, without the types by which decoding goes, and from the two places at which
+// the headers begin: so one definition speaks of the record's bytes and of the packet's own.
 ghost use Rattle.npf_packet.specs.DecodingLaw.{DecodedHasFields, DecodedHasPlaces, DecodedHasProtocol, DecodedIsPacket, OneDecoding};
 ghost use Rattle.npf_packet.specs.FragmentAt.{FragmentIsSkipped, OneFragment};
 

@@ -1,4 +1,5 @@
-// The options of TCP (RFC 9293 section 3.2, RFC 7323 section 2.2); specs/TcpOption.antt has their picture.
+// The options of TCP (RFC 9293 section 3.2, RFC 7323 section 2.2); specs/TcpOption.antt has their picture. That the number of a maximum
+// segment size lies in its header is said by the payload, in front of which it stands, so nobody needs the data offset to write it.
 ghost use Rattle.std.specs.Prelude.{◌≡◌, ◌+◌, ◌<◌, ◌≤◌, length, IfSome};
 ghost use Rattle.npf_packet.specs.TcpOption.{HasOptions, option_end, option_len, mss_at, scale_at};
 
