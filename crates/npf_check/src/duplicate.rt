@@ -1,4 +1,4 @@
-// Each name is given once to a thing of its kind.
+// Each name is given once to a thing of its kind. One that stands three times is told twice, a ruleset's at its item.
 ghost use Rattle.std.specs.Prelude.{◌≡◌, ◌++◌, IfOk, OnOk, List};
 ghost use Rattle.std.specs.List.{flat_map};
 ghost use Rattle.npf_faults.specs.First.{first_fault};

@@ -1,4 +1,4 @@
-// What a map can be.
+// What a map can be. Of an algorithm that isn't known no lengths are compared, since which ones it asks for isn't known either.
 ghost use Rattle.std.specs.Prelude.{◌≡◌, ◌∷◌, ◌||◌, IfOk, OnOk, List};
 ghost use Rattle.npf_syntax.specs.declared.stmt.Stmt.{Stmt as WrittenStmt};
 ghost use Rattle.npf_faults.specs.First.{first_fault};

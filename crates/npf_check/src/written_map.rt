@@ -1,4 +1,5 @@
-// Which variables are tables, for the sides of maps.
+// Which variables are tables, for the sides of maps: those whose last definition before the map is one. The tree tells it, as the model has
+// a block there.
 ghost use Rattle.std.specs.Prelude.{◌≡◌, ◌||◌, OnOk, List, ℕ};
 ghost use Rattle.npf_check.specs.Name.{no_text};
 ghost use Rattle.npf_check.specs.WrittenMap.{is_one_table, is_table, stands_for_table, with_definition};

@@ -1,4 +1,7 @@
 // The elaboration of a whole configuration, statement by statement.
+//
+// Values and faults are total: a number past what may stand in its place, which no grammar accepts there, is taken for the greatest that
+// may. So a model is defined of every tree, also of one that no text has.
 ghost use Rattle.std.specs.Prelude.{◌≡◌, ◌++◌, ℕ, [], IfErr, IfOk, List, None, OnOk};
 ghost use Rattle.std.specs.List.{flat_map};
 ghost use Rattle.npf_types.specs.declared.span.Span.{Span};

@@ -1,4 +1,5 @@
-// The elaboration of one rule that stands in no text, as one that is added to a ruleset.
+// The elaboration of one rule that stands in no text, as one that is added to a ruleset. A model keeps no variables, so each is
+// `UnknownVariable`; whoever knows the lists of the other rules sees that all are short enough.
 ghost use Rattle.std.specs.Prelude.{◌≡◌, IfErr, IfOk};
 ghost use Rattle.npf_model.specs.Count.{elements_of};
 ghost use Rattle.npf_expand_values.specs.Source.{declared_of};

@@ -1,4 +1,4 @@
-// The tables of a configuration.
+// The tables of a configuration. A declaration keeps where the name of its file stands, since a fault of that file is told there.
 ghost use Rattle.std.specs.Prelude.{◌≡◌, ◌∷◌, [], IfOk};
 ghost use Rattle.std.specs.Option.{option_map};
 ghost use Rattle.npf_types.specs.Named.{named};

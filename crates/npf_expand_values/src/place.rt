@@ -1,4 +1,4 @@
-// Names by their first places.
+// Names by their first places, through a hash map: a text may have as many names as lines, each to be found.
 ghost use Rattle.std.specs.Prelude.{◌≡◌, ◌<◌, ◌+◌, ◌++◌, ◌∷◌, ℕ, [], OnOk, List};
 ghost use Rattle.std.specs.Str.{bytes_eq};
 ghost use Rattle.npf_model.specs.Verdict.{first_where};

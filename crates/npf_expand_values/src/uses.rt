@@ -1,4 +1,5 @@
-// The faults of values where they are used, and the values that a list gives there.
+// The faults of values where they are used, and the values that a list gives there. A list where one value stands is one fault, whatever is
+// in it.
 ghost use Rattle.std.specs.Prelude.{◌≡◌, ◌≤◌, ◌++◌, IfOk, false, length, map};
 ghost use Rattle.std.specs.List.{flat_map};
 ghost use Rattle.std.specs.Option.{option_map};

@@ -1,4 +1,5 @@
-// Variables, and what they are bound to. A list keeps the places of the variables in it and is spliced where it is used.
+// Variables, and what they are bound to. A list keeps the places of the variables in it and is spliced where it is used, in a rule within
+// the limit alone. So a list that doubles again and again costs nothing until then, and then no more than the limit's elements.
 ghost use Rattle.std.specs.Prelude.{◌≡◌, ◌<◌, ◌≤◌, ◌∷◌, ◌++◌, ℕ, [], false, if◌then◌else◌, All, IfOk, List, None, OnOk, Option, Some, length, map, slice_get};
 ghost use Rattle.std.specs.Option.{option_map};
 ghost use Rattle.std.specs.Str.{bytes_eq};

@@ -1,4 +1,7 @@
 // Statements and files: a function for each line of the grammar.
+//
+// Any tokens are taken, and read up to the first `End`, or to the list's end where there is none; what `lex` gives ends with the one that
+// it has.
 ghost use Rattle.std.specs.Prelude.{◌≡◌, codes, IfOk};
 ghost use Rattle.npf_types.specs.declared.span.Span.{Span};
 ghost use Rattle.npf_faults.specs.declared.fault.Fault.TheVariants.{Expected};

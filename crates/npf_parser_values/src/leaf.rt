@@ -1,4 +1,4 @@
-// The tokens that carry something, and those that have to be of some form where they stand.
+// The tokens that carry something, and those that have to be of some form where they stand. UTF-8 is std's `is_utf8`.
 ghost use Rattle.std.specs.Prelude.{◌≡◌};
 ghost use Rattle.std.specs.List.{list_all};
 ghost use Rattle.std.specs.Str.{is_utf8};

@@ -1,4 +1,8 @@
 // Values and lists of values: a function for each line of the grammar.
+//
+// Line feeds inside a list lie behind its tokens, so that one token of sight decides. The name of a function is a word with an argument
+// behind it, or else an ordinary word. A value that breaks off stops where it does; one that is written to its end and can't stand there
+// stops at its first token (`fitted`).
 ghost use Rattle.std.specs.Prelude.{◌≡◌, IfOk, IfErr};
 ghost use Rattle.npf_lexer.specs.declared.token.Sign.TheVariants as Sign;
 ghost use Rattle.npf_phrase.specs.Grammar.{◌&◌, fitted, meaning, optional};

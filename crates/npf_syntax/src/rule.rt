@@ -1,3 +1,5 @@
+// Rules. A choice of quoted words has a span, as every part of the tree has one, so directions and decisions are enums of the tree beside
+// the plain types. The field for the word `final` is `last`, since `final` is a reserved word of Rust.
 use crate::boxed::Boxed;
 use crate::filter::Filter;
 use crate::value::Iface;
