@@ -1,4 +1,5 @@
-// What holds of the value of all instructions. The functions do nothing: each is a theorem.
+// What holds of the value of all instructions. The functions do nothing: each is a theorem. Steps are counted along the recursion by which
+// the value is said, so no counter is kept as a program runs.
 ghost use Rattle.npf_bpf.specs.ValueLaw.{StepsWithinLength, TellsValueBehind};
 
 /// Behind other instructions the value is that of what stands there: so a fragment of a program can

@@ -1,4 +1,4 @@
-// The validator.
+// The validator. What is too long breaks a rule at the 4,097th instruction, so a bad one before that is told first.
 ghost use Rattle.std.specs.Prelude.{◌≡◌, ◌+◌, ◌-◌, ◌<◌, ◌≤◌, ◌↔◌, IsTrue, IsOk, IfOk, IfErr, IfSome, IsNone, length};
 ghost use Rattle.npf_bpf.specs.Validity.{DividesByNonzero, IsAllowed, IsFirstFault, IsReturn, IsValid, JumpsWithin, KeepsRules, StaysInMemory};
 

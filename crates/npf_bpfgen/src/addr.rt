@@ -1,4 +1,7 @@
 // Tests of the addresses: blocks by the first bits of their words, tables by the coprocessor.
+//
+// First bits are compared behind a shift, an IPv6 prefix's word by word. A shift by 32 leaves 0, so a prefix of length 0 needs no case; for
+// that each byte has to be below 256.
 ghost use Rattle.std.specs.Prelude.{◌≡◌, ◌≤◌, ◌<◌, ◌+◌, ◌-◌, ◌^◌, ◌/◌, ◌%◌, OnOk, Option, Some, All, length, min};
 ghost use Rattle.std.specs.List.{list_any, sum_by};
 ghost use Rattle.npf_types.specs.Address.{first_bits, shares_first};

@@ -1,4 +1,5 @@
-// Tests of the ports, which TCP and UDP have at the same places (RFC 9293 section 3.1, RFC 768).
+// Tests of the ports, which TCP and UDP have at the same places (RFC 9293 section 3.1, RFC 768). Layer 4 is where the coprocessor says, so
+// IPv4's options and IPv6's extension headers are no special case; a port is loaded once for its list.
 ghost use Rattle.std.specs.Prelude.{◌≡◌, ◌≤◌, ◌+◌, ◌*◌, OnOk, Option, Some, length};
 ghost use Rattle.std.specs.List.{list_any};
 ghost use Rattle.npf_model.specs.Describes.{fits_ports, in_range};

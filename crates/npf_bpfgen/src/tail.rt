@@ -1,4 +1,8 @@
 // The end of a program, which grows to the front.
+//
+// What stands behind an instruction is known when it is put, so a jump's distance is how far the end has come since, and no length is
+// reckoned in advance. Each instruction is proved once for whatever stands behind it (`Yields`). A conditional jump stays inside its test;
+// the one long distance is that behind a member of a list, which no list is too long for.
 ghost use Rattle.std.specs.Prelude.{◌≡◌, ◌++◌, [], IfOk, OnOk, length, map};
 ghost use Rattle.npf_bpf.specs.Table.{insn_of};
 

@@ -1,4 +1,5 @@
-// What a program may ask about the packet beyond its bytes.
+// What a program may ask about the packet beyond its bytes. Both answers are one ghost member, so that a clause cites the coprocessor by
+// one name.
 ghost use Rattle.std.specs.Prelude.{◌≡◌};
 ghost use Rattle.npf_bpf.specs.Coprocessor.{Coprocessor};
 

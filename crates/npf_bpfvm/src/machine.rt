@@ -1,4 +1,4 @@
-// The machine: bpf(4)'s table, carried out.
+// The machine: bpf(4)'s table, carried out. Instructions are decoded as they are met; that none of a valid program is unknown is proved.
 ghost use Rattle.std.specs.Prelude.{◌≡◌, ◌+◌, ◌<◌, length, slice_set};
 ghost use Rattle.npf_bpf.specs.Effect.{branched, effect_of, operand_value, or_return_0, with_accumulator, with_index, with_ip_header, with_member, with_memory};
 ghost use Rattle.npf_bpf.specs.State.{initial};

@@ -1,3 +1,5 @@
+// The work of loading. No file is read before the whole text is checked, and none behind the first that is refused; no clause says so, as
+// the counts alone bound what else a call may read.
 ghost use Rattle.std.specs.Prelude.{◌≤◌, length, IfOk, IfErr, OnOk};
 ghost use Rattle.npf_outside.specs.Files.{SameReadFaults};
 ghost use Rattle.npf_ruleset.specs.Configuration.{configuration};

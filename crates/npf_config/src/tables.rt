@@ -1,4 +1,5 @@
-// The tables of a configuration, read from their files.
+// The tables of a configuration, read from their files. Each table's own entries count once: what stands on two lines of a file is one
+// entry, and what two tables have is two.
 ghost use Rattle.std.specs.Prelude.{◌≡◌, ◌≢◌, ◌≤◌, ◌+◌, length, IfOk, IfErr, OnOk, All};
 ghost use Rattle.std.specs.List.{AllPairs};
 ghost use Rattle.npf_outside.specs.Files.{SameReadFaults};

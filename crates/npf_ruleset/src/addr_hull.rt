@@ -1,4 +1,4 @@
-// The hull of a list of addresses.
+// The hull of a list of addresses, which may admit more than the list, of either family: the program decides.
 ghost use Rattle.std.specs.Prelude.{◌≡◌, ◌≤◌, ◌-◌, ◌/◌, ◌^◌, Some};
 ghost use Rattle.npf_types.specs.Address.{kept_bits};
 ghost use Rattle.npf_ruleset.specs.Row.{IsHullOfAddrs, IsHullOfBits, IsWithin, hull_number, is_within};

@@ -1,4 +1,4 @@
-// What a rule or a group is bound to by direction and interface.
+// What a rule or a group is bound to by direction and interface. The interface stands with its name, so that numbers are set by themselves.
 ghost use Rattle.std.specs.Prelude.{◌≡◌, ◌&&◌};
 ghost use Rattle.npf_model.specs.Place.{fits_dir, fits_on};
 ghost use Rattle.npf_ruleset.specs.Binding.{IsBindingOf, IsBoundTo, is_bound};

@@ -1,4 +1,5 @@
-// What is laid out flat.
+// What is laid out flat. Rows stand with their programs; apart they were no faster. Where no rule of a group is `final`, its rules aren't
+// gone over for that first.
 ghost use Rattle.std.specs.Prelude.{◌≡◌};
 
 use crate::binding::Binding;

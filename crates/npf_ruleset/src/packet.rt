@@ -1,4 +1,5 @@
-// A packet, as a walk sees it and as a program asks of it.
+// A packet, as a walk sees it and as a program asks of it. The machine is kept out of the walk's loop, so that a rule whose row doesn't
+// admit the packet costs a few compares and no frame for the machine's registers.
 ghost use Rattle.std.specs.Prelude.{◌≡◌};
 ghost use Rattle.npf_bpfgen.specs.Premise.{ip_version};
 ghost use Rattle.npf_ruleset.specs.Row.{destination_end, source_end};

@@ -1,4 +1,4 @@
-// Protocols as a set of bits.
+// Protocols as a set of bits, which may admit more than the rule: its program decides.
 ghost use Rattle.std.specs.Prelude.{◌≡◌, ℕ, true};
 ghost use Rattle.npf_ruleset.specs.Row.{HasProtocols, has_protocol};
 

@@ -1,4 +1,5 @@
-// What each packet meets that a rule describes.
+// What each packet meets that a rule describes. It is tested before the binding, since few rules are bound to anything; what it asks of a
+// packet is found once a walk, not once a rule.
 ghost use Rattle.std.specs.Prelude.{◌≡◌};
 ghost use Rattle.npf_ruleset.specs.Row.{IsEndRowOf, IsRowOf, destination_end, meets_row, source_end};
 
