@@ -1,3 +1,5 @@
+// A try to raise the epoch. Whether it succeeds is told by what the pass met, the readers that its scan found behind and the epoch of its
+// last step, and the count of raises says that a try which fails raised nothing.
 ghost use Rattle.std.specs.Prelude.{◌≡◌, ◌↔◌, ◌⊎◌, ◌+◌, ◌≤◌, ◌<◌, ◌==◌, ◌||◌, true, false, [], length, if◌then◌else◌};
 ghost use Rattle.npf_connections.specs.Pass.{all_places};
 ghost use Rattle.npf_cells_pins.specs.declared.pin.Pin.TheVariants.{Idle};

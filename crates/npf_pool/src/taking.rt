@@ -1,3 +1,8 @@
+// A slot or a node taken.
+//
+// A search begins in the word where the pass found a place last; which word that is no clause says, as any number is a hint. Where another
+// was faster the sweep begins anew at the first word, so that each search tries the lowest place that it found clear, and a row of full
+// words is one sweep. The last word of a pool is never the hinted one, since its load may end such a row.
 ghost use Rattle.std.specs.Prelude.{◌≡◌, ◌≢◌, ◌-◌, ◌^◌, ◌<◌, ℕ, IfSome, IfNone, Contains};
 ghost use Rattle.std.specs.Int.{bit_at};
 ghost use Rattle.npf_cells_words.specs.declared.layout.Pool.TheVariants.{Slots, Nodes};

@@ -1,3 +1,4 @@
+// A leaf put in an empty place. Its note is stored under the lock, right before it, so a hold that is refused leaves each note 0.
 ghost use Rattle.std.specs.Prelude.{◌≡◌, ◌≤◌};
 ghost use Rattle.npf_cells.specs.Cells.{IsPassIn};
 ghost use Rattle.npf_cells_rule.specs.Passes.{IsProtected};

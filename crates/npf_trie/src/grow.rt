@@ -1,3 +1,8 @@
+// Nodes in the place of another key's leaf.
+//
+// That leaf is moved under its slot's turn: its note gets the number of the place where it will stand under the lock of the place where it
+// stands, and the next store moves it, so nothing is undone between. Where something else stands there under the lock, the nodes are given
+// back rather than kept for another key.
 ghost use Rattle.std.specs.Prelude.{◌≡◌, ◌≤◌, ◌<◌, ◌∷◌, [], None};
 ghost use Rattle.npf_core.specs.declared.held.Held.TheVariants.{Done};
 ghost use Rattle.npf_paths.specs.Places.{lock_of};

@@ -1,3 +1,4 @@
+// A look-up. That it takes no lock is said of its ends: it has the locks then that it had before, and no handle by which it could wait.
 ghost use Rattle.std.specs.Prelude.{◌≡◌, ◌<◌};
 ghost use Rattle.npf_cells_holds.specs.LookKinds.{IsLeafOf};
 ghost use Rattle.npf_cells.specs.Cells.{IsPassIn};

@@ -1,3 +1,8 @@
+// The keys of a killed connection.
+//
+// One is given up under its slot's turn, since a note without it may name a place in a node that another pass is about to publish; under
+// the turn and the lock of the noted place the leaf stands there, so it isn't loaded again. Who gives a key up forgets the epoch that it
+// loaded: what the first note gets is from after the last key was gone.
 ghost use Rattle.std.specs.Prelude.{◌≡◌, ◌≤◌, ◌<◌, ◌+◌, ◌*◌, None, [], Contains};
 ghost use Rattle.npf_cells_words.specs.Codes.{place_code};
 ghost use Rattle.npf_cells_words.specs.Places.{IsInTrie};

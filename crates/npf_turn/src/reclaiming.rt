@@ -1,3 +1,4 @@
+// Slots freed. A slot's last incarnation is left Dead, since no other could follow.
 ghost use Rattle.std.specs.Prelude.{◌≡◌, ◌<◌, ◌^◌, ◌↔◌, true, None, []};
 ghost use Rattle.npf_cells.specs.Cells.{IsPassIn};
 ghost use Rattle.npf_turn.specs.Reclaiming.{HasReclaimed, IsLongLeft};

@@ -1,3 +1,4 @@
+// The turn of a slot. A pass has one at a time, so none waits for a turn while it has one, and none for itself.
 ghost use Rattle.std.specs.Prelude.{◌≡◌, ◌<◌, None};
 ghost use Rattle.npf_cells.specs.Cells.{IsPassIn};
 ghost use Rattle.npf_cells_turns.specs.TurnKinds.{HasTaken};

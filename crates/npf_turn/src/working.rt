@@ -1,3 +1,8 @@
+// Connections started, stepped and killed, each under one turn.
+//
+// Who kills forgets the epoch that it loaded, so a pass with several kills loads it once behind the last, and its scan of the readers
+// begins anew. That a slot has nothing due is learned by `see`, which makes no entry: the pass sees the history as it is while it has the
+// turn.
 ghost use Rattle.std.specs.Prelude.{◌≡◌, ◌<◌, ◌+◌, ◌-◌, ◌^◌, min, None, Contains};
 ghost use Rattle.npf_connections.specs.Pass.{Knows};
 ghost use Rattle.npf_cells.specs.Cells.{IsPassIn};
