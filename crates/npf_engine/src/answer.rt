@@ -1,4 +1,7 @@
 // What becomes of a packet of IP. All are inlined, so that an answer's parts aren't copied from call to call.
+//
+// A packet is answered before its bytes are touched: an answer has the action and the change that rewrite it, and the bytes are written
+// once the pass has left. So no function below has bytes to change, and an answer speaks of all bytes that may be sent.
 ghost use Rattle.std.specs.Prelude.{◌≡◌, None, Some, false, is_some};
 ghost use Rattle.npf_types.specs.declared.decision.Decision.TheVariants.{Block};
 ghost use Rattle.npf_types.specs.declared.decision.Return.TheVariants.{Nothing};

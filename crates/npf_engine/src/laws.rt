@@ -1,4 +1,5 @@
-// What follows of an explanation. The function does nothing: it is a theorem.
+// What follows of an explanation. The function does nothing: it is a theorem. By it the points at which the slots of a full table were
+// claimed are found where the table answers, and hold for the packet as a whole.
 ghost use Rattle.npf_engine.specs.Handles.{ExplainsInLonger};
 
 /// What explains a packet's outcome to the pass that worked on it explains it in each longer legal history whose further entries

@@ -1,4 +1,5 @@
-// Normalisation (npf.conf(5), "Procedures"); specs/Normalised.antt says which words it writes.
+// Normalisation (npf.conf(5), "Procedures"); specs/Normalised.antt says which words it writes. A maximum segment size at an odd place lies
+// across two words. All that is asked is about places, so what was normalised may be translated by the same facts.
 ghost use Rattle.std.specs.Prelude.{◌≡◌, ◌+◌, ◌-◌, ◌/◌, ◌%◌, ◌<◌, ◌≤◌, ◌==◌, ◌^◌, ◌++◌, ℕ, length, slice_index, IfSome, IsTrue};
 ghost use Rattle.npf_rewrite.specs.Normalised.{Normalised, aligned, cleared_fragment, header_writes, joined, lowered_mss, lowered_to, mss_write, raised_ttl, segment_sum};
 ghost use Rattle.npf_rewrite.specs.Room.{HasRoom, IsMssWrite};

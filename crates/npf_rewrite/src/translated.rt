@@ -1,4 +1,5 @@
-// Translation (RFC 3022, RFC 6296); specs/Translated.antt says which words it writes.
+// Translation (RFC 3022, RFC 6296); specs/Translated.antt says which words it writes. The sum of ICMPv6 counts the addresses for every
+// message, an echo or not, and that of ICMP none.
 ghost use Rattle.std.specs.Prelude.{◌≡◌, ◌<◌, ◌^◌, ◌++◌, length};
 ghost use Rattle.npf_key.specs.Translated.{named_port};
 ghost use Rattle.npf_rewrite.specs.Room.{HasRoom};

@@ -1,4 +1,5 @@
-// The 16-bit words of a packet, in which the Internet checksum counts (RFC 1071 section 1).
+// The 16-bit words of a packet, in which the Internet checksum counts (RFC 1071 section 1). Everything is written as words, so that what is
+// written and what the sums follow is one list; a time to live is written with the byte that shares its word.
 ghost use Rattle.std.specs.Prelude.{◌≡◌, ◌+◌, ◌≤◌, ◌∷◌, [], length};
 ghost use Rattle.npf_rewrite.specs.Word.{AllWithin, Rewrites, named_word, word_list};
 
