@@ -1,3 +1,7 @@
+// Captures gathered one after another.
+//
+// Each is gathered whole, with its bytes and the places of its packets, so that one that is refused leaves what was gathered as it was.
+// Packets are cut once all captures are read, into a list that is made in its size.
 ghost use Rattle.std.specs.Prelude.{◌≡◌, ◌≢◌, ◌≤◌, ℕ, All, length, Ok, Err, IfOk, IfErr, OnOk, OnErr};
 ghost use Rattle.npf_traffic.specs.Packet.{IsShortPacket};
 ghost use Rattle.npf_ctl_arrivals.specs.Arrivals.{AreByTime, GathersCapture, none_gathered};

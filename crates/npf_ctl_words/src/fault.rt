@@ -1,3 +1,4 @@
+// Why words are no command. A refusal has no text of `clap`'s: the program has one line for all.
 ghost use Rattle.std.specs.Prelude.{◌≡◌};
 
 use std::alloc::AllocError;

@@ -1,4 +1,5 @@
-// The command that a list of words says.
+// The command that a list of words says. The first word is compared before `clap` is asked, so that one which names no command is refused
+// whether there is memory or not.
 ghost use Rattle.std.specs.Prelude.{◌≡◌, ◌≤◌, IfOk, IfSome, IsErrOf, IsNone, None, Some, false, is_some, option_map, pos, true};
 ghost use Rattle.clap.specs.Words.{IsSignedIn, IsUnsignedIn, first_of, found_of, rows_of};
 ghost use Rattle.npf_ctl_words.specs.CommandLine.{SaysCommand, TellsCommand, TellsLoad, TellsNumber, TellsRun};
