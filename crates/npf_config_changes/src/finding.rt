@@ -15,7 +15,7 @@ pub(crate) fn is_name(name: &Name, other: &Name) -> bool
     name.as_bytes() == other.as_bytes()
 }
 
-/// The place of the table of this name, counted from 0.
+/// The place of the table of this name, counted from 0; None where no table has it.
 pub fn table_place(decls: &[TableDecl], name: &Name) -> Option<usize>
     ensures place { result ≡ first_where (λ decl. are_one_name decl.name name.now) 0 decls.now }
     ensures bound { IfSome result (λ at. at < length decls.now) }

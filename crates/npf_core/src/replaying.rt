@@ -49,7 +49,8 @@ impl<T: Drop> From<AllocFailed<T>> for ReplayFault {
     }
 }
 
-/// The legal history of these acts, from the opening state of a machine with so many slots.
+/// The legal history of these acts, from the opening state of a machine with so many slots; or the place of the first act that isn't
+/// allowed.
 pub fn replay<L: Law>(
     alloc: Global,
     slots: u32,

@@ -143,7 +143,7 @@ impl SavedRefusal {
         }
     }
 
-    /// The line or the count that is printed behind them.
+    /// The line, from 1, or the count that is printed behind them; None where neither is.
     pub fn count(&self) -> Option<u64>
         ensures { result ≡ saved_count self.now }
     {

@@ -101,7 +101,7 @@ impl<'a> Atom<'a> {
         }
     }
 
-    /// The ports that it is, first and last.
+    /// The ports that it is, first and last; None where it is none.
     pub fn ports(&self) -> Option<(u16, u16)>
         ensures { result ≡ atom_ports (kept_atom self.now) }
     {
@@ -126,7 +126,7 @@ impl<'a> Atom<'a> {
         }
     }
 
-    /// The protocol that it is.
+    /// The protocol that it is; None where it is none.
     pub fn protocol(&self) -> Option<u8>
         ensures { result ≡ protocol_of (kept_atom self.now) }
     {

@@ -247,7 +247,7 @@ fn empty_list_fault(values: &Values) -> Option<ConfFault>
     }
 }
 
-/// The fault of a list without values.
+/// The fault of a list without values; None of a list with some.
 pub fn empty_fault(values: &[Value], span: Span) -> Option<ConfFault>
     ensures { result ≡ first_fault (empty_list_at span values.now) }
 {

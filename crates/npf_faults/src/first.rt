@@ -4,7 +4,8 @@ ghost use Rattle.npf_faults.specs.First.{earlier, fault_if, first_fault, precede
 use crate::fault::{ConfFault, Fault};
 use npf_types::Span;
 
-/// The one of two faults that is answered: that which stands first, and of two at one place that with the smaller number.
+/// The one of two faults that is answered: that which stands first, and of two at one place that with the smaller number. None where there
+/// is neither.
 pub fn earlier(one: Option<ConfFault>, other: Option<ConfFault>) -> Option<ConfFault>
     ensures { result ≡ earlier one other }
 {

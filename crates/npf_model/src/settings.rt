@@ -45,7 +45,7 @@ impl Settings {
 }
 
 impl Parameter {
-    /// The parameter of this name in a configuration's text.
+    /// The parameter of this name in a configuration's text; None where none has it.
     pub fn named(name: &[u8]) -> Option<Parameter>
         ensures { result ≡ parameter_named name.now }
     {

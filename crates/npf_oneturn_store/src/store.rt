@@ -55,7 +55,7 @@ impl<S: Copy> Store<S> {
         self.slots
     }
 
-    /// The key's holder, in whatever phase it is.
+    /// The key's holder, in whatever phase it is; None where it has none.
     #[inline(always)]
     pub fn holder(&self, key: Key) -> Option<Found>
         ensures { result ≡ holder_of self.now key }
@@ -177,7 +177,7 @@ impl<S: Copy> Store<S> {
         self.put(id, Phase::Dead);
     }
 
-    /// The key that the connection holds that way.
+    /// The key that the connection holds that way; None where it holds none.
     pub fn held(&self, id: ConnId, way: Way) -> Option<Key>
         ensures { TellsKey self.now id way result }
     {

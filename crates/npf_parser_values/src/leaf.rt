@@ -1,4 +1,5 @@
-// The tokens that carry something, and those that have to be of some form where they stand. UTF-8 is std's `is_utf8`.
+// The tokens that carry something, and those that have to be of some form where they stand. UTF-8 is std's `is_utf8`. Each reading
+// stops before its tokens where the first is none such.
 ghost use Rattle.std.specs.Prelude.{◌≡◌};
 ghost use Rattle.std.specs.List.{list_all};
 ghost use Rattle.std.specs.Str.{is_utf8};
@@ -15,6 +16,7 @@ use npf_types::Name;
 use std::alloc::Global;
 use std::str;
 
+/// A string, and the tokens behind it.
 #[tactic(auto, unfolding(npf_phrase::specs::Phrase::read_token))]
 pub fn read_string<'a>(alloc: Global, tokens: &'a [Token]) -> Result<(Str, &'a [Token]), Stop<'a>>
     ensures { Answers ((meaning string).read tokens.now) result }
@@ -36,6 +38,7 @@ pub fn read_string<'a>(alloc: Global, tokens: &'a [Token]) -> Result<(Str, &'a [
     }
 }
 
+/// A word, and the tokens behind it.
 #[tactic(auto, unfolding(npf_phrase::specs::Phrase::read_token))]
 pub fn read_word<'a>(alloc: Global, tokens: &'a [Token]) -> Result<(Word, &'a [Token]), Stop<'a>>
     ensures { Answers ((meaning word).read tokens.now) result }
@@ -57,6 +60,7 @@ pub fn read_word<'a>(alloc: Global, tokens: &'a [Token]) -> Result<(Word, &'a [T
     }
 }
 
+/// A variable, and the tokens behind it.
 #[tactic(auto, unfolding(npf_phrase::specs::Phrase::read_token))]
 pub fn read_variable<'a>(alloc: Global, tokens: &'a [Token]) -> Result<(Var, &'a [Token]), Stop<'a>>
     ensures { Answers ((meaning variable).read tokens.now) result }
@@ -78,6 +82,7 @@ pub fn read_variable<'a>(alloc: Global, tokens: &'a [Token]) -> Result<(Var, &'a
     }
 }
 
+/// A number, and the tokens behind it.
 #[tactic(auto, unfolding(npf_phrase::specs::Phrase::read_token))]
 pub fn read_number(tokens: &[Token]) -> Result<(Number, &[Token]), Stop>
     ensures { AnswersAlone ((meaning number).read tokens.now) result }
@@ -130,6 +135,7 @@ pub(crate) fn read_address(tokens: &[Token]) -> Result<(Address, &[Token]), Stop
     }
 }
 
+/// A number of at most `most`, and the tokens behind it.
 pub fn read_number_to(most: u32, tokens: &[Token]) -> Result<(Number, &[Token]), Stop>
     ensures { AnswersAlone ((meaning (number_to most)).read tokens.now) result }
 {
@@ -146,6 +152,7 @@ pub(crate) fn is_name(text: &[u8]) -> bool
     Name::of(text).is_some()
 }
 
+/// A word that is a `Name`, and the tokens behind it.
 pub fn read_name_word<'a>(
     alloc: Global,
     tokens: &'a [Token],
@@ -159,6 +166,7 @@ pub fn read_name_word<'a>(
     Err(Stop::Before(tokens))
 }
 
+/// A string that is a `Name`, and the tokens behind it.
 pub fn read_name_string<'a>(
     alloc: Global,
     tokens: &'a [Token],
@@ -181,7 +189,7 @@ fn is_utf8(text: &[u8]) -> bool
     }
 }
 
-/// A string that is UTF-8.
+/// A string that is UTF-8, and the tokens behind it.
 pub fn read_text_string<'a>(
     alloc: Global,
     tokens: &'a [Token],
@@ -207,7 +215,7 @@ fn are_flags(text: &[u8]) -> bool
     text.iter().all(|byte| is_flag(*byte))
 }
 
-/// A word of the letters of TCP's flags.
+/// A word of the letters of TCP's flags, `FSRPAUEW`, and the tokens behind it.
 pub fn read_flags<'a>(alloc: Global, tokens: &'a [Token]) -> Result<(Word, &'a [Token]), Stop<'a>>
     ensures { Answers ((meaning flags).read tokens.now) result }
 {

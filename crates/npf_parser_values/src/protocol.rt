@@ -12,6 +12,7 @@ use npf_syntax::{One, OneList, Protocols};
 use npf_types::List;
 use std::alloc::Global;
 
+/// A protocol, and the tokens behind it; or the tokens at which it stops going on.
 #[tactic(auto, unfolding(crate::specs::Value::one))]
 pub fn read_one<'a>(alloc: Global, tokens: &'a [Token]) -> Result<(One, &'a [Token]), Stop<'a>>
     ensures { Answers ((meaning one).read tokens.now) result }
@@ -72,6 +73,7 @@ fn read_one_list<'a>(alloc: Global, tokens: &'a [Token]) -> Result<(OneList, &'a
     Ok((OneList { ones, span }, rest))
 }
 
+/// A protocol or a list of them, and the tokens behind it; or the tokens at which it stops going on.
 #[tactic(auto, unfolding(crate::specs::Value::protocols, crate::specs::Value::one_list))]
 pub fn read_protocols<'a>(
     alloc: Global,

@@ -28,6 +28,7 @@ pub fn behind_word<'a>(word: &str, tokens: &'a [Token]) -> Option<&'a [Token]>
     }
 }
 
+/// The tokens behind this quoted word, which has to stand first; or these tokens, where it doesn't.
 pub fn after_word<'a>(word: &str, tokens: &'a [Token]) -> Result<&'a [Token], Stop<'a>>
     ensures { GoesOn ((meaning (quoted word.now)).read tokens.now) result }
 {
@@ -76,6 +77,7 @@ pub fn behind_sign(wanted: Sign, tokens: &[Token]) -> Option<&[Token]>
     }
 }
 
+/// The tokens behind this sign, which has to stand first; or these tokens, where it doesn't.
 pub fn after_sign(wanted: Sign, tokens: &[Token]) -> Result<&[Token], Stop>
     ensures { GoesOn ((meaning (sign wanted)).read tokens.now) result }
 {
@@ -177,7 +179,7 @@ pub fn is_at_separator(tokens: &[Token]) -> bool
     }
 }
 
-/// The place of the text's end.
+/// The place of the text's end, which has to stand first; or these tokens, where it doesn't.
 #[tactic(auto, unfolding(npf_phrase::specs::Phrase::read_token))]
 pub fn read_end(tokens: &[Token]) -> Result<(Span, &[Token]), Stop>
     ensures { AnswersAlone ((meaning text_end).read tokens.now) result }

@@ -24,6 +24,7 @@ use npf_syntax::{Address, Boxed, Function, Iface, Number, Value, ValueList, Valu
 use npf_types::List;
 use std::alloc::Global;
 
+/// An interface, and the tokens behind it; or the tokens at which it stops going on.
 #[tactic(auto, unfolding(crate::specs::Value::iface))]
 pub fn read_iface<'a>(alloc: Global, tokens: &'a [Token]) -> Result<(Iface, &'a [Token]), Stop<'a>>
     ensures { Answers ((meaning iface).read tokens.now) result }
@@ -365,6 +366,8 @@ fn can_stand(role: Role, value: &Value) -> bool
     }
 }
 
+/// A value that may stand where `role` says, `inside` a list or not, and the tokens behind it; or the tokens at which it stops going on,
+/// which are these where a value is written that may not stand there.
 #[tactic(auto, unfolding(crate::specs::Value::value))]
 pub fn read_value<'a>(
     alloc: Global,
@@ -415,6 +418,7 @@ fn read_values_inside<'a>(
     read_listed_values(alloc, role, tokens)
 }
 
+/// Values in braces, of which there may be none, and the tokens behind them; or the tokens at which they stop going on.
 #[tactic(auto, unfolding(crate::specs::Value::value_list))]
 pub fn read_value_list<'a>(
     alloc: Global,
@@ -430,6 +434,7 @@ pub fn read_value_list<'a>(
     Ok((ValueList { values, span }, rest))
 }
 
+/// A value or a list of them, and the tokens behind it; or the tokens at which it stops going on.
 #[tactic(auto, unfolding(crate::specs::Value::values, crate::specs::Value::value_list))]
 pub fn read_values<'a>(
     alloc: Global,

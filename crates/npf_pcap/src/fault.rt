@@ -66,7 +66,7 @@ impl CaptureFault {
         }
     }
 
-    /// The number of the record that the fault speaks of.
+    /// The number, from 1, of the record that the fault speaks of; None where it speaks of none.
     pub fn record_number(&self) -> Option<u32>
         ensures { result ≡ record_of self.now }
     {

@@ -67,7 +67,7 @@ pub struct Format {
 }
 
 impl Format {
-    /// The format with this magic number, which was read with the highest byte first.
+    /// The format with this magic number, which was read with the highest byte first; None where none has it.
     pub fn of_magic(magic: u32) -> Option<Format>
         ensures found { IfSome result (λ f. magic ≡ magic_of f.order f.precision) }
         ensures none { IfNone result ((o : OrderType) (p : PrecisionType) → magic ≢ magic_of o p) }

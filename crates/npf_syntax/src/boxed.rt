@@ -17,7 +17,7 @@ impl<T> Model for Boxed<T> {
 }
 
 impl<T> Boxed<T> {
-    /// Puts a part behind a box.
+    /// Puts a part behind a box. Refused, with the part, for want of memory alone.
     pub fn new(alloc: Global, part: T) -> Result<Boxed<T>, AllocFailed<T>>
         ensures { IfOk result (λ boxed. boxed ≡ part) }
     {

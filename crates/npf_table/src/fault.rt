@@ -57,7 +57,7 @@ impl TableFault {
         }
     }
 
-    /// The number of the line that the fault speaks of.
+    /// The number, from 1, of the line that the fault speaks of; None where it speaks of none.
     pub fn line_number(&self) -> Option<u32>
         ensures { result ≡ fault_line self.now }
     {

@@ -63,7 +63,7 @@ fn number_of(digits: &[u8]) -> Option<u8>
     }
 }
 
-/// The first place at which the byte stands.
+/// The first place, from 0, at which the byte stands; None where it doesn't stand there.
 pub fn first_place(text: &[u8], byte: u8) -> Option<usize>
     ensures { result ≡ position (λ b. b == byte) text.now }
 {

@@ -14,7 +14,7 @@ use npf_types::{Key, Way};
 /// How many words a key has.
 const KEY_WORDS: u32 = 5;
 
-/// Who holds the key, asked for the packet n: the pass has the answer as its entry from now on.
+/// Who holds the key, if anybody does, asked for the packet n: the pass has the answer as its entry from now on.
 pub fn look<L: Law, H: KeyHash>(
     cells: &Cells<L, H>,
     pass: &mut CellPass<L>,
