@@ -1,4 +1,5 @@
 -- The faults of a configuration that means something and yet can't be used: 40 to 49, in the order of their numbers.
+-- READ 6 of docs/READING.md
 use Rattle.std.specs.Prelude.{List, ◌++◌}
 use Rattle.npf_faults.specs.declared.fault.ConfFault.{ConfFault}
 use Rattle.npf_faults.specs.declared.fault.Refused.{Refused}

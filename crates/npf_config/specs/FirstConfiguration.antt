@@ -1,5 +1,6 @@
 -- The first of a run's configurations: that of the text and of its tables' files. Each change of the run adds one behind it, by
 -- npf_config_changes/specs; all of them are the list of npf_ctl_prepare/specs/Making.antt.
+-- READ 8 of docs/READING.md
 use Rattle.std.specs.Prelude.{◌≡◌, ℕ, Option, List}
 use Rattle.npf_types.specs.declared.span.Span.{Span}
 use Rattle.npf_syntax.specs.declared.stmt.Tree.{Tree}

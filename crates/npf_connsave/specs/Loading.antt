@@ -1,4 +1,5 @@
 -- How the connections of a text are put into a new table.
+-- READ 2 of docs/READING.md
 use Rattle.std.specs.Prelude.{◌≡◌, ◌<◌, ◌≤◌, ◌+◌, ℕ, Bool, Option, Some, None, List, [], ◌∷◌, ◌++◌, Contains, map}
 use Rattle.std.specs.List.{flat_map}
 use Rattle.npf_types.specs.declared.key.Key.{Key}

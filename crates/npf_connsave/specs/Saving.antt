@@ -1,4 +1,5 @@
 -- The text of a machine's connections.
+-- READ 2 of docs/READING.md
 use Rattle.std.specs.Prelude.{◌≡◌, ℕ, List, Contains}
 use Rattle.std.specs.List.{All}
 use Rattle.npf_types.specs.declared.key.Key.{Key}

@@ -1,4 +1,5 @@
 -- Histories: lists of entries, the oldest first.
+-- READ 9 of docs/READING.md
 use Rattle.std.specs.Prelude.{◌≡◌, ℕ, ◌==◌, Bool, List, [], ◌∷◌, ◌++◌, filter}
 use Rattle.npf_core.specs.declared.entry.Entry.{Entry}
 use Rattle.npf_core.specs.declared.act.Act.{Act}

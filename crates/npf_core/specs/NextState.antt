@@ -1,4 +1,5 @@
 -- The state that an act leaves, slot by slot and key by key. Each part goes by the act and by what it was itself.
+-- READ 9 of docs/READING.md
 use Rattle.std.specs.Prelude.{ℕ, ◌+◌, ◌-◌, ◌^◌, min, Bool, true, false, ◌==◌, ◌&&◌, if◌then◌else◌, Option, Some, None}
 use Rattle.npf_types.specs.declared.key.Key.{Key}
 use Rattle.npf_types.specs.declared.key.Way.{Way}

@@ -1,4 +1,5 @@
 -- What an act is answered.
+-- READ 9 of docs/READING.md
 use Rattle.std.specs.Prelude.{ℕ, ◌+◌, Option, Some, None}
 use Rattle.npf_types.specs.declared.key.Way.{Way}
 use Rattle.npf_core.specs.declared.act.Act.{Act}

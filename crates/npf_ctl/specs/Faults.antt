@@ -1,4 +1,5 @@
 -- The first fault that a command met: its cause, what was put before it, and its line.
+-- READ 1 of docs/READING.md
 use Rattle.std.specs.Prelude.{◌≡◌, ◌≢◌, ◌⊎◌, ℕ, false, Ok, Err, Some, List, []}
 use Rattle.npf_outside.specs.Counts.{Rose}
 use Rattle.npf_outside.specs.Files.{SameFiles, Tree}

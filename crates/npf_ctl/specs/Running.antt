@@ -1,4 +1,5 @@
 -- What a run does, from its files to the bytes that it puts and writes.
+-- READ 1 of docs/READING.md
 use Rattle.std.specs.Prelude.{◌≢◌, ℕ, Ok, Option, Some, List, IfSome}
 use Rattle.npf_types.specs.declared.name.Name.{Name}
 use Rattle.npf_core.specs.History.{state_of}

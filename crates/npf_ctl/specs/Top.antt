@@ -1,4 +1,5 @@
 -- What the program answers to its words.
+-- READ 1 of docs/READING.md
 use Rattle.std.specs.Prelude.{◌≡◌, ◌≢◌, ◌⊎◌, ◌+◌, ◌≤◌, ℕ, ⊤, Ok, Err, Result, Option, Some, None, List}
 use Rattle.npf_outside.specs.Files.{Tree}
 use Rattle.npf_outside.specs.Sink.{Appends}

@@ -1,4 +1,5 @@
 -- The configurations that a script's changes make, one after another.
+-- READ 8 of docs/READING.md
 use Rattle.std.specs.Prelude.{ℕ, if◌then◌else◌, List, [], ◌∷◌, ◌++◌}
 use Rattle.npf_types.specs.declared.name.Name.{Name}
 use Rattle.npf_types.specs.Stages.{Stage, ◌andthen◌, gives, ◌told_by◌}

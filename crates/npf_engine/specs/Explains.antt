@@ -1,5 +1,6 @@
 -- Why a packet has its outcome: by what its bytes say, what it asked of connections and was answered, and what a published
 -- configuration means. Nothing here depends on how a packet is worked on.
+-- READ 10 of docs/READING.md
 use Rattle.std.specs.Prelude.{◌≡◌, ◌≢◌, ◌<◌, ℕ, Bool, true, false, Option, Some, None, List, [], ◌++◌, slice_get}
 use Rattle.npf_types.specs.declared.action.Action.{Action}
 use Rattle.npf_types.specs.declared.change.Change.{Change}

@@ -1,5 +1,6 @@
 -- What the tree of a configuration means: its model, and its faults, each as a function of the tree and of the run's interfaces.
 -- Statements are read from the front, each where the names mean what the definitions before it say.
+-- READ 6 of docs/READING.md
 use Rattle.std.specs.Prelude.{◌≡◌, ℕ, ◌+◌, Option, Some, None, List, [], ◌∷◌, ◌++◌}
 use Rattle.std.specs.List.{flat_map}
 use Rattle.npf_faults.specs.declared.fault.ConfFault.{ConfFault}

@@ -1,4 +1,5 @@
 -- Which tokens a text of npf.conf(5) spells, or which fault it has first.
+-- READ 5 of docs/READING.md
 use Rattle.std.specs.Prelude.{ℕ, ⊤, Result, Ok, Err, List, [], ◌∷◌, drop}
 use Rattle.npf_faults.specs.declared.fault.ConfFault.{ConfFault}
 use Rattle.npf_faults.specs.declared.fault.Refused.{Refused}

@@ -1,6 +1,7 @@
 -- Which packets a rule describes (npf.conf(5), "Rules"), told of what a packet's bytes say and of the addresses of tables as lists of
 -- blocks, in the order in which the configuration declares the tables. All are tests, so that a program's value or a walk's answer equals
 -- one. A table of a number that isn't there has no addresses, so models that no check accepted are described, too.
+-- READ 7 of docs/READING.md
 use Rattle.std.specs.Prelude.{ℕ, Bool, true, false, ◌==◌, ◌&&◌, nat_le, Option, Some, None, List, [], ◌∷◌, slice_get, bit_and}
 use Rattle.std.specs.List.{list_any}
 use Rattle.npf_types.specs.declared.address.Addr.{Addr}

@@ -1,5 +1,6 @@
 -- Which map translates a packet (npf.conf(5), "Map"): the first that applies. A side's ports are asked where it gives them, whatever the
 -- map's algorithm: which maps may have ports is for a check to say.
+-- READ 7 of docs/READING.md
 use Rattle.std.specs.Prelude.{ℕ, Bool, true, false, ◌==◌, ◌&&◌, Option, Some, None, List}
 use Rattle.npf_types.specs.declared.address.Addr.{Addr}
 use Rattle.npf_types.specs.declared.direction.Dir.{Dir}

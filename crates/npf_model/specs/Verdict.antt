@@ -1,6 +1,7 @@
 -- Which rule decides on a packet (npf.conf(5), "Groups" and "Rules"): groups in order, the default group last, and of the first group with
 -- a matching rule the first matching one with `final`, or else the last matching one. Places count the rules of groups that don't apply,
 -- too, so a rule has one number whatever the packet.
+-- READ 7 of docs/READING.md
 use Rattle.std.specs.Prelude.{ℕ, ◌+◌, Bool, ◌&&◌, if◌then◌else◌, Option, Some, None, List, [], ◌∷◌, length, map}
 use Rattle.std.specs.Option.{option_or}
 use Rattle.std.specs.List.{flat_map}

@@ -1,4 +1,5 @@
 -- What a record's bytes say, by tests in order: the first that fits is answered.
+-- READ 4 of docs/READING.md
 use Rattle.std.specs.Prelude.{◌≡◌, ℕ, Result, MatchResult, List}
 use Rattle.npf_types.specs.declared.link.Link.{Link}
 use Rattle.npf_types.specs.declared.link.Link.TheVariants.{Ethernet, Raw}

@@ -1,4 +1,5 @@
 -- The grammar of npf.conf(5) for statements, and for a whole configuration.
+-- READ 5 of docs/READING.md
 use Rattle.std.specs.Prelude.{Bool, ◌||◌, Option, List, codes}
 use Rattle.npf_lexer.specs.declared.token.Sign.{Sign}
 use Rattle.npf_lexer.specs.declared.token.Token.{Token}

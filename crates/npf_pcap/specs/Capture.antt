@@ -1,5 +1,6 @@
 -- A capture file: a header of 24 bytes with the magic number, the version, the time zone, the accuracy, the snap
 -- length and the link type, and then the records (pcap-savefile(5)).
+-- READ 3 of docs/READING.md
 use Rattle.std.specs.Prelude.{◌≡◌, ◌<◌, ◌≤◌, ℕ, List, length, drop}
 use Rattle.npf_types.specs.declared.link.Link.{Link}
 use Rattle.npf_fields.specs.Field.{number32}

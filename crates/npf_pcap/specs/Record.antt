@@ -1,5 +1,6 @@
 -- The records of a capture: each has a header of 16 bytes, with the seconds, the fraction of a second, the number of
 -- bytes stored and the number that the packet had, and then the stored bytes (pcap-savefile(5)).
+-- READ 3 of docs/READING.md
 use Rattle.std.specs.Prelude.{◌≡◌, ◌≢◌, ℕ, zero, suc, ◌+◌, ◌*◌, ◌^◌, ◌<◌, ◌≤◌, ◌⊎◌, List, [], ◌∷◌, length, take, drop}
 use Rattle.npf_types.specs.declared.limits.TheConstants.{MAX_PACKET_BYTES}
 use Rattle.npf_pcap.specs.declared.format.Format.{Format}

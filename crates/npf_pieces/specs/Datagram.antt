@@ -1,5 +1,6 @@
 -- The datagram that the pieces of a whole set make (RFC 791 section 3.2, RFC 8200 section 4.5): the header of the one that
 -- begins it, and all data in order.
+-- READ 12 of docs/READING.md
 use Rattle.std.specs.Prelude.{◌≡◌, ◌≢◌, ℕ, ◌+◌, ◌-◌, ◌%◌, ◌<◌, ◌≤◌, ◌⊎◌, false, true, List, [], ◌++◌, All, AllPairs, Contains, length, slice_index, slice_index_or, slice_range}
 use Rattle.npf_types.specs.declared.address.Addr.{Addr}
 use Rattle.npf_types.specs.declared.address.Addr.TheVariants.{V4, V6}

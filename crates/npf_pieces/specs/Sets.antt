@@ -1,5 +1,6 @@
 -- The sets that the pieces of one key make, in the order in which they come (RFC 791 section 3.2, RFC 8200 section 4.5). A set
 -- is open until it is complete, is refused, or has waited too long.
+-- READ 12 of docs/READING.md
 use Rattle.std.specs.Prelude.{ℕ, ◌+◌, ◌-◌, ◌≤◌, ◌==◌, ◌&&◌, ◌||◌, nat_lt, nat_le, max, if◌then◌else◌, Bool, true, false, zero, suc, Option, Some, None, List, [], ◌∷◌, ◌++◌, slice_range}
 use Rattle.std.specs.List.{list_any}
 use Rattle.npf_types.specs.declared.address.Addr.{Addr}

@@ -1,4 +1,5 @@
 -- What becomes of a packet when the fragments of a run are put together.
+-- READ 12 of docs/READING.md
 use Rattle.std.specs.Prelude.{◌≡◌, ◌≢◌, ℕ, Some, None, List, Contains}
 use Rattle.npf_types.specs.declared.link.Link.TheVariants.{Raw}
 use Rattle.npf_traffic.specs.declared.packet.FragWhy.{FragWhy}

@@ -1,4 +1,5 @@
 -- A run whose fragments are put together (RFC 791 section 3.2, RFC 8200 section 4.5).
+-- READ 12 of docs/READING.md
 use Rattle.std.specs.Prelude.{◌≡◌, ℕ, ◌<◌, List, All, length, slice_index_or}
 use Rattle.std.specs.List.{AllZip}
 use Rattle.npf_traffic.specs.declared.packet.Packet.{Packet}

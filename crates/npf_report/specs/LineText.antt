@@ -1,4 +1,5 @@
 -- The line of a packet: its number, the interface and the direction, and its outcome.
+-- READ 10 of docs/READING.md
 use Rattle.std.specs.Prelude.{ℕ, List, ◌++◌, codes}
 use Rattle.std.specs.Fmt.{decimal}
 use Rattle.npf_types.specs.declared.direction.Dir.{Dir}
