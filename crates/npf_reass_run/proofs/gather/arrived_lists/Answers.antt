@@ -22,8 +22,8 @@ loop-list-preserved c =
       tt,
       All-rest (λ (l : OfferList). All (IsOfferAmong packets) l.items) list after before items inv.2,
       rw c.push_reserved.ensures.items
-      (arrived_next packets c.args.lists.items before after list c.loop-list.classes.items class
-      items inv.3 one),
+          (arrived_next packets c.args.lists.items before after list c.loop-list.classes.items class
+          items inv.3 one),
       search rules,
     )
 
