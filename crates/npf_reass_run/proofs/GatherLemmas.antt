@@ -22,7 +22,7 @@ use Rattle.npf_reass.specs.Class.{class_of, of_class, offered}
 use Rattle.npf_reass.specs.Listing.{IsByNumber, ListsClasses}
 use Rattle.npf_reass.specs.Sight.{IsOwnNumber, ReassSight}
 use Rattle.npf_reass_run.specs.Gathering.{GathersPieces, IsArrivedOffer, IsOfferAmong, class_pieces}
-use Rattle.npf_reass_run.specs.Offering.{HasOffered, is_one_of, of_place, own_pieces, placed}
+use Rattle.npf_reass_run.specs.Offering.{HasOffered, is_number_among, of_place, own_pieces, placed}
 use Rattle.npf_reass_run.proofs.FilterLemmas.{few_same, filter_every, filter_kept, filter_left}
 use Rattle.npf_reass_run.proofs.FilterLemmas.{filter_map_same, filters_swap}
 use Rattle.npf_reass_run.proofs.ListLemmas.{IsClassOf, OfferList, some_of}
@@ -234,7 +234,7 @@ module _ (packets : List Packet) (sight : ReassSight) (has : HasOffered 0 packet
       (alone x c)
 
   every : own_pieces sight ≡ map offered sight.history
-  every = ap (map offered) (filter_every (λ (x : Offer). is_one_of numbers x.seat) sight.history
+  every = ap (map offered) (filter_every (λ (x : Offer). is_number_among numbers x.seat) sight.history
       (λ x c. listed_is numbers x.seat (own_number x c)))
 
   each_place : (place : ℕ)

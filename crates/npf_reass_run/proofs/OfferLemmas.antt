@@ -25,27 +25,27 @@ use Rattle.npf_reass_whole.proofs.WriteLemmas.{head, parts, tail}
 use Rattle.npf_reass.specs.declared.offer.Offer.{Offer}
 use Rattle.npf_reass.specs.Class.{offer_seat, offered}
 use Rattle.npf_reass.specs.Sight.{AddsOffer, JoinsSight, ReassSight, SplitsSight}
-use Rattle.npf_reass_run.specs.Offering.{HasOffered, HasOfferedInOrder, OffersPacket}
-use Rattle.npf_reass_run.specs.Offering.{is_one_of, of_place, own_pieces, placed}
+use Rattle.npf_reass_run.specs.Offering.{HasOffered, OffersPacket}
+use Rattle.npf_reass_run.specs.Offering.{is_number_among, of_place, own_pieces, placed}
 use Rattle.npf_reass_run.proofs.FilterLemmas.{either_kept, filter_kept, filter_left, filter_none}
 
 listed_more : (m n : ℕ) (numbers : List ℕ) (b : Bool) → (m == n) ≡ b
-    → (b || is_one_of numbers n) ≡ true → (is_one_of numbers n ≡ true → Contains numbers n)
+    → (b || is_number_among numbers n) ≡ true → (is_number_among numbers n ≡ true → Contains numbers n)
     → Contains (m ∷ numbers) n
 listed_more m n numbers true e h more =
     subst (λ (k : ℕ). Contains (m ∷ numbers) k) (eqb-true m n e) (head m numbers)
 listed_more m n numbers false e h more = tail m n numbers (more h)
 
-is_listed : (numbers : List ℕ) (n : ℕ) → is_one_of numbers n ≡ true → Contains numbers n
+is_listed : (numbers : List ℕ) (n : ℕ) → is_number_among numbers n ≡ true → Contains numbers n
 is_listed [] n h = cc
 is_listed (m ∷ numbers) n h = listed_more m n numbers (m == n) refl h (is_listed numbers n)
 
-pub listed_is : (numbers : List ℕ) (n : ℕ) → Contains numbers n → is_one_of numbers n ≡ true
+pub listed_is : (numbers : List ℕ) (n : ℕ) → Contains numbers n → is_number_among numbers n ≡ true
 listed_is numbers n c =
     list_any_at (λ (m : ℕ). m == n) numbers c.0 n c.1 (eq-eqb (get_or numbers c.0 n) n c.2)
 
 abbrev of_one : List ℕ → Offer → Bool
-of_one numbers offer = is_one_of numbers offer.seat
+of_one numbers offer = is_number_among numbers offer.seat
 
 -- these numbers have no offers
 abbrev HaveNone : List ℕ → List Offer → Type 0
@@ -174,6 +174,12 @@ pub offers_piece : {E : Type 0} (n : ℕ) (packet : Packet) (old new : ReassSigh
 offers_piece n packet old new piece is (Ok u) adds =
     record { seen = Seen.Piece piece; is = is; adds = adds_own old new n piece adds }
 offers_piece n packet old new piece is (Err e) adds = tt
+
+-- what was offered is the pieces of the packets, in their order, where the first packet has this place
+pub record HasOfferedInOrder (first : ℕ) (packets : List Packet) (sight : ReassSight) : Type 0 where
+  pub seens : List Seen
+  pub sees : AllZip IsSeenAs packets seens
+  pub is : own_pieces sight ≡ map placed (arrived_from first packets seens)
 
 -- a share, packet by packet
 pub offered_none : (first : ℕ) (sight : ReassSight) → own_pieces sight ≡ []

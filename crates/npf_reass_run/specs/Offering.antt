@@ -12,13 +12,13 @@ use Rattle.npf_reass.specs.Class.{offered}
 use Rattle.npf_reass.specs.Sight.{ReassSight}
 
 -- one of these numbers
-abbrev pub is_one_of : List ℕ → ℕ → Bool
-is_one_of numbers n = list_any (λ number. number == n) numbers
+abbrev pub is_number_among : List ℕ → ℕ → Bool
+is_number_among numbers n = list_any (λ number. number == n) numbers
 
 -- what was offered by a pass and by those that were joined into it, in the order of its history
 abbrev pub own_pieces : ReassSight → List (ℕ × Piece)
 own_pieces sight =
-    map offered (filter (λ offer. is_one_of (sight.number ∷ sight.joined) offer.seat) sight.history)
+    map offered (filter (λ offer. is_number_among (sight.number ∷ sight.joined) offer.seat) sight.history)
 
 -- a piece, with the place of its packet
 abbrev pub placed : Arrived → ℕ × Piece
@@ -35,12 +35,6 @@ pub record HasOffered (first : ℕ) (packets : List Packet) (sight : ReassSight)
   pub sees : AllZip IsSeenAs packets seens
   pub each : (place : ℕ) → of_place place (own_pieces sight)
       ≡ of_place place (map placed (arrived_from first packets seens))
-
--- and in the order of the packets
-pub record HasOfferedInOrder (first : ℕ) (packets : List Packet) (sight : ReassSight) : Type 0 where
-  pub seens : List Seen
-  pub sees : AllZip IsSeenAs packets seens
-  pub is : own_pieces sight ≡ map placed (arrived_from first packets seens)
 
 -- the packet of this place is seen so, and its piece, if it is one, was offered
 pub record OffersPacket (place : ℕ) (packet : Packet) (old new : ReassSight) : Type 0 where

@@ -1,4 +1,4 @@
-use Rattle.std.proofs.Common.{rules, ◌≡◌, ◌∙◌, false, is_err, length}
+use Rattle.std.proofs.Common.{rules, ◌≡◌, ◌∙◌, false, is_err, length, refl}
 use Rattle.std.specs.List.{AllZip}
 use Rattle.std.proofs.lemmas.Result.{IfOk-weaker}
 use Rattle.npf_reass.specs.Passes.{classes_of, sight}
@@ -15,7 +15,7 @@ arrived_lists-requires g c =
     let ok : is_err c.offer_all-pass.result.1 ≡ false = search rules in
     let has = was_ok c.offer_all-pass.result.1 ok c.offer_all-pass.ensures.offers in
     record {
-      among = lists_among packets (sight pass) has (c.in_ok-lists.ensures.alone tt)
+      among = lists_among packets (sight pass) has (c.in_ok-lists.ensures.alone refl)
           (classes_of c.in_ok-reass.reass) c.in_ok-lists.lists.items c.in_ok-lists.ensures.lists;
     }
 
@@ -29,7 +29,7 @@ returns-clause-count g c =
     IfOk-weaker c.arrived_lists.result
     (λ (made : ClassVec). AllZip (IsClassOf packets) lists made.items)
     (λ (made : ClassVec). length made.items ≡ c.args.count)
-    (λ made all. made_count packets (sight pass) has (c.in_ok-lists.ensures.alone tt)
+    (λ made all. made_count packets (sight pass) has (c.in_ok-lists.ensures.alone refl)
     (classes_of c.in_ok-reass.reass) lists c.in_ok-lists.ensures.lists made.items all
     ∙ c.in_ok-reass.ensures.classes)
     c.arrived_lists.ensures
@@ -44,6 +44,6 @@ returns-clause-gathers g c =
     IfOk-weaker c.arrived_lists.result
     (λ (made : ClassVec). AllZip (IsClassOf packets) lists made.items)
     (λ (made : ClassVec). GathersPieces packets made.items)
-    (λ made all. made_gathers packets (sight pass) has (c.in_ok-lists.ensures.alone tt)
+    (λ made all. made_gathers packets (sight pass) has (c.in_ok-lists.ensures.alone refl)
     (classes_of c.in_ok-reass.reass) lists c.in_ok-lists.ensures.lists made.items all)
     c.arrived_lists.ensures

@@ -1,6 +1,6 @@
 use Rattle.std.proofs.Common.{◌≡◌, take}
 use Rattle.npf_reass.specs.Passes.{IsReassPass, sight}
-use Rattle.npf_reass_run.specs.Offering.{HasOfferedInOrder}
+use Rattle.npf_reass_run.proofs.OfferLemmas.{HasOfferedInOrder}
 use Rattle.npf_reass_run.proofs.offering.offer_share.Given as goal
 
 abbrev pub invariant-loop-at : goal.invariant-loop-at
