@@ -1,12 +1,12 @@
 -- The list of a class, once all is offered, has the class's pieces in the order of their packets.
 use Rattle.std.proofs.Common.{◌≡◌, ◌≢◌, ◌⊎◌, ℕ, ◌-◌, ◌<◌, ◌≤◌, ◌==◌, ◌∙◌, Bool, cond, true, false}
 use Rattle.std.proofs.Common.{inl, inr, ⊎_elim, zero, suc, refl, sym, ap, subst, arith, Global, Vec}
-use Rattle.std.proofs.Common.{List, [], ◌∷◌, length, map, get_or}
+use Rattle.std.proofs.Common.{List, [], ◌∷◌, length, map, take, get_or, slice_range}
 use Rattle.std.specs.Prelude.{⊤, All, Contains, IsPermutation, filter}
 use Rattle.std.specs.List.{AllZip}
 use Rattle.std.specs.List.Sorted.{IsNonDecreasingBy}
 use Rattle.std.proofs.lemmas.Bool.{cases_eq, cases_order, eq-eqb, eqb-true, ne_eqb}
-use Rattle.std.proofs.lemmas.List.{length-map}
+use Rattle.std.proofs.lemmas.List.{length-map, take_all}
 use Rattle.std.proofs.lemmas.List.Elements.{All-contains_itself, All-filter, All-get_or, All-head, All-map, All-tail, All-weaker}
 use Rattle.std.proofs.lemmas.List.Sorted.{IsNonDecreasingBy-drop, IsNonDecreasingBy-from_sort}
 use Rattle.npf_traffic.specs.declared.packet.Packet.{Packet}
@@ -317,6 +317,14 @@ at_items : (lists : List OfferList) (i : ℕ) (x : OfferList) (d : Offers) → i
 at_items [] i x d h = absurd (omega (arith, h))
 at_items (y ∷ lists) zero x d h = refl
 at_items (y ∷ lists) (suc i) x d h = at_items lists i x d (omega (arith, h))
+
+pub all_packets : (packets : List Packet) (sight : ReassSight)
+    → HasOffered 0 (slice_range packets 0 (length packets)) sight → HasOffered 0 packets sight
+all_packets packets sight has =
+    let none : length packets - 0 ≡ length packets = omega arith in
+    let whole = take_all (length packets) packets (omega arith) in
+    subst (λ (ps : List Packet). HasOffered 0 ps sight)
+    (ap (λ (n : ℕ). take n packets) none ∙ whole) has
 
 abbrev pub ClassVec : Type 0
 ClassVec = Vec ClassSets Global

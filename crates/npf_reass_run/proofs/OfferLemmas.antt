@@ -1,13 +1,14 @@
 -- What a pass has offered goes on by its own offers and by those of the passes that it takes in.
 use Rattle.std.proofs.Common.{◌≡◌, ◌≢◌, ◌⊎◌, ℕ, ◌+◌, ◌-◌, ◌<◌, ◌≤◌, ◌==◌, ◌∙◌, ◌||◌, Bool, true, false}
 use Rattle.std.proofs.Common.{inl, inr, ⊎_elim, suc, refl, sym, ap, subst, append-nil, append_assoc, arith}
-use Rattle.std.proofs.Common.{List, [], ◌∷◌, ◌++◌, length, map, take, get_or}
+use Rattle.std.proofs.Common.{List, [], ◌∷◌, ◌++◌, length, map, take, drop, get_or, slice_range}
+use Rattle.std.proofs.Math.Seq.{take-add}
 use Rattle.std.proofs.Common.{Ok, Err, Result, OnOk, is_err}
 use Rattle.std.specs.Prelude.{Contains, filter}
 use Rattle.std.specs.List.{AllZip, list_any}
 use Rattle.std.specs.Result.{result_and}
 use Rattle.std.proofs.lemmas.Bool.{cases_lt, eq-eqb, eqb-true, false_from_ne_true, ne_eqb}
-use Rattle.std.proofs.lemmas.List.{length-take, map-append, take_more}
+use Rattle.std.proofs.lemmas.List.{drop-drop, get_or-drop, length-drop, length-take, map-append, take_more}
 use Rattle.std.proofs.lemmas.List.Elements.{filter-append}
 use Rattle.std.proofs.lemmas.List.Folds.{list_any-append, list_any_at}
 use mathlib.Core.Bool.{or_assoc, or_comm}
@@ -186,16 +187,33 @@ pub offered_none : (first : ℕ) (sight : ReassSight) → own_pieces sight ≡ [
     → HasOfferedInOrder first [] sight
 offered_none first sight none = record { seens = []; sees = search; is = none }
 
+more_of : (packets : List Packet) (first i : ℕ) (d : Packet) → first ≤ i → i < length packets
+    → slice_range packets first (i + 1) ≡ slice_range packets first i ++ get_or packets i d ∷ []
+more_of packets first i d order h =
+    let front = take (i - first) (drop first packets) in
+    let next : i + 1 - first ≡ (i - first) + 1 = omega (arith, order) in
+    let within : i - first < length (drop first packets) =
+    omega (arith, length-drop first packets, order, h) in
+    let at : get_or (drop first packets) (i - first) d ≡ get_or packets i d =
+    get_or-drop first packets (i - first) d
+    ∙ ap (λ (n : ℕ). get_or packets n d) (omega (arith, order)) in
+    ap (λ (n : ℕ). take n (drop first packets)) next
+    ∙ take_more (drop first packets) (i - first) d within
+    ∙ ap (λ (p : Packet). front ++ p ∷ []) at
+
 pub offered_more : (first i : ℕ) (packets : List Packet) (d : Packet) (old new : ReassSight)
-    → i < length packets → HasOfferedInOrder first (take i packets) old
-    → OffersPacket (first + i) (get_or packets i d) old new
-    → HasOfferedInOrder first (take (i + 1) packets) new
-offered_more first i packets d old new h has offers =
-    let ps = take i packets in
+    → first ≤ i → i < length packets
+    → HasOfferedInOrder first (slice_range packets first i) old
+    → OffersPacket i (get_or packets i d) old new
+    → HasOfferedInOrder first (slice_range packets first (i + 1)) new
+offered_more first i packets d old new order h has offers =
+    let ps = slice_range packets first i in
     let p = get_or packets i d in
     let front = arrived_from first ps has.seens in
-    let last = arrived_at (first + i) p.time offers.seen in
-    let long : first + length ps ≡ first + i = omega (arith, length-take i packets, h) in
+    let last = arrived_at i p.time offers.seen in
+    let long : first + length ps ≡ i =
+    omega (arith, length-take (i - first) (drop first packets), length-drop first packets,
+    order, h) in
     let same : length ps ≡ length has.seens = all_zip_long IsSeenAs ps has.seens has.sees in
     let is_last : arrived_from (first + length ps) (p ∷ []) (offers.seen ∷ []) ≡ last =
     append-nil (arrived_at (first + length ps) p.time offers.seen)
@@ -210,7 +228,8 @@ offered_more first i packets d old new h has offers =
           ∙ ap (map placed)
           (sym (arrived_append first ps (p ∷ []) has.seens (offers.seen ∷ []) same));
     } in
-    subst (λ (list : List Packet). HasOfferedInOrder first list new) (sym (take_more packets i d h)) all
+    subst (λ (list : List Packet). HasOfferedInOrder first list new)
+    (sym (more_of packets first i d order h)) all
 
 pub in_order : (first : ℕ) (packets : List Packet) (sight : ReassSight)
     → HasOfferedInOrder first packets sight → HasOffered first packets sight
@@ -224,7 +243,7 @@ or_first false b c d = sym (or_assoc b c d) ∙ or_comm (b || c) d
 
 module _ (first behind : ℕ) (share rest : List Packet) (old other now : ReassSight)
     (at : behind ≡ first + length share) (joins : JoinsSight old other now)
-    (has : HasOffered behind rest old) (others : HasOffered first share other) where
+    (has : HasOffered first share old) (others : HasOffered behind rest other) where
   abbrev mine : List ℕ
   mine = old.number ∷ old.joined
 
@@ -255,68 +274,89 @@ module _ (first behind : ℕ) (share rest : List Packet) (old other now : ReassS
   all_pieces : own_pieces now ≡ map offered (filter (of_one all) now.history)
   all_pieces = ap own_pieces joins.takes
 
-  same : length share ≡ length others.seens
-  same = all_zip_long IsSeenAs share others.seens others.sees
+  same : length share ≡ length has.seens
+  same = all_zip_long IsSeenAs share has.seens has.sees
 
   module _ (place : ℕ) where
     abbrev of_share : List (ℕ × Piece)
-    of_share = of_place place (map placed (arrived_from first share others.seens))
+    of_share = of_place place (map placed (arrived_from first share has.seens))
 
     abbrev of_rest : List (ℕ × Piece)
-    of_rest = of_place place (map placed (arrived_from (first + length share) rest has.seens))
+    of_rest = of_place place (map placed (arrived_from (first + length share) rest others.seens))
 
     abbrev wanted : List (ℕ × Piece)
     wanted = of_place place
-        (map placed (arrived_from first (share ++ rest) (others.seens ++ has.seens)))
+        (map placed (arrived_from first (share ++ rest) (has.seens ++ others.seens)))
 
     wanted_is : wanted ≡ of_share ++ of_rest
     wanted_is =
         ap (λ (l : List Arrived). of_place place (map placed l))
-        (arrived_append first share rest others.seens has.seens same)
-        ∙ of_append place (arrived_from first share others.seens)
-        (arrived_from (first + length share) rest has.seens)
+        (arrived_append first share rest has.seens others.seens same)
+        ∙ of_append place (arrived_from first share has.seens)
+        (arrived_from (first + length share) rest others.seens)
 
-    mine_has : of_place place (map offered (filter (of_one mine) now.history)) ≡ of_rest
+    mine_has : of_place place (map offered (filter (of_one mine) now.history)) ≡ of_share
     mine_has =
-        ap (λ (l : List Offer). of_place place (map offered l)) mine_same
-        ∙ has.each place
-        ∙ ap (λ (n : ℕ). of_place place (map placed (arrived_from n rest has.seens))) at
+        ap (λ (l : List Offer). of_place place (map offered l)) mine_same ∙ has.each place
 
-    theirs_has : of_place place (map offered (filter (of_one theirs) now.history)) ≡ of_share
+    theirs_has : of_place place (map offered (filter (of_one theirs) now.history)) ≡ of_rest
     theirs_has =
-        ap (λ (l : List Offer). of_place place (map offered l)) theirs_same ∙ others.each place
+        ap (λ (l : List Offer). of_place place (map offered l)) theirs_same
+        ∙ others.each place
+        ∙ ap (λ (n : ℕ). of_place place (map placed (arrived_from n rest others.seens))) at
 
     in_share : place < first + length share → of_place place (own_pieces now) ≡ wanted
     in_share lt =
-        let none : of_rest ≡ [] = outside place (first + length share) rest has.seens (inl lt) in
+        let none : of_rest ≡ [] =
+        outside place (first + length share) rest others.seens (inl lt) in
+        ap (of_place place) all_pieces
+        ∙ either_kept offered (λ (o : ℕ × Piece). o.0 == place)
+        (of_one mine) (of_one theirs) (of_one all) both now.history (theirs_has ∙ none)
+        ∙ mine_has
+        ∙ sym (wanted_is ∙ ap (λ (l : List (ℕ × Piece)). of_share ++ l) none ∙ append-nil of_share)
+
+    in_rest : first + length share ≤ place → of_place place (own_pieces now) ≡ wanted
+    in_rest le =
+        let none : of_share ≡ [] = outside place first share has.seens (inr le) in
         ap (of_place place) all_pieces
         ∙ either_kept offered (λ (o : ℕ × Piece). o.0 == place)
         (of_one theirs) (of_one mine) (of_one all)
         (λ x. both x ∙ or_comm (of_one mine x) (of_one theirs x)) now.history (mine_has ∙ none)
         ∙ theirs_has
-        ∙ sym (wanted_is ∙ ap (λ (l : List (ℕ × Piece)). of_share ++ l) none ∙ append-nil of_share)
-
-    in_rest : first + length share ≤ place → of_place place (own_pieces now) ≡ wanted
-    in_rest le =
-        let none : of_share ≡ [] = outside place first share others.seens (inr le) in
-        ap (of_place place) all_pieces
-        ∙ either_kept offered (λ (o : ℕ × Piece). o.0 == place)
-        (of_one mine) (of_one theirs) (of_one all)
-        both now.history (theirs_has ∙ none)
-        ∙ mine_has
         ∙ sym (wanted_is ∙ ap (λ (l : List (ℕ × Piece)). l ++ of_rest) none)
 
   pub joins_offered : HasOffered first (share ++ rest) now
   joins_offered = record {
-    seens = others.seens ++ has.seens;
-    sees = seen_append share rest others.seens has.seens others.sees has.sees;
+    seens = has.seens ++ others.seens;
+    sees = seen_append share rest has.seens others.seens has.sees others.sees;
     each = λ place. ⊎_elim (in_share place) (in_rest place) (cases_lt place (first + length share));
   }
 
+-- a share and the rest are parts of the packets that follow one another
+parts_of : (packets : List Packet) (first mid behind : ℕ) → first ≤ mid → mid ≤ behind
+    → slice_range packets first behind
+    ≡ slice_range packets first mid ++ slice_range packets mid behind
+parts_of packets first mid behind low high =
+    let all = drop first packets in
+    let share = take (mid - first) all in
+    let at : mid ≡ first + (mid - first) = omega (arith, low) in
+    let more : drop mid packets ≡ drop (mid - first) all =
+    ap (λ (n : ℕ). drop n packets) at ∙ sym (drop-drop (mid - first) first packets) in
+    let long : behind - first ≡ (mid - first) + (behind - mid) = omega (arith, low, high) in
+    ap (λ (n : ℕ). take n all) long
+    ∙ take-add (mid - first) (behind - mid) all
+    ∙ ap (λ (l : List Packet). share ++ take (behind - mid) l) (sym more)
+
 -- where both shares were offered, all is
-pub all_offered : (packets share rest : List Packet) (first behind : ℕ) (old other now : ReassSight)
-    → packets ≡ share ++ rest → behind ≡ first + length share → JoinsSight old other now
-    → HasOffered behind rest old → HasOffered first share other → HasOffered first packets now
-all_offered packets share rest first behind old other now is at joins has others =
-    subst (λ (list : List Packet). HasOffered first list now) (sym is)
-    (joins_offered first behind share rest old other now at joins has others)
+pub all_offered : (packets : List Packet) (mid behind : ℕ) (old other now : ReassSight)
+    → mid ≤ behind → behind ≤ length packets → JoinsSight old other now
+    → HasOffered 0 (slice_range packets 0 mid) old
+    → HasOffered mid (slice_range packets mid behind) other
+    → HasOffered 0 (slice_range packets 0 behind) now
+all_offered packets mid behind old other now high within joins has others =
+    let share = slice_range packets 0 mid in
+    let long : mid ≡ 0 + length share =
+    omega (arith, length-take (mid - 0) (drop 0 packets), length-drop 0 packets, high, within) in
+    subst (λ (list : List Packet). HasOffered 0 list now)
+    (sym (parts_of packets 0 mid behind (omega arith) high))
+    (joins_offered 0 mid share (slice_range packets mid behind) old other now long joins has others)

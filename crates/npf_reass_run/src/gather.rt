@@ -8,6 +8,7 @@ ghost use Rattle.npf_traffic.specs.Packet.{IsShortPacket};
 ghost use Rattle.npf_reass_run.specs.Gathering.{GathersPieces, HasListed, IsArrivedOffer, IsOfferAmong};
 
 use crate::offering::offer_all;
+use crate::scan::Lent;
 use npf_pieces::{Arrived, Piece, Seen, piece_of};
 use npf_reass::Reass;
 use npf_reass_sets::ClassSets;
@@ -53,7 +54,8 @@ pub(crate) fn gather<R: Threads + Wait + Sync>(
     ensures gathers { IfOk result (λ classes. GathersPieces packets.now classes.items) }
 {
     let (reass, pass) = Reass::new(alloc, count, workers)?;
-    let (pass, offered) = offer_all(rt, &reass, pass, packets, 0, workers);
+    let scan = Lent { packets };
+    let (pass, offered) = offer_all(rt, &reass, pass, &scan, packets.len(), workers);
     offered?;
     let lists = reass.close(alloc, pass)?;
     arrived_lists(alloc, packets, lists)

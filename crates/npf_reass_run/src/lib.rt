@@ -14,6 +14,7 @@ mod gather;
 mod laws;
 mod offering;
 mod run;
+mod scan;
 mod sharing;
 
 pub use laws::one_set;

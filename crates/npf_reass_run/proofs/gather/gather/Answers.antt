@@ -3,7 +3,7 @@ use Rattle.std.specs.List.{AllZip}
 use Rattle.std.proofs.lemmas.Result.{IfOk-weaker}
 use Rattle.npf_reass.specs.Passes.{classes_of, sight}
 use Rattle.npf_reass_run.specs.Gathering.{GathersPieces}
-use Rattle.npf_reass_run.proofs.GatherLemmas.{ClassVec, lists_among, made_count, made_gathers}
+use Rattle.npf_reass_run.proofs.GatherLemmas.{ClassVec, all_packets, lists_among, made_count, made_gathers}
 use Rattle.npf_reass_run.proofs.ListLemmas.{IsClassOf}
 use Rattle.npf_reass_run.proofs.OfferLemmas.{was_ok}
 use Rattle.npf_reass_run.proofs.gather.gather.Goals as goal
@@ -13,7 +13,8 @@ arrived_lists-requires g c =
     let packets = c.args.packets.now in
     let pass = c.offer_all-pass.result.0 in
     let ok : is_err c.offer_all-pass.result.1 ≡ false = search rules in
-    let has = was_ok c.offer_all-pass.result.1 ok c.offer_all-pass.ensures.offers in
+    let offers = rw c.len.ensures at c.offer_all-pass.ensures.offers in
+    let has = all_packets packets (sight pass) (was_ok c.offer_all-pass.result.1 ok offers) in
     record {
       among = lists_among packets (sight pass) has (c.in_ok-lists.ensures.alone refl)
           (classes_of c.in_ok-reass.reass) c.in_ok-lists.lists.items c.in_ok-lists.ensures.lists;
@@ -25,7 +26,8 @@ returns-clause-count g c =
     let pass = c.offer_all-pass.result.0 in
     let lists = c.in_ok-lists.lists.items in
     let ok : is_err c.offer_all-pass.result.1 ≡ false = search rules in
-    let has = was_ok c.offer_all-pass.result.1 ok c.offer_all-pass.ensures.offers in
+    let offers = rw c.len.ensures at c.offer_all-pass.ensures.offers in
+    let has = all_packets packets (sight pass) (was_ok c.offer_all-pass.result.1 ok offers) in
     IfOk-weaker c.arrived_lists.result
     (λ (made : ClassVec). AllZip (IsClassOf packets) lists made.items)
     (λ (made : ClassVec). length made.items ≡ c.args.count)
@@ -40,7 +42,8 @@ returns-clause-gathers g c =
     let pass = c.offer_all-pass.result.0 in
     let lists = c.in_ok-lists.lists.items in
     let ok : is_err c.offer_all-pass.result.1 ≡ false = search rules in
-    let has = was_ok c.offer_all-pass.result.1 ok c.offer_all-pass.ensures.offers in
+    let offers = rw c.len.ensures at c.offer_all-pass.ensures.offers in
+    let has = all_packets packets (sight pass) (was_ok c.offer_all-pass.result.1 ok offers) in
     IfOk-weaker c.arrived_lists.result
     (λ (made : ClassVec). AllZip (IsClassOf packets) lists made.items)
     (λ (made : ClassVec). GathersPieces packets made.items)
