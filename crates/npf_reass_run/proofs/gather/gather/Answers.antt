@@ -13,8 +13,8 @@ arrived_lists-requires g c =
     let packets = c.args.packets.now in
     let pass = c.offer_all-pass.result.0 in
     let ok : is_err c.offer_all-pass.result.1 ≡ false = search rules in
-    let offers = rw c.len.ensures at c.offer_all-pass.ensures.offers in
-    let has = all_packets packets (sight pass) (was_ok c.offer_all-pass.result.1 ok offers) in
+    let has = all_packets packets (sight pass)
+    (was_ok c.offer_all-pass.result.1 ok c.offer_all-pass.ensures.offers) in
     record {
       among = lists_among packets (sight pass) has (c.in_ok-lists.ensures.alone refl)
           (classes_of c.in_ok-reass.reass) c.in_ok-lists.lists.items c.in_ok-lists.ensures.lists;
@@ -26,8 +26,8 @@ returns-clause-count g c =
     let pass = c.offer_all-pass.result.0 in
     let lists = c.in_ok-lists.lists.items in
     let ok : is_err c.offer_all-pass.result.1 ≡ false = search rules in
-    let offers = rw c.len.ensures at c.offer_all-pass.ensures.offers in
-    let has = all_packets packets (sight pass) (was_ok c.offer_all-pass.result.1 ok offers) in
+    let has = all_packets packets (sight pass)
+    (was_ok c.offer_all-pass.result.1 ok c.offer_all-pass.ensures.offers) in
     IfOk-weaker c.arrived_lists.result
     (λ (made : ClassVec). AllZip (IsClassOf packets) lists made.items)
     (λ (made : ClassVec). length made.items ≡ c.args.count)
@@ -42,8 +42,8 @@ returns-clause-gathers g c =
     let pass = c.offer_all-pass.result.0 in
     let lists = c.in_ok-lists.lists.items in
     let ok : is_err c.offer_all-pass.result.1 ≡ false = search rules in
-    let offers = rw c.len.ensures at c.offer_all-pass.ensures.offers in
-    let has = all_packets packets (sight pass) (was_ok c.offer_all-pass.result.1 ok offers) in
+    let has = all_packets packets (sight pass)
+    (was_ok c.offer_all-pass.result.1 ok c.offer_all-pass.ensures.offers) in
     IfOk-weaker c.arrived_lists.result
     (λ (made : ClassVec). AllZip (IsClassOf packets) lists made.items)
     (λ (made : ClassVec). GathersPieces packets made.items)
