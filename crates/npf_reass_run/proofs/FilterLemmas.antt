@@ -1,6 +1,6 @@
 -- What filters keep of lists that are mapped, filtered twice, or filtered by one of two tests.
 use Rattle.std.proofs.Common.{◌≡◌, ◌≤◌, ◌∙◌, ◌&&◌, ◌||◌, Bool, cond, true, false, ⊎_elim, refl, sym, ap}
-use Rattle.std.proofs.Common.{subst, List, [], ◌∷◌, ◌++◌, length, map, sum_by, arith}
+use Rattle.std.proofs.Common.{subst, List, [], ◌∷◌, length, map, arith}
 use Rattle.std.specs.Prelude.{All, Contains, IsPermutation, filter}
 use Rattle.std.proofs.lemmas.Bool.{cond-true, cond-false}
 use Rattle.std.proofs.lemmas.List.{nil_from_length}

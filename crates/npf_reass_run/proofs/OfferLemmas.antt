@@ -212,8 +212,13 @@ offered_more first i packets d old new order h has offers =
     let front = arrived_from first ps has.seens in
     let last = arrived_at i p.time offers.seen in
     let long : first + length ps ≡ i =
-    omega (arith, length-take (i - first) (drop first packets), length-drop first packets,
-    order, h) in
+    omega (
+      arith,
+      length-take (i - first) (drop first packets),
+      length-drop first packets,
+      order,
+      h,
+    ) in
     let same : length ps ≡ length has.seens = all_zip_long IsSeenAs ps has.seens has.sees in
     let is_last : arrived_from (first + length ps) (p ∷ []) (offers.seen ∷ []) ≡ last =
     append-nil (arrived_at (first + length ps) p.time offers.seen)

@@ -1,22 +1,18 @@
 -- The classes that were decided tell the sets of all pieces.
-use Rattle.std.proofs.Common.{◌≡◌, ℕ, ◌+◌, ◌-◌, ◌<◌, ◌≤◌, ◌==◌, ◌∙◌, ◌&&◌, ◌%◌, Bool, cond, zero, true, false, ⊎_elim, suc, refl, sym, ap, subst, nat_eq, List, [], ◌∷◌, ◌++◌, Ok, length, get_or, map, arith}
+use Rattle.std.proofs.Common.{◌≡◌, ℕ, ◌-◌, ◌<◌, ◌≤◌, ◌==◌, ◌∙◌, ◌%◌, Bool, cond, zero, true, false, suc, refl, sym, ap, subst, nat_eq, List, [], ◌∷◌, length, get_or, arith}
 use Rattle.std.specs.Prelude.{All, Contains, bit_xor, filter}
-use Rattle.std.specs.List.{AllZip}
 use Rattle.std.specs.Cmp.Lexicographic.{pointwise}
 use Rattle.std.proofs.lemmas.Bool.{and_parts, eqb-true, eq-eqb}
-use Rattle.std.proofs.lemmas.List.Elements.{All-contains, All-filter, All-get_or, All-head, All-map, filter_passes, All-tail, All-weaker, All-contains_itself, Contains-append_left, Contains-append_right, Contains-get_or}
+use Rattle.std.proofs.lemmas.List.Elements.{All-contains, All-filter, All-get_or, All-head, filter_passes, All-weaker, All-contains_itself, Contains-get_or}
 use Rattle.std.proofs.lemmas.List.Sorted.{All-permutation}
 use Rattle.npf_types.specs.declared.address.Addr.{Addr}
 use Rattle.npf_types.specs.declared.address.Addr.TheVariants.{V4, V6}
-use Rattle.npf_types.specs.declared.limits.TheConstants.{MAX_PACKET_BYTES}
 use Rattle.npf_traffic.specs.declared.packet.Packet.{Packet}
 use Rattle.npf_traffic.specs.Packet.{IsShortPacket}
 use Rattle.npf_pieces.specs.declared.arrived.Arrived.{Arrived}
 use Rattle.npf_pieces.specs.declared.piece.FragKey.{FragKey}
-use Rattle.npf_pieces.specs.declared.piece.Piece.{Piece}
 use Rattle.npf_pieces.specs.declared.piece.Seen.{Seen}
 use Rattle.npf_pieces.specs.OpenSet.{IsTaken}
-use Rattle.npf_pieces.specs.Piece.{IfPiece, IsGood, IsPlacedPiece}
 use Rattle.npf_pieces.specs.Sets.{Set, sets_from}
 use Rattle.npf_reass_sets.specs.declared.class.ClassSets.{ClassSets}
 use Rattle.npf_reass_sets.specs.Among.{IsSetAmong, arrived_from}
@@ -26,7 +22,6 @@ use Rattle.npf_reass_whole.specs.Run.{DecidesRun, IsClassAmong, IsSeenAs, all_se
 use Rattle.npf_reass_whole.proofs.AmongLemmas.{all_zip_at, at_place}
 use Rattle.npf_pieces.proofs.OpenSetLemmas.{taken_of}
 use Rattle.npf_reass_sets.proofs.CoverLemmas.{in_left, in_right}
-use Rattle.npf_reass_whole.proofs.WriteLemmas.{head, parts, tail}
 use Rattle.npf_reass.specs.Class.{class_of, folded_halves}
 use Rattle.npf_reass_run.specs.Gathering.{GathersPieces, class_pieces}
 use Rattle.npf_reass_run.proofs.FilterLemmas.{contains_filter}

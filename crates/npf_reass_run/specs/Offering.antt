@@ -7,7 +7,6 @@ use Rattle.npf_pieces.specs.declared.piece.Piece.{Piece}
 use Rattle.npf_pieces.specs.declared.piece.Seen.{Seen}
 use Rattle.npf_reass_sets.specs.Among.{arrived_at, arrived_from}
 use Rattle.npf_reass_whole.specs.Run.{IsSeenAs}
-use Rattle.npf_reass.specs.declared.offer.Offer.{Offer}
 use Rattle.npf_reass.specs.Class.{offered}
 use Rattle.npf_reass.specs.Sight.{ReassSight}
 

@@ -1,5 +1,4 @@
-use Rattle.std.proofs.Common.{◌-◌, ◌/◌, ◌≤◌, ap, arith}
-use Rattle.std.proofs.Math.Nat.{div-le_self}
+use Rattle.std.proofs.Common.{◌-◌, ◌/◌, ◌≤◌, arith}
 use Rattle.npf_reass.specs.Passes.{sight}
 use Rattle.npf_reass_run.proofs.OfferLemmas.{all_offered, both_ok}
 use Rattle.npf_reass_run.proofs.offering.+fn-offer_all-join+arg2+offer_all.Goals as goal
