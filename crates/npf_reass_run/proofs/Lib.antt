@@ -1,2 +1,6 @@
+pub mod FilterLemmas
 pub mod GatherLemmas
+pub mod ListLemmas
+pub mod OfferLemmas
+pub mod OneSetLemmas
 pub mod ShareLemmas

@@ -1,22 +1,18 @@
 -- The classes that were decided tell the sets of all pieces.
-use Rattle.std.proofs.Common.{◌≡◌, ℕ, ◌+◌, ◌-◌, ◌<◌, ◌≤◌, ◌==◌, ◌∙◌, ◌&&◌, ◌%◌, Bool, cond, zero, true, false, ⊎_elim, suc, refl, sym, ap, subst, nat_eq, List, [], ◌∷◌, ◌++◌, Ok, length, get_or, map, arith}
+use Rattle.std.proofs.Common.{◌≡◌, ℕ, ◌-◌, ◌<◌, ◌≤◌, ◌==◌, ◌∙◌, ◌%◌, Bool, cond, zero, true, false, suc, refl, sym, ap, subst, nat_eq, List, [], ◌∷◌, length, get_or, arith}
 use Rattle.std.specs.Prelude.{All, Contains, bit_xor, filter}
-use Rattle.std.specs.List.{AllZip}
 use Rattle.std.specs.Cmp.Lexicographic.{pointwise}
-use Rattle.std.proofs.lemmas.Bool.Decides.{nat_tests}
-use Rattle.std.proofs.lemmas.List.Elements.{All-contains, All-filter, All-get_or, All-head, All-map, filter_passes, All-tail, All-weaker, All-contains_itself, Contains-append_left, Contains-append_right, Contains-get_or}
+use Rattle.std.proofs.lemmas.Bool.{and_parts, eqb-true, eq-eqb}
+use Rattle.std.proofs.lemmas.List.Elements.{All-contains, All-filter, All-get_or, All-head, filter_passes, All-weaker, All-contains_itself, Contains-get_or}
 use Rattle.std.proofs.lemmas.List.Sorted.{All-permutation}
 use Rattle.npf_types.specs.declared.address.Addr.{Addr}
 use Rattle.npf_types.specs.declared.address.Addr.TheVariants.{V4, V6}
-use Rattle.npf_types.specs.declared.limits.TheConstants.{MAX_PACKET_BYTES}
 use Rattle.npf_traffic.specs.declared.packet.Packet.{Packet}
 use Rattle.npf_traffic.specs.Packet.{IsShortPacket}
 use Rattle.npf_pieces.specs.declared.arrived.Arrived.{Arrived}
 use Rattle.npf_pieces.specs.declared.piece.FragKey.{FragKey}
-use Rattle.npf_pieces.specs.declared.piece.Piece.{Piece}
 use Rattle.npf_pieces.specs.declared.piece.Seen.{Seen}
 use Rattle.npf_pieces.specs.OpenSet.{IsTaken}
-use Rattle.npf_pieces.specs.Piece.{IfPiece, IsGood, IsPlacedPiece}
 use Rattle.npf_pieces.specs.Sets.{Set, sets_from}
 use Rattle.npf_reass_sets.specs.declared.class.ClassSets.{ClassSets}
 use Rattle.npf_reass_sets.specs.Among.{IsSetAmong, arrived_from}
@@ -26,37 +22,20 @@ use Rattle.npf_reass_whole.specs.Run.{DecidesRun, IsClassAmong, IsSeenAs, all_se
 use Rattle.npf_reass_whole.proofs.AmongLemmas.{all_zip_at, at_place}
 use Rattle.npf_pieces.proofs.OpenSetLemmas.{taken_of}
 use Rattle.npf_reass_sets.proofs.CoverLemmas.{in_left, in_right}
-use Rattle.npf_reass_whole.proofs.WriteLemmas.{head, parts, tail}
 use Rattle.npf_reass.specs.Class.{class_of, folded_halves}
 use Rattle.npf_reass_run.specs.Gathering.{GathersPieces, class_pieces}
+use Rattle.npf_reass_run.proofs.FilterLemmas.{contains_filter}
+use Rattle.npf_reass_run.proofs.ListLemmas.{some_of}
 use Rattle.std.proofs.lemmas.Nat.{mod_below}
 
-some_packet : (packets : List Packet) (i : ℕ) → i < length packets → Packet
-some_packet [] i h = absurd (omega (arith, h))
-some_packet (p ∷ packets) i h = p
-
-some_class : (classes : List ClassSets) (i : ℕ) → i < length classes → ClassSets
-some_class [] i h = absurd (omega (arith, h))
-some_class (class ∷ classes) i h = class
-
 -- pieces of one key are of one class
-both : (x y : Bool) → (x && y) ≡ true → (x ≡ true) × (y ≡ true)
-both true y h = (refl, h)
-both false y h = absurd (grind (arith, h))
-
-equal : (x y : ℕ) → nat_eq x y ≡ true → x ≡ y
-equal x y h = grind (arith, nat_tests, h)
-
-equal_true : (x y : ℕ) → x ≡ y → (x == y) ≡ true
-equal_true x y h = grind (arith, nat_tests, h)
-
-same_numbers : (xs ys : List ℕ) → pointwise nat_eq xs ys ≡ true → xs ≡ ys
+pub same_numbers : (xs ys : List ℕ) → pointwise nat_eq xs ys ≡ true → xs ≡ ys
 same_numbers [] [] h = refl
 same_numbers [] (y ∷ ys) h = absurd (grind (arith, h))
 same_numbers (x ∷ xs) [] h = absurd (grind (arith, h))
 same_numbers (x ∷ xs) (y ∷ ys) h =
-    let parts = both (nat_eq x y) (pointwise nat_eq xs ys) h in
-    ap (λ (n : ℕ). n ∷ xs) (equal x y parts.0) ∙ ap (λ (list : List ℕ). y ∷ list) (same_numbers xs ys parts.1)
+    let parts = and_parts (nat_eq x y) (pointwise nat_eq xs ys) h in
+    ap (λ (n : ℕ). n ∷ xs) (eqb-true x y parts.0) ∙ ap (λ (list : List ℕ). y ∷ list) (same_numbers xs ys parts.1)
 
 same_folded : (a b : Addr) → key_version a ≡ key_version b → key_address a ≡ key_address b → folded_halves a ≡ folded_halves b
 same_folded (V4 x) (V4 y) version address = address
@@ -92,18 +71,6 @@ module _ (p q : Arrived → Bool) (implies : (x : Arrived) → p x ≡ true → 
   filter_within [] = refl
   filter_within (x ∷ xs) = filter_step x xs (filter_within xs) (q x) (p x) refl refl
 
-contains_step : (p : Arrived → Bool) (x : Arrived) (xs : List Arrived) (a : Arrived) → (Contains xs a → Contains (filter p xs) a) → (b : Bool) → p x ≡ b
-    → Contains (x ∷ xs) a → p a ≡ true → Contains (cond b (x ∷ filter p xs) (filter p xs)) a
-contains_step p x xs a more true e c h =
-    ⊎_elim (λ (k : x ≡ a). subst (λ (y : Arrived). Contains (x ∷ filter p xs) y) k (head x (filter p xs)))
-    (λ (k : Contains xs a). tail x a (filter p xs) (more k)) (parts x a xs c)
-contains_step p x xs a more false e c h =
-    ⊎_elim (λ (k : x ≡ a). absurd (grind (arith, sym e ∙ ap p k ∙ h))) (λ (k : Contains xs a). more k) (parts x a xs c)
-
-contains_filter : (p : Arrived → Bool) (xs : List Arrived) (a : Arrived) → Contains xs a → p a ≡ true → Contains (filter p xs) a
-contains_filter p [] a c h = absurd (omega (arith, c.1))
-contains_filter p (x ∷ xs) a c h = contains_step p x xs a (λ k. contains_filter p xs a k h) (p x) refl c h
-
 module _ (classes class : ℕ) (arrived : List Arrived) where
   abbrev mine : List Arrived
   mine = class_pieces classes class arrived
@@ -123,8 +90,8 @@ module _ (classes class : ℕ) (arrived : List Arrived) where
           let passes = All-head (λ (a : Arrived). is_of h.key a ≡ true) x xs (subst (All (λ (a : Arrived). is_of h.key a ≡ true)) e (filter_passes (is_of h.key) mine)) in
           let own = All-head (λ (a : Arrived). is_mine a ≡ true) x xs
           (subst (All (λ (a : Arrived). is_mine a ≡ true)) e (All-filter (is_of h.key) (λ (a : Arrived). is_mine a ≡ true) mine (filter_passes is_mine arrived))) in
-          let class_is : class_of classes h.key ≡ class = same_class classes h.key x.piece.key passes ∙ equal _ _ own in
-          let implies : (y : Arrived) → is_of h.key y ≡ true → is_mine y ≡ true = λ y k. equal_true _ _ (sym (same_class classes h.key y.piece.key k) ∙ class_is) in
+          let class_is : class_of classes h.key ≡ class = same_class classes h.key x.piece.key passes ∙ eqb-true _ _ own in
+          let implies : (y : Arrived) → is_of h.key y ≡ true → is_mine y ≡ true = λ y k. eq-eqb _ _ (sym (same_class classes h.key y.piece.key k) ∙ class_is) in
           record { key = h.key; is = subst (λ (list : List Arrived). Contains (sets_from [] list) set) (sym e ∙ filter_within (is_of h.key) is_mine implies arrived) c }
 
   pub class_among : (one : ClassSets) → DecidesClass mine one → IsClassAmong arrived one
@@ -147,7 +114,7 @@ module _ (packets : List Packet) (classes : List ClassSets) (gathers : GathersPi
     is_taken : (a : Arrived) → Contains arrived a → IsTaken a
     is_taken a c =
         let x = at_place 0 packets gathers.seens a c in
-        let d = some_packet packets (a.place - 0) x.here in
+        let d = some_of packets (a.place - 0) x.here in
         let one = all_zip_at IsSeenAs packets gathers.seens (a.place - 0) d Seen.NoFragment gathers.sees x.here in
         let piece = subst (IsSeenAs (get_or packets (a.place - 0) d)) (x.seen Seen.NoFragment) one in
         taken_of a (length (get_or packets (a.place - 0) d).bytes) (All-get_or IsShortPacket packets (a.place - 0) d x.here short) piece.good piece.placed
@@ -167,8 +134,8 @@ module _ (packets : List Packet) (classes : List ClassSets) (gathers : GathersPi
     in_run a c =
         let class = class_of (length classes) a.piece.key in
         let below : class < length classes = mod_below _ (length classes) some in
-        let d = some_class decided class (omega (arith, below, count)) in
-        let own = contains_filter (λ x. class_of (length classes) x.piece.key == class) arrived a c (equal_true class class refl) in
+        let d = some_of decided class (omega (arith, below, count)) in
+        let own = contains_filter (λ x. class_of (length classes) x.piece.key == class) arrived a c (eq-eqb class class refl) in
         in_all decided class d a (omega (arith, below, count))
         (All-contains (IsInSet (class_sets (get_or decided class d))) (class_pieces (length classes) class arrived) a (decides class d below).each own)
 

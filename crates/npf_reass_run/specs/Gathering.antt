@@ -1,11 +1,12 @@
 -- The pieces among packets, by classes.
-use Rattle.std.specs.Prelude.{◌≡◌, ℕ, ◌<◌, ◌==◌, List, ◌++◌, filter, length, slice_index_or}
+use Rattle.std.specs.Prelude.{◌≡◌, ℕ, ◌<◌, ◌==◌, List, filter, length, slice_index_or}
 use Rattle.std.specs.List.{AllZip}
 use Rattle.npf_traffic.specs.declared.packet.Packet.{Packet}
 use Rattle.npf_pieces.specs.declared.arrived.Arrived.{Arrived}
+use Rattle.npf_pieces.specs.declared.piece.Piece.{Piece}
 use Rattle.npf_pieces.specs.declared.piece.Seen.{Seen}
 use Rattle.npf_reass_sets.specs.declared.class.ClassSets.{ClassSets}
-use Rattle.npf_reass_sets.specs.Among.{arrived_at, arrived_from}
+use Rattle.npf_reass_sets.specs.Among.{arrived_from}
 use Rattle.npf_reass_whole.specs.Run.{IsSeenAs}
 use Rattle.npf_reass.specs.Class.{class_of}
 
@@ -20,11 +21,16 @@ pub record GathersPieces (packets : List Packet) (classes : List ClassSets) : Ty
   pub each : (class : ℕ) (d : ClassSets) → class < length classes
       → (slice_index_or classes class d).arrived.items ≡ class_pieces (length classes) class (arrived_from 0 packets seens)
 
--- the packet of a place is seen so, and its piece, if it is one, stands behind those of its class
-pub record TakesPacket (packet : Packet) (place : ℕ) (old new : List ClassSets) : Type 0 where
-  pub seen : Seen
-  pub is : IsSeenAs packet seen
-  pub count : length new ≡ length old
-  pub each : (class : ℕ) (d : ClassSets) → class < length old
-      → (slice_index_or new class d).arrived.items
-      ≡ (slice_index_or old class d).arrived.items ++ class_pieces (length old) class (arrived_at place packet.time seen)
+-- the offer is of one of the packets
+abbrev pub IsOfferAmong : List Packet → ℕ × Piece → Type 0
+IsOfferAmong packets offer = offer.0 < length packets
+
+-- the piece is the offered one, with the time of its packet
+pub record IsArrivedOffer (packets : List Packet) (offer : ℕ × Piece) (a : Arrived) : Type 0 where
+  pub place : a.place ≡ offer.0
+  pub piece : a.piece ≡ offer.1
+  pub time : (d : Packet) → a.time ≡ (slice_index_or packets offer.0 d).time
+
+-- the class has the pieces of the list
+abbrev pub HasListed : List Packet → List (ℕ × Piece) → ClassSets → Type 0
+HasListed packets list class = AllZip (IsArrivedOffer packets) list class.arrived.items

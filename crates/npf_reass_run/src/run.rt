@@ -34,7 +34,7 @@ pub fn reassemble<'a, R: Threads + Wait + Sync>(
     if !has_fragment(packets.as_slice()) {
         return Ok(packets);
     }
-    let mut classes = gather(alloc, packets.as_slice(), CLASSES)?;
+    let mut classes = gather(rt, alloc, packets.as_slice(), CLASSES, workers)?;
     decide_all(rt, alloc, classes.as_mut_slice(), workers)?;
     put_together(alloc, packets, classes.as_slice(), keeper)
 }

@@ -1,22 +1,52 @@
-use Rattle.std.proofs.Common.{◌≡◌, ap, subst, length, arith}
-use Rattle.npf_traffic.specs.declared.packet.Packet.{Packet}
-use Rattle.npf_reass_whole.proofs.PutLemmas.{whole_items}
-use Rattle.npf_reass_run.specs.Gathering.{TakesPacket}
-use Rattle.npf_reass_run.proofs.GatherLemmas.{gathers_more}
+use Rattle.std.proofs.Common.{rules, ◌≡◌, ◌∙◌, false, is_err, length, refl}
+use Rattle.std.specs.List.{AllZip}
+use Rattle.std.proofs.lemmas.Result.{IfOk-weaker}
+use Rattle.npf_reass.specs.Passes.{classes_of, sight}
+use Rattle.npf_reass_run.specs.Gathering.{GathersPieces}
+use Rattle.npf_reass_run.proofs.GatherLemmas.{ClassVec, all_packets, lists_among, made_count, made_gathers}
+use Rattle.npf_reass_run.proofs.ListLemmas.{IsClassOf}
+use Rattle.npf_reass_run.proofs.OfferLemmas.{was_ok}
 use Rattle.npf_reass_run.proofs.gather.gather.Goals as goal
 
-pub loop-place-preserved : goal.loop-place-preserved
-loop-place-preserved c =
-    let classes = c.loop-place.classes in
-    let new = c.take_packet.new.classes in
-    let inv = c.loop-place.invariant in
-    let long : length new ≡ classes.len = omega (arith, c.take_packet.auto.classes, ap length c.as_mut_slice.ensures.value, classes.ok) in
-    let is = whole_items classes.len new classes.items long (omega (arith, classes.ok)) in
+pub arrived_lists-requires : goal.arrived_lists-requires
+arrived_lists-requires g c =
+    let packets = c.args.packets.now in
+    let pass = c.offer_all-pass.result.0 in
+    let ok : is_err c.offer_all-pass.result.1 ≡ false = search rules in
+    let has = all_packets packets (sight pass)
+    (was_ok c.offer_all-pass.result.1 ok c.offer_all-pass.ensures.offers) in
     record {
-      count = rw is (omega (arith, long, inv.count, classes.ok));
-      gathers = rw is (
-          gathers_more c.args.packets.now c.loop-place.place c.index-packets-place.result classes.items new c.loop-place-test.true inv.gathers
-          (subst (λ (p : Packet). TakesPacket p c.loop-place.place classes.items new) c.index-packets-place.is
-          (rw c.as_mut_slice.ensures.value at c.in_ok-take_packet.ensures))
-          );
+      among = lists_among packets (sight pass) has (c.in_ok-lists.ensures.alone refl)
+          (classes_of c.in_ok-reass.reass) c.in_ok-lists.lists.items c.in_ok-lists.ensures.lists;
     }
+
+pub returns-clause-count : goal.returns-clause-count
+returns-clause-count g c =
+    let packets = c.args.packets.now in
+    let pass = c.offer_all-pass.result.0 in
+    let lists = c.in_ok-lists.lists.items in
+    let ok : is_err c.offer_all-pass.result.1 ≡ false = search rules in
+    let has = all_packets packets (sight pass)
+    (was_ok c.offer_all-pass.result.1 ok c.offer_all-pass.ensures.offers) in
+    IfOk-weaker c.arrived_lists.result
+    (λ (made : ClassVec). AllZip (IsClassOf packets) lists made.items)
+    (λ (made : ClassVec). length made.items ≡ c.args.count)
+    (λ made all. made_count packets (sight pass) has (c.in_ok-lists.ensures.alone refl)
+    (classes_of c.in_ok-reass.reass) lists c.in_ok-lists.ensures.lists made.items all
+    ∙ c.in_ok-reass.ensures.classes)
+    c.arrived_lists.ensures
+
+pub returns-clause-gathers : goal.returns-clause-gathers
+returns-clause-gathers g c =
+    let packets = c.args.packets.now in
+    let pass = c.offer_all-pass.result.0 in
+    let lists = c.in_ok-lists.lists.items in
+    let ok : is_err c.offer_all-pass.result.1 ≡ false = search rules in
+    let has = all_packets packets (sight pass)
+    (was_ok c.offer_all-pass.result.1 ok c.offer_all-pass.ensures.offers) in
+    IfOk-weaker c.arrived_lists.result
+    (λ (made : ClassVec). AllZip (IsClassOf packets) lists made.items)
+    (λ (made : ClassVec). GathersPieces packets made.items)
+    (λ made all. made_gathers packets (sight pass) has (c.in_ok-lists.ensures.alone refl)
+    (classes_of c.in_ok-reass.reass) lists c.in_ok-lists.ensures.lists made.items all)
+    c.arrived_lists.ensures
