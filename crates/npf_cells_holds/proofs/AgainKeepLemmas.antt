@@ -46,7 +46,7 @@ pub record StandsThere (digest : Key → ℕ) (t : TrieWords) (p : Place) (cell 
 
 -- a store makes the pass know no more of the trie
 publishes_less : (side : TrieSide) → KnowsNoMore side (publishing side)
-publishes_less side = record { stands = λ point e. e; leaf = λ leaf e. e; seen = λ x e. absurd cc; locks = refl; answered = λ i c. c; grown = refl }
+publishes_less side = record { stands = λ point e. e; leaf = λ leaf e. e; seen = λ x e. absurd cc; locks = refl; answered = λ i c. c; marks = refl; emptied = λ e is. is; met_mark = λ y is. is; grown = refl; regained = refl }
 
 module _ {S A R : Type 0} (m : Meaning S A R) (digest : Key → ℕ) (layout : Layout) where
   module _ (s : State (Running S) (CellView S A R)) (id : ℕ) (me : Me (Running S) (CellView S A R)) (kept : IsCells m digest layout s) (at : get_elem? s.views id ≡ some me.0) (p : Place) (inside : IsInTrie layout p) where
@@ -72,7 +72,7 @@ module _ {S A R : Type 0} (m : Meaning S A R) (digest : Key → ℕ) (layout : L
         let there = stands_there cell sees in
         let w : CellView S A R = record me.0 { trie = publishing me.0.trie } in
         let are = are_digits digest there.key in
-        private_step m digest layout s (place_at layout p) (cell_word cell) id me.1 me.0 w kept at (place_behind layout p) refl refl refl refl (λ conn c. c)
+        private_step m digest layout s (place_at layout p) (cell_word cell) id me.1 me.0 w kept at (place_behind layout p) refl refl refl refl refl (λ conn c. c)
         (alone_still me.0 w (kept.alone id me.0 at) place refl (λ none. absurd (none_listed (lock_of p) (subst (λ locks. Contains locks (lock_of p)) none.locks sees.locked))))
         (trie_same trie_side digest layout kept.published k k s.words words s.views id me.0 w kept.trie at (publishes_less me.0.trie) (record {
           holder = λ key. refl;

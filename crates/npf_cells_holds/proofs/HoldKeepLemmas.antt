@@ -106,7 +106,7 @@ module _ {S A R : Type 0} (m : Meaning S A R) (digest : Key → ℕ) (layout : L
       leaf = was.leaf;
       seen = sees m digest layout s id me kept at lives settled place stays 0 key p stands (Node node) is;
       claimed = λ i c. absurd (none_listed i c);
-    }) refl refl (fewer_rests (descending digest key p level node (renewed me.0.trie)) refl refl) (alone_within (record me.0 { trie = descending digest key p level node (renewed me.0.trie) }) place stays)
+    }) refl refl refl (fewer_rests (descending digest key p level node (renewed me.0.trie)) refl refl) (alone_within (record me.0 { trie = descending digest key p level node (renewed me.0.trie) }) place stays)
 
     -- where nothing stands only that is seen
     pub sights : IsCells m digest layout (stepped s word (slice_index s.words word) id me.1 (record me.0 { trie = sighting key level p (t.cell p) (renewed me.0.trie) }) keeps)
@@ -115,7 +115,7 @@ module _ {S A R : Type 0} (m : Meaning S A R) (digest : Key → ℕ) (layout : L
       leaf = was.leaf;
       seen = sees m digest layout s id me kept at lives settled place stays 0 key p stands (t.cell p) refl;
       claimed = λ i c. absurd (none_listed i c);
-    }) refl refl (fewer_rests (sighting key level p (t.cell p) (renewed me.0.trie)) refl refl) (alone_within (record me.0 { trie = sighting key level p (t.cell p) (renewed me.0.trie) }) place stays)
+    }) refl refl refl (fewer_rests (sighting key level p (t.cell p) (renewed me.0.trie)) refl refl) (alone_within (record me.0 { trie = sighting key level p (t.cell p) (renewed me.0.trie) }) place stays)
 
     module _ (slot : ℕ) (leaf_way : Way) (is : t.cell p ≡ Leaf slot leaf_way) where
       abbrev leaf : LoadedLeaf
@@ -143,7 +143,7 @@ module _ {S A R : Type 0} (m : Meaning S A R) (digest : Key → ℕ) (layout : L
         leaf = leaf_stays;
         seen = sees m digest layout s id me kept at lives settled place stays 0 key p stands (t.cell p) refl;
         claimed = λ i c. absurd (none_listed i c);
-      }) refl refl meeter_rests (alone_within (record me.0 { trie = meeting key p (t.cell p) level leaf me.0.trie }) place stays)
+      }) refl refl refl meeter_rests (alone_within (record me.0 { trie = meeting key p (t.cell p) level leaf me.0.trie }) place stays)
 
       module _ (conn : ConnId) (way : Way) (may : MayHoldSo m me.0 conn way) (same : is_key leaf.key key ≡ true) where
         abbrev entry : Entry S A R
@@ -187,7 +187,7 @@ module _ {S A R : Type 0} (m : Meaning S A R) (digest : Key → ℕ) (layout : L
         })
 
         trie_after : Trie trie_side digest layout kept.published k' s.words (set s.views id asker)
-        trie_after = trie_kept trie_side digest layout kept.published k k' s.words s.words s.views (set s.views id asker) kept.trie keeps_trie (grown-set trie_side s.views id me.0 asker at refl)
+        trie_after = trie_kept trie_side digest layout kept.published k k' s.words s.words s.views (set s.views id asker) kept.trie keeps_trie (grown-set trie_side s.views id me.0 asker at refl refl)
             (fits-set trie_side digest layout.slots k' t s.views id asker asker_fits (fits_all trie_side digest layout.slots k k' t t s.views keeps_trie kept.trie.each))
 
         builds_after : BuildsIn pool_side k' (set s.views id asker)
@@ -211,7 +211,7 @@ module _ {S A R : Type 0} (m : Meaning S A R) (digest : Key → ℕ) (layout : L
             entry_step m digest layout s word (slice_index s.words word) id me.1 me.0 asker kept at lives place entry refl follows refl refl (kept.stored id me.0 at) refl refl (λ slot. inl refl) keeps_trie.holder refl spares (λ slot. refl) asker_rests refl (λ i c. c) (alone_within asker place stays)
             (record { before = λ j h. ap (λ ws. slice_index ws j) words; behind = λ j h. ap (λ ws. slice_index ws j) words })
             (pools-same layout (taken pool_side kept.published k s.views) (taken pool_side kept.published k' (set s.views id asker)) s.words (set s.words word (slice_index s.words word)) kept.pools
-            (length-set s.words word (slice_index s.words word)) (λ j h. ap (λ ws. slice_index ws j) words) (taken-set pool_side kept.published k s.views id me.0 asker at refl))
+            (length-set s.words word (slice_index s.words word)) (λ j h. ap (λ ws. slice_index ws j) words) (taken-set pool_side kept.published k s.views id me.0 asker at refl refl))
             (subst (λ ws. Trie trie_side digest layout kept.published k' ws (set s.views id asker)) (sym words) trie_after)
             builds_after
             (λ slot h. ap (λ n. inc_word layout s.words slot + n) (unstored-set pool_side s.views id me.0 asker at refl slot) ∙ kept.connections.incs slot h)

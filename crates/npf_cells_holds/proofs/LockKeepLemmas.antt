@@ -30,7 +30,7 @@ use Rattle.npf_cells_leaves.specs.declared.trie.TrieSide.{TrieSide}
 use Rattle.npf_cells_leaves.specs.Trie.{key_word, TrieWords, trie_words, FitsTrie}
 use Rattle.npf_cells_leaves.proofs.TrieLemmas.{grown-set, KeepsTrie, knows_same, cell_kept, trie_kept, fits_kept, fits-set, fits_all}
 use Rattle.npf_cells_lives.specs.declared.pools.PoolSide.{PoolSide}
-use Rattle.npf_cells_lives.specs.Locks.{has_lock, lock_holders, Locks}
+use Rattle.npf_cells_lives.specs.Locks.{has_lock, lock_holders, held_in, Locks}
 use Rattle.npf_cells_lives.specs.Stored.{FitsStored}
 use Rattle.npf_cells_lives.proofs.ConnLemmas.{builds-kept, unstored-set, conns-same}
 use Rattle.npf_cells_lives.proofs.DeathLemmas.{RestsNoMore}
@@ -123,21 +123,37 @@ fits_unlocking digest slots k t layout lock side fits = record {
   claimed = fits.claimed;
 }
 
+-- a state of 0 or 1 says how many have the lock
+held_bit : (n : ℕ) → n < 2 → held_in n ≡ n
+held_bit zero h = refl
+held_bit (suc zero) h = refl
+held_bit (suc (suc n)) h = absurd (omega (arith, h))
+
 -- the part on locks after a step on the word of one, that changes who has this one alone
 locks-set : {S A R : Type 0} (layout : Layout) (words : List ℕ) (views : List (CellView S A R)) (id : ℕ) (v w : CellView S A R) (lock : Lock) (n : ℕ) → Locks lock_side layout words views → get_elem? views id ≡ some v → lock_at layout lock < length words →
-    n ≡ lock_holders lock_side layout (set views id w) lock → n ≤ 1 → ((other : Lock) → lock_at layout other ≢ lock_at layout lock → has_lock layout other w.trie.locks ≡ has_lock layout other v.trie.locks) →
+    lock_holders lock_side layout (set views id w) lock ≡ held_in n → lock_holders lock_side layout (set views id w) lock ≤ 1 → n < 2 → ((other : Lock) → lock_at layout other ≢ lock_at layout lock → has_lock layout other w.trie.locks ≡ has_lock layout other v.trie.locks) →
     Locks lock_side layout (set words (lock_at layout lock) n) (set views id w)
-locks-set {S} {A} {R} layout words views id v w lock n kept at long here most others = record {
+locks-set {S} {A} {R} layout words views id v w lock n kept at long here most small others = record {
   says = λ other h. ⊎_elim
-      (λ (e : lock_at layout other ≡ lock_at layout lock). ap (slice_index (set words (lock_at layout lock) n)) e ∙ (get_or-set_same words (lock_at layout lock) n 0 long ∙ (here ∙ sym (by_word other e))))
-      (λ (ne : lock_at layout other ≢ lock_at layout lock). get_or-set_other words (lock_at layout lock) (lock_at layout other) n 0 ne ∙ (kept.says other h ∙ sym (same other ne)))
+      (λ (e : lock_at layout other ≡ lock_at layout lock). by_word other e ∙ (here ∙ ap held_in (sym (there other e))))
+      (λ (ne : lock_at layout other ≢ lock_at layout lock). same other ne ∙ (kept.says other h ∙ ap held_in (sym (elsewhere other ne))))
+      (cases_eq (lock_at layout other) (lock_at layout lock));
+  bit = λ other h. ⊎_elim
+      (λ (e : lock_at layout other ≡ lock_at layout lock). subst (λ x. x < 2) (sym (there other e)) small)
+      (λ (ne : lock_at layout other ≢ lock_at layout lock). subst (λ x. x < 2) (sym (elsewhere other ne)) (kept.bit other h))
       (cases_eq (lock_at layout other) (lock_at layout lock));
   alone = λ other h. ⊎_elim
-      (λ (e : lock_at layout other ≡ lock_at layout lock). subst (λ x. x ≤ 1) (here ∙ sym (by_word other e)) most)
+      (λ (e : lock_at layout other ≡ lock_at layout lock). subst (λ x. x ≤ 1) (sym (by_word other e)) most)
       (λ (ne : lock_at layout other ≢ lock_at layout lock). subst (λ x. x ≤ 1) (sym (same other ne)) (kept.alone other h))
       (cases_eq (lock_at layout other) (lock_at layout lock));
 }
   where
+    there : (other : Lock) → lock_at layout other ≡ lock_at layout lock → slice_index (set words (lock_at layout lock) n) (lock_at layout other) ≡ n
+    there other e = ap (slice_index (set words (lock_at layout lock) n)) e ∙ get_or-set_same words (lock_at layout lock) n 0 long
+
+    elsewhere : (other : Lock) → lock_at layout other ≢ lock_at layout lock → slice_index (set words (lock_at layout lock) n) (lock_at layout other) ≡ slice_index words (lock_at layout other)
+    elsewhere other ne = get_or-set_other words (lock_at layout lock) (lock_at layout other) n 0 ne
+
     by_word : (other : Lock) → lock_at layout other ≡ lock_at layout lock → lock_holders lock_side layout (set views id w) other ≡ lock_holders lock_side layout (set views id w) lock
     by_word other e = ap (λ word. sum_by (λ (u : CellView S A R). occurs word (map (lock_at layout) u.trie.locks)) (set views id w)) e
 
@@ -168,17 +184,17 @@ module _ {S A R : Type 0} (m : Meaning S A R) (digest : Key → ℕ) (layout : L
     keeps_trie n = lock_keeps layout k s.words lock n exists
 
     -- a step on the word of the lock, after which the seat fits and is one of those that have it
-    lock_step : (n : ℕ) (side : TrieSide) → side.grown ≡ me.0.trie.grown → RestsNoMore k (death_side me.0) (death_side (having side)) → FitsAlone (having side) → FitsTrie digest layout.slots k (t' n) side → n ≡ lock_holders lock_side layout (set s.views id (having side)) lock → n ≤ 1 →
+    lock_step : (n : ℕ) (side : TrieSide) → side.grown ≡ me.0.trie.grown → side.regained ≡ me.0.trie.regained → RestsNoMore k (death_side me.0) (death_side (having side)) → FitsAlone (having side) → FitsTrie digest layout.slots k (t' n) side → lock_holders lock_side layout (set s.views id (having side)) lock ≡ n → n < 2 →
         ((other : Lock) → lock_at layout other ≢ word → has_lock layout other side.locks ≡ has_lock layout other me.0.trie.locks) → IsCells m digest layout (stepped s word n id me.1 (having side) keeps)
-    lock_step n side grown less alone fits here most others =
+    lock_step n side grown back less alone fits here small others =
         let w = having side in
-        private_step m digest layout s word n id me.1 me.0 w kept at (lock_behind layout lock) refl refl refl refl (λ conn c. c) alone
-        (trie_kept trie_side digest layout kept.published k k s.words (words' n) s.views (set s.views id w) kept.trie (keeps_trie n) (grown-set trie_side s.views id me.0 w at grown)
+        private_step m digest layout s word n id me.1 me.0 w kept at (lock_behind layout lock) refl refl refl refl refl (λ conn c. c) alone
+        (trie_kept trie_side digest layout kept.published k k s.words (words' n) s.views (set s.views id w) kept.trie (keeps_trie n) (grown-set trie_side s.views id me.0 w at grown back)
         (fits-set trie_side digest layout.slots k (t' n) s.views id w fits (fits_all trie_side digest layout.slots k k (trie_words layout s.words) (t' n) s.views (keeps_trie n) kept.trie.each)))
         (conns-same pool_side m layout kept.log s.words (words' n) s.views (set s.views id w) kept.connections (length-set s.words word n)
         (λ slot h. get_or-set_other s.words word (field_at layout Slots slot inc_field) n 0 (not_slot layout slot inc_field lock exists)) (builds-kept pool_side k s.views id me.0 w at refl refl kept.connections.each) (unstored-set pool_side s.views id me.0 w at refl))
         (stored-set pool_side layout (words' n) s.views id w (on me.0.pools (kept.stored id me.0 at)) (λ j u ne there. on u.pools (kept.stored j u there)))
-        (locks-set layout s.words s.views id me.0 w lock n kept.locks at (let reach = lock_reach layout lock exists in let long = kept.connections.reach in omega (arith, reach, long)) here most others)
+        (locks-set layout s.words s.views id me.0 w lock n kept.locks at (let reach = lock_reach layout lock exists in let long = kept.connections.reach in omega (arith, reach, long)) (here ∙ sym (held_bit n small)) (omega (arith, here, small)) small others)
         (turns_apart m digest layout s word n id me.0 w k kept at refl refl (λ slot field h f. get_or-set_other s.words word (field_at layout Slots slot field) n 0 (not_slot layout slot field lock exists)) (λ slot. inl refl))
         (deaths_on m digest layout s word n id me.0 w kept at refl refl less
         (let same = get_or-set_other s.words word 0 n 0 (λ e. absurd (let far = lock_behind layout lock in omega (arith, e, far))) in omega (arith, same))
@@ -204,12 +220,13 @@ module _ {S A R : Type 0} (m : Meaning S A R) (digest : Key → ℕ) (layout : L
 
     -- the lock was free, and the pass has it
     pub got : IsProtected me.0.epochs.pin → 1 ≤ length me.0.seats.readers → slice_index s.words word ≡ 0 → IsCells m digest layout (stepped s word 1 id me.1 (having (locking lock me.0.trie)) keeps)
-    got stays place free = lock_step 1 (locking lock me.0.trie) refl (record { rests = λ i dead bare rests. (rests, refl) }) (alone_within (having (locking lock me.0.trie)) place stays) (fits_locking digest layout.slots k (t' 1) lock me.0.trie (fits_still 1))
+    got stays place free = lock_step 1 (locking lock me.0.trie) refl refl (record { rests = λ i dead bare rests. (rests, refl) }) (alone_within (having (locking lock me.0.trie)) place stays) (fits_locking digest layout.slots k (t' 1) lock me.0.trie (fits_still 1))
         (let says = kept.locks.says lock exists in
         let after = holders_after (locking lock me.0.trie) in
         let more = occurs-cons word word (map (lock_at layout) me.0.trie.locks) in
         let one : one_where (eqb word word) ≡ 1 = ap one_where (eq-eqb word word refl) in
-        omega (arith, free, says, after, more, one)) (omega arith)
+        let none : lock_holders lock_side layout s.views lock ≡ 0 = says ∙ ap held_in free in
+        omega (arith, none, after, more, one)) (omega arith)
         (λ other ne.
         let more = occurs-cons (lock_at layout other) word (map (lock_at layout) me.0.trie.locks) in
         let none : one_where (eqb word (lock_at layout other)) ≡ 0 = ap one_where (ne_eqb word (lock_at layout other) (λ e. ne (sym e))) in
@@ -228,7 +245,7 @@ module _ {S A R : Type 0} (m : Meaning S A R) (digest : Key → ℕ) (layout : L
     locked_alone side place c = alone_still me.0 (having side) (kept.alone id me.0 at) place refl (λ none. absurd (none_listed lock (subst (λ locks. Contains locks lock) none.locks c)))
 
     freed : 1 ≤ length me.0.seats.readers → Contains me.0.trie.locks lock → IsCells m digest layout (stepped s word 0 id me.1 (having (record me.0.trie { locks = locks_but layout lock me.0.trie.locks })) keeps)
-    freed place c = lock_step 0 (record me.0.trie { locks = locks_but layout lock me.0.trie.locks }) refl (record { rests = λ i dead bare rests. (rests, refl) }) (locked_alone (record me.0.trie { locks = locks_but layout lock me.0.trie.locks }) place c) (fits_unlocking digest layout.slots k (t' 0) layout lock me.0.trie (fits_still 0))
+    freed place c = lock_step 0 (record me.0.trie { locks = locks_but layout lock me.0.trie.locks }) refl refl (record { rests = λ i dead bare rests. (rests, refl) }) (locked_alone (record me.0.trie { locks = locks_but layout lock me.0.trie.locks }) place c) (fits_unlocking digest layout.slots k (t' 0) layout lock me.0.trie (fits_still 0))
         (let had = held c in
         let all = had.0 in
         let mine = had.1 in
@@ -238,7 +255,7 @@ module _ {S A R : Type 0} (m : Meaning S A R) (digest : Key → ℕ) (layout : L
         (λ other ne. ap (occurs (lock_at layout other)) (but_words layout lock me.0.trie.locks) ∙ left_others word (lock_at layout other) (map (lock_at layout) me.0.trie.locks) ne)
 
     stays_locked : 1 ≤ length me.0.seats.readers → Contains me.0.trie.locks lock → IsCells m digest layout (stepped s word 1 id me.1 me.0 keeps)
-    stays_locked place c = lock_step 1 me.0.trie refl (record { rests = λ i dead bare rests. (rests, refl) }) (locked_alone me.0.trie place c) (fits_still 1) (let had = held c in let all = had.0 in let after = holders_after me.0.trie in omega (arith, all, after)) (omega arith) (λ other ne. refl)
+    stays_locked place c = lock_step 1 me.0.trie refl refl (record { rests = λ i dead bare rests. (rests, refl) }) (locked_alone me.0.trie place c) (fits_still 1) (let had = held c in let all = had.0 in let after = holders_after me.0.trie in omega (arith, all, after)) (omega arith) (λ other ne. refl)
 
     pub stores_state : (state : ℕ) → 1 ≤ length me.0.seats.readers → Contains me.0.trie.locks lock → state < 2 → IsCells m digest layout (stepped s word state id me.1 (having (unlocking layout lock state me.0.trie)) keeps)
     stores_state zero place c h = freed place c
@@ -264,7 +281,7 @@ module _ {S A R : Type 0} (m : Meaning S A R) (digest : Key → ℕ) (layout : L
         me.0,
         keeps,
         tt,
-        load_step m digest layout s (lock_at layout lock) id me.1 me.0 me.0.trie kept at (lock_behind layout lock) (kept.trie.each id me.0 at) refl refl (record { rests = λ i dead bare rests. (rests, refl) }) (kept.alone id me.0 at),
+        load_step m digest layout s (lock_at layout lock) id me.1 me.0 me.0.trie kept at (lock_behind layout lock) (kept.trie.each id me.0 at) refl refl refl (record { rests = λ i dead bare rests. (rests, refl) }) (kept.alone id me.0 at),
         record { stood = stood_so m digest layout s id me.0 (lock_at layout lock) (lock_at layout lock) kept at lives refl; won = λ free. absurd (taken free); lost = λ _. refl },
       ))
 

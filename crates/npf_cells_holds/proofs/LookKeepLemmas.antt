@@ -110,12 +110,12 @@ fits_layout layout Mark leaf node = tt
 module _ {S A R : Type 0} (m : Meaning S A R) (digest : Key → ℕ) (layout : Layout) where
   -- a load of a word behind the pools', after which the seat still fits
   pub load_step : (s : State (Running S) (CellView S A R)) (i id : ℕ) (c : List (ℕ × Running S)) (v : CellView S A R) (side : TrieSide) (kept : IsCells m digest layout s) → get_elem? s.views id ≡ some v → root_at layout ≤ i →
-      FitsTrie digest layout.slots (state_of m kept.log) (trie_words layout s.words) side → side.locks ≡ v.trie.locks → side.grown ≡ v.trie.grown → RestsNoMore (state_of m kept.log) (death_side v) (death_side (record v { trie = side })) → FitsAlone (record v { trie = side }) →
+      FitsTrie digest layout.slots (state_of m kept.log) (trie_words layout s.words) side → side.locks ≡ v.trie.locks → side.grown ≡ v.trie.grown → side.regained ≡ v.trie.regained → RestsNoMore (state_of m kept.log) (death_side v) (death_side (record v { trie = side })) → FitsAlone (record v { trie = side }) →
       IsCells m digest layout (stepped s i (slice_index s.words i) id c (record v { trie = side }) keeps)
-  load_step s i id c v side kept at behind fits locks grown less alone =
+  load_step s i id c v side kept at behind fits locks grown back less alone =
       let w : CellView S A R = record v { trie = side } in
-      private_step m digest layout s i (slice_index s.words i) id c v w kept at behind refl refl refl refl (λ conn killed. killed) alone
-      (subst (λ ws. Trie trie_side digest layout kept.published (state_of m kept.log) ws (set s.views id w)) (sym (set-get_or s.words i 0)) (trie_moved trie_side digest layout kept.published (state_of m kept.log) s.words s.views id v w kept.trie at grown fits))
+      private_step m digest layout s i (slice_index s.words i) id c v w kept at behind refl refl refl refl refl (λ conn killed. killed) alone
+      (subst (λ ws. Trie trie_side digest layout kept.published (state_of m kept.log) ws (set s.views id w)) (sym (set-get_or s.words i 0)) (trie_moved trie_side digest layout kept.published (state_of m kept.log) s.words s.views id v w kept.trie at grown back fits))
       (conns_apart m digest layout s i (slice_index s.words i) id v w kept at refl refl (λ j h. ap (λ ws. slice_index ws j) (set-get_or s.words i 0)))
       (stored_apart m digest layout s i (slice_index s.words i) id w kept (kept.stored id v at) (λ j h. ap (λ ws. slice_index ws j) (set-get_or s.words i 0)))
       (locks_apart m digest layout s i (slice_index s.words i) id v w kept at locks (λ j h. ap (λ ws. slice_index ws j) (set-get_or s.words i 0)))
@@ -169,7 +169,7 @@ module _ {S A R : Type 0} (m : Meaning S A R) (digest : Key → ℕ) (layout : L
       leaf = (kept.trie.each id me.0 at).leaf;
       seen = sees (Node node) is;
       claimed = (kept.trie.each id me.0 at).claimed;
-    }) refl refl (record { rests = λ i dead bare rests. (rests, refl) }) (alone_within (record me.0 { trie = descending digest key p level node me.0.trie }) place stays)
+    }) refl refl refl (record { rests = λ i dead bare rests. (rests, refl) }) (alone_within (record me.0 { trie = descending digest key p level node me.0.trie }) place stays)
 
     -- the leaf that is then known stays
     leaf_fits : (cell : Cell) → t.cell p ≡ cell → (leaf : LoadedLeaf) → leaf_after t cell me.0.trie.leaf ≡ Some leaf → StaysLeaf layout.slots k t leaf
@@ -222,8 +222,8 @@ module _ {S A R : Type 0} (m : Meaning S A R) (digest : Key → ℕ) (layout : L
         entry_step m digest layout s word (slice_index s.words word) id me.1 me.0 looker kept at lives place entry refl follows refl refl (kept.stored id me.0 at) refl refl (λ slot. inl refl) (λ other. refl) refl (spares_all k) (λ slot. refl) looker_rests refl (λ i c. c) (alone_within looker place stays)
         (record { before = λ j h. ap (λ ws. slice_index ws j) words; behind = λ j h. ap (λ ws. slice_index ws j) words })
         (pools-same layout (taken pool_side kept.published k s.views) (taken pool_side kept.published k (set s.views id looker)) s.words (set s.words word (slice_index s.words word)) kept.pools
-        (length-set s.words word (slice_index s.words word)) (λ j h. ap (λ ws. slice_index ws j) words) (taken-set pool_side kept.published k s.views id me.0 looker at refl))
-        (subst (λ ws. Trie trie_side digest layout kept.published k ws (set s.views id looker)) (sym words) (trie_moved trie_side digest layout kept.published k s.words s.views id me.0 looker kept.trie at refl looker_fits))
+        (length-set s.words word (slice_index s.words word)) (λ j h. ap (λ ws. slice_index ws j) words) (taken-set pool_side kept.published k s.views id me.0 looker at refl refl))
+        (subst (λ ws. Trie trie_side digest layout kept.published k ws (set s.views id looker)) (sym words) (trie_moved trie_side digest layout kept.published k s.words s.views id me.0 looker kept.trie at refl refl looker_fits))
         (builds-kept pool_side k s.views id me.0 looker at refl refl kept.connections.each)
         (λ slot h. ap (λ n. inc_word layout s.words slot + n) (unstored-set pool_side s.views id me.0 looker at refl slot) ∙ kept.connections.incs slot h)
 
@@ -304,7 +304,7 @@ module _ {S A R : Type 0} (m : Meaning S A R) (digest : Key → ℕ) (layout : L
     keeps,
     tt,
     load_step s (field_at layout Slots slot (key_field way + place)) id me.1 me.0 (reading me.0.trie) kept at (omega arith)
-        (let fits = kept.trie.each id me.0 at in record { stands = fits.stands; leaf = fits.leaf; seen = fits.seen; claimed = fits.claimed }) refl refl (record { rests = λ i dead bare rests. (rests, refl) })
+        (let fits = kept.trie.each id me.0 at in record { stands = fits.stands; leaf = fits.leaf; seen = fits.seen; claimed = fits.claimed }) refl refl refl (record { rests = λ i dead bare rests. (rests, refl) })
         (alone_still me.0 (record me.0 { trie = reading me.0.trie }) (kept.alone id me.0 at) seated refl
         (λ none. record { stands = none.stands; leaf = none.leaf; seen = none.seen; meets = none.meets; answered = none.answered; locks = none.locks })),
     record {

@@ -22,6 +22,7 @@ use Rattle.npf_seats.specs.Sums.{occurs}
 use Rattle.npf_seats.proofs.ListLemmas.{one_where, occurs-cons, occurs_or, stands_once}
 use Rattle.npf_seats.proofs.SumLemmas.{sum-set, one_of_sum}
 use Rattle.npf_cells_lives.specs.Pools.{claim_bit, taken}
+use Rattle.npf_cells_lives.proofs.PoolLemmas.{unfreed-set}
 use Rattle.npf_cells_rule.specs.declared.view.CellView.{CellView}
 use Rattle.npf_cells_rule.specs.Cells.{IsCells}
 use Rattle.npf_cells_rule.specs.Views.{pool_side}
@@ -112,12 +113,13 @@ module _ {S A R : Type 0} (m : Meaning S A R) (digest : Key → ℕ) (layout : L
       omega (arith, bit, below, mine, one)
 
   -- as many places are taken as before
-  pub taken_moved : (k k' : Machine S) (w : CellView S A R) (nodes : List ℕ) → AreApart nodes → ((node : ℕ) → Contains nodes node → Contains v.pools.nodes node) → w.pools.nodes ≡ nodes_but nodes v.pools.nodes → ((slot : ℕ) → k'.slot slot ≡ k.slot slot) →
+  pub taken_moved : (k k' : Machine S) (w : CellView S A R) (nodes : List ℕ) → AreApart nodes → ((node : ℕ) → Contains nodes node → Contains v.pools.nodes node) → w.pools.nodes ≡ nodes_but nodes v.pools.nodes → w.pools.unfreed ≡ v.pools.unfreed → ((slot : ℕ) → k'.slot slot ≡ k.slot slot) →
       (pool : Pool) (place : ℕ) → taken pool_side (nodes ++ kept.published) k' (set s.views id w) pool place ≡ taken pool_side kept.published k s.views pool place
-  taken_moved k k' w nodes apart owned left slots Slots place = ap (λ x. claim_bit x.stage) (slots place)
-  taken_moved k k' w nodes apart owned left slots Nodes place =
+  taken_moved k k' w nodes apart owned left same slots Slots place = ap (λ x. claim_bit x.stage) (slots place)
+  taken_moved k k' w nodes apart owned left same slots Nodes place =
       let more = sum-set (λ (u : CellView S A R). occurs place u.pools.nodes) s.views id v w at in
       let now = ap (occurs place) left in
       let once = moved_once place nodes v.pools.nodes apart (λ c. owns_once place (owned place c)) in
       let both : occurs place (nodes ++ kept.published) ≡ occurs place nodes + occurs place kept.published = sum_by-append (λ (y : ℕ). one_where (eqb y place)) nodes kept.published in
-      omega (arith, more, now, once, both)
+      let back = unfreed-set pool_side s.views id v w at same place in
+      omega (arith, more, now, once, both, back)

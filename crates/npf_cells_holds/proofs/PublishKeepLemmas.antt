@@ -57,7 +57,7 @@ use Rattle.npf_cells_pins.proofs.EpochLemmas.{within_last}
 use Rattle.npf_cells_leaves.specs.Sights.{SeesLocked}
 use Rattle.npf_cells_leaves.specs.declared.trie.LoadedLeaf.{LoadedLeaf}
 use Rattle.npf_cells_leaves.specs.Parents.{foot_place, NameParents}
-use Rattle.npf_cells_leaves.specs.Trie.{key_in, digits_of, TrieWords, trie_words, leaf_found, holder_at, StaysLeaf, FitsTrie, Trie, all_grown}
+use Rattle.npf_cells_leaves.specs.Trie.{key_in, digits_of, TrieWords, trie_words, leaf_found, holder_at, StaysLeaf, FitsTrie, Trie, all_grown, all_regained}
 use Rattle.npf_cells_leaves.proofs.FillLemmas.{FillsFor, fills_place, trie_filled}
 use Rattle.npf_cells_leaves.proofs.GivenLemmas.{key_cases, keys_apart, other_holds, GivesKey, fits_still, others-fit}
 use Rattle.npf_cells_leaves.proofs.GrowLemmas.{branch_seen, trie_grown}
@@ -230,6 +230,9 @@ module _ {S A R : Type 0} (m : Meaning S A R) (digest : Key → ℕ) (layout : L
     all_after : (nodes : List ℕ) → all_grown trie_side (set s.views id (holding nodes)) ≡ length nodes + all_grown trie_side s.views
     all_after nodes = let more = sum-set (λ (u : CellView S A R). u.trie.grown) s.views id me.0 (holding nodes) at in omega (arith, more)
 
+    back_after : (nodes : List ℕ) → all_regained trie_side (set s.views id (holding nodes)) ≡ all_regained trie_side s.views
+    back_after nodes = let more = sum-set (λ (u : CellView S A R). u.trie.regained) s.views id me.0 (holding nodes) at in omega (arith, more)
+
     fits_grown : {k'' : Machine S} {t'' : TrieWords} (nodes : List ℕ) → FitsTrie digest layout.slots k'' t'' (publishing (renewed me.0.trie)) → FitsTrie digest layout.slots k'' t'' (holding nodes).trie
     fits_grown nodes was = record { stands = was.stands; leaf = was.leaf; seen = was.seen; claimed = was.claimed }
 
@@ -239,7 +242,7 @@ module _ {S A R : Type 0} (m : Meaning S A R) (digest : Key → ℕ) (layout : L
         (j : ℕ) (u : CellView S A R) → get_elem? (set s.views id (holding nodes)) j ≡ some u → FitsTrie digest layout.slots k' t' u.trie
     all_fit free nodes locked old elsewhere = others-fit trie_side layout digest k' t' s.views id (holding nodes)
         (fits_grown nodes (fits_still digest layout.slots k k' t t' conn key way (gives free) p old elsewhere me.0.trie (publishing (renewed me.0.trie))
-        (record { stands = λ point e. e; leaf = λ leaf e. e; seen = λ x e. absurd cc; locks = refl; answered = λ i c. absurd (none_listed i c); grown = refl }) (λ x e. absurd cc) (kept.trie.each id me.0 at)))
+        (record { stands = λ point e. e; leaf = λ leaf e. e; seen = λ x e. absurd cc; locks = refl; answered = λ i c. absurd (none_listed i c); marks = refl; emptied = λ e is. is; met_mark = λ y is. is; grown = refl; regained = refl }) (λ x e. absurd cc) (kept.trie.each id me.0 at)))
         (λ j u ne e. fits_still digest layout.slots k k' t t' conn key way (gives free) p old elsewhere u.trie u.trie (knows_same u.trie)
         (λ x seen has same. locks_alone lock_side layout s.words s.views j id u me.0 (lock_of p) kept.locks (place_lock layout p inside) e at (subst (λ q. Contains u.trie.locks (lock_of q)) same has) locked ne) (kept.trie.each j u e))
 
@@ -398,9 +401,9 @@ module _ {S A R : Type 0} (m : Meaning S A R) (digest : Key → ℕ) (layout : L
         let empty = (stands_there m digest layout s id me kept at p inside Empty sees).is in
         let free = free_empty empty in
         let changed = fills_place digest t t' conn.slot key way p level (filled_for put empty) in
-        held_so [] free (named_filled (filled_for put empty) noted settled) (taken_moved m digest layout s kept id me.0 at k k' (holding []) [] (λ i j h. absurd (omega (arith, h))) (λ node c. absurd (none_listed node c)) refl (λ slot. refl))
+        held_so [] free (named_filled (filled_for put empty) noted settled) (taken_moved m digest layout s kept id me.0 at k k' (holding []) [] (λ i j h. absurd (omega (arith, h))) (λ node c. absurd (none_listed node c)) refl refl (λ slot. refl))
         (trie_filled trie_side digest layout kept.published k k' s.words words' s.views (set s.views id (holding [])) conn key way p level kept.trie (gives free) (filled_for put empty)
-        (let sums = all_after [] in omega (arith, sums))
+        (record { grown = (let sums = all_after [] in omega (arith, sums)); regained = back_after [] })
         (all_fit free [] sees.locked (λ digits l q are on'. filled_places changed on') (λ digits l q are on' ne. changed.others q ne)))
 
     -- new nodes lead on from the place to the leaf and to that of another key, which stood there
@@ -515,10 +518,10 @@ module _ {S A R : Type 0} (m : Meaning S A R) (digest : Key → ℕ) (layout : L
 
       held_by_growing : IsCells m digest layout (stepped s word (cell_word cell) id me.1 (holding nodes) keeps)
       held_by_growing =
-          held_so nodes free_other named_grown (taken_moved m digest layout s kept id me.0 at k k' (holding nodes) nodes news.apart news.owned refl (λ slot. refl))
+          held_so nodes free_other named_grown (taken_moved m digest layout s kept id me.0 at k k' (holding nodes) nodes news.apart news.owned refl refl (λ slot. refl))
           (trie_grown trie_side digest layout kept.published k k' s.words words' s.views (set s.views id (holding nodes)) conn key way leaf p level first nodes kept.trie (gives free_other) leaf_stays (kept.trie.leaves mine level p leaf.slot leaf.way (are_digits digest key) on stood) other_key stood grows_branch news.apart
           (λ node has. owns_there m digest layout s kept id me.0 at node (news.owned node has)) may.key_stored.five (parent_else m digest layout s kept p inside (cell_word cell)) named
-          (let sums = all_after nodes in omega (arith, sums))
+          (let sums = all_after nodes in omega (arith, sums)) (back_after nodes)
           (all_fit free_other nodes sees.locked grown_paths.old_places (λ digits l q are on' ne. cell_else m digest layout s kept p inside (cell_word cell) q ne)))
 
     -- either way the key is held

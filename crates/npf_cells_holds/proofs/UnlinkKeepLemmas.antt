@@ -209,13 +209,13 @@ module _ {S A R : Type 0} (m : Meaning S A R) (digest : Key → ℕ) (layout : L
             (epochs_apart m digest layout s word 0 id me.0 me.0 kept at refl (λ j h. below j (omega (arith, h))))
 
     pools_after : Pools layout (taken pool_side kept.published k' views') words'
-    pools_after = pools-kept layout (taken pool_side kept.published k s.views) (taken pool_side kept.published k' views') s.words words' kept.pools (length-set s.words word 0) below (taken-set pool_side kept.published k s.views id me.0 giver at refl)
+    pools_after = pools-kept layout (taken pool_side kept.published k s.views) (taken pool_side kept.published k' views') s.words words' kept.pools (length-set s.words word 0) below (taken-set pool_side kept.published k s.views id me.0 giver at refl refl)
 
     -- each seat fits still: none but this pass had the place's lock
     trie_after : Trie trie_side digest layout kept.published k' words' views'
-    trie_after = trie_emptied trie_side digest layout kept.published k k' s.words words' s.views views' conn way p end.level (digits_of digest held.0) kept.trie takes empties (grown-set trie_side s.views id me.0 giver at refl)
+    trie_after = trie_emptied trie_side digest layout kept.published k k' s.words words' s.views views' conn way p end.level (digits_of digest held.0) kept.trie takes empties (grown-set trie_side s.views id me.0 giver at refl refl)
         (others-fit trie_side layout digest k' t' s.views id giver
-        (still me.0.trie giver.trie (record { stands = λ point e. e; leaf = λ leaf e. e; seen = λ x e. absurd cc; locks = refl; answered = λ i c. c; grown = refl }) (λ x e. absurd cc) (kept.trie.each id me.0 at))
+        (still me.0.trie giver.trie (record { stands = λ point e. e; leaf = λ leaf e. e; seen = λ x e. absurd cc; locks = refl; answered = λ i c. c; marks = refl; emptied = λ e is. is; met_mark = λ y is. is; grown = refl; regained = refl }) (λ x e. absurd cc) (kept.trie.each id me.0 at))
         (λ j u ne e. still u.trie u.trie (knows_same u.trie)
         (λ x seen has same. locks_alone lock_side layout s.words s.views j id u me.0 (lock_of p) kept.locks (place_lock layout p inside) e at (subst (λ q. Contains u.trie.locks (lock_of q)) same has) may.locked ne) (kept.trie.each j u e)))
       where

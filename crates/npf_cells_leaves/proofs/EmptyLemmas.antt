@@ -24,8 +24,8 @@ use Rattle.npf_cells_words.specs.declared.layout.Layout.{Layout}
 use Rattle.npf_cells_leaves.specs.declared.trie.LoadedLeaf.{LoadedLeaf}
 use Rattle.npf_cells_leaves.specs.declared.trie.SeenCell.{SeenCell}
 use Rattle.npf_cells_leaves.specs.declared.trie.TrieSide.{TrieSide}
-use Rattle.npf_cells_leaves.specs.Trie.{digits_of, TrieWords, trie_words, leaf_found, holder_at, IsRightLeaf, IsRightNode, StaysLeaf, FitsTrie, IsHung, all_grown, Trie}
-use Rattle.npf_cells_leaves.proofs.TrieLemmas.{KnowsNoMore}
+use Rattle.npf_cells_leaves.specs.Trie.{digits_of, TrieWords, trie_words, leaf_found, holder_at, IsRightLeaf, IsRightNode, StaysLeaf, FitsTrie, IsHung, Trie}
+use Rattle.npf_cells_leaves.proofs.TrieLemmas.{CountsSame, counted_still, KnowsNoMore}
 
 -- what giving a key up makes of the machine: its holder loses it, and no other
 pub record TakesKey {S : Type 0} (k k' : Machine S) (t t' : TrieWords) (conn : ConnId) (way : Way) : Type 0 where
@@ -171,8 +171,8 @@ module _ {S V : Type 0} (side_of : V → TrieSide) (digest : Key → ℕ) (layou
         record { digits = h.digits; are = h.are; level = h.level; place = h.place; on_path = filled_places changed h.on_path; there = empties.others h.place ne ∙ h.there }
 
     -- the part, where each seat fits
-    pub trie_emptied : all_grown side_of views' ≡ all_grown side_of views → ((j : ℕ) (v : V) → get_elem? views' j ≡ some v → FitsTrie digest layout.slots k' t' (side_of v)) → Trie side_of digest layout published k' words' views'
-    trie_emptied sums each = record { ends = ends; leaves = leaves; nodes = nodes; homes = homes; levels = filled_levels changed kept.levels; parents = λ ds l q node are on is. empties.parents node ∙ kept.parents ds l q node are (before ds l q on) (sym (empties.others q (no_node q node is)) ∙ is); hang = hang; counted = kept.counted ∙ sym sums; each = each }
+    pub trie_emptied : CountsSame side_of views views' → ((j : ℕ) (v : V) → get_elem? views' j ≡ some v → FitsTrie digest layout.slots k' t' (side_of v)) → Trie side_of digest layout published k' words' views'
+    trie_emptied sums each = record { ends = ends; leaves = leaves; nodes = nodes; homes = homes; levels = filled_levels changed kept.levels; parents = λ ds l q node are on is. empties.parents node ∙ kept.parents ds l q node are (before ds l q on) (sym (empties.others q (no_node q node is)) ∙ is); hang = hang; counted = counted_still side_of published views views' kept.counted sums; each = each }
 
     -- a leaf that a pass loaded stays: where it is this one, its connection is Dead
     leaf_emptied : (leaf : LoadedLeaf) → StaysLeaf layout.slots k t leaf → StaysLeaf layout.slots k' t' leaf

@@ -17,9 +17,9 @@ use Rattle.npf_paths.proofs.PathLemmas.{one_end}
 use Rattle.npf_cells_words.specs.declared.layout.Layout.{Layout}
 use Rattle.npf_cells_leaves.specs.declared.trie.TrieSide.{TrieSide}
 use Rattle.npf_cells_leaves.specs.Parents.{Parents}
-use Rattle.npf_cells_leaves.specs.Trie.{digits_of, TrieWords, trie_words, holder_at, IsRightLeaf, IsRightNode, FitsTrie, IsHung, all_grown, Trie}
+use Rattle.npf_cells_leaves.specs.Trie.{digits_of, TrieWords, trie_words, holder_at, IsRightLeaf, IsRightNode, FitsTrie, IsHung, Trie}
 use Rattle.npf_cells_leaves.proofs.GivenLemmas.{key_cases, GivesKey, other_holds, right_still, right_now, said_same, said_now, key_now}
-use Rattle.npf_cells_leaves.proofs.TrieLemmas.{are_digits}
+use Rattle.npf_cells_leaves.proofs.TrieLemmas.{are_digits, CountsSame, counted_still}
 
 -- the leaf fills an empty place of the key's path
 pub record FillsFor (digest : Key → ℕ) (t t' : TrieWords) (slot : ℕ) (key : Key) (way : Way) (p : Place) (level : ℕ) : Type 0 where
@@ -108,5 +108,5 @@ module _ {S V : Type 0} (side_of : V → TrieSide) (digest : Key → ℕ) (layou
         let ne : h.place ≢ p = (λ e. let clash : Empty ≡ Node node = sym fills.empty ∙ (ap t.cell (sym e) ∙ h.there) in cc) in
         record { digits = h.digits; are = h.are; level = h.level; place = h.place; on_path = filled_places changed h.on_path; there = fills.others h.place ne ∙ h.there }
 
-    pub trie_filled : all_grown side_of views' ≡ all_grown side_of views → ((j : ℕ) (v : V) → get_elem? views' j ≡ some v → FitsTrie digest layout.slots k' t' (side_of v)) → Trie side_of digest layout published k' words' views'
-    trie_filled sums each = record { ends = ends; leaves = leaves; nodes = nodes; homes = homes; levels = filled_levels changed kept.levels; parents = parents; hang = hang; counted = kept.counted ∙ sym sums; each = each }
+    pub trie_filled : CountsSame side_of views views' → ((j : ℕ) (v : V) → get_elem? views' j ≡ some v → FitsTrie digest layout.slots k' t' (side_of v)) → Trie side_of digest layout published k' words' views'
+    trie_filled sums each = record { ends = ends; leaves = leaves; nodes = nodes; homes = homes; levels = filled_levels changed kept.levels; parents = parents; hang = hang; counted = counted_still side_of published views views' kept.counted sums; each = each }

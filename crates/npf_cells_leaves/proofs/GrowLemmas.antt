@@ -34,7 +34,7 @@ use Rattle.npf_cells_words.specs.Codes.{place_code}
 use Rattle.npf_cells_leaves.specs.Parents.{Parents, NameParents}
 use Rattle.npf_cells_leaves.specs.declared.trie.LoadedLeaf.{LoadedLeaf}
 use Rattle.npf_cells_leaves.specs.declared.trie.TrieSide.{TrieSide}
-use Rattle.npf_cells_leaves.specs.Trie.{digits_of, TrieWords, trie_words, leaf_found, holder_at, IsRightLeaf, IsRightNode, StaysLeaf, FitsTrie, IsHung, all_grown, Trie}
+use Rattle.npf_cells_leaves.specs.Trie.{digits_of, TrieWords, trie_words, leaf_found, holder_at, IsRightLeaf, IsRightNode, StaysLeaf, FitsTrie, IsHung, all_grown, all_regained, Trie}
 use Rattle.npf_cells_leaves.proofs.GivenLemmas.{key_cases, keys_apart, GivesKey, other_holds, key_now, right_still, right_now, said_same, said_now}
 use Rattle.npf_cells_leaves.proofs.ParentLemmas.{first_named, node_named}
 use Rattle.npf_cells_leaves.proofs.StandLemmas.{hung_at}
@@ -256,9 +256,9 @@ module _ {S V : Type 0} (side_of : V → TrieSide) (digest : Key → ℕ) (layou
     hang : (node : ℕ) → Contains (nodes ++ published) node → IsHung t'.cell node
     hang node c = ⊎_elim (λ new. hang_new node new) (λ old. hang_old node old) (Contains-append_cases nodes published node c)
 
-    pub trie_grown : all_grown side_of views' ≡ length nodes + all_grown side_of views → ((j : ℕ) (v : V) → get_elem? views' j ≡ some v → FitsTrie digest layout.slots k' t' (side_of v)) →
+    pub trie_grown : all_grown side_of views' ≡ length nodes + all_grown side_of views → all_regained side_of views' ≡ all_regained side_of views → ((j : ℕ) (v : V) → get_elem? views' j ≡ some v → FitsTrie digest layout.slots k' t' (side_of v)) →
         Trie side_of digest layout (nodes ++ published) k' words' views'
-    trie_grown sums each = record {
+    trie_grown sums back each = record {
       ends = ends;
       leaves = leaves;
       nodes = nodes_right;
@@ -266,6 +266,6 @@ module _ {S V : Type 0} (side_of : V → TrieSide) (digest : Key → ℕ) (layou
       levels = grown_levels mine theirs t.cell t'.cell (Leaf conn.slot way) (Leaf leaf.slot leaf.way) level p first nodes grows apart kept.levels;
       parents = parents;
       hang = hang;
-      counted = (let more = length-append nodes published in let was = kept.counted in omega (arith, more, was, sums));
+      counted = (let more = length-append nodes published in let was = kept.counted in omega (arith, more, was, sums, back));
       each = each;
     }

@@ -4,4 +4,5 @@ pub mod GivenLemmas
 pub mod GrowLemmas
 pub mod ParentLemmas
 pub mod StandLemmas
+pub mod TakingOffLemmas
 pub mod TrieLemmas

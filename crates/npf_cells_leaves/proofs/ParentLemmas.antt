@@ -107,7 +107,7 @@ module _ {mine theirs : ℕ → ℕ} {cell : Place → Cell} {leaf other : Cell}
       theirs_foot below (Places.Node node (theirs level)) n digit (i, omega (arith, short), is) low stands
 
 -- a node stands in a place of the table
-stands_in_trie : (layout : Layout) (words : List ℕ) (p : Place) (node : ℕ) → cell_in layout words p ≡ Node node → IsInTrie layout p
+pub stands_in_trie : (layout : Layout) (words : List ℕ) (p : Place) (node : ℕ) → cell_in layout words p ≡ Node node → IsInTrie layout p
 stands_in_trie layout words p node is = by_place (is_in_trie layout p) refl is
   where
     by_place : (b : Bool) → is_in_trie layout p ≡ b → cond b (cell_of (slice_index words (place_at layout p))) Empty ≡ Node node → IsInTrie layout p

@@ -1,6 +1,6 @@
 -- The part on the trie stays through steps that leave what its paths meet.
 use Rattle.std.specs.List.{Contains}
-use Rattle.std.proofs.Common.{◌≡◌, ◌≢◌, ◌⊎◌, ℕ, ◌+◌, ◌≤◌, Bool, true, false, cond, eqb, Some, None, List, [], ◌∷◌, ◌++◌, set, slice_index, refl, sym, ap, ◌∙◌, subst, ⊎_elim, inl, inr, arith}
+use Rattle.std.proofs.Common.{◌≡◌, ◌≢◌, ◌⊎◌, ℕ, ◌+◌, ◌≤◌, Bool, true, false, cond, eqb, Some, None, List, [], ◌∷◌, ◌++◌, set, length, slice_index, refl, sym, ap, ◌∙◌, subst, ⊎_elim, inl, inr, arith}
 use Rattle.std.proofs.lemmas.List.Sums.{sum_by_push}
 use mathlib.Core.Option.{some}
 use lib.ListN.{get_elem?}
@@ -27,11 +27,13 @@ use Rattle.npf_cells_words.specs.Places.{IsInTrie, is_in_trie, place_at}
 use Rattle.npf_cells_words.proofs.WordLemmas.{in_trie, is_there, field_behind, place_behind}
 use Rattle.npf_seats.proofs.PrefixLemmas.{none_listed}
 use Rattle.npf_seats.proofs.SumLemmas.{sum-set}
+use Rattle.npf_cells_words.specs.declared.mark.Emptied.{Emptied}
+use Rattle.npf_cells_words.specs.declared.mark.MetMark.{MetMark}
 use Rattle.npf_cells_leaves.specs.declared.trie.LoadedLeaf.{LoadedLeaf}
 use Rattle.npf_cells_leaves.specs.declared.trie.PathPlace.{PathPlace}
 use Rattle.npf_cells_leaves.specs.declared.trie.SeenCell.{SeenCell}
 use Rattle.npf_cells_leaves.specs.declared.trie.TrieSide.{TrieSide}
-use Rattle.npf_cells_leaves.specs.Trie.{unread_side, forgetting, cell_in, key_word, TrieWords, trie_words, digits_of, leaf_found, holder_at, IsRightLeaf, StaysLeaf, FitsTrie, all_grown, Trie}
+use Rattle.npf_cells_leaves.specs.Trie.{unread_side, forgetting, cell_in, key_word, TrieWords, trie_words, digits_of, leaf_found, holder_at, IsRightLeaf, StaysLeaf, FitsTrie, all_grown, all_regained, Trie}
 
 pub are_digits : (digest : Key → ℕ) (key : Key) → AreDigits (digits_of digest key)
 are_digits digest key = record { root = grind arith; node = λ level h. grind arith }
@@ -43,14 +45,26 @@ pub record KnowsNoMore (side side' : TrieSide) : Type 0 where
   pub seen : (s : SeenCell) → side'.seen ≡ Some s → side.seen ≡ Some s
   pub locks : side'.locks ≡ side.locks
   pub answered : (id : ConnId) → Contains side'.answered id → Contains side.answered id
+  pub marks : side'.marks ≡ side.marks
+  pub emptied : (e : Emptied) → side'.emptied ≡ Some e → side.emptied ≡ Some e
+  pub met_mark : (x : MetMark) → side'.met_mark ≡ Some x → side.met_mark ≡ Some x
   pub grown : side'.grown ≡ side.grown
+  pub regained : side'.regained ≡ side.regained
 
 pub knows_same : (side : TrieSide) → KnowsNoMore side side
-knows_same side = record { stands = λ point e. e; leaf = λ leaf e. e; seen = λ s e. e; locks = refl; answered = λ id c. c; grown = refl }
+knows_same side = record { stands = λ point e. e; leaf = λ leaf e. e; seen = λ s e. e; locks = refl; answered = λ id c. c; marks = refl; emptied = λ e is. is; met_mark = λ x is. is; grown = refl; regained = refl }
 
 -- as who ends its stay
 pub knows_less : (side : TrieSide) → KnowsNoMore side (forgetting side)
-knows_less side = record { stands = λ point e. absurd cc; leaf = λ leaf e. absurd cc; seen = λ s e. absurd cc; locks = refl; answered = λ id c. absurd (none_listed id c); grown = refl }
+knows_less side = record { stands = λ point e. absurd cc; leaf = λ leaf e. absurd cc; seen = λ s e. absurd cc; locks = refl; answered = λ id c. absurd (none_listed id c); marks = refl; emptied = λ e is. absurd cc; met_mark = λ x is. absurd cc; grown = refl; regained = refl }
+
+-- as many nodes as before were published, and got back
+pub record CountsSame {V : Type 0} (side_of : V → TrieSide) (views views' : List V) : Type 0 where
+  pub grown : all_grown side_of views' ≡ all_grown side_of views
+  pub regained : all_regained side_of views' ≡ all_regained side_of views
+
+pub counted_still : {V : Type 0} (side_of : V → TrieSide) (published : List ℕ) (views views' : List V) → length published + all_regained side_of views ≡ all_grown side_of views → CountsSame side_of views views' → length published + all_regained side_of views' ≡ all_grown side_of views'
+counted_still side_of published views views' was same = let up = same.grown in let back = same.regained in omega (arith, was, up, back)
 
 -- what the words, the holders and the claims of before and after have in common
 pub record KeepsTrie {S : Type 0} (slots : ℕ) (k k' : Machine S) (t t' : TrieWords) : Type 0 where
@@ -139,7 +153,7 @@ module _ {S V : Type 0} (side_of : V → TrieSide) (digest : Key → ℕ) (layou
   t' = trie_words layout words'
 
   -- the part after such a step, where each seat fits
-  pub trie_kept : Trie side_of digest layout published k words views → KeepsTrie layout.slots k k' t t' → all_grown side_of views' ≡ all_grown side_of views →
+  pub trie_kept : Trie side_of digest layout published k words views → KeepsTrie layout.slots k k' t t' → CountsSame side_of views views' →
       ((j : ℕ) (v : V) → get_elem? views' j ≡ some v → FitsTrie digest layout.slots k' t' (side_of v)) → Trie side_of digest layout published k' words' views'
   trie_kept kept same sums each = record {
     ends = λ key level p end.
@@ -176,7 +190,7 @@ module _ {S V : Type 0} (side_of : V → TrieSide) (digest : Key → ℕ) (layou
         let h = kept.hang node c in
         let agree = same.cells h.digits h.are in
         record { digits = h.digits; are = h.are; level = h.level; place = h.place; on_path = same_places_back agree h.on_path; there = agree h.level h.place h.on_path ∙ h.there };
-    counted = kept.counted ∙ sym sums;
+    counted = counted_still side_of published views views' kept.counted sums;
     each = each;
   }
 
@@ -203,28 +217,37 @@ module _ {S V : Type 0} (side_of : V → TrieSide) (digest : Key → ℕ) (slots
   pub fits_all : (k k' : Machine S) (t t' : TrieWords) (views : List V) → KeepsTrie slots k k' t t' → AllFit k t views → AllFit k' t' views
   fits_all k k' t t' views same kept j v e = fits_kept digest slots k k' t t' same (side_of v) (side_of v) (knows_same (side_of v)) (kept j v e)
 
--- how many nodes passes published, where one pass changes and publishes none, or a new one comes
+-- how many nodes passes published and got back, where one pass changes and does neither, or a new one comes
 module _ {V : Type 0} (side_of : V → TrieSide) where
-  pub grown-set : (views : List V) (i : ℕ) (v w : V) → get_elem? views i ≡ some v → (side_of w).grown ≡ (side_of v).grown → all_grown side_of (set views i w) ≡ all_grown side_of views
-  grown-set views i v w at same = let more = sum-set (λ (u : V). (side_of u).grown) views i v w at in omega (arith, more, same)
+  pub grown-set : (views : List V) (i : ℕ) (v w : V) → get_elem? views i ≡ some v → (side_of w).grown ≡ (side_of v).grown → (side_of w).regained ≡ (side_of v).regained → CountsSame side_of views (set views i w)
+  grown-set views i v w at same also = record {
+    grown = (let more = sum-set (λ (u : V). (side_of u).grown) views i v w at in omega (arith, more, same));
+    regained = (let more = sum-set (λ (u : V). (side_of u).regained) views i v w at in omega (arith, more, also));
+  }
 
-  pub grown-push : (views : List V) (w : V) → (side_of w).grown ≡ 0 → all_grown side_of (views ++ w ∷ []) ≡ all_grown side_of views
-  grown-push views w none = let more = sum_by_push (λ (u : V). (side_of u).grown) views w in omega (arith, more, none)
+  pub grown-push : (views : List V) (w : V) → (side_of w).grown ≡ 0 → (side_of w).regained ≡ 0 → CountsSame side_of views (views ++ w ∷ [])
+  grown-push views w none also = record {
+    grown = (let more = sum_by_push (λ (u : V). (side_of u).grown) views w in omega (arith, more, none));
+    regained = (let more = sum_by_push (λ (u : V). (side_of u).regained) views w in omega (arith, more, also));
+  }
+
+  pub counts_on : (xs ys zs : List V) → CountsSame side_of xs ys → CountsSame side_of ys zs → CountsSame side_of xs zs
+  counts_on xs ys zs first then = record { grown = then.grown ∙ first.grown; regained = then.regained ∙ first.regained }
 
 -- such a step, which adds nothing to what one seat knows
 pub trie_same : {S V : Type 0} (side_of : V → TrieSide) (digest : Key → ℕ) (layout : Layout) (published : List ℕ) (k k' : Machine S) (words words' : List ℕ) (views : List V) (i : ℕ) (v w : V) →
     Trie side_of digest layout published k words views → get_elem? views i ≡ some v → KnowsNoMore (side_of v) (side_of w) → KeepsTrie layout.slots k k' (trie_words layout words) (trie_words layout words') →
     Trie side_of digest layout published k' words' (set views i w)
 trie_same side_of digest layout published k k' words words' views i v w kept at less same =
-    trie_kept side_of digest layout published k k' words words' views (set views i w) kept same (grown-set side_of views i v w at less.grown)
+    trie_kept side_of digest layout published k k' words words' views (set views i w) kept same (grown-set side_of views i v w at less.grown less.regained)
     (fits-set side_of digest layout.slots k' (trie_words layout words') views i w
     (fits_kept digest layout.slots k k' (trie_words layout words) (trie_words layout words') same (side_of v) (side_of w) less (kept.each i v at))
     (fits_all side_of digest layout.slots k k' (trie_words layout words) (trie_words layout words') views same kept.each))
 
 -- one seat knows more
 pub trie_moved : {S V : Type 0} (side_of : V → TrieSide) (digest : Key → ℕ) (layout : Layout) (published : List ℕ) (k : Machine S) (words : List ℕ) (views : List V) (i : ℕ) (v w : V) →
-    Trie side_of digest layout published k words views → get_elem? views i ≡ some v → (side_of w).grown ≡ (side_of v).grown → FitsTrie digest layout.slots k (trie_words layout words) (side_of w) → Trie side_of digest layout published k words (set views i w)
-trie_moved side_of digest layout published k words views i v w kept at same fits = record {
+    Trie side_of digest layout published k words views → get_elem? views i ≡ some v → (side_of w).grown ≡ (side_of v).grown → (side_of w).regained ≡ (side_of v).regained → FitsTrie digest layout.slots k (trie_words layout words) (side_of w) → Trie side_of digest layout published k words (set views i w)
+trie_moved side_of digest layout published k words views i v w kept at same also fits = record {
   ends = kept.ends;
   leaves = kept.leaves;
   nodes = kept.nodes;
@@ -232,7 +255,7 @@ trie_moved side_of digest layout published k words views i v w kept at same fits
   levels = kept.levels;
   parents = kept.parents;
   hang = kept.hang;
-  counted = kept.counted ∙ sym (grown-set side_of views i v w at same);
+  counted = counted_still side_of published views (set views i w) kept.counted (grown-set side_of views i v w at same also);
   each = fits-set side_of digest layout.slots k (trie_words layout words) views i w fits kept.each;
 }
 

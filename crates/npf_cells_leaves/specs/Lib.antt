@@ -1,4 +1,5 @@
 pub mod LeavesLaw
 pub mod Parents
 pub mod Sights
+pub mod TakingOff
 pub mod Trie

@@ -114,9 +114,13 @@ pub record IsHung (cell : Place → Cell) (node : ℕ) : Type 0 where
 abbrev pub all_grown : {V : Type 0} → (V → TrieSide) → List V → ℕ
 all_grown side_of views = sum_by (λ v. (side_of v).grown) views
 
+-- and how many of these passes got back
+abbrev pub all_regained : {V : Type 0} → (V → TrieSide) → List V → ℕ
+all_regained side_of views = sum_by (λ v. (side_of v).regained) views
+
 -- over views of which each has a side: the end of each key's path says who holds it; what paths meet is right, a leaf on its own key's
--- path, a node where its parent says, and each place at one level; each published node hangs on a path, and some seat counts it; and each
--- seat fits
+-- path, a node where its parent says, and each place at one level; each published node hangs on a path, and seats count it; and each seat
+-- fits
 pub record Trie {S V : Type 0} (side_of : V → TrieSide) (digest : Key → ℕ) (layout : Layout) (published : List ℕ) (k : Machine S) (words : List ℕ) (views : List V) : Type 0 where
   pub ends : (key : Key) (level : ℕ) (p : Place) → EndsAt (digits_of digest key) (trie_words layout words).cell level p →
       k.holder key ≡ holder_at (trie_words layout words) ((trie_words layout words).cell p) key
@@ -129,16 +133,16 @@ pub record Trie {S V : Type 0} (side_of : V → TrieSide) (digest : Key → ℕ)
   pub levels : MeetsAtOneLevel (trie_words layout words).cell
   pub parents : Parents (trie_words layout words).cell (trie_words layout words).parent
   pub hang : (node : ℕ) → Contains published node → IsHung (trie_words layout words).cell node
-  pub counted : length published ≡ all_grown side_of views
+  pub counted : length published + all_regained side_of views ≡ all_grown side_of views
   pub each : (j : ℕ) (v : V) → get_elem? views j ≡ some v → FitsTrie digest layout.slots k (trie_words layout words) (side_of v)
 
 -- a pass that knows nothing of the trie
 abbrev pub unread_side : TrieSide
-unread_side = record { stands = None; leaf = None; seen = None; meets = None; locks = []; answered = []; places = 0; words = 0; published = 0; grown = 0 }
+unread_side = record { stands = None; leaf = None; seen = None; meets = None; locks = []; answered = []; marks = []; emptied = None; met_mark = None; places = 0; words = 0; published = 0; grown = 0; regained = 0 }
 
 -- what a pass read of the trie in its stay is nothing to the next one
 abbrev pub forgetting : TrieSide → TrieSide
-forgetting side = record side { stands = None; leaf = None; seen = None; meets = None; answered = [] }
+forgetting side = record side { stands = None; leaf = None; seen = None; meets = None; answered = []; emptied = None; met_mark = None }
 
 -- a pass that isn't protected walked nowhere, was answered nothing, and has no lock
 pub record HasNoWalk (side : TrieSide) : Type 0 where

@@ -1,3 +1,4 @@
+use npf_cells_words::{Emptied, Marked, MetMark};
 use npf_core::ConnId;
 use npf_paths::{Cell, Lock, Place};
 use npf_types::{Key, Way};
@@ -47,6 +48,12 @@ pub struct TrieSide {
     pub locks: LinkedList<Lock>,
     /// The connections that it was answered in this stay.
     pub answered: LinkedList<ConnId>,
+    /// The nodes that it marked and hasn't let go.
+    pub marks: LinkedList<Marked>,
+    /// The node that it has locked and found empty so far.
+    pub emptied: Option<Emptied>,
+    /// The mark that it met last under a place's lock.
+    pub met_mark: Option<MetMark>,
     /// How many places of the trie it loaded.
     pub places: u64,
     /// How many words of keys it loaded.
@@ -55,4 +62,6 @@ pub struct TrieSide {
     pub published: u64,
     /// How many nodes it published.
     pub grown: u64,
+    /// How many nodes it got back, by clearing their marks.
+    pub regained: u64,
 }

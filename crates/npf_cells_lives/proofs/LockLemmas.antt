@@ -1,6 +1,6 @@
 -- Locks stay through steps that leave their words and who has them.
 use Rattle.std.specs.List.{Contains}
-use Rattle.std.proofs.Common.{◌≡◌, ◌≢◌, ℕ, ◌≤◌, List, [], ◌∷◌, ◌++◌, set, slice_index, sym, ap, ◌∙◌, subst, ⊎_elim, arith, map}
+use Rattle.std.proofs.Common.{◌≡◌, ◌≢◌, ℕ, ◌<◌, ◌≤◌, List, [], ◌∷◌, ◌++◌, set, slice_index, sym, ap, ◌∙◌, subst, ⊎_elim, arith, map}
 use Rattle.std.proofs.lemmas.Bool.{cases_eq}
 use Rattle.std.proofs.lemmas.List.{length-map, get_or-map}
 use Rattle.std.proofs.lemmas.List.Sums.{sum_by_push}
@@ -12,7 +12,7 @@ use Rattle.npf_cells_words.specs.Places.{lock_at, IsLockOf}
 use Rattle.npf_seats.proofs.ListLemmas.{stands_once}
 use Rattle.npf_seats.proofs.SumLemmas.{sum-set, two_of_sum}
 use Rattle.npf_cells_lives.specs.LivesLaw.{LockAlone}
-use Rattle.npf_cells_lives.specs.Locks.{has_lock, lock_holders, Locks}
+use Rattle.npf_cells_lives.specs.Locks.{has_lock, lock_holders, held_in, Locks}
 
 -- a lock that a pass has is one that it has once at least
 has_once : (layout : Layout) (lock : Lock) (locks : List Lock) → Contains locks lock → 1 ≤ has_lock layout lock locks
@@ -25,7 +25,8 @@ module _ {V : Type 0} (locks_of : V → List Lock) (layout : Layout) where
   pub locks-same : (words words' : List ℕ) (views views' : List V) → Locks locks_of layout words views → ((lock : Lock) → IsLockOf layout lock → slice_index words' (lock_at layout lock) ≡ slice_index words (lock_at layout lock)) →
       ((lock : Lock) → lock_holders locks_of layout views' lock ≡ lock_holders locks_of layout views lock) → Locks locks_of layout words' views'
   locks-same words words' views views' kept same holders = record {
-    says = λ lock h. same lock h ∙ (kept.says lock h ∙ sym (holders lock));
+    says = λ lock h. holders lock ∙ (kept.says lock h ∙ ap held_in (sym (same lock h)));
+    bit = λ lock h. subst (λ n. n < 2) (sym (same lock h)) (kept.bit lock h);
     alone = λ lock h. subst (λ n. n ≤ 1) (sym (holders lock)) (kept.alone lock h);
   }
 

@@ -14,7 +14,7 @@ use Rattle.npf_cells_words.specs.Layout.{pool_places, pool_words, pools_at, plac
 use Rattle.npf_seats.specs.Sums.{occurs}
 use Rattle.npf_seats.proofs.SumLemmas.{sum-set}
 use Rattle.npf_cells_lives.specs.declared.pools.PoolSide.{PoolSide}
-use Rattle.npf_cells_lives.specs.Pools.{taken, Pools}
+use Rattle.npf_cells_lives.specs.Pools.{unfreed_owners, taken, Pools}
 
 -- two places are one, or not
 pub one_place : (a b : Pool) (p q : ℕ) → ((a ≡ b) × (p ≡ q)) ⊎ (a ≡ b → p ≢ q)
@@ -99,18 +99,28 @@ module _ (layout : Layout) where
           ap (λ k. bit_at k (p % 64)) (get_or-set_other words (place_word layout pool place) (place_word layout other p) n 0 ne))
           (cases_eq (place_word layout other p) (place_word layout pool place))
 
+-- how many have a node that they got back and whose state they haven't freed, where one pass changes and has the same of these
+pub unfreed-set : {V : Type 0} (side_of : V → PoolSide) (views : List V) (id : ℕ) (v w : V) → get_elem? views id ≡ some v → (side_of w).unfreed ≡ (side_of v).unfreed → (p : ℕ) → unfreed_owners side_of (set views id w) p ≡ unfreed_owners side_of views p
+unfreed-set {V} side_of views id v w at same p =
+    let more = sum-set (λ (u : V). occurs p (side_of u).unfreed) views id v w at in
+    let one = ap (occurs p) same in
+    omega (arith, more, one)
+
 -- what is taken, where passes change what they own
 module _ {S V : Type 0} (side_of : V → PoolSide) (published : List ℕ) (k : Machine S) (views : List V) where
-  pub taken-set : (id : ℕ) (v w : V) → get_elem? views id ≡ some v → (side_of w).nodes ≡ (side_of v).nodes → (pool : Pool) (p : ℕ) → taken side_of published k (set views id w) pool p ≡ taken side_of published k views pool p
-  taken-set id v w at same Slots p = refl
-  taken-set id v w at same Nodes p =
+  pub taken-set : (id : ℕ) (v w : V) → get_elem? views id ≡ some v → (side_of w).nodes ≡ (side_of v).nodes → (side_of w).unfreed ≡ (side_of v).unfreed → (pool : Pool) (p : ℕ) → taken side_of published k (set views id w) pool p ≡ taken side_of published k views pool p
+  taken-set id v w at same back Slots p = refl
+  taken-set id v w at same back Nodes p =
       let more = sum-set (λ (u : V). occurs p (side_of u).nodes) views id v w at in
       let one = ap (occurs p) same in
-      omega (arith, more, one)
+      let still = unfreed-set side_of views id v w at back p in
+      omega (arith, more, one, still)
 
-  pub taken-push : (w : V) → (side_of w).nodes ≡ [] → (pool : Pool) (p : ℕ) → taken side_of published k (views ++ w ∷ []) pool p ≡ taken side_of published k views pool p
-  taken-push w none Slots p = refl
-  taken-push w none Nodes p =
+  pub taken-push : (w : V) → (side_of w).nodes ≡ [] → (side_of w).unfreed ≡ [] → (pool : Pool) (p : ℕ) → taken side_of published k (views ++ w ∷ []) pool p ≡ taken side_of published k views pool p
+  taken-push w none also Slots p = refl
+  taken-push w none also Nodes p =
       let more = sum_by_push (λ (u : V). occurs p (side_of u).nodes) views w in
+      let back = sum_by_push (λ (u : V). occurs p (side_of u).unfreed) views w in
       let one : occurs p (side_of w).nodes ≡ 0 = ap (occurs p) none in
-      omega (arith, more, one)
+      let another : occurs p (side_of w).unfreed ≡ 0 = ap (occurs p) also in
+      omega (arith, more, back, one, another)

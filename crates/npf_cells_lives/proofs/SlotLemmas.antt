@@ -59,9 +59,9 @@ module _ {S A R : Type 0} (m : Meaning S A R) (k : Machine S) (seat packet slot 
 
   module _ {V : Type 0} (side_of : V → PoolSide) (views : List V) (id : ℕ) (v w : V) (at : get_elem? views id ≡ some v) where
     -- what else is taken stays
-    pub taken_else : (published : List ℕ) → (side_of w).nodes ≡ (side_of v).nodes → (pool : Pool) (p : ℕ) → (pool ≡ Slots → p ≢ slot) → taken side_of published claimed (set views id w) pool p ≡ taken side_of published k views pool p
-    taken_else published same Slots p two = ap (λ (x : Slot S). claim_bit x.stage) (slot_else p (two refl))
-    taken_else published same Nodes p two = taken-set side_of published k views id v w at same Nodes p
+    pub taken_else : (published : List ℕ) → (side_of w).nodes ≡ (side_of v).nodes → (side_of w).unfreed ≡ (side_of v).unfreed → (pool : Pool) (p : ℕ) → (pool ≡ Slots → p ≢ slot) → taken side_of published claimed (set views id w) pool p ≡ taken side_of published k views pool p
+    taken_else published same back Slots p two = ap (λ (x : Slot S). claim_bit x.stage) (slot_else p (two refl))
+    taken_else published same back Nodes p two = taken-set side_of published k views id v w at same back Nodes p
 
     module _ (mine : id ≡ seat) (vacant : (k.slot slot).stage ≡ Vacant) (kept : BuildsIn side_of k views)
         (more : (side_of w).builds ≡ claimed_id k slot ∷ (side_of v).builds) (owes : (side_of w).unstored ≡ slot ∷ (side_of v).unstored) where

@@ -1,5 +1,5 @@
 -- The part of the rule on locks: the word of each says whether a pass has it.
-use Rattle.std.specs.Prelude.{◌≡◌, ℕ, ◌≤◌, List, map, slice_index, sum_by}
+use Rattle.std.specs.Prelude.{◌≡◌, ℕ, ◌^◌, ◌<◌, ◌≤◌, ◌==◌, nat_lt, List, map, slice_index, sum_by, if◌then◌else◌}
 use Rattle.npf_paths.specs.declared.place.Lock.{Lock}
 use Rattle.npf_cells_words.specs.declared.layout.Layout.{Layout}
 use Rattle.npf_cells_words.specs.Places.{lock_at, IsLockOf}
@@ -12,7 +12,12 @@ has_lock layout lock locks = occurs (lock_at layout lock) (map (lock_at layout) 
 abbrev pub lock_holders : {V : Type 0} → (V → List Lock) → Layout → List V → Lock → ℕ
 lock_holders locks_of layout views lock = sum_by (λ v. has_lock layout lock (locks_of v)) views
 
--- the word of a lock is 1 where a pass has it, and 0 where none has
+-- how many passes have a lock that this state is of: none where it is 0, or from 2^63 on, where the node was let go with an epoch
+abbrev pub held_in : ℕ → ℕ
+held_in state = if state == 0 then 0 else if nat_lt state (2 ^ 63) then 1 else 0
+
+-- the word of a lock says how many passes have it, which is one at most. As long as no kind of step marks a node, the word is 1 or 0
 pub record Locks {V : Type 0} (locks_of : V → List Lock) (layout : Layout) (words : List ℕ) (views : List V) : Type 0 where
-  pub says : (lock : Lock) → IsLockOf layout lock → slice_index words (lock_at layout lock) ≡ lock_holders locks_of layout views lock
+  pub says : (lock : Lock) → IsLockOf layout lock → lock_holders locks_of layout views lock ≡ held_in (slice_index words (lock_at layout lock))
+  pub bit : (lock : Lock) → IsLockOf layout lock → slice_index words (lock_at layout lock) < 2
   pub alone : (lock : Lock) → IsLockOf layout lock → lock_holders locks_of layout views lock ≤ 1

@@ -21,10 +21,14 @@ claim_bit Dead = 1
 abbrev pub node_owners : {V : Type 0} → (V → PoolSide) → List V → ℕ → ℕ
 node_owners side_of views node = sum_by (λ v. occurs node (side_of v).nodes) views
 
--- a slot is taken where it is claimed, a node where a pass owns it or it was published in the trie
+-- and among those that passes got back and whose state they haven't freed
+abbrev pub unfreed_owners : {V : Type 0} → (V → PoolSide) → List V → ℕ → ℕ
+unfreed_owners side_of views node = sum_by (λ v. occurs node (side_of v).unfreed) views
+
+-- a slot is taken where it is claimed, a node where a pass owns it or got it back, or it was published in the trie
 abbrev pub taken : {S V : Type 0} → (V → PoolSide) → List ℕ → Machine S → List V → Pool → ℕ → ℕ
 taken side_of published k views Slots place = claim_bit (k.slot place).stage
-taken side_of published k views Nodes place = node_owners side_of views place + occurs place published
+taken side_of published k views Nodes place = node_owners side_of views place + unfreed_owners side_of views place + occurs place published
 
 -- a seat that owns no node and builds nothing
 pub record OwnsNothing (side : PoolSide) : Type 0 where
@@ -40,4 +44,4 @@ pub record Pools (layout : Layout) (takes : Pool → ℕ → ℕ) (words : List 
 
 -- a pass that owns nothing
 abbrev pub empty_handed : PoolSide
-empty_handed = record { sweeps = 0; row = 0; found = 0; nodes = []; builds = []; unstored = []; stored = []; kills = []; gave_up = []; reclaims = []; cleared = []; dated = 0; notes = [] }
+empty_handed = record { sweeps = 0; row = 0; found = 0; nodes = []; unfreed = []; builds = []; unstored = []; stored = []; kills = []; gave_up = []; reclaims = []; cleared = []; dated = 0; notes = [] }

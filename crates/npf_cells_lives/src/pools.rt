@@ -27,6 +27,8 @@ pub struct PoolSide {
     pub found: u64,
     /// The nodes that it owns.
     pub nodes: LinkedList<u32>,
+    /// The nodes that it got back by clearing their marks, and whose state it hasn't freed yet.
+    pub unfreed: LinkedList<u32>,
     /// The connections that it is building.
     pub builds: LinkedList<ConnId>,
     /// Those of their slots whose incarnation it hasn't stored yet.

@@ -1,7 +1,7 @@
 -- The base's moves keep the rule, and what they leave in the passes.
 use Rattle.std.specs.List.{Contains}
-use Rattle.std.proofs.Common.{◌≡◌, ◌≢◌, ℕ, ◌-◌, ◌≤◌, true, false, None, List, [], ◌∷◌, ◌++◌, map, set, length, take, drop, refl, sym, ap, ◌∙◌, subst, ⊎_elim, inl, inr, arith, append-nil, length-append}
-use Rattle.std.proofs.lemmas.List.Sums.{sum_by_push}
+use Rattle.std.proofs.Common.{◌≡◌, ◌≢◌, ℕ, ◌+◌, ◌-◌, ◌≤◌, eqb, true, false, None, List, [], ◌∷◌, ◌++◌, map, set, length, take, drop, refl, sym, ap, ◌∙◌, subst, ⊎_elim, inl, inr, arith, append-nil, length-append}
+use Rattle.std.proofs.lemmas.List.Sums.{sum_by-append, sum_by_push}
 use Rattle.std.proofs.lemmas.List.{length-drop, length-take-le, take-append-drop, append_cancel_left, get_or-take, get_or_append_left}
 use Rattle.std.proofs.lemmas.List.Elements.{Contains-append_left, Contains-append_right, Contains-push}
 use Rattle.std.proofs.lemmas.Bool.{cases_eq}
@@ -18,18 +18,21 @@ use Rattle.npf_core.proofs.HistoryLemmas.{Legal-prefix}
 use Rattle.npf_connections.specs.Joining.{IsSplit, IsJoined}
 use Rattle.npf_connections.specs.Pass.{IsPass, all_places}
 use Rattle.npf_cells_words.specs.declared.layout.Layout.{Layout}
+use Rattle.npf_cells_words.specs.declared.layout.Pool.{Pool}
+use Rattle.npf_cells_words.specs.declared.layout.Pool.TheVariants.{Slots, Nodes}
 use Rattle.npf_cells_words.specs.Layout.{epoch_word, reader_word}
 use Rattle.npf_seats.specs.Moves.{given_seat, taking_seat}
 use Rattle.npf_seats.specs.Seats.{Seats}
 use Rattle.npf_seats.specs.Sums.{occurs}
+use Rattle.npf_seats.proofs.ListLemmas.{one_where}
 use Rattle.npf_seats.proofs.PrefixLemmas.{none_listed, none_in_prefix, seen_entry}
 use Rattle.npf_seats.proofs.SeatLemmas.{unspent, seats-split, none_seen, seats-born, seats-join, long, mine_seen, told_seen, seats-read, only_seat, most_places, owned_within}
 use Rattle.npf_seats.proofs.SumLemmas.{first_occurs, sum-set, set_there}
 use Rattle.npf_cells_pins.specs.declared.pin.Pin.TheVariants.{Idle}
 use Rattle.npf_cells_pins.specs.Epochs.{Epochs, pin_place}
 use Rattle.npf_cells_pins.proofs.EpochLemmas.{epochs-split, epochs-join, within_last}
-use Rattle.npf_cells_leaves.specs.Trie.{HasNoWalk, all_grown, TrieWords, trie_words, unread_side, FitsTrie}
-use Rattle.npf_cells_leaves.proofs.TrieLemmas.{KeepsTrie, knows_same, grown-set, grown-push, trie_kept, fits-set, fits-push, fits_unread, keeps_words}
+use Rattle.npf_cells_leaves.specs.Trie.{HasNoWalk, TrieWords, trie_words, unread_side, FitsTrie}
+use Rattle.npf_cells_leaves.proofs.TrieLemmas.{CountsSame, counts_on, KeepsTrie, knows_same, grown-set, grown-push, trie_kept, fits-set, fits-push, fits_unread, keeps_words}
 use Rattle.npf_cells_lives.specs.Conns.{entry_seat}
 use Rattle.npf_cells_lives.specs.Deaths.{slots_named, unreclaimed, Deaths}
 use Rattle.npf_cells_lives.proofs.FreedLemmas.{gone_in, freed_stays}
@@ -107,9 +110,9 @@ module _ {S A R : Type 0} (m : Meaning S A R) (digest : Key → ℕ) (layout : L
       (subst (λ rs. Epochs (epoch_word s.words) (reader_word s.words) rs) (sym (pushed_side reader_view s.views id (gives_reader v) (given_view v)))
       (epochs-split (epoch_word s.words) (reader_word s.words) (map reader_view s.views) kept.epochs id (length v.seats.readers - 1) (reader_view v) (at_map reader_view s.views id v at) idle))
       (pools-same layout (taken pool_side kept.published (state_of m kept.log) s.views) (taken pool_side kept.published (state_of m kept.log) (set s.views id (gives_reader v) ++ given_view v ∷ [])) s.words s.words kept.pools refl (λ j h. refl)
-      (λ pool p. taken-push pool_side kept.published (state_of m kept.log) (set s.views id (gives_reader v)) (given_view v) refl pool p ∙ taken-set pool_side kept.published (state_of m kept.log) s.views id v (gives_reader v) at refl pool p))
+      (λ pool p. taken-push pool_side kept.published (state_of m kept.log) (set s.views id (gives_reader v)) (given_view v) refl refl pool p ∙ taken-set pool_side kept.published (state_of m kept.log) s.views id v (gives_reader v) at refl refl pool p))
       (trie_kept trie_side digest layout kept.published (state_of m kept.log) (state_of m kept.log) s.words s.words s.views (set s.views id (gives_reader v) ++ given_view v ∷ []) kept.trie (keeps_all s kept)
-      (grown-push trie_side (set s.views id (gives_reader v)) (given_view v) refl ∙ grown-set trie_side s.views id v (gives_reader v) at refl)
+      (counts_on trie_side s.views (set s.views id (gives_reader v)) (set s.views id (gives_reader v) ++ given_view v ∷ []) (grown-set trie_side s.views id v (gives_reader v) at refl refl) (grown-push trie_side (set s.views id (gives_reader v)) (given_view v) refl refl))
       (fits-push trie_side digest layout.slots (state_of m kept.log) (trie_words layout s.words) (set s.views id (gives_reader v)) (given_view v) (fits_unread digest layout.slots (state_of m kept.log) (trie_words layout s.words))
       (fits-set trie_side digest layout.slots (state_of m kept.log) (trie_words layout s.words) s.views id (gives_reader v) (kept.trie.each id v at) kept.trie.each)))
       (conns-same pool_side m layout kept.log s.words s.words s.views (set s.views id (gives_reader v) ++ given_view v ∷ []) kept.connections refl (λ slot h. refl)
@@ -154,7 +157,7 @@ module _ {S A R : Type 0} (m : Meaning S A R) (digest : Key → ℕ) (layout : L
       (epochs-join (epoch_word s.words) (reader_word s.words) (map reader_view s.views) kept.epochs id other (reader_view v) (reader_view w) apart
       (at_map reader_view s.views id v at) (at_map reader_view s.views other w was) idle w-idle))
       (pools-same layout (taken pool_side kept.published (state_of m kept.log) s.views) (taken pool_side kept.published (state_of m kept.log) (set (set s.views id (takes_in v w)) other nothing_left)) s.words s.words kept.pools refl (λ j h. refl)
-      (λ pool p. taken-set pool_side kept.published (state_of m kept.log) (set s.views id (takes_in v w)) other w nothing_left there (sym w-nodes) pool p ∙ taken-set pool_side kept.published (state_of m kept.log) s.views id v (takes_in v w) at refl pool p))
+      taken_joined)
       (trie_kept trie_side digest layout kept.published (state_of m kept.log) (state_of m kept.log) s.words s.words s.views (set (set s.views id (takes_in v w)) other nothing_left) kept.trie (keeps_all s kept) grown_so
       (fits-set trie_side digest layout.slots (state_of m kept.log) (trie_words layout s.words) (set s.views id (takes_in v w)) other nothing_left (fits_unread digest layout.slots (state_of m kept.log) (trie_words layout s.words))
       (fits-set trie_side digest layout.slots (state_of m kept.log) (trie_words layout s.words) s.views id (takes_in v w) (taker_fits (kept.trie.each id v at)) kept.trie.each)))
@@ -214,11 +217,29 @@ module _ {S A R : Type 0} (m : Meaning S A R) (digest : Key → ℕ) (layout : L
           let also : occurs slot (slots_named w.pools.cleared) ≡ 0 = ap (λ ids. occurs slot (slots_named ids)) w-cleared in
           omega (arith, one, two, none, also)
 
-      grown_so : all_grown trie_side (set (set s.views id (takes_in v w)) other nothing_left) ≡ all_grown trie_side s.views
-      grown_so =
-          let one = sum-set (λ (u : CellView S A R). u.trie.grown) s.views id v (takes_in v w) at in
-          let two = sum-set (λ (u : CellView S A R). u.trie.grown) (set s.views id (takes_in v w)) other w nothing_left there in
-          omega (arith, one, two)
+      grown_so : CountsSame trie_side s.views (set (set s.views id (takes_in v w)) other nothing_left)
+      grown_so = record {
+        grown =
+            let one = sum-set (λ (u : CellView S A R). u.trie.grown) s.views id v (takes_in v w) at in
+            let two = sum-set (λ (u : CellView S A R). u.trie.grown) (set s.views id (takes_in v w)) other w nothing_left there in
+            omega (arith, one, two);
+        regained =
+            let one = sum-set (λ (u : CellView S A R). u.trie.regained) s.views id v (takes_in v w) at in
+            let two = sum-set (λ (u : CellView S A R). u.trie.regained) (set s.views id (takes_in v w)) other w nothing_left there in
+            omega (arith, one, two);
+      }
+
+      -- the pass has the nodes that the other got back
+      taken_joined : (pool : Pool) (p : ℕ) → taken pool_side kept.published (state_of m kept.log) (set (set s.views id (takes_in v w)) other nothing_left) pool p ≡ taken pool_side kept.published (state_of m kept.log) s.views pool p
+      taken_joined Slots p = refl
+      taken_joined Nodes p =
+          let one = sum-set (λ (u : CellView S A R). occurs p u.pools.nodes) s.views id v (takes_in v w) at in
+          let two = sum-set (λ (u : CellView S A R). occurs p u.pools.nodes) (set s.views id (takes_in v w)) other w nothing_left there in
+          let none : occurs p w.pools.nodes ≡ 0 = ap (occurs p) w-nodes in
+          let back = sum-set (λ (u : CellView S A R). occurs p u.pools.unfreed) s.views id v (takes_in v w) at in
+          let left = sum-set (λ (u : CellView S A R). occurs p u.pools.unfreed) (set s.views id (takes_in v w)) other w nothing_left there in
+          let both : occurs p (v.pools.unfreed ++ w.pools.unfreed) ≡ occurs p v.pools.unfreed + occurs p w.pools.unfreed = sum_by-append (λ (y : ℕ). one_where (eqb y p)) v.pools.unfreed w.pools.unfreed in
+          omega (arith, one, two, none, back, left, both)
 
   -- a new seat gets its number by a load
   pub gets_born : (st : Step (Running S)) (id n i : ℕ) (me : Me (Running S) (CellView S A R)) → me.0.seats.lives ≡ false → 1 ≤ length me.0.seats.readers →

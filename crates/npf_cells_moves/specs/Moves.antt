@@ -23,7 +23,7 @@ abbrev pub given_view : {S A R : Type 0} → CellView S A R → CellView S A R
 given_view v = record { seats = given_seat v.seats; epochs = idle_side; pools = empty_handed; trie = unread_side; turn = None }
 
 abbrev pub joined_pools : PoolSide → PoolSide → PoolSide
-joined_pools mine theirs = record mine { sweeps = mine.sweeps + theirs.sweeps; dated = max mine.dated theirs.dated }
+joined_pools mine theirs = record mine { sweeps = mine.sweeps + theirs.sweeps; dated = max mine.dated theirs.dated; unfreed = mine.unfreed ++ theirs.unfreed }
 
 abbrev pub joined_trie : TrieSide → TrieSide → TrieSide
 joined_trie mine theirs = record mine {
@@ -31,6 +31,7 @@ joined_trie mine theirs = record mine {
   words = mine.words + theirs.words;
   published = mine.published + theirs.published;
   grown = mine.grown + theirs.grown;
+  regained = mine.regained + theirs.regained;
 }
 
 abbrev pub takes_in : {S A R : Type 0} → CellView S A R → CellView S A R → CellView S A R

@@ -184,7 +184,7 @@ module _ {S A R : Type 0} (m : Meaning S A R) (digest : Key → ℕ) (layout : L
       (subst (λ sides. Seats entry_seat layout.slots all_places kept.log sides) (sym (side_same seat_side s.views id v w at same)) kept.seats)
       (subst (λ rs. Epochs (epoch_word (set s.words i n)) (reader_word (set s.words i n)) rs) (sym (map-set reader_view s.views id w)) epochs)
       (pools-same layout (taken pool_side kept.published (state_of m kept.log) s.views) (taken pool_side kept.published (state_of m kept.log) (set s.views id w)) s.words (set s.words i n) kept.pools (length-set s.words i n) words
-      (taken-set pool_side kept.published (state_of m kept.log) s.views id v w at (ap (λ p. p.nodes) pools)))
+      (taken-set pool_side kept.published (state_of m kept.log) s.views id v w at (ap (λ p. p.nodes) pools) (ap (λ p. p.unfreed) pools)))
       (trie_apart s i n id v w kept at trie (λ j h. words j (omega (arith, h))))
       (conns_apart s i n id v w kept at (ap (λ p. p.builds) pools) (ap (λ p. p.unstored) pools) (λ j h. words j (omega (arith, h))))
       (stored_apart s i n id w kept (subst (FitsStored layout s.words) (sym pools) (kept.stored id v at)) (λ j h. words j (omega (arith, h))))
@@ -203,7 +203,7 @@ module _ {S A R : Type 0} (m : Meaning S A R) (digest : Key → ℕ) (layout : L
       (subst (λ (ws : List ℕ). Epochs (epoch_word ws) (reader_word ws) (map reader_view (set s.views id w))) (sym (set-get_or s.words i 0))
       (subst (λ rs. Epochs (epoch_word s.words) (reader_word s.words) rs) (sym (side_same reader_view s.views id v w at same)) kept.epochs))
       (pools-same layout (taken pool_side kept.published (state_of m kept.log) s.views) (taken pool_side kept.published (state_of m kept.log) (set s.views id w)) s.words (set s.words i (slice_index s.words i)) kept.pools (length-set s.words i (slice_index s.words i))
-      (λ j h. ap (λ ws. slice_index ws j) (set-get_or s.words i 0)) (taken-set pool_side kept.published (state_of m kept.log) s.views id v w at (ap (λ p. p.nodes) pools)))
+      (λ j h. ap (λ ws. slice_index ws j) (set-get_or s.words i 0)) (taken-set pool_side kept.published (state_of m kept.log) s.views id v w at (ap (λ p. p.nodes) pools) (ap (λ p. p.unfreed) pools)))
       (trie_apart s i (slice_index s.words i) id v w kept at trie (λ j h. ap (λ ws. slice_index ws j) (set-get_or s.words i 0)))
       (conns_apart s i (slice_index s.words i) id v w kept at (ap (λ p. p.builds) pools) (ap (λ p. p.unstored) pools) (λ j h. ap (λ ws. slice_index ws j) (set-get_or s.words i 0)))
       (stored_apart s i (slice_index s.words i) id w kept (subst (FitsStored layout s.words) (sym pools) (kept.stored id v at)) (λ j h. ap (λ ws. slice_index ws j) (set-get_or s.words i 0)))
@@ -311,12 +311,12 @@ module _ {S A R : Type 0} (m : Meaning S A R) (digest : Key → ℕ) (layout : L
 
   -- a step on a word behind the pools', that changes of one view what the pass still has to store alone
   pub private_step : (s : State (Running S) (CellView S A R)) (i n id : ℕ) (c : List (ℕ × Running S)) (v w : CellView S A R) (kept : IsCells m digest layout s) → get_elem? s.views id ≡ some v → root_at layout ≤ i → w.seats ≡ v.seats → reader_view w ≡ reader_view v →
-      w.pools.nodes ≡ v.pools.nodes → w.pools.builds ≡ v.pools.builds → ((conn : ConnId) → Contains w.pools.kills conn → Contains v.pools.kills conn) → FitsAlone w → Trie trie_side digest layout kept.published (state_of m kept.log) (set s.words i n) (set s.views id w) → Conns pool_side m layout kept.log (set s.words i n) (set s.views id w) → StoredWords pool_side layout (set s.words i n) (set s.views id w) → Locks lock_side layout (set s.words i n) (set s.views id w) → Turns turn_side layout (unreclaimed death_side (set s.views id w) (state_of m kept.log)) (set s.words i n) s.homes (set s.views id w) → Deaths death_side layout (state_of m kept.log) (set s.words i n) (set s.views id w) →
+      w.pools.nodes ≡ v.pools.nodes → w.pools.unfreed ≡ v.pools.unfreed → w.pools.builds ≡ v.pools.builds → ((conn : ConnId) → Contains w.pools.kills conn → Contains v.pools.kills conn) → FitsAlone w → Trie trie_side digest layout kept.published (state_of m kept.log) (set s.words i n) (set s.views id w) → Conns pool_side m layout kept.log (set s.words i n) (set s.views id w) → StoredWords pool_side layout (set s.words i n) (set s.views id w) → Locks lock_side layout (set s.words i n) (set s.views id w) → Turns turn_side layout (unreclaimed death_side (set s.views id w) (state_of m kept.log)) (set s.words i n) s.homes (set s.views id w) → Deaths death_side layout (state_of m kept.log) (set s.words i n) (set s.views id w) →
       Notes turn_side pool_side layout (trie_words layout (set s.words i n)).cell (state_of m kept.log) (set s.words i n) (set s.views id w) → IsCells m digest layout (stepped s i n id c w keeps)
-  private_step s i n id c v w kept at behind same reads nodes builds kills alone trie connections stored locks turns deaths notes = framed s (stepped s i n id c w keeps) kept kept.published kept.log (length-set s.words i n)
+  private_step s i n id c v w kept at behind same reads nodes back builds kills alone trie connections stored locks turns deaths notes = framed s (stepped s i n id c w keeps) kept kept.published kept.log (length-set s.words i n)
       (subst (λ sides. Seats entry_seat layout.slots all_places kept.log sides) (sym (side_same seat_side s.views id v w at same)) kept.seats)
       (epochs_apart s i n id v w kept at reads (λ j h. below j (omega (arith, h))))
-      (pools-kept layout (taken pool_side kept.published (state_of m kept.log) s.views) (taken pool_side kept.published (state_of m kept.log) (set s.views id w)) s.words (set s.words i n) kept.pools (length-set s.words i n) below (taken-set pool_side kept.published (state_of m kept.log) s.views id v w at nodes))
+      (pools-kept layout (taken pool_side kept.published (state_of m kept.log) s.views) (taken pool_side kept.published (state_of m kept.log) (set s.views id w)) s.words (set s.words i n) kept.pools (length-set s.words i n) below (taken-set pool_side kept.published (state_of m kept.log) s.views id v w at nodes back))
       trie
       connections
       stored

@@ -43,7 +43,7 @@ use Rattle.npf_cells_lives.specs.Conns.{FitsBuilds, inc_word, unstored_by, entry
 use Rattle.npf_cells_lives.specs.Deaths.{first_note, has_epoch, slots_named, unreclaimed, FitsKill, FitsReclaim, Deaths}
 use Rattle.npf_cells_lives.specs.Known.{Known}
 use Rattle.npf_cells_lives.proofs.FreedLemmas.{gone_in, freed_none}
-use Rattle.npf_cells_lives.specs.Locks.{has_lock, lock_holders}
+use Rattle.npf_cells_lives.specs.Locks.{has_lock, lock_holders, held_in}
 use Rattle.npf_cells_lives.specs.Pools.{taken}
 use Rattle.npf_cells_lives.specs.Stored.{FitsStored}
 use Rattle.npf_cells_lives.proofs.ConnLemmas.{fits_nothing}
@@ -71,9 +71,14 @@ module _ {S A R : Type 0} (layout : Layout) where
   view = first_cell_view layout
 
   -- no place is taken
-  untaken : (v : CellView S A R) → v.pools.nodes ≡ [] → (pool : Pool) (p : ℕ) → taken {S = S} pool_side [] opening (v ∷ []) pool p ≡ 0
-  untaken v none Slots p = refl
-  untaken v none Nodes p = let a = sum_by-cons (λ (u : CellView S A R). occurs p u.pools.nodes) v [] in let b : occurs p v.pools.nodes ≡ 0 = ap (occurs p) none in omega (arith, a, b)
+  untaken : (v : CellView S A R) → v.pools.nodes ≡ [] → v.pools.unfreed ≡ [] → (pool : Pool) (p : ℕ) → taken {S = S} pool_side [] opening (v ∷ []) pool p ≡ 0
+  untaken v none also Slots p = refl
+  untaken v none also Nodes p =
+      let a = sum_by-cons (λ (u : CellView S A R). occurs p u.pools.nodes) v [] in
+      let b : occurs p v.pools.nodes ≡ 0 = ap (occurs p) none in
+      let c = sum_by-cons (λ (u : CellView S A R). occurs p u.pools.unfreed) v [] in
+      let d : occurs p v.pools.unfreed ≡ 0 = ap (occurs p) also in
+      omega (arith, a, b, c, d)
 
   -- the rule of a new table
   pub opens : (m : Meaning S A R) (digest : Key → ℕ) (words : List ℕ) (homes : List (Running S)) → words ≡ opening_words layout → homes ≡ replicate layout.slots None → IsCells m digest layout (table_opening words homes (first_cell_view {S = S} {A = A} {R = R} layout))
@@ -90,9 +95,9 @@ module _ {S A R : Type 0} (layout : Layout) where
     };
     pools = record {
       reach = (let a = count layout in omega (arith, a));
-      bits = λ pool p h. clear layout pool p h ∙ sym (untaken view refl pool p);
+      bits = λ pool p h. clear layout pool p h ∙ sym (untaken view refl refl pool p);
       past = past layout;
-      beyond = λ p h. untaken view refl Nodes p;
+      beyond = λ p h. untaken view refl refl Nodes p;
     };
     trie = record {
       ends = λ key level p end. sym (ap (λ cell. holder_at (trie_words layout (opening_words layout)) cell key) (blank p));
@@ -102,12 +107,16 @@ module _ {S A R : Type 0} (layout : Layout) where
       levels = bare_has_levels (trie_words layout (opening_words layout)).cell (λ p. rw (blank p) tt);
       parents = λ digits level p node are on e. absurd (let no : Empty ≡ Node node = sym (blank p) ∙ e in cc);
       hang = λ node c. absurd (none_listed node c);
-      counted = sym (sum_by-cons (λ (u : CellView S A R). u.trie.grown) view []);
+      counted = (let up = sum_by-cons (λ (u : CellView S A R). u.trie.grown) view [] in let back = sum_by-cons (λ (u : CellView S A R). u.trie.regained) view [] in omega (arith, up, back));
       each = unread;
     };
     connections = record { reach = count layout; legal = tt; each = builds_none; incs = no_incs };
     stored = unstored;
-    locks = record { says = λ lock h. behind layout (lock_at layout lock) (lock_behind layout lock) ∙ sym (unheld lock); alone = λ lock h. (let none = unheld lock in omega (arith, none)) };
+    locks = record {
+      says = λ lock h. unheld lock ∙ ap held_in (sym (unlocked lock));
+      bit = λ lock h. (let none = unlocked lock in omega (arith, none));
+      alone = λ lock h. (let none = unheld lock in omega (arith, none));
+    };
     turns = first_turns;
     deaths = first_deaths;
     known = first_known;
@@ -151,6 +160,9 @@ module _ {S A R : Type 0} (layout : Layout) where
       unstored : (j : ℕ) (v : CellView S A R) → get_elem? (view ∷ []) j ≡ some v → FitsStored layout (opening_words layout) v.pools
       unstored zero v e = subst (λ (u : CellView S A R). FitsStored layout (opening_words layout) u.pools) (some-injective _ _ e) (fits_unstored layout (opening_words layout) view.pools refl)
       unstored (suc j) v e = absurd (some-ne-none v (sym e))
+
+      unlocked : (lock : Lock) → slice_index (opening_words layout) (lock_at layout lock) ≡ 0
+      unlocked lock = behind layout (lock_at layout lock) (lock_behind layout lock)
 
       unheld : (lock : Lock) → lock_holders lock_side layout (view ∷ []) lock ≡ 0
       unheld lock = sum_by-cons (λ (u : CellView S A R). has_lock layout lock u.trie.locks) view []

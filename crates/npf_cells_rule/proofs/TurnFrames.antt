@@ -120,7 +120,7 @@ module _ {S A R : Type 0} (m : Meaning S A R) (digest : Key → ℕ) (layout : L
         (subst (λ sides. Seats entry_seat layout.slots all_places kept.log sides) (sym (side_same seat_side s.views id v w at seats)) kept.seats)
         (epochs_apart m digest layout s word n id v w kept at (λ i. record { places = (seats i).readers; side = epochs i }) (λ j h. below j (omega (arith, h))))
         (pools-kept layout (taken pool_side kept.published k s.views) (taken pool_side kept.published k (set s.views id w)) s.words words' kept.pools (length-set s.words word n) below
-        (taken-set pool_side kept.published k s.views id v w at (ap (λ (p : PoolSide). p.nodes) pools)))
+        (taken-set pool_side kept.published k s.views id v w at (ap (λ (p : PoolSide). p.nodes) pools) (ap (λ (p : PoolSide). p.unfreed) pools)))
         (trie_same trie_side digest layout kept.published k k s.words words' s.views id v w kept.trie at (subst (λ side. KnowsNoMore v.trie side) (sym trie) (knows_same v.trie)) (keeps_trie k (λ key. refl) (λ identity c. c) (λ identity e. e)))
         (conns-same pool_side m layout kept.log s.words words' s.views (set s.views id w) kept.connections (length-set s.words word n) (λ p h. inc_else p)
         (builds-kept pool_side k s.views id v w at (ap (λ (p : PoolSide). p.builds) pools) (ap (λ (p : PoolSide). p.unstored) pools) kept.connections.each) (unstored-set pool_side s.views id v w at (ap (λ (p : PoolSide). p.unstored) pools)))

@@ -57,16 +57,18 @@ abbrev pub leaf_id : Option LoadedLeaf → Option ConnId
 leaf_id None = None
 leaf_id (Some leaf) = Some (record { slot = leaf.slot; inc = leaf.inc })
 
--- which dead connections a pass has, of which it gave keys up, and the greatest epoch with which it let one go
+-- which dead connections a pass has, of which it gave keys up, the greatest epoch with which it let one go, and the nodes that it got back
+-- and hasn't freed
 pub record DeadHand : Type 0 where
   pub kills : List ConnId
   pub gave_up : List Found
   pub reclaims : List ConnId
   pub cleared : List ConnId
   pub dated : ℕ
+  pub unfreed : List ℕ
 
 abbrev pub dead_hand : PoolSide → DeadHand
-dead_hand side = record { kills = side.kills; gave_up = side.gave_up; reclaims = side.reclaims; cleared = side.cleared; dated = side.dated }
+dead_hand side = record { kills = side.kills; gave_up = side.gave_up; reclaims = side.reclaims; cleared = side.cleared; dated = side.dated; unfreed = side.unfreed }
 
 abbrev pub death_side : {S A R : Type 0} → CellView S A R → DeathSide
 death_side v = record {

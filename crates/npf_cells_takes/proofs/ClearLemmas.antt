@@ -182,7 +182,7 @@ module _ {S A R : Type 0} (m : Meaning S A R) (digest : Key → ℕ) (layout : L
         omega (arith, none, was)
 
     pub clears : 1 ≤ length me.0.seats.readers → IsCells m digest layout (stepped s (field_at layout Slots conn.slot notes_field) 0 id me.1 w keeps)
-    clears seated = dead_noted m digest layout s id me kept at conn.slot 0 within conn refl gone.dead gone.keyless w.pools refl refl refl refl refl (λ i c. c) (λ g c ne. c) gone_same nobodys untold seated deaths_after
+    clears seated = dead_noted m digest layout s id me kept at conn.slot 0 within conn refl gone.dead gone.keyless w.pools refl refl refl refl refl refl (λ i c. c) (λ g c ne. c) gone_same nobodys untold seated deaths_after
 
   pub may_clear : (st : Step (Running S)) (id n : ℕ) (conn : ConnId) (me : Me (Running S) (CellView S A R)) → 1 ≤ length me.0.seats.readers → conn.slot < layout.slots → MayClear me.0 conn →
       Allows (IsCells m digest layout) n id me (field_at layout Slots conn.slot notes_field) (λ _. 0) (λ _. ClearsNote conn st me 0)

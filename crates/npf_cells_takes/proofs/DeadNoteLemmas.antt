@@ -116,7 +116,7 @@ module _ {S A R : Type 0} (m : Meaning S A R) (digest : Key → ℕ) (layout : L
         cc
 
     -- the pass has other dead connections
-    module _ (pools : PoolSide) (nodes : pools.nodes ≡ me.0.pools.nodes) (builds : pools.builds ≡ me.0.pools.builds) (unstored : pools.unstored ≡ me.0.pools.unstored) (stored : pools.stored ≡ me.0.pools.stored) (notes : pools.notes ≡ me.0.pools.notes) where
+    module _ (pools : PoolSide) (nodes : pools.nodes ≡ me.0.pools.nodes) (back : pools.unfreed ≡ me.0.pools.unfreed) (builds : pools.builds ≡ me.0.pools.builds) (unstored : pools.unstored ≡ me.0.pools.unstored) (stored : pools.stored ≡ me.0.pools.stored) (notes : pools.notes ≡ me.0.pools.notes) where
       abbrev w : CellView S A R
       w = record me.0 { pools = pools }
 
@@ -215,7 +215,7 @@ module _ {S A R : Type 0} (m : Meaning S A R) (digest : Key → ℕ) (layout : L
         }
 
         pub dead_noted : Deaths death_side layout k ws (set s.views id w) → IsCells m digest layout (stepped s note value id me.1 w keeps)
-        dead_noted deaths = private_step m digest layout s note value id me.1 me.0 w kept at (field_behind layout Slots slot notes_field) refl refl nodes builds kills (alone_still me.0 w (kept.alone id me.0 at) seated refl (λ none. none))
+        dead_noted deaths = private_step m digest layout s note value id me.1 me.0 w kept at (field_behind layout Slots slot notes_field) refl refl nodes back builds kills (alone_still me.0 w (kept.alone id me.0 at) seated refl (λ none. none))
             (trie_same trie_side digest layout kept.published k k s.words ws s.views id me.0 w kept.trie at (knows_same me.0.trie) keeps_trie)
             conns_stay
             stored_stay

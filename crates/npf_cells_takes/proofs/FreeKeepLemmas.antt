@@ -105,7 +105,7 @@ module _ {S A R : Type 0} (m : Meaning S A R) (digest : Key → ℕ) (layout : L
 
     taken_else : (pool : Pool) (p : ℕ) → (pool ≡ Slots → p ≢ conn.slot) → taken pool_side kept.published k' views' pool p ≡ taken pool_side kept.published k s.views pool p
     taken_else Slots p two = ap (λ (x : Slot S). claim_bit x.stage) (freed_else m k id conn p (two refl))
-    taken_else Nodes p two = taken-set pool_side kept.published k s.views id me.0 w at refl Nodes p
+    taken_else Nodes p two = taken-set pool_side kept.published k s.views id me.0 w at refl refl Nodes p
 
     -- the word's bit is cleared
     module _ (n : ℕ) (here : bit_at n (conn.slot % 64) ≡ 0) (bits : (i : ℕ) → i < 64 → i ≢ conn.slot % 64 → bit_at n i ≡ bit_at found i) where

@@ -157,5 +157,5 @@ module _ {S A R : Type 0} (m : Meaning S A R) (digest : Key → ℕ) (layout : L
       omega (arith, one, none)
 
   pub lets_go : 1 ≤ length me.0.seats.readers → IsCells m digest layout (stepped s (field_at layout Slots slot notes_field) value id me.1 w keeps)
-  lets_go seated = dead_noted m digest layout s id me kept at slot value within conn may.there killed.dead bare w.pools refl refl refl refl refl
+  lets_go seated = dead_noted m digest layout s id me kept at slot value within conn may.there killed.dead bare w.pools refl refl refl refl refl refl
       (λ i c. (was_elsewhere slot me.0.pools.kills i c).0) (λ g c ne. given_elsewhere slot me.0.pools.gave_up g c ne) gone_same nobodys untold seated deaths_after

@@ -154,7 +154,7 @@ module _ {S A R : Type 0} (m : Meaning S A R) (digest : Key → ℕ) (layout : L
   note_step : (w : CellView S A R) → w.seats ≡ v.seats → w.epochs ≡ v.epochs → w.trie ≡ v.trie → w.pools.nodes ≡ v.pools.nodes → w.pools.builds ≡ v.pools.builds → w.pools.unstored ≡ v.pools.unstored → w.pools.stored ≡ v.pools.stored → dead_hand w.pools ≡ dead_hand v.pools →
       Turns turn_side layout (unreclaimed death_side (set s.views id w) k) words' s.homes (set s.views id w) → Notes turn_side pool_side layout (trie_words layout words').cell k words' (set s.views id w) → Deaths death_side layout k words' (set s.views id w) → IsCells m digest layout (record { words = words'; homes = s.homes; views = set s.views id w })
   note_step w seats epochs trie nodes builds unstored stored hand turns notes deaths =
-      private_step m digest layout s word value id [] v w kept at (field_behind layout Slots slot field) seats (λ i. record { places = (seats i).readers; side = epochs i }) nodes builds (same_kills m digest layout v w hand)
+      private_step m digest layout s word value id [] v w kept at (field_behind layout Slots slot field) seats (λ i. record { places = (seats i).readers; side = epochs i }) nodes (ap (λ (h : DeadHand). h.unfreed) hand) builds (same_kills m digest layout v w hand)
       (alone_still v w (kept.alone id v at) (subst (λ side. 1 ≤ length side.readers) (sym seats) seated) (ap (λ side. side.pin) epochs) (λ none. subst (λ side. HasNoWalk side) (sym trie) none))
       (trie_same trie_side digest layout kept.published k k s.words words' s.views id v w kept.trie at (subst (λ side. KnowsNoMore v.trie side) (sym trie) (knows_same v.trie)) keeps_trie)
       (conns-same pool_side m layout kept.log s.words words' s.views (set s.views id w) kept.connections (length-set s.words word value) (λ p h. inc_else p) (builds-kept pool_side k s.views id v w at builds unstored kept.connections.each) (unstored-set pool_side s.views id v w at unstored))

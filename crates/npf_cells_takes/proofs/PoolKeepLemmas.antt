@@ -22,9 +22,9 @@ use Rattle.npf_seats.proofs.ListLemmas.{one_where, occurs-cons, left_same, left_
 use Rattle.npf_seats.proofs.SumLemmas.{sum-set, one_of_sum}
 use Rattle.npf_cells_leaves.proofs.TrieLemmas.{knows_same}
 use Rattle.npf_cells_lives.specs.declared.pools.StoredWord.{StoredWord}
-use Rattle.npf_cells_lives.specs.Pools.{node_owners, taken}
+use Rattle.npf_cells_lives.specs.Pools.{node_owners, unfreed_owners, taken}
 use Rattle.npf_cells_lives.specs.Stored.{IsOwnField, FitsStored}
-use Rattle.npf_cells_lives.proofs.PoolLemmas.{word_within, places_within, pools-same, pools-set, taken-set}
+use Rattle.npf_cells_lives.proofs.PoolLemmas.{word_within, places_within, pools-same, pools-set, taken-set, unfreed-set}
 use Rattle.npf_cells_lives.proofs.StoredLemmas.{fits_unstored, own_same, stored_kept}
 use Rattle.npf_cells_rule.specs.declared.view.CellView.{CellView}
 use Rattle.npf_cells_rule.specs.Cells.{IsCells}
@@ -58,7 +58,7 @@ module _ {S A R : Type 0} (m : Meaning S A R) (digest : Key → ℕ) (layout : L
             (stored_kept layout s.words s.words me.0.pools w.pools (kept.stored id me.0 at) refl (own_same layout me.0.pools w.pools refl refl) (λ pool place field own. refl)) refl refl refl refl refl (alone_still me.0 w (kept.alone id me.0 at) place refl (λ none. none))
             (record { before = λ j h. ap (λ ws. slice_index ws j) words; behind = λ j h. ap (λ ws. slice_index ws j) words })
             (pools-same layout (taken pool_side kept.published (state_of m kept.log) s.views) (taken pool_side kept.published (state_of m kept.log) (set s.views id w)) s.words (set s.words i (slice_index s.words i)) kept.pools
-            (length-set s.words i (slice_index s.words i)) (λ j h. ap (λ ws. slice_index ws j) words) (taken-set pool_side kept.published (state_of m kept.log) s.views id me.0 w at refl)),
+            (length-set s.words i (slice_index s.words i)) (λ j h. ap (λ ws. slice_index ws j) words) (taken-set pool_side kept.published (state_of m kept.log) s.views id me.0 w at refl refl)),
         record { nodes = λ _. refl; slots = λ e. absurd cc; stood = stood_so m digest layout s id me.0 (pool_at layout Nodes + word) i kept at lives there },
       )
   may_sweep st id n Slots word i me lives settled place there s kept homes at bound =
@@ -71,7 +71,7 @@ module _ {S A R : Type 0} (m : Meaning S A R) (digest : Key → ℕ) (layout : L
             (alone_still me.0 w (kept.alone id me.0 at) place refl (λ none. none))
             (record { before = λ j h. ap (λ ws. slice_index ws j) words; behind = λ j h. ap (λ ws. slice_index ws j) words })
             (pools-same layout (taken pool_side kept.published (state_of m kept.log) s.views) (taken pool_side kept.published (state_of m kept.log) (set s.views id w)) s.words (set s.words i (slice_index s.words i)) kept.pools
-            (length-set s.words i (slice_index s.words i)) (λ j h. ap (λ ws. slice_index ws j) words) (taken-set pool_side kept.published (state_of m kept.log) s.views id me.0 w at refl)),
+            (length-set s.words i (slice_index s.words i)) (λ j h. ap (λ ws. slice_index ws j) words) (taken-set pool_side kept.published (state_of m kept.log) s.views id me.0 w at refl refl)),
         record {
           nodes = λ e. absurd cc;
           slots = λ _. has_seen m digest layout s id me kept at lives place (slice_index s.words i) settled word i there refl;
@@ -94,13 +94,16 @@ module _ {S A R : Type 0} (m : Meaning S A R) (digest : Key → ℕ) (layout : L
     k = state_of m kept.log
 
     -- the node's bit says how many own it
-    pub owned : bit_at found (node % 64) ≡ node_owners pool_side s.views node + occurs node kept.published
+    pub owned : bit_at found (node % 64) ≡ node_owners pool_side s.views node + unfreed_owners pool_side s.views node + occurs node kept.published
     owned = kept.pools.bits Nodes node within
 
     pub owners_after : (nodes : List ℕ) (stored : List StoredWord) (p : ℕ) → node_owners pool_side (set s.views id (with_nodes nodes stored)) p + occurs p me.0.pools.nodes ≡ node_owners pool_side s.views p + occurs p nodes
     owners_after nodes stored p = sum-set (λ (u : CellView S A R). occurs p u.pools.nodes) s.views id me.0 (with_nodes nodes stored) at
 
-    pub node_step : (n : ℕ) (nodes : List ℕ) (stored : List StoredWord) → FitsStored layout s.words (record me.0.pools { found = found; nodes = nodes; stored = stored }) → 1 ≤ length me.0.seats.readers → bit_at n (node % 64) ≡ node_owners pool_side (set s.views id (with_nodes nodes stored)) node + occurs node kept.published →
+    pub unfreed_after : (nodes : List ℕ) (stored : List StoredWord) (p : ℕ) → unfreed_owners pool_side (set s.views id (with_nodes nodes stored)) p ≡ unfreed_owners pool_side s.views p
+    unfreed_after nodes stored = unfreed-set pool_side s.views id me.0 (with_nodes nodes stored) at refl
+
+    pub node_step : (n : ℕ) (nodes : List ℕ) (stored : List StoredWord) → FitsStored layout s.words (record me.0.pools { found = found; nodes = nodes; stored = stored }) → 1 ≤ length me.0.seats.readers → bit_at n (node % 64) ≡ node_owners pool_side (set s.views id (with_nodes nodes stored)) node + unfreed_owners pool_side (set s.views id (with_nodes nodes stored)) node + occurs node kept.published →
         ((i : ℕ) → i < 64 → i ≢ node % 64 → bit_at n i ≡ bit_at found i) → ((p : ℕ) → p ≢ node → occurs p nodes ≡ occurs p me.0.pools.nodes) →
         IsCells m digest layout (stepped s word n id me.1 (with_nodes nodes stored) keeps)
     node_step n nodes stored fits place here bits others =
@@ -109,7 +112,7 @@ module _ {S A R : Type 0} (m : Meaning S A R) (digest : Key → ℕ) (layout : L
       where
         rest : (other : Pool) (p : ℕ) → (other ≡ Nodes → p ≢ node) → taken pool_side kept.published k (set s.views id (with_nodes nodes stored)) other p ≡ taken pool_side kept.published k s.views other p
         rest Slots p two = refl
-        rest Nodes p two = let sums = owners_after nodes stored p in let same = others p (two refl) in omega (arith, sums, same)
+        rest Nodes p two = let sums = owners_after nodes stored p in let back = unfreed_after nodes stored p in let same = others p (two refl) in omega (arith, sums, back, same)
 
   pub may_claim_node : (st : Step (Running S)) (id n node mask : ℕ) (me : Me (Running S) (CellView S A R)) → me.0.seats.lives ≡ true → 1 ≤ length me.0.seats.readers → node < layout.nodes → mask ≡ 1 * 2 ^ (node % 64) % 2 ^ 64 →
       Allows (IsCells m digest layout) n id me (place_word layout Nodes node) (λ k. bit_or k mask) (ClaimsNode m digest layout node st me)
@@ -134,20 +137,22 @@ module _ {S A R : Type 0} (m : Meaning S A R) (digest : Key → ℕ) (layout : L
               owns_more true Nodes place field own = (Contains-append_right (node ∷ []) me.0.pools.nodes place own.0, own.1, own.2, own.3)
               owns_more false Nodes place field own = own
 
-          one : (b : Bool) → eqb (bit_at (found s id me kept at node within) (node % 64)) 0 ≡ b → node_owners pool_side (set s.views id (with_nodes s id me kept at node within (cond b (node ∷ me.0.pools.nodes) me.0.pools.nodes) me.0.pools.stored)) node + occurs node kept.published ≡ 1
+          one : (b : Bool) → eqb (bit_at (found s id me kept at node within) (node % 64)) 0 ≡ b → node_owners pool_side (set s.views id (with_nodes s id me kept at node within (cond b (node ∷ me.0.pools.nodes) me.0.pools.nodes) me.0.pools.stored)) node + unfreed_owners pool_side (set s.views id (with_nodes s id me kept at node within (cond b (node ∷ me.0.pools.nodes) me.0.pools.nodes) me.0.pools.stored)) node + occurs node kept.published ≡ 1
           one true e =
               let none : bit_at (found s id me kept at node within) (node % 64) ≡ 0 = (Decides-eqb _ _).0 e in
               let bit = owned s id me kept at node within in
               let sums = owners_after s id me kept at node within (node ∷ me.0.pools.nodes) me.0.pools.stored node in
+              let back = unfreed_after s id me kept at node within (node ∷ me.0.pools.nodes) me.0.pools.stored node in
               let more = occurs-cons node node me.0.pools.nodes in
               let once : one_where (eqb node node) ≡ 1 = ap one_where (eq-eqb node node refl) in
-              omega (arith, none, bit, sums, more, once)
+              omega (arith, none, bit, sums, back, more, once)
           one false e =
               let some' : bit_at (found s id me kept at node within) (node % 64) ≢ 0 = not_from_Decides _ (Decides-eqb (bit_at (found s id me kept at node within) (node % 64)) 0) e in
               let below = bit_at-lt (found s id me kept at node within) (node % 64) in
               let bit = owned s id me kept at node within in
               let sums = owners_after s id me kept at node within me.0.pools.nodes me.0.pools.stored node in
-              omega (arith, some', below, bit, sums)
+              let back = unfreed_after s id me kept at node within me.0.pools.nodes me.0.pools.stored node in
+              omega (arith, some', below, bit, sums, back)
 
           others : (b : Bool) (p : ℕ) → p ≢ node → occurs p (cond b (node ∷ me.0.pools.nodes) me.0.pools.nodes) ≡ occurs p me.0.pools.nodes
           others true p ne =
@@ -167,14 +172,15 @@ module _ {S A R : Type 0} (m : Meaning S A R) (digest : Key → ℕ) (layout : L
     record { is = refl; stood = stood_so m digest layout s id me.0 (place_word layout Nodes node) (place_word layout Nodes node) kept at lives refl },
   )
     where
-      none : node_owners pool_side (set s.views id (with_nodes s id me kept at node within (others_than node me.0.pools.nodes) [])) node + occurs node kept.published ≡ 0
+      none : node_owners pool_side (set s.views id (with_nodes s id me kept at node within (others_than node me.0.pools.nodes) [])) node + unfreed_owners pool_side (set s.views id (with_nodes s id me kept at node within (others_than node me.0.pools.nodes) [])) node + occurs node kept.published ≡ 0
       none =
           let below = bit_at-lt (found s id me kept at node within) (node % 64) in
           let bit = owned s id me kept at node within in
           let sums = owners_after s id me kept at node within (others_than node me.0.pools.nodes) [] node in
+          let back = unfreed_after s id me kept at node within (others_than node me.0.pools.nodes) [] node in
           let left = left_same node me.0.pools.nodes in
           let one = stands_once node me.0.pools.nodes owns in
-          omega (arith, below, bit, sums, left, one)
+          omega (arith, below, bit, sums, back, left, one)
 
 -- a node whose bit was clear is none that the seat owns
 pub not_owned : {S A R : Type 0} (m : Meaning S A R) (digest : Key → ℕ) (layout : Layout) (v : CellView S A R) (node found : ℕ) → node < layout.nodes →

@@ -161,8 +161,8 @@ module _ {S A R : Type 0} (m : Meaning S A R) (digest : Key → ℕ) (layout : L
         let may = follows clear in
         entry_step m digest layout s word n id me.1 me.0 winner kept at lives place entry refl may refl refl (winner_stored clear) refl refl (slots_stay may) (λ key. refl) refl (claim_spares may) (claim_dead may) winner_rests refl (λ conn c. Contains-append_right (claimed_id k slot ∷ []) me.0.pools.builds conn c) (alone_within winner place stays) (pool_step layout s.words Slots slot n within)
         (pools-set layout (taken pool_side kept.published k s.views) (taken pool_side kept.published (claimed m k id packet slot) (set s.views id winner)) s.words Slots slot n kept.pools within (here ∙ sym (now_taken m k id packet slot)) bits
-        (taken_else m k id packet slot pool_side s.views id me.0 winner at kept.published refl))
-        (trie_kept trie_side digest layout kept.published k (claimed m k id packet slot) s.words (set s.words word n) s.views (set s.views id winner) kept.trie (keeps_claim n clear) (grown-set trie_side s.views id me.0 winner at refl)
+        (taken_else m k id packet slot pool_side s.views id me.0 winner at kept.published refl refl))
+        (trie_kept trie_side digest layout kept.published k (claimed m k id packet slot) s.words (set s.words word n) s.views (set s.views id winner) kept.trie (keeps_claim n clear) (grown-set trie_side s.views id me.0 winner at refl refl)
         (fits-set trie_side digest layout.slots (claimed m k id packet slot) (trie_words layout (set s.words word n)) s.views id winner (winner_fits n clear)
         (fits_all trie_side digest layout.slots k (claimed m k id packet slot) (trie_words layout s.words) (trie_words layout (set s.words word n)) s.views (keeps_claim n clear) kept.trie.each)))
         (builds clear)
@@ -194,7 +194,7 @@ module _ {S A R : Type 0} (m : Meaning S A R) (digest : Key → ℕ) (layout : L
         IsCells m digest layout (stepped s word n id me.1 (seer m digest layout s id me kept at lives place found) keeps)
     loses n some' here bits =
         let w = seer m digest layout s id me kept at lives place found in
-        let taken' = taken-set pool_side kept.published k s.views id me.0 w at refl in
+        let taken' = taken-set pool_side kept.published k s.views id me.0 w at refl refl in
         let bit = kept.pools.bits Slots slot within in
         let below = bit_at-lt found (slot % 64) in
         let one : bit_at found (slot % 64) ≡ 1 = omega (arith, some', below) in

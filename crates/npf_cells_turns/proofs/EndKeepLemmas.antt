@@ -209,19 +209,19 @@ module _ {S A R : Type 0} (m : Meaning S A R) (digest : Key → ℕ) (layout : L
         stored_kills = stored_kept layout s.words s.words side (record side { kills = kills }) stored_left refl (own_same layout side (record side { kills = kills }) refl refl) (λ pool place field own. refl)
 
         pub built_ends : Epochs (epoch_word after_words) (reader_word after_words) (map reader_view (set s.views id builder)) → Deaths death_side layout (after m k entry) after_words (set s.views id builder) → IsCells m digest layout (record { words = set s.words (field_at layout Slots turn.slot turn_field) 0; homes = set s.homes turn.slot (some value); views = set s.views id builder })
-        built_ends = ends_with m digest layout s kept id v turn at has value quiet lives settled seated entry mine' follows freeless stage acts (bit ∙ sym is_claimed) seen_runs seen_phase (record side { kills = kills }) refl refl refl refl stored_kills builds_left others_fit notes_left fresh given loaded scanned behind
+        built_ends = ends_with m digest layout s kept id v turn at has value quiet lives settled seated entry mine' follows freeless stage acts (bit ∙ sym is_claimed) seen_runs seen_phase (record side { kills = kills }) refl refl refl refl refl stored_kills builds_left others_fit notes_left fresh given loaded scanned behind
 
         pub built_acted : (act : TurnAct S A) → AddsOwn (cell_pass v) (kept.log ++ entry ∷ []) (act_entries m (cell_pass v) turn.was.stage act) → builder ≡ acted act v (kept.log ++ entry ∷ []) → HasActed m act (v, (turn.slot, value) ∷ []) (builder, [])
         built_acted act adds after' = record {
           turn = turn;
           has = has;
           adds = adds;
-          legal = legal_after m digest layout s kept id v turn at has value quiet lives settled seated entry mine' follows freeless stage acts (bit ∙ sym is_claimed) seen_runs seen_phase (record side { kills = kills }) refl refl refl refl stored_kills builds_left others_fit notes_left fresh given loaded scanned behind fewer;
+          legal = legal_after m digest layout s kept id v turn at has value quiet lives settled seated entry mine' follows freeless stage acts (bit ∙ sym is_claimed) seen_runs seen_phase (record side { kills = kills }) refl refl refl refl refl stored_kills builds_left others_fit notes_left fresh given loaded scanned behind fewer;
           is = ap (λ (w : CellView S A R). (w, [])) after';
         }
 
         pub built_adds : AddsOwn (cell_pass v) (kept.log ++ entry ∷ []) (record entry { seat = v.seats.number } ∷ [])
-        built_adds = adds_act m digest layout s kept id v turn at has value quiet lives settled seated entry mine' follows freeless stage acts (bit ∙ sym is_claimed) seen_runs seen_phase (record side { kills = kills }) refl refl refl refl stored_kills builds_left others_fit notes_left fresh given loaded scanned behind
+        built_adds = adds_act m digest layout s kept id v turn at has value quiet lives settled seated entry mine' follows freeless stage acts (bit ∙ sym is_claimed) seen_runs seen_phase (record side { kills = kills }) refl refl refl refl refl stored_kills builds_left others_fit notes_left fresh given loaded scanned behind
 
     -- the notes of a connection that holds none of a way are 0, as the pass stored them
     bare_there : (conn : ConnId) → BuildsThere v turn conn → HasBareNotes m v conn → (way : Way) → HoldsNone k (last_id k turn.slot) way → note_word layout s.words turn.slot way ≡ 0
@@ -313,13 +313,13 @@ module _ {S A R : Type 0} (m : Meaning S A R) (digest : Key → ℕ) (layout : L
       stored_on = stored_kept layout s.words s.words v.pools (record v.pools { kills = kills }) (kept.stored id v at) refl (own_same layout v.pools (record v.pools { kills = kills }) refl refl) (λ pool place field own. refl)
 
       pub plain_ends : Epochs (epoch_word after_words) (reader_word after_words) (map reader_view (set s.views id stepper)) → Deaths death_side layout (after m k entry) after_words (set s.views id stepper) → IsCells m digest layout (record { words = set s.words (field_at layout Slots turn.slot turn_field) 0; homes = set s.homes turn.slot (some value); views = set s.views id stepper })
-      plain_ends = ends_with m digest layout s kept id v turn at has value quiet lives settled seated entry mine' follows freeless stage acts bit runs phase (record v.pools { kills = kills }) refl refl refl refl stored_on (fits_on id v.pools.builds v.pools.unstored mine) all_on (λ note c. kept.notes.each id v note at c) fresh given loaded scanned behind
+      plain_ends = ends_with m digest layout s kept id v turn at has value quiet lives settled seated entry mine' follows freeless stage acts bit runs phase (record v.pools { kills = kills }) refl refl refl refl refl stored_on (fits_on id v.pools.builds v.pools.unstored mine) all_on (λ note c. kept.notes.each id v note at c) fresh given loaded scanned behind
 
       pub plain_adds : AddsOwn (cell_pass v) (kept.log ++ entry ∷ []) (record entry { seat = v.seats.number } ∷ [])
-      plain_adds = adds_act m digest layout s kept id v turn at has value quiet lives settled seated entry mine' follows freeless stage acts bit runs phase (record v.pools { kills = kills }) refl refl refl refl stored_on (fits_on id v.pools.builds v.pools.unstored mine) all_on (λ note c. kept.notes.each id v note at c) fresh given loaded scanned behind
+      plain_adds = adds_act m digest layout s kept id v turn at has value quiet lives settled seated entry mine' follows freeless stage acts bit runs phase (record v.pools { kills = kills }) refl refl refl refl refl stored_on (fits_on id v.pools.builds v.pools.unstored mine) all_on (λ note c. kept.notes.each id v note at c) fresh given loaded scanned behind
 
       pub plain_legal : IsPass m (cell_pass v) → IsPass m (cell_pass stepper)
-      plain_legal = legal_after m digest layout s kept id v turn at has value quiet lives settled seated entry mine' follows freeless stage acts bit runs phase (record v.pools { kills = kills }) refl refl refl refl stored_on (fits_on id v.pools.builds v.pools.unstored mine) all_on (λ note c. kept.notes.each id v note at c) fresh given loaded scanned behind (λ none. none)
+      plain_legal = legal_after m digest layout s kept id v turn at has value quiet lives settled seated entry mine' follows freeless stage acts bit runs phase (record v.pools { kills = kills }) refl refl refl refl refl stored_on (fits_on id v.pools.builds v.pools.unstored mine) all_on (λ note c. kept.notes.each id v note at c) fresh given loaded scanned behind (λ none. none)
 
     -- the stage of a claimed identity is its slot's
     stage_there : (conn : ConnId) → conn.slot ≡ turn.slot → x.inc ≡ conn.inc → stage_of k conn ≡ x.stage

@@ -139,7 +139,7 @@ module _ {S A R : Type 0} (m : Meaning S A R) (digest : Key → ℕ) (layout : L
     module _ (lives : v.seats.lives ≡ true) (settled : v.seats.theirs ≡ []) (seated : 1 ≤ length v.seats.readers) (entry : Entry S A R) (mine : entry.seat ≡ id) (follows : MayFollow m layout.slots k entry) (freeless : (i : ConnId) → ¬ (entry.act ≡ Free i))
         (stage : Stage S) (acts : ActsOn k (after m k entry) slot stage) (bit : claim_bit stage ≡ claim_bit (k.slot slot).stage)
         (runs : value ≡ running (slot_by (gone_in death_side s.views slot) (record (k.slot slot) { stage = stage })).stage) (phase : turn.phase ≡ stage_phase (slot_by (gone_in death_side s.views slot) (record (k.slot slot) { stage = stage })).stage)
-        (side : PoolSide) (nodes : side.nodes ≡ v.pools.nodes) (unstored : side.unstored ≡ v.pools.unstored) (reclaims : side.reclaims ≡ v.pools.reclaims) (cleared : side.cleared ≡ v.pools.cleared) (stored : FitsStored layout s.words side) (builds : FitsBuilds (after m k entry) id side.builds side.unstored)
+        (side : PoolSide) (nodes : side.nodes ≡ v.pools.nodes) (back : side.unfreed ≡ v.pools.unfreed) (unstored : side.unstored ≡ v.pools.unstored) (reclaims : side.reclaims ≡ v.pools.reclaims) (cleared : side.cleared ≡ v.pools.cleared) (stored : FitsStored layout s.words side) (builds : FitsBuilds (after m k entry) id side.builds side.unstored)
         (others : (j : ℕ) (u : CellView S A R) → j ≢ id → get_elem? s.views j ≡ some u → FitsBuilds (after m k entry) j u.pools.builds u.pools.unstored)
         (noted : (note : Note) → Contains side.notes note → FitsNote layout k s.words side.builds note) (fresh : stage_phase stage ≡ 1 → (way : Way) → HoldsNone k (last_id k slot) way → note_word layout s.words slot way ≡ 0)
         (given : (i : ConnId) (way : Way) → Contains side.kills i → ¬ Contains side.gave_up (record { id = i; way = way }) → HoldsNone k i way → note_word layout s.words i.slot way ≡ 0) (loaded : ℕ) (scanned behind : List ℕ) where
@@ -169,7 +169,7 @@ module _ {S A R : Type 0} (m : Meaning S A R) (digest : Key → ℕ) (layout : L
 
       takes : (pool : Pool) (p : ℕ) → taken pool_side kept.published k' (set s.views id actor) pool p ≡ taken pool_side kept.published k s.views pool p
       takes Slots p = bit_stays k k' slot stage acts bit p
-      takes Nodes p = taken-set pool_side kept.published k s.views id v actor at nodes Nodes p
+      takes Nodes p = taken-set pool_side kept.published k s.views id v actor at nodes back Nodes p
 
       state : state_of m log' ≡ k'
       state = state_of-append m kept.log entry

@@ -143,7 +143,7 @@ module _ {S A R : Type 0} (m : Meaning S A R) (digest : Key → ℕ) (layout : L
     tells c = framed m digest layout s (stepped s word found id c teller keeps) kept kept.published kept.log (length-set s.words word found)
         (subst (λ sides. Seats entry_seat layout.slots all_places kept.log sides) (sym (side_same seat_side s.views id v teller at refl)) kept.seats)
         (epochs_apart m digest layout s word found id v teller kept at refl (λ j h. same j))
-        (pools-same layout (taken pool_side kept.published k s.views) (taken pool_side kept.published k (set s.views id teller)) s.words ws kept.pools (length-set s.words word found) (λ j h. same j) (taken-set pool_side kept.published k s.views id v teller at refl))
+        (pools-same layout (taken pool_side kept.published k s.views) (taken pool_side kept.published k (set s.views id teller)) s.words ws kept.pools (length-set s.words word found) (λ j h. same j) (taken-set pool_side kept.published k s.views id v teller at refl refl))
         (trie_apart m digest layout s word found id v teller kept at (knows_same v.trie) (λ j h. same j))
         (conns_apart m digest layout s word found id v teller kept at refl refl (λ j h. same j))
         (stored_apart m digest layout s word found id teller kept (kept.stored id v at) (λ j h. same j))

@@ -166,7 +166,7 @@ module _ {S A R : Type 0} (m : Meaning S A R) (digest : Key → ℕ) (layout : L
       (subst (λ sides. Seats entry_seat layout.slots all_places kept.log sides) (sym (side_same seat_side s.views id v reclaimer at refl)) kept.seats)
       (epochs_apart m digest layout s (field_at layout Slots slot turn_field) 0 id v reclaimer kept at refl (λ j h. below m digest layout s kept slot turn_field 0 exists (inl refl) j (omega (arith, h))))
       (pools-kept layout (taken pool_side kept.published k s.views) (taken pool_side kept.published k (set s.views id reclaimer)) s.words ws kept.pools (length-set s.words (field_at layout Slots slot turn_field) 0)
-      (below m digest layout s kept slot turn_field 0 exists (inl refl)) (taken-set pool_side kept.published k s.views id v reclaimer at refl))
+      (below m digest layout s kept slot turn_field 0 exists (inl refl)) (taken-set pool_side kept.published k s.views id v reclaimer at refl refl))
       (trie_same trie_side digest layout kept.published k k s.words ws s.views id v reclaimer kept.trie at (knows_same v.trie) (keeps_trie m digest layout s kept slot turn_field 0 exists (inl refl) k (λ key. refl) (λ i c. c) (λ i e. e)))
       (conns-same pool_side m layout kept.log s.words ws s.views (set s.views id reclaimer) kept.connections (length-set s.words (field_at layout Slots slot turn_field) 0) (λ p h. inc_else m digest layout s kept slot turn_field 0 exists (inl refl) p)
       (builds-kept pool_side k s.views id v reclaimer at refl refl kept.connections.each) (unstored-set pool_side s.views id v reclaimer at refl))

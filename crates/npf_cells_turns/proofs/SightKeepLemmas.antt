@@ -74,7 +74,7 @@ module _ {S A R : Type 0} (m : Meaning S A R) (digest : Key → ℕ) (layout : L
             (alone_still me.0 w (kept.alone id me.0 at) place refl (λ none. none))
             (record { before = λ j h. ap (λ ws. slice_index ws j) words; behind = λ j h. ap (λ ws. slice_index ws j) words })
             (pools-same layout (taken pool_side kept.published (state_of m kept.log) s.views) (taken pool_side kept.published (state_of m kept.log) (set s.views id w)) s.words (set s.words i (slice_index s.words i)) kept.pools
-            (length-set s.words i (slice_index s.words i)) (λ j h. ap (λ ws. slice_index ws j) words) (taken-set pool_side kept.published (state_of m kept.log) s.views id me.0 w at refl)),
+            (length-set s.words i (slice_index s.words i)) (λ j h. ap (λ ws. slice_index ws j) words) (taken-set pool_side kept.published (state_of m kept.log) s.views id me.0 w at refl refl)),
         record { seen = has_seen s id me kept at lives settled place },
       )
 

@@ -1,3 +1,4 @@
 pub mod CodeLemmas
+pub mod MarkLemmas
 pub mod OpeningLemmas
 pub mod WordLemmas

@@ -1,5 +1,5 @@
 -- Where the places and the locks of the trie lie.
-use Rattle.std.specs.Prelude.{ℕ, ◌+◌, ◌<◌, Bool, ◌&&◌, nat_lt}
+use Rattle.std.specs.Prelude.{◌≡◌, ℕ, ◌+◌, ◌<◌, Bool, ◌&&◌, nat_lt}
 use Rattle.npf_paths.specs.declared.place.Lock.{Lock}
 use Rattle.npf_paths.specs.declared.place.Lock.TheVariants as Locking
 use Rattle.npf_paths.specs.declared.place.Place.{Place}
@@ -27,6 +27,11 @@ place_at layout (Places.Node node digit) = field_at layout Nodes node digit
 abbrev pub IsInTrie : Layout → Place → Type 0
 IsInTrie layout (Places.Root digit) = digit < 64
 IsInTrie layout (Places.Node node digit) = (node < layout.nodes) × (digit < 16)
+
+-- the place is one of the node's
+abbrev pub IsPlaceIn : ℕ → Place → Type 0
+IsPlaceIn node (Places.Root digit) = ⊥
+IsPlaceIn node (Places.Node other digit) = other ≡ node
 
 abbrev pub is_in_trie : Layout → Place → Bool
 is_in_trie layout (Places.Root digit) = nat_lt digit 64

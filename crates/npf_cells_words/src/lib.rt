@@ -6,9 +6,11 @@
 
 mod laws;
 mod layout;
+mod mark;
 
 pub use laws::words_law;
 pub use layout::{
     EPOCH, FIRST_EPOCH, IDLE, INCARNATION, LAST_EPOCH, Layout, PARENT, PHASE, Pool, READERS, STATE,
     TURN, key_field, note_field, place_code, reader_place,
 };
+pub use mark::{Emptied, Marked, MetMark};

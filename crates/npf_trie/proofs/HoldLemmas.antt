@@ -129,7 +129,7 @@ module _ {S A R F : Type 0} where
     record now.0 {
       seats = keeps.seats i;
       epochs = keeps.epochs i;
-      pools = record now.0.pools { nodes = keeps.nodes i; builds = keeps.builds i; unstored = keeps.unstored i; kills = (keeps.dead i).kills; gave_up = (keeps.dead i).gave_up; reclaims = (keeps.dead i).reclaims; cleared = (keeps.dead i).cleared; dated = (keeps.dead i).dated };
+      pools = record now.0.pools { nodes = keeps.nodes i; builds = keeps.builds i; unstored = keeps.unstored i; kills = (keeps.dead i).kills; gave_up = (keeps.dead i).gave_up; reclaims = (keeps.dead i).reclaims; cleared = (keeps.dead i).cleared; dated = (keeps.dead i).dated; unfreed = (keeps.dead i).unfreed };
       trie = record now.0.trie { locks = locks i };
       turn = keeps.turn i;
     },

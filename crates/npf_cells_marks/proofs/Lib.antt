@@ -1,0 +1,7 @@
+pub mod ClearingLemmas
+pub mod LearningLemmas
+pub mod MarkLemmas
+pub mod PlacingLemmas
+pub mod StepLawLemmas
+pub mod StepLemmas
+pub mod StoringLemmas

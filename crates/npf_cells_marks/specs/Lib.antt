@@ -1,0 +1,4 @@
+pub mod Marks
+pub mod MarksLaw
+pub mod Steps
+pub mod StepsLaw
