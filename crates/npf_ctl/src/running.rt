@@ -28,7 +28,7 @@ use crate::saving::save_connections;
 use npf_connections::Connections;
 use npf_ctl_arrivals::Captures;
 use npf_ctl_messages::CommandFault;
-use npf_ctl_output::{ip_extents, put_report, write_file, written_capture};
+use npf_ctl_output::{Passed, ip_extents, put_report, write_parts};
 use npf_ctl_prepare::{Prepared, RunFiles, prepare_run};
 use npf_ctl_saved::{interface_names, load_connections};
 use npf_ctl_words::{Run, Spread as SpreadWord};
@@ -189,11 +189,7 @@ fn write_passed<F: Files>(
     ensures others { SameOthers (F.moment files.old).contents (F.moment files.new).contents name.now }
     ensures reads { HasReadOn (F.moment files.old) (F.moment files.new) }
 {
-    let bytes = written_capture(
-        alloc,
-        extents,
-        played.packets.as_slice(),
-        played.outcomes.as_slice(),
-    )?;
-    write_file(alloc, name, bytes.as_slice(), files)
+    let packets = played.packets.as_slice();
+    let mut passed = Passed::of(extents, packets, played.outcomes.as_slice());
+    write_parts(alloc, name, &mut passed, files)
 }

@@ -1,5 +1,5 @@
 -- What is written of a run's packets.
-use Rattle.std.proofs.Common.{◌≡◌, ℕ, ◌+◌, ◌<◌, ◌≤◌, Bool, true, false, List, [], ◌∷◌, ◌++◌, length, get_or, drop, refl, sym, ap, ◌∙◌, append_assoc, append-nil, arith}
+use Rattle.std.proofs.Common.{◌≡◌, ℕ, ◌+◌, ◌<◌, ◌≤◌, Bool, true, false, List, [], ◌∷◌, ◌++◌, length, get_or, drop, refl, sym, ap, ◌∙◌, append_assoc, arith}
 use Rattle.std.proofs.lemmas.List.{drop_more, drop_all}
 use Rattle.std.proofs.lemmas.List.Concat.{flat_map-append}
 use Rattle.std.specs.List.{flat_map}
@@ -11,7 +11,7 @@ use Rattle.npf_traffic.specs.declared.packet.Packet.{Packet}
 use Rattle.npf_packet.specs.declared.extent.IpExtent.{IpExtent}
 use Rattle.npf_ctl_output.specs.Extents.{AreExtentsOf, IsExtentOf}
 use Rattle.npf_ctl_output.specs.Outputs.{AreOutputsOf, IsOutputOf}
-use Rattle.npf_ctl_output.specs.Written.{AreWritten, IsWrittenAs, records_from, record_from, written_records}
+use Rattle.npf_ctl_output.specs.Written.{AreWritten, IsWrittenAs, bytes_behind, records_from, record_from, written_records}
 
 -- the record that is written of a packet of IP
 written_as : (packet : Packet) (outcome : Outcome) (output : Packet) (extent : IpExtent) → IsExtentOf packet extent → IsOutputOf packet outcome output → passes outcome ≡ true →
@@ -46,25 +46,28 @@ all_written [] [] (o ∷ os) [] e a = absurd a
 all_written (p ∷ ps) (x ∷ xs) outputs [] e a = absurd a
 all_written (p ∷ ps) (x ∷ xs) [] (c ∷ cs) e a = absurd a
 
+-- of all these bytes those in front of `left` were appended
+pub record IsAppended (all left before now : List ℕ) : Type 0 where
+  pub part : List ℕ
+  pub gives : all ≡ part ++ left
+  pub appends : now ≡ before ++ part
+
 module _ (extents : List IpExtent) (outputs : List Packet) (outcomes : List Outcome) where
-  -- the bytes of the records from the place i on
-  abbrev pub bytes_behind : ℕ → List ℕ
-  bytes_behind k = flat_map record_bytes (written_records (drop k extents) (drop k outputs) (drop k outcomes))
+  abbrev behind : ℕ → List ℕ
+  behind place = bytes_behind extents outputs outcomes place
 
   -- one packet more
   pub one_more : (i : ℕ) (extent : IpExtent) (output : Packet) (outcome : Outcome) → i < length outputs → length extents ≡ length outputs → length outcomes ≡ length outputs →
-      extent ≡ get_or extents i extent → output ≡ get_or outputs i output → outcome ≡ get_or outcomes i outcome → (written whole : List ℕ) → written ++ bytes_behind i ≡ whole →
-      (written ++ flat_map record_bytes (records_from extent output outcome)) ++ bytes_behind (i + 1) ≡ whole
-  one_more i extent output outcome within as_extents as_outcomes extent_is output_is outcome_is written whole so_far =
+      extent ≡ get_or extents i extent → output ≡ get_or outputs i output → outcome ≡ get_or outcomes i outcome → (given all : List ℕ) → all ≡ given ++ behind i →
+      all ≡ (given ++ flat_map record_bytes (records_from extent output outcome)) ++ behind (i + 1)
+  one_more i extent output outcome within as_extents as_outcomes extent_is output_is outcome_is given all so_far =
       let xs : drop i extents ≡ extent ∷ drop (i + 1) extents = drop_more extents i extent (omega (arith, within, as_extents)) ∙ ap (λ x. x ∷ drop (i + 1) extents) (sym extent_is) in
       let os : drop i outputs ≡ output ∷ drop (i + 1) outputs = drop_more outputs i output within ∙ ap (λ o. o ∷ drop (i + 1) outputs) (sym output_is) in
       let cs : drop i outcomes ≡ outcome ∷ drop (i + 1) outcomes = drop_more outcomes i outcome (omega (arith, within, as_outcomes)) ∙ ap (λ c. c ∷ drop (i + 1) outcomes) (sym outcome_is) in
-      let split : bytes_behind i ≡ flat_map record_bytes (records_from extent output outcome) ++ bytes_behind (i + 1) =
+      let split : behind i ≡ flat_map record_bytes (records_from extent output outcome) ++ behind (i + 1) =
       rw (xs, os, cs) (flat_map-append record_bytes (records_from extent output outcome) (written_records (drop (i + 1) extents) (drop (i + 1) outputs) (drop (i + 1) outcomes))) in
-      append_assoc written (flat_map record_bytes (records_from extent output outcome)) (bytes_behind (i + 1)) ∙ ap (λ b. written ++ b) (sym split) ∙ so_far
+      so_far ∙ (ap (λ b. given ++ b) split ∙ sym (append_assoc given (flat_map record_bytes (records_from extent output outcome)) (behind (i + 1))))
 
   -- behind the last packet nothing is left
-  pub none_more : (i : ℕ) → length outputs ≤ i → length extents ≡ length outputs → (written whole : List ℕ) → written ++ bytes_behind i ≡ whole → written ≡ whole
-  none_more i past as_extents written whole so_far =
-      let none : bytes_behind i ≡ [] = rw (drop_all i extents (omega (arith, past, as_extents))) refl in
-      sym (append-nil written) ∙ ap (λ b. written ++ b) (sym none) ∙ so_far
+  pub none_more : (i : ℕ) → length outputs ≤ i → length extents ≡ length outputs → behind i ≡ []
+  none_more i past as_extents = rw (drop_all i extents (omega (arith, past, as_extents))) refl

@@ -1,9 +1,10 @@
 -- The capture that is written of a run: the packets that passed, in order, with their times, each as it was sent, from its IP header to the
 -- IP packet's end.
 use Rattle.std.specs.Prelude.{◌≡◌, ℕ, ◌-◌, if◌then◌else◌, true, false, List, [], ◌∷◌, ◌++◌, take, drop}
+use Rattle.std.specs.List.{flat_map}
 use Rattle.npf_types.specs.declared.facts.Facts.{Facts}
 use Rattle.npf_pcap.specs.declared.capture.Record.{Record}
-use Rattle.npf_pcap.specs.Spelling.{record_with}
+use Rattle.npf_pcap.specs.Spelling.{record_bytes, record_with}
 use Rattle.npf_packet.specs.declared.decoded.Decoded.TheVariants.{Ip}
 use Rattle.npf_packet.specs.declared.extent.IpExtent.{IpExtent}
 use Rattle.npf_packet.specs.Decoding.{Decodes}
@@ -44,3 +45,7 @@ abbrev pub written_records : List IpExtent → List Packet → List Outcome → 
 written_records (extent ∷ extents) (output ∷ outputs) (outcome ∷ outcomes) =
     records_from extent output outcome ++ written_records extents outputs outcomes
 written_records _ _ _ = []
+
+-- the bytes of the records of the packets from this place on
+abbrev pub bytes_behind : List IpExtent → List Packet → List Outcome → ℕ → List ℕ
+bytes_behind extents outputs outcomes place = flat_map record_bytes (written_records (drop place extents) (drop place outputs) (drop place outcomes))

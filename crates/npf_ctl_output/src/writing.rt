@@ -32,7 +32,7 @@ pub fn write_file<F: Files>(
 }
 
 // A copy of a file's name, for a fault.
-fn text_of(alloc: Global, name: &str) -> Result<Text, NoMemory>
+pub(crate) fn text_of(alloc: Global, name: &str) -> Result<Text, NoMemory>
     ensures { IfOk result (λ text. text ≡ name.now) }
 {
     Ok(List::of_vec(Vec::from_slice(alloc, name.as_bytes())?))

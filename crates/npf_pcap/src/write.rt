@@ -1,5 +1,5 @@
 // The one spelling of a capture that is written.
-ghost use Rattle.std.specs.Prelude.{◌≡◌, ◌++◌, IfOk, OnOk, All};
+ghost use Rattle.std.specs.Prelude.{◌≡◌, ◌≤◌, ◌+◌, ◌++◌, IfOk, IsOk, OnOk, All, length, vec_len, vec_capacity};
 ghost use Rattle.byteorder.specs.Endian.{little_bytes};
 ghost use Rattle.npf_pcap.specs.Capture.{IsCapture};
 ghost use Rattle.npf_pcap.specs.Spelling.{FitsCapture, capture_bytes, header_bytes, record_bytes, record_with};
@@ -26,9 +26,11 @@ pub fn write_capture(alloc: Global, records: &[Record]) -> Result<Vec<u8>, NoMem
 }
 
 /// Appends the header that `write_capture` writes: the magic number, the version, the time zone, the accuracy, the snap length
-/// and the link type. Where memory runs out, nothing is said of what `out` holds.
+/// and the link type. Where memory runs out, nothing is said of what `out` holds; where it has room, none is asked for.
 pub fn append_header(out: &mut Vec<u8>) -> Result<(), NoMemory>
-    ensures { OnOk result (out.new.items ≡ out.old.items ++ header_bytes) }
+    ensures spelling { OnOk result (out.new.items ≡ out.old.items ++ header_bytes) }
+    ensures succeeds { vec_len out.old + 24 ≤ vec_capacity out.old → IsOk result }
+    ensures capacity { vec_capacity out.old ≤ vec_capacity out.new }
 {
     write_u32(out, 0xa1b2_3c4d)?;
     out.extend_from_slice(&[2, 0, 4, 0])?;
@@ -39,10 +41,12 @@ pub fn append_header(out: &mut Vec<u8>) -> Result<(), NoMemory>
 }
 
 /// Appends the record of a packet with this time, in nanoseconds since 1970, and these bytes, as `write_capture` writes it and
-/// under what it requires. Where memory runs out, nothing is said of what `out` holds.
+/// under what it requires. Where memory runs out, nothing is said of what `out` holds; where it has room, none is asked for.
 pub fn append_record(out: &mut Vec<u8>, time: u64, bytes: &[u8]) -> Result<(), NoMemory>
     requires { FitsCapture (record_with time bytes.now) }
-    ensures { OnOk result (out.new.items ≡ out.old.items ++ record_bytes (record_with time bytes.now)) }
+    ensures spelling { OnOk result (out.new.items ≡ out.old.items ++ record_bytes (record_with time bytes.now)) }
+    ensures succeeds { vec_len out.old + 16 + length bytes.now ≤ vec_capacity out.old → IsOk result }
+    ensures capacity { vec_capacity out.old ≤ vec_capacity out.new }
 {
     write_u32(out, (time / 1_000_000_000) as u32)?;
     write_u32(out, (time % 1_000_000_000) as u32)?;
@@ -53,7 +57,10 @@ pub fn append_record(out: &mut Vec<u8>, time: u64, bytes: &[u8]) -> Result<(), N
 }
 
 fn write_u32(out: &mut Vec<u8>, number: u32) -> Result<(), NoMemory>
-    ensures { OnOk result (out.new.items ≡ out.old.items ++ little_bytes 4 number) }
+    ensures spelling { OnOk result (out.new.items ≡ out.old.items ++ little_bytes 4 number) }
+    ensures len { OnOk result (vec_len out.new ≡ vec_len out.old + 4) }
+    ensures succeeds { vec_len out.old + 4 ≤ vec_capacity out.old → IsOk result }
+    ensures capacity { vec_capacity out.old ≤ vec_capacity out.new }
 {
     out.extend_from_slice(&number.to_le_bytes())?;
     Ok(())

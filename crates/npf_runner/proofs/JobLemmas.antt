@@ -11,7 +11,7 @@ use Rattle.npf_traffic.specs.declared.packet.Packet.{Packet}
 use Rattle.npf_runner.specs.declared.phase.Command.{Command}
 use Rattle.npf_runner.specs.declared.phase.Command.TheVariants.{Publish, Expire}
 use Rattle.npf_runner.specs.declared.phase.Phase.{Phase}
-use Rattle.npf_runner.specs.Job.{IsJob, with_numbers, numbered_from}
+use Rattle.npf_runner.specs.Job.{IsJob, Job, with_numbers, numbered_from}
 use Rattle.npf_runner.specs.Plays.{PhasesPublishFrom, PublishFrom, packets_in, published_by}
 use Rattle.npf_traffic.specs.Packet.{IsShortPacket}
 use Rattle.std.specs.Prelude.{Option, Some, None}
@@ -84,3 +84,16 @@ mapped_more f g made new before after x y items same pushed =
     ap (λ xs. map g made ++ map f xs) items
     ∙ (sym (append_assoc (map g made) (f x ∷ []) (map f after))
     ∙ ap (λ zs. zs ++ map f after) (ap (λ z. map g made ++ z ∷ []) (sym same) ∙ sym (ap (map g) pushed ∙ map-append g made (y ∷ []))))
+
+-- what holds of each job and of its worker holds place by place
+pub zip_numbered : (R : Job → ℕ → Type 0) (first : ℕ) (packets : List Packet) (workers : List ℕ) → length workers ≡ length packets →
+    ((i : ℕ) (packet : Packet) → i < length packets → packet ≡ get_or packets i packet → R (record { number = first + i; packet = packet }) (get_or workers i 0)) →
+    AllZip R (numbered_from first packets) workers
+zip_numbered R first [] [] n each = tt
+zip_numbered R first [] (w ∷ workers) n each = absurd (omega (arith, n))
+zip_numbered R first (p ∷ packets) [] n each = absurd (omega (arith, n))
+zip_numbered R first (p ∷ packets) (w ∷ workers) n each = (
+  (let same : first + 0 ≡ first = omega arith in subst (λ k. R (record { number = k; packet = p }) w) same (each 0 p (omega arith) refl)),
+  zip_numbered R (first + 1) packets workers (omega (arith, n))
+      (λ i packet low is. let same : first + suc i ≡ first + 1 + i = omega arith in subst (λ k. R (record { number = k; packet = packet }) (get_or workers i 0)) same (each (suc i) packet (omega (arith, low)) is)),
+)

@@ -53,35 +53,41 @@ impl<'a, P: Drop> Room<'a, P> {
     }
 }
 
-/// The workers of packets that are numbered from `first` on, one for each of the readers, as the order has it.
+/// The workers of packets that are numbered from `first` on, one for each of the readers, as the order has it; and a list in which
+/// none of the packets is any more: where they were dealt, the one that they were in.
 pub fn crew_of<'a>(
     alloc: Global,
     order: &Order,
     first: u64,
     packets: Vec<Packet<'a>>,
     readers: Vec<ConfReader>,
-) -> Result<Vec<Worker<'a>>, NoMemory>
+) -> Result<(Vec<Worker<'a>>, Vec<Packet<'a>>), NoMemory>
     requires readers { vec_len readers ≤ 64 }
     requires order { IsOrder order.now (vec_len packets) (vec_len readers) }
     requires first { first + vec_len packets < 2 ^ 64 }
-    ensures count { IfOk result (λ crew. vec_len crew ≡ vec_len readers) }
+    ensures count { IfOk result (λ crew. vec_len crew.0 ≡ vec_len readers) }
     ensures numbers { IfOk result (λ crew. IsDealt (workers_by order.now (vec_len packets.entry))
-        (range_with_len first (vec_len packets.entry)) (map numbers_of_worker crew.items)) }
+        (range_with_len first (vec_len packets.entry)) (map numbers_of_worker crew.0.items)) }
     ensures packets { IfOk result (λ crew. IsDealt (workers_by order.now (vec_len packets.entry))
-        packets.entry.items (map packets_of_worker crew.items)) }
-    ensures ready { IfOk result (λ crew. All IsEquipped crew.items) }
+        packets.entry.items (map packets_of_worker crew.0.items)) }
+    ensures ready { IfOk result (λ crew. All IsEquipped crew.0.items) }
     ensures from { IfOk result (λ crew.
-        All (λ worker. Contains readers.items worker.reader) crew.items) }
+        All (λ worker. Contains readers.items worker.reader) crew.0.items) }
+    ensures emptied { IfOk result (λ crew. crew.1.items ≡ []) }
 {
     match order {
-        Order::Only => only_worker(alloc, first, packets, readers),
+        Order::Only => {
+            let crew = only_worker(alloc, first, packets, readers)?;
+            Ok((crew, Vec::new(alloc)))
+        }
         Order::Each(order) => {
             let order = order.as_slice();
             let workers = readers.len() as u32;
             let numbers = numbers_from(alloc, first, packets.len())?;
-            let numbers = deal(alloc, numbers, order, workers)?;
-            let packets = deal(alloc, packets, order, workers)?;
-            workers_with(alloc, numbers, packets, readers)
+            let (numbers, _) = deal(alloc, numbers, order, workers)?;
+            let (packets, emptied) = deal(alloc, packets, order, workers)?;
+            let crew = workers_with(alloc, numbers, packets, readers)?;
+            Ok((crew, emptied))
         }
     }
 }

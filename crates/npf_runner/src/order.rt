@@ -14,6 +14,7 @@ use npf_traffic::Packet;
 use npf_types::NoMemory;
 use std::alloc::Global;
 use std::collections::VecDeque;
+use std::thread::Threads;
 
 /// The worker of each of some packets, counted from 0.
 #[derive(Drop)]
@@ -21,19 +22,20 @@ pub enum Order {
     /// All go to the only worker.
     Only,
     /// Each goes to the worker at its place here.
-    Each(Vec<u32>),
+    Each(Vec<u8>),
 }
 
 impl Order {
     /// The order of packets that are numbered from `first` on. For one worker it takes no memory and looks at no packet.
-    pub fn of(
+    pub fn of<R: Threads + Sync>(
+        rt: &R,
         alloc: Global,
         packets: &[Packet<'_>],
         first: u64,
         spread: Spread,
         workers: u32,
     ) -> Result<Order, NoMemory>
-        requires workers { 1 ≤ workers }
+        requires workers { (1 ≤ workers) × (workers ≤ 64) }
         requires first { (1 ≤ first) × (first + length packets.now < 2 ^ 64) }
         requires short { All IsShortPacket packets.now }
         ensures fits { IfOk result (λ order. IsOrder order (length packets.now) workers) }
@@ -44,7 +46,7 @@ impl Order {
         if workers == 1 {
             return Ok(Order::Only);
         }
-        Ok(Order::Each(workers_of(alloc, packets, first, spread, workers)?))
+        Ok(Order::Each(workers_of(rt, alloc, packets, first, spread, workers)?))
     }
 
     /// All that was there, and then what the workers' queues have, in the order of the packets. It takes no memory.

@@ -1,5 +1,5 @@
 // One phase: its packets and its commands, side by side.
-ghost use Rattle.std.specs.Prelude.{◌≡◌, ◌≤◌, ◌<◌, ◌+◌, ◌^◌, ◌++◌, List, All, IfOk, length, map, vec_len, vec_capacity};
+ghost use Rattle.std.specs.Prelude.{◌≡◌, ◌≤◌, ◌<◌, ◌+◌, ◌^◌, ◌++◌, [], List, All, IfOk, length, map, vec_len, vec_capacity};
 ghost use Rattle.std.specs.List.{AllZip};
 ghost use Rattle.npf_connections.specs.Pass.{all_places};
 ghost use Rattle.npf_connections.specs.Stay.{IsLater, IsOut};
@@ -28,6 +28,7 @@ use crate::worker::Worker;
 use npf_connections::Connections;
 use npf_flow::FlowLaw;
 use npf_publish::Publisher;
+use npf_runner_dealing::roomier;
 use npf_runner_passes::{split_off, take_in};
 use npf_traffic::Packet;
 use npf_types::NoMemory;
@@ -45,10 +46,11 @@ pub struct Task<'a> {
     pub last: u64,
 }
 
-/// Which worker each packet goes to, the workers, and the publisher that they read from.
+/// Which worker each packet goes to, the workers, the list that their packets were in, and the publisher that they read from.
 struct Prepared<'a> {
     order: Order,
     crew: Vec<Worker<'a>>,
+    emptied: Vec<Packet<'a>>,
     publisher: Publisher,
 }
 
@@ -87,6 +89,7 @@ pub fn run_phase<'a, R: Threads + Wait + Sync, C: Connections<FlowLaw>, G: Gate>
     let Prepared {
         order,
         crew,
+        emptied,
         mut publisher,
     } = prepare(shared.rt, shared.alloc, task, count_published(commands))?;
     let ran = run_crew(shared, pass, crew, room, commands, &mut publisher);
@@ -94,12 +97,12 @@ pub fn run_phase<'a, R: Threads + Wait + Sync, C: Connections<FlowLaw>, G: Gate>
     let queues = ran?;
     Ok(Answers {
         outcomes: order.gather(queues.outcomes, all.outcomes),
-        packets: order.gather(queues.packets, all.packets),
+        packets: order.gather(queues.packets, roomier(all.packets, emptied)),
     })
 }
 
 /// What a phase needs that publishes so many configurations.
-fn prepare<'a, R: Wait>(
+fn prepare<'a, R: Threads + Wait + Sync>(
     rt: &R,
     alloc: Global,
     task: Task<'a>,
@@ -127,6 +130,7 @@ fn prepare<'a, R: Wait>(
           last = task.entry.last +
               published;
         }) worker.reader) made.crew.items) }
+    ensures emptied { IfOk result (λ made. made.emptied.items ≡ []) }
     ensures number { IfOk result (λ made. published_number made.publisher ≡ task.entry.last) }
     ensures range { IfOk result (λ made. publisher_range made.publisher ≡ record
         { first = task.entry.last; last = task.entry.last + published }) }
@@ -138,12 +142,13 @@ fn prepare<'a, R: Wait>(
         spread,
         last,
     } = task;
-    let order = Order::of(alloc, packets.as_slice(), first, spread, workers)?;
+    let order = Order::of(rt, alloc, packets.as_slice(), first, spread, workers)?;
     let (publisher, readers) = Publisher::new(rt, alloc, workers, last, last + published)?;
     match crew_of(alloc, &order, first, packets, readers) {
-        Ok(crew) => Ok(Prepared {
+        Ok((crew, emptied)) => Ok(Prepared {
             order,
             crew,
+            emptied,
             publisher,
         }),
         Err(NoMemory) => {

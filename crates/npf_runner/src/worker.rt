@@ -18,6 +18,7 @@ use npf_publish::ConfReader;
 use npf_traffic::Packet;
 use npf_types::NoMemory;
 use std::alloc::Global;
+use std::mem::replace;
 use std::sync::Wait;
 
 /// What a worker, counted from 0, needs beside a pass: its reader, its packets in order with their numbers, and room for their outcomes.
@@ -62,7 +63,8 @@ pub struct Lane<'a, P: Drop> {
     pub worker: Worker<'a>,
 }
 
-/// Handles a worker's packets in order where they stand, the gate being told of each.
+/// Handles a worker's packets in order where they stand, the gate being told of each. Their outcomes are put into the lane at the
+/// end only: till then the worker writes nothing near another's lane for them.
 pub fn work<R: Wait, C: Connections<FlowLaw>, G: Gate>(
     shared: &Shared<'_, R, C, G>,
     lane: &mut Lane<'_, C::Pass>,
@@ -80,11 +82,13 @@ pub fn work<R: Wait, C: Connections<FlowLaw>, G: Gate>(
         packets,
         outcomes,
     } = worker;
+    let mut told = replace(outcomes, Vec::new(shared.alloc));
     for place in 0..packets.len() {
         let n = numbers.at(place);
         let outcome = handle(shared, pass, reader, *number, n, &mut packets[place]);
-        outcomes.push_reserved(outcome);
+        told.push_reserved(outcome);
     }
+    *outcomes = told;
 }
 
 /// Handles a worker's packet of this number, of which the gate is told, unless it is a fragment that is held.

@@ -68,14 +68,12 @@ pub fn step<L: Law, H: KeyHash>(
     wait_turn(rt, cells, pass, id.slot);
     let act = TurnAct::Step { id, n, way, arg };
     match cells.exchange(pass, id.slot, None) {
-        Some(running) => {
-            let (next, reply) = step_flow::<L>(running, way, arg);
-            cells.exchange(pass, id.slot, Some(next));
+        Some(mut running) => {
+            let place = running.1;
+            let reply = advance::<L>(&mut running, way, arg);
+            cells.exchange(pass, id.slot, Some(running));
             cells.end_turn(pass, id.slot, &act);
-            Stepped::Done {
-                reply,
-                place: running.1,
-            }
+            Stepped::Done { reply, place }
         }
         None => {
             cells.end_turn(pass, id.slot, &act);
@@ -84,18 +82,15 @@ pub fn step<L: Law, H: KeyHash>(
     }
 }
 
-// The flow and the count of steps after a packet, and the answer.
-fn step_flow<L: Law>(
-    running: (L::State, u64),
-    way: Way,
-    arg: &L::Arg,
-) -> ((L::State, u64), L::Reply)
-    ensures next { result.0 ≡ (L.meaning.next running.0 way arg.now, min (running.1 + 1) (2 ^ 64 - 1)) }
-    ensures answer { result.1 ≡ L.meaning.answer running.0 way arg.now }
+// The flow goes on by a packet, where it stands, and has one step more; and the answer.
+#[inline(always)]
+fn advance<L: Law>(running: &mut (L::State, u64), way: Way, arg: &L::Arg) -> L::Reply
+    ensures next { running.new ≡ (L.meaning.next running.old.0 way arg.now, min (running.old.1 + 1) (2 ^ 64 - 1)) }
+    ensures answer { result ≡ L.meaning.answer running.old.0 way arg.now }
 {
-    let (flow, steps) = running;
-    let (next, reply) = L::step(&flow, way, arg);
-    ((next, steps.saturating_add(1)), reply)
+    let reply = L::advance(&mut running.0, way, arg);
+    running.1 = running.1.saturating_add(1);
+    reply
 }
 
 /// Kills a connection that the pass is building, which has stored 0 as the note of each way of which it holds no key. It keeps its keys, and is

@@ -15,4 +15,4 @@ pub returns : goal.returns
 returns c =
     let bytes : c.as_slice.result.now ≡ datagram_bytes c.args.datagram.now = c.as_slice.ensures.value ∙ c.in_ok-write.ensures ∙ ap (λ front. front ++ datagram_bytes c.args.datagram.now) c.in_ok-bytes.ensures.items in
     on_ok_weaker c.append_record.result
-    (λ is. is ∙ ap (λ all. c.args.out.now.items ++ record_bytes (record_with c.args.time all)) bytes) c.append_record.ensures
+    (λ is. is ∙ ap (λ all. c.args.out.now.items ++ record_bytes (record_with c.args.time all)) bytes) c.append_record.ensures.spelling

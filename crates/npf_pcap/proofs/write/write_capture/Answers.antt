@@ -11,7 +11,7 @@ loop-record-preserved c =
     let all = c.args.records.now in
     let i = c.loop-record.record-index in
     let r = c.record-item.result in
-    c.in_ok-append_record.ensures
+    c.in_ok-append_record.ensures.spelling
     ∙ ap (λ (bytes : List ℕ). c.loop-record.out.items ++ record_bytes (record_with r.time bytes)) c.as_slice.ensures
     ∙ ap (λ (out : List ℕ). out ++ record_bytes r) c.loop-record.invariant
     ∙ flat_map_more record_bytes header_bytes (take i all) r

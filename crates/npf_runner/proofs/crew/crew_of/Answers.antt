@@ -1,7 +1,6 @@
-use Rattle.std.proofs.Common.{◌≡◌, ◌∷◌, [], List, ℕ, IfOk, length, map, replicate, vec_len, rules, sym, subst}
+use Rattle.std.proofs.Common.{◌≡◌, ◌∷◌, [], List, ℕ, length, map, replicate, vec_len, rules, sym, subst}
 use Rattle.std.specs.List.{range_with_len}
 use Rattle.std.proofs.lemmas.List.FromFn.{length-range_with_len}
-use Rattle.std.proofs.lemmas.Result.{IfOk-weaker}
 use Rattle.npf_runner_dealing.specs.Lanes.{IsDealt}
 use Rattle.npf_traffic.specs.declared.packet.Packet.{Packet}
 use Rattle.npf_runner.specs.declared.order.Order.{Order}
@@ -10,21 +9,17 @@ use Rattle.npf_runner.specs.Order.{workers_by}
 use Rattle.npf_runner.proofs.OrderLemmas.{dealt_to_only}
 use Rattle.npf_runner.proofs.crew.crew_of.Goals as goal
 
-pub returns-in-Only-clause-numbers : goal.returns-in-Only-clause-numbers
-returns-in-Only-clause-numbers c =
+pub returns-in_ok-crew-in-Only-clause-numbers : goal.returns-in_ok-crew-in-Only-clause-numbers
+returns-in_ok-crew-in-Only-clause-numbers c =
     let size = vec_len c.args.packets in
     let numbers = range_with_len c.args.first size in
-    subst (λ (order : Order). IfOk c.only_worker.result (λ crew. IsDealt (workers_by order size) numbers (map numbers_of_worker crew.items))) (sym c.in-Only.is)
-    (IfOk-weaker c.only_worker.result _ _
-    (λ crew is. subst (λ (lanes : List (List ℕ)). IsDealt (replicate size 0) numbers lanes) (sym is) (dealt_to_only size numbers (length-range_with_len c.args.first size)))
-    c.only_worker.ensures.numbers)
+    subst (λ (order : Order). IsDealt (workers_by order size) numbers (map numbers_of_worker c.in_ok-crew-in-Only.crew.items)) (sym c.in-Only.is)
+    (subst (λ (lanes : List (List ℕ)). IsDealt (replicate size 0) numbers lanes) (sym c.in_ok-crew-in-Only.ensures.numbers) (dealt_to_only size numbers (length-range_with_len c.args.first size)))
 
-pub returns-in-Only-clause-packets : goal.returns-in-Only-clause-packets
-returns-in-Only-clause-packets c =
+pub returns-in_ok-crew-in-Only-clause-packets : goal.returns-in_ok-crew-in-Only-clause-packets
+returns-in_ok-crew-in-Only-clause-packets c =
     let size = vec_len c.args.packets in
     let packets = c.args.packets.items in
     let same : length packets ≡ size = search rules in
-    subst (λ (order : Order). IfOk c.only_worker.result (λ crew. IsDealt (workers_by order size) packets (map packets_of_worker crew.items))) (sym c.in-Only.is)
-    (IfOk-weaker c.only_worker.result _ _
-    (λ crew is. subst (λ (lanes : List (List Packet)). IsDealt (replicate size 0) packets lanes) (sym is) (dealt_to_only size packets same))
-    c.only_worker.ensures.packets)
+    subst (λ (order : Order). IsDealt (workers_by order size) packets (map packets_of_worker c.in_ok-crew-in-Only.crew.items)) (sym c.in-Only.is)
+    (subst (λ (lanes : List (List Packet)). IsDealt (replicate size 0) packets lanes) (sym c.in_ok-crew-in-Only.ensures.packets) (dealt_to_only size packets same))

@@ -1,31 +1,24 @@
-use Rattle.std.proofs.Common.{rules, ◌≡◌, ◌<◌, ◌+◌, [], ◌∷◌, ◌++◌, All, take, get_or, length, sym, subst}
+use Rattle.std.proofs.Common.{rules, ◌≡◌, ◌<◌, ◌+◌, ◌++◌, ℕ, List, take, drop, length, le_refl, ap, sym, subst, ◌∙◌}
+use Rattle.std.proofs.lemmas.List.{take_all, take-append-le}
 use Rattle.std.specs.List.{AllZip}
-use Rattle.std.proofs.lemmas.List.Elements.{All-push}
 use Rattle.npf_runner.specs.Spread.{IsWorkerOf}
 use Rattle.npf_runner.specs.Job.{Job, job_arrival, numbered_from}
 use Rattle.npf_runner.specs.Plays.{arriving}
-use Rattle.npf_runner.proofs.JobLemmas.{numbered_more, zip_push}
+use Rattle.npf_runner.proofs.JobLemmas.{zip_numbered}
 use Rattle.npf_runner.proofs.spread.workers_of.Goals as goal
 
-pub loop-packet-preserved : goal.loop-packet-preserved
-loop-packet-preserved c =
-    let i = c.loop-packet.packet-index in
+pub returns-clause-each : goal.returns-clause-each
+returns-clause-each g c =
     let first = c.args.first in
     let packets = c.args.packets.now in
-    let order = c.loop-packet.order.items in
-    let packet = c.packet-item.result in
-    let worker = c.worker_of.result in
-    let inv = c.loop-packet.invariant in
-    let job : Job = record { number = first + i; packet = packet } in
-    let pushed : c.push_reserved.new.self.items ≡ order ++ worker ∷ [] = search rules in
-    let low : i < length packets = search rules in
-    let at : packet ≡ get_or packets i packet = search rules in
-    let goes = subst (λ n. IsWorkerOf c.args.spread c.args.workers (arriving n packet) worker) inv.1 c.worker_of.ensures.is in (
-      search rules,
-      search rules,
-      search rules,
-      subst (λ z. All (λ worker. worker < c.args.workers) z) (sym pushed) (All-push (λ worker. worker < c.args.workers) order worker inv.3 c.worker_of.ensures.fits),
-      subst (λ z. AllZip (λ (job : Job) worker. IsWorkerOf c.args.spread c.args.workers (job_arrival job) worker) (numbered_from first (take (i + 1) packets)) z) (sym pushed)
-          (subst (λ z. AllZip (λ (job : Job) worker. IsWorkerOf c.args.spread c.args.workers (job_arrival job) worker) z (order ++ worker ∷ [])) (sym (numbered_more first packets i packet low at))
-          (zip_push (λ (job : Job) worker. IsWorkerOf c.args.spread c.args.workers (job_arrival job) worker) (numbered_from first (take i packets)) order job worker inv.4 goes)),
-    )
+    let told = c.for_each_mut.new.s in
+    let made = c.in_ok-order.order in
+    let count : length told ≡ length packets = search rules in
+    let rest = drop (length told) made.items in
+    let len : made.len ≡ length told = search rules in
+    let whole : take made.len (told ++ rest) ≡ told = ap (λ n. take n (told ++ rest)) len ∙ (take-append-le (length told) told rest (le_refl (length told)) ∙ take_all (length told) told (le_refl (length told))) in
+    subst (λ (z : List ℕ). AllZip (λ (job : Job) worker. IsWorkerOf c.args.spread c.args.workers (job_arrival job) worker) (numbered_from first packets) z) (sym whole)
+    (zip_numbered (λ job worker. IsWorkerOf c.args.spread c.args.workers (job_arrival job) worker) first packets told count
+    (λ i packet low is.
+    let at = (c.for_each_mut.ensures i 0 (search rules)).1 in
+    subst (λ w. IsWorkerOf c.args.spread c.args.workers (arriving (first + i) packet) w) at.left (at.call.takes packet is)))

@@ -1,4 +1,4 @@
-use Rattle.std.proofs.Common.{rules, ◌≡◌, ◌<◌, ◌+◌, All, length, vec_len, refl, sym, subst, ◌∙◌, arith}
+use Rattle.std.proofs.Common.{rules, ◌≡◌, ◌<◌, ◌+◌, ◌++◌, All, length, vec_len, refl, ap, sym, subst, ◌∙◌, arith}
 use Rattle.std.proofs.lemmas.List.{length-map}
 use Rattle.std.proofs.lemmas.List.Elements.{All-weaker}
 use Rattle.npf_publish.specs.ConfReader.{IsNewReader, reader_range}
@@ -50,7 +50,8 @@ gather-requires-2 g c =
     c.in_ok-order.ensures.dealt ran.2 c.in_ok-queues.queues made.order size ran.1 refl fits count in
     let same = length-map again.dones (λ (done : Handled). done.packet) ∙ again.count in
     let room = c.requires.for_packets in
-    record { dealt = (outputs_of again.dones, again.outputs, omega (arith, same, room)) }
+    let all : vec_len c.roomier.result ≡ vec_len c.args.all.packets = search rules in
+    record { dealt = (outputs_of again.dones, again.outputs, omega (arith, same, room, all, c.roomier.ensures.capacity)) }
 
 pub returns-clause-runs : goal.returns-clause-runs
 returns-clause-runs g c =
@@ -67,7 +68,7 @@ returns-clause-runs g c =
     let last = c.args.task.last in (
       again.dones,
       c.gather.ensures.gathered (outcomes_of again.dones) again.outcomes,
-      c.gather-2.ensures.gathered (outputs_of again.dones) again.outputs,
+      c.gather-2.ensures.gathered (outputs_of again.dones) again.outputs ∙ ap (λ packets. packets ++ outputs_of again.dones) c.roomier.ensures.items,
       record {
         order = workers_by made.order size;
         spreads = c.in_ok-order.ensures.spreads;

@@ -43,7 +43,7 @@ loop-place-preserved g c =
     let size = length first.worker.packets.items in
     let numbers = packet_numbers first.worker.numbers size in
     let packets = c.loop-place.packets.items in
-    let outcomes = c.loop-place.outcomes.items in
+    let outcomes = c.loop-place.told.items in
     let n = c.at-n.result in
     let packet = c.index_mut.result.now in
     let outcome = c.handle-outcome.result in
@@ -95,7 +95,7 @@ returns-clause-worked g c =
     let none : drop c.loop-place.place numbers ≡ [] = drop_all c.loop-place.place numbers (let same = c.requires.can.jobs.same_length in omega (arith, same, past)) in
     record {
       legal = inv.1.legal;
-      works = subst (λ z. WorksThrough configs (V first.pass) first.worker.reader (jobs_of first.worker) pass reader z) (append-nil (handled c.loop-place.outcomes.items c.loop-place.packets.items))
+      works = subst (λ z. WorksThrough configs (V first.pass) first.worker.reader (jobs_of first.worker) pass reader z) (append-nil (handled c.loop-place.told.items c.loop-place.packets.items))
           (inv.7 pass reader [] (subst (λ ns. WorksThrough configs pass reader (with_numbers ns left) pass reader []) (sym none) (refl, refl)));
       same_length = search rules;
     }

@@ -16,8 +16,8 @@ invariant-loop-place g l =
     × All IsJob (with_numbers (drop l.place (packet_numbers l.numbers (length l.initial.packets.items))) (drop l.place l.packets.items))
     × (reader_range l.reader ≡ reader_range l.initial.reader)
     × (vec_len l.packets ≡ vec_len l.initial.packets)
-    × (vec_len l.outcomes ≡ l.place)
-    × (vec_len l.initial.packets ≤ vec_capacity l.outcomes)
+    × (vec_len l.told ≡ l.place)
+    × (vec_len l.initial.packets ≤ vec_capacity l.told)
     × ((new : _) (next : _) (dones : List _) →
     WorksThrough (configurations l.shared.configs.now) (g.C.Connections.view l.pass) l.reader (with_numbers (drop l.place (packet_numbers l.numbers (length l.initial.packets.items))) (drop l.place l.packets.items)) new next dones →
-    WorksThrough (configurations l.shared.configs.now) (g.C.Connections.view l.initial.pass) l.initial.reader (with_numbers (packet_numbers l.numbers (length l.initial.packets.items)) l.initial.packets.items) new next (handled l.outcomes.items l.packets.items ++ dones))
+    WorksThrough (configurations l.shared.configs.now) (g.C.Connections.view l.initial.pass) l.initial.reader (with_numbers (packet_numbers l.numbers (length l.initial.packets.items)) l.initial.packets.items) new next (handled l.told.items l.packets.items ++ dones))

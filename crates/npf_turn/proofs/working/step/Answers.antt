@@ -8,4 +8,4 @@ end_turn-requires-clause-may g c =
     let out = exchanged _ _ _ _ _ _ got _ _ c.exchange.ensures.next in
     let back = exchanged _ _ _ _ _ _ out _ _ c.exchange-in-Some.ensures.next in
     let held = gave _ _ _ _ _ _ got _ c.exchange.ensures.gives ∙ c.in-Some.is in
-    may_step _ _ _ _ _ _ back g.L.Law.meaning c.args.id c.args.n c.args.way c.args.arg _ _ refl c.requires.turnless c.requires.known held refl (ap (λ x. Some x) c.step_flow-reply.ensures.next)
+    may_step _ _ _ _ _ _ back g.L.Law.meaning c.args.id c.args.n c.args.way c.args.arg _ _ refl c.requires.turnless c.requires.known held refl (ap (λ x. Some x) c.advance-reply.ensures.next)
