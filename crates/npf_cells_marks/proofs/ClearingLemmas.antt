@@ -25,7 +25,7 @@ use Rattle.npf_seats.proofs.SumLemmas.{set_there}
 use Rattle.npf_cells_lives.specs.Deaths.{has_epoch}
 use Rattle.npf_cells_lives.proofs.DeathLemmas.{epoch_note}
 use Rattle.npf_cells_marks.specs.Marks.{MarkSide, RestsIn, FitsPlaced, FitsMarked, FitsEmptied, FitsMet, HasMark, IsUnfreed, Marks}
-use Rattle.npf_cells_marks.specs.Steps.{ClearsMark, FreesState}
+use Rattle.npf_cells_marks.specs.Steps.{GetsNodeBack, FreesState}
 use Rattle.npf_cells_marks.proofs.MarkLemmas.{no_epoch_twice, placed_at, marks-changed, unfreed_on, placed_on, marked_on, emptied_on, met_on, bare_on, stands_once}
 use Rattle.npf_cells_marks.proofs.StepLemmas.{later, one_lock}
 
@@ -40,7 +40,7 @@ bare_place layout words (Places.Root digit) n within inside bare = absurd within
 bare_place layout words (Places.Node other digit) n within inside bare = ap (λ x. slice_index words (place_at layout (Places.Node x digit))) within ∙ bare digit inside.1
 
 module _ {V : Type 0} (side_of : V → MarkSide) (layout : Layout) (published published' words words' : List ℕ) (views : List V) (i : ℕ) (p : Place) (node epoch : ℕ) (v w : V) (kept : Marks side_of layout published words views) (at : get_elem? views i ≡ some v)
-    (step : ClearsMark side_of layout published published' words words' views i p node epoch v w) where
+    (step : GetsNodeBack side_of layout published published' words words' views i p node epoch v w) where
   clearer_rests : (n : ℕ) → HasMark layout words n → RestsIn (side_of w) n → RestsIn (side_of v) n × ((side_of w).protecting ≡ (side_of v).protecting)
   clearer_rests n mark rests = (step.rests.rests n rests, step.rests.protecting)
 

@@ -136,7 +136,7 @@ pub record PlacesMark {V : Type 0} (side_of : V → MarkSide) (layout : Layout) 
 
 -- the seat clears the mark that it met under the place's lock, of a node that was let go with an epoch: the node is that seat's, and what it now knows to
 -- be empty is the place itself, if that is one of a node
-pub record ClearsMark {V : Type 0} (side_of : V → MarkSide) (layout : Layout) (published published' words words' : List ℕ) (views : List V) (i : ℕ) (p : Place) (node epoch : ℕ) (v w : V) : Type 0 where
+pub record GetsNodeBack {V : Type 0} (side_of : V → MarkSide) (layout : Layout) (published published' words words' : List ℕ) (views : List V) (i : ℕ) (p : Place) (node epoch : ℕ) (v w : V) : Type 0 where
   pub changes : ChangesPlace layout words words' p
   pub has : (side_of v).met ≡ Some (record { node = node; place = p; left = Some epoch })
   pub stored : slice_index words' (place_at layout p) ≡ 0

@@ -7,7 +7,7 @@ use Rattle.npf_paths.specs.declared.place.Place.{Place}
 use Rattle.npf_cells_words.specs.declared.layout.Layout.{Layout}
 use Rattle.npf_cells_words.specs.declared.mark.Emptied.{Emptied}
 use Rattle.npf_cells_marks.specs.Marks.{MarkSide, Marks}
-use Rattle.npf_cells_marks.specs.Steps.{ClearsMark, FreesLock, FreesState, GetsLock, LearnsOfMarks, LeavesMarks, LoadsEpoch, MarksNode, PlacesMark, StoresInOwn, StoresInPlace}
+use Rattle.npf_cells_marks.specs.Steps.{GetsNodeBack, FreesLock, FreesState, GetsLock, LearnsOfMarks, LeavesMarks, LoadsEpoch, MarksNode, PlacesMark, StoresInOwn, StoresInPlace}
 
 -- the part over these words and sides, of which that of one seat is this one
 abbrev pub KeptBy : Layout → (List ℕ → List ℕ → List ℕ → List ℕ → List MarkSide → ℕ → MarkSide → MarkSide → Type 0) → Type 0
@@ -33,7 +33,7 @@ abbrev pub PlacingKeepsMarks : Layout → Type 0
 PlacingKeepsMarks layout = (p : Place) (node : ℕ) → KeptBy layout (λ published published' words words' sides i v w. (published' ≡ published) × PlacesMark (λ x. x) layout words words' sides i p node v w)
 
 abbrev pub ClearingKeepsMarks : Layout → Type 0
-ClearingKeepsMarks layout = (p : Place) (node epoch : ℕ) → KeptBy layout (λ published published' words words' sides i v w. ClearsMark (λ x. x) layout published published' words words' sides i p node epoch v w)
+ClearingKeepsMarks layout = (p : Place) (node epoch : ℕ) → KeptBy layout (λ published published' words words' sides i v w. GetsNodeBack (λ x. x) layout published published' words words' sides i p node epoch v w)
 
 abbrev pub FreeingKeepsMarks : Layout → Type 0
 FreeingKeepsMarks layout = (node : ℕ) → KeptBy layout (λ published published' words words' sides i v w. (published' ≡ published) × FreesState (λ x. x) layout published words words' sides i node v w)
