@@ -16,7 +16,7 @@ pub fn conn_of_line(alloc: Global, line: &[u8]) -> Result<Option<Saved>, NoMemor
     ensures { IfOk result (IsReading IsConnLine line.now) }
 {
     let saved = guess_conn(line);
-    let mut spelled = Vec::new(alloc);
+    let mut spelled = Vec::with_capacity(alloc, line.len())?;
     write_conn(&mut spelled, &saved)?;
     if spelled.as_slice() == line {
         return Ok(Some(saved));
