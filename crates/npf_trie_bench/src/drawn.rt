@@ -5,6 +5,9 @@ use npf_types::Key;
 /// How many keys there are.
 pub const KEYS: u32 = 50_000;
 
+/// How many nodes the trie may have.
+pub const NODES: u32 = 65_536;
+
 /// One of the keys: UDP from a port and an address of its own to port 53 of 10.0.0.1.
 pub fn key(number: u32) -> Key {
     let port = u64::from(number % 60_000 + 1024);

@@ -1,10 +1,10 @@
 // The keys, each held for a connection of its own.
-ghost use Rattle.std.specs.Prelude.{◌≡◌, [], None};
+ghost use Rattle.std.specs.Prelude.{◌≡◌, ◌≤◌, [], None};
 ghost use Rattle.npf_cells_pins.specs.declared.pin.Pin.TheVariants.{Idle};
 ghost use Rattle.npf_cells.specs.Cells.{IsPassIn};
 ghost use Rattle.npf_cells_rule.specs.Passes.{IsProtected};
 
-use crate::drawn::{KEYS, key};
+use crate::drawn::key;
 use npf_cells::{CellPass, Cells};
 use npf_core::Held;
 use npf_flow::FlowLaw;
@@ -14,8 +14,15 @@ use npf_trie::hold;
 use npf_types::Way;
 use std::sync::Wait;
 
-/// Holds the keys in the pass's stay, and answers how many were held before one was refused.
-pub fn fill(rt: &impl Wait, cells: &Cells<FlowLaw, Fnv>, pass: &mut CellPass<FlowLaw>) -> u32
+/// Holds the keys of these numbers in the pass's stay, the last not among them, and answers how many were held before one was refused.
+pub fn fill(
+    rt: &impl Wait,
+    cells: &Cells<FlowLaw, Fnv>,
+    pass: &mut CellPass<FlowLaw>,
+    first: u32,
+    last: u32,
+) -> u32
+    requires ordered { first ≤ last }
     requires own { IsPassIn cells.now pass.old }
     requires protected { IsProtected pass.old.seat.me.0.epochs.pin }
     requires nodes { pass.old.seat.me.0.pools.nodes ≡ [] }
@@ -23,14 +30,16 @@ pub fn fill(rt: &impl Wait, cells: &Cells<FlowLaw, Fnv>, pass: &mut CellPass<Flo
     requires turn { pass.old.seat.me.0.turn ≡ None }
     ensures own { IsPassIn cells.now pass.new }
     ensures protected { IsProtected pass.new.seat.me.0.epochs.pin }
+    ensures nodes { pass.new.seat.me.0.pools.nodes ≡ [] }
     ensures locks { pass.new.seat.me.0.trie.locks ≡ [] }
+    ensures turn { pass.new.seat.me.0.turn ≡ None }
 {
-    for number in 0..KEYS {
+    for number in first..last {
         if !hold_next(rt, cells, pass, number) {
-            return number;
+            return number - first;
         }
     }
-    KEYS
+    last - first
 }
 
 // Holds a key for a connection of its own. Answers whether it did.

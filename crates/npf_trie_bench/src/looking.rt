@@ -5,7 +5,7 @@ ghost use Rattle.npf_cells.specs.Cells.{IsPassIn};
 ghost use Rattle.npf_cells_rule.specs.Passes.{IsProtected};
 ghost use Rattle.npf_trie_bench.specs.Rests.{HasNothing};
 
-use crate::drawn::{Draws, KEYS, Order};
+use crate::drawn::{Draws, KEYS, NODES, Order};
 use crate::filling::fill;
 use anyhow::Error;
 use npf_cells::{CellPass, Cells};
@@ -21,9 +21,6 @@ use std::time::Instant;
 // How many look-ups there are in a stay.
 const STAY: u64 = 100;
 
-// How many nodes the trie may have.
-const NODES: u32 = 65_536;
-
 // How many threads look beside the first.
 const OTHERS: u64 = 3;
 
@@ -37,7 +34,7 @@ pub fn time_trie<R: Threads + Wait + Sync>(
     let (cells, mut pass) = Cells::<FlowLaw, Fnv>::new(host.alloc(), KEYS, NODES)?;
     let mut builder = cells.split(&mut pass);
     enter(&cells, &mut builder);
-    let held = fill(rt, &cells, &mut builder);
+    let held = fill(rt, &cells, &mut builder, 0, KEYS);
     leave(&cells, &mut builder);
     let alone = cells.split(&mut pass);
     time_looks(host, &cells, alone, held, Order::Free, stays)?;
