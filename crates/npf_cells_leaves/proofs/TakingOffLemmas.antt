@@ -174,7 +174,7 @@ module _ {S V : Type 0} (side_of : V → TrieSide) (digest : Key → ℕ) (layou
           let was = fits.seen x old.0 in
           record {
             on_path = stays_on (digits_of digest x.key) x.level x.place (are_digits digest x.key) was.on_path old.1;
-            locked = λ c. (let had = subst (λ locks. Contains locks (lock_of x.place)) out.locks c in off.prunes.others x.place (out.apart x e had) ∙ was.locked had);
+            locked = λ c real. (let had = subst (λ locks. Contains locks (lock_of x.place)) out.locks c in off.prunes.others x.place (out.apart x e had) ∙ was.locked had real);
           };
       claimed = λ id c. fits.claimed id (out.answered id c);
     }

@@ -3,6 +3,7 @@ pub mod DeathLawLemmas
 pub mod EntryLemmas
 pub mod Frames
 pub mod LawLemmas
+pub mod MarkFrames
 pub mod MetLemmas
 pub mod NoteFrames
 pub mod NoteLawLemmas
