@@ -7,6 +7,7 @@ use lib.ListN.{get_elem?}
 use Rattle.atomic_table.specs.Table.{State}
 use Rattle.npf_types.specs.declared.key.Key.{Key}
 use Rattle.npf_core.specs.Meaning.{Meaning}
+use Rattle.npf_paths.specs.declared.place.Lock.{Lock}
 use Rattle.npf_paths.specs.declared.place.Lock.TheVariants as Locking
 use Rattle.npf_paths.specs.declared.place.Place.{Place}
 use Rattle.npf_cells_words.specs.declared.layout.Layout.{Layout}
@@ -15,8 +16,8 @@ use Rattle.npf_cells_words.specs.declared.mark.Emptied.{Emptied}
 use Rattle.npf_cells_words.specs.declared.mark.MetMark.{MetMark}
 use Rattle.npf_cells_words.specs.Layout.{epoch_word, root_at, field_at, state_field, parent_field}
 use Rattle.npf_cells_words.specs.MarkWords.{state_word, parent_word}
-use Rattle.npf_cells_words.specs.Places.{place_at, IsInTrie}
-use Rattle.npf_cells_words.proofs.WordLemmas.{field_behind, place_behind, slot_apart, not_slot}
+use Rattle.npf_cells_words.specs.Places.{lock_at, place_at, IsInTrie, IsLockOf}
+use Rattle.npf_cells_words.proofs.WordLemmas.{field_behind, lock_apart, lock_behind, not_place, one_word, parent_apart, parent_unlocked, place_behind, slot_apart, not_slot}
 use Rattle.npf_cells_leaves.specs.declared.trie.PathPlace.{PathPlace}
 use Rattle.npf_cells_leaves.specs.declared.trie.SeenCell.{SeenCell}
 use Rattle.npf_cells_leaves.specs.declared.trie.TrieSide.{TrieSide}
@@ -24,6 +25,7 @@ use Rattle.npf_cells_leaves.specs.Trie.{HasNoWalk}
 use Rattle.npf_cells_leaves.proofs.TrieLemmas.{KnowsNoMore}
 use Rattle.npf_cells_lives.specs.Turns.{Running}
 use Rattle.npf_cells_marks.specs.Marks.{IsSomePlaceIn, RestsIn, Marks}
+use Rattle.npf_cells_marks.specs.Steps.{ChangesPlace, ChangesState}
 use Rattle.npf_cells_marks.proofs.StepLemmas.{marks-same}
 use Rattle.npf_cells_rule.specs.declared.view.CellView.{CellView}
 use Rattle.npf_cells_rule.specs.Cells.{IsCells}
@@ -71,6 +73,34 @@ words_slot layout published words slot field n = record {
   where
     other : (j : ℕ) → (j ≡ field_at layout Slots slot field → ⊥) → slice_index (set words (field_at layout Slots slot field) n) j ≡ slice_index words j
     other j ne = get_or-set_other words (field_at layout Slots slot field) j n 0 ne
+
+-- a lock whose word is a node's state is the node's
+one_state : (layout : Layout) (lock : Lock) (node : ℕ) → IsLockOf layout lock → field_at layout Nodes node state_field ≡ lock_at layout lock → lock ≡ Locking.Node node
+one_state layout (Locking.Root digit) node h e = absurd (omega (arith, h, e))
+one_state layout (Locking.Node other) node h e = ap (λ x. Locking.Node x) (omega (arith, e))
+
+-- a step on the word of a place, or of a lock, changes that of these words alone
+pub place_changed : (layout : Layout) (words : List ℕ) (p : Place) (n : ℕ) → IsInTrie layout p → ChangesPlace layout words (set words (place_at layout p) n) p
+place_changed layout words p n inside = record {
+  epoch = other 0 (λ e. absurd (let far = place_behind layout p in omega (arith, e, far)));
+  others = λ q there ne. other (place_at layout q) (λ e. ne (one_word layout q p there inside e));
+  states = λ node exists. other (field_at layout Nodes node state_field) (lock_apart layout p (Locking.Node node) inside exists);
+  parents = λ node exists. other (field_at layout Nodes node parent_field) (parent_apart layout p node inside);
+}
+  where
+    other : (j : ℕ) → (j ≡ place_at layout p → ⊥) → slice_index (set words (place_at layout p) n) j ≡ slice_index words j
+    other j ne = get_or-set_other words (place_at layout p) j n 0 ne
+
+pub lock_changed : (layout : Layout) (words : List ℕ) (lock : Lock) (n : ℕ) → IsLockOf layout lock → ChangesState layout words (set words (lock_at layout lock) n) lock
+lock_changed layout words lock n h = record {
+  epoch = other 0 (λ e. absurd (let far = lock_behind layout lock in omega (arith, e, far)));
+  places = λ p inside. other (place_at layout p) (not_place layout p lock inside h);
+  others = λ node exists ne. other (field_at layout Nodes node state_field) (λ e. ne (one_state layout lock node h e));
+  parents = λ node exists. other (field_at layout Nodes node parent_field) (parent_unlocked layout lock node h);
+}
+  where
+    other : (j : ℕ) → (j ≡ lock_at layout lock → ⊥) → slice_index (set words (lock_at layout lock) n) j ≡ slice_index words j
+    other j ne = get_or-set_other words (lock_at layout lock) j n 0 ne
 
 -- and by a load
 pub words_loaded : (layout : Layout) (published words : List ℕ) (i : ℕ) → SameMarkWords layout published words (set words i (slice_index words i))
