@@ -216,7 +216,7 @@ module _ {S A R : Type 0} (m : Meaning S A R) (digest : Key → ℕ) (layout : L
       (deaths_load m digest layout s i id v w kept at (ap dead_hand pools) (ap (λ (r : ReaderView). r.side.loaded) same) (rests_less (state_of m kept.log) v w trie (ap (λ (r : ReaderView). r.side.pin) same)))
       (known-spared (seen_side m) pool_side (state_of m kept.log) (state_of m kept.log) s.views id w kept.known (spares_all (state_of m kept.log)) (λ j u conn e c. (kept.deaths.kills j u conn e c).dead) known)
       (notes_still s i (slice_index s.words i) id v w kept at turn (ap dead_hand pools) (ap (λ p. p.notes) pools) (ap (λ p. p.builds) pools) (λ j h. ap (λ ws. slice_index ws j) (set-get_or s.words i 0)))
-      (marks_on m digest layout s kept (set s.words i (slice_index s.words i)) id v w at (words_loaded layout kept.published s.words i) (meets_less v.trie w.trie trie) (ap (λ p. p.unfreed) pools) (ap (λ (r : ReaderView). r.side.loaded) same) (ap (λ (r : ReaderView). r.side.pin) same))
+      (marks_on m digest layout s kept (set s.words i (slice_index s.words i)) id v w at (words_loaded layout kept.published s.words i) (meets_less v.trie w.trie trie) (ap (λ p. p.unfreed) pools) (λ _. ap (λ (r : ReaderView). r.side.loaded) same) (ap (λ (r : ReaderView). r.side.pin) same))
       (alone-set s.views id w alone kept.alone)
 
   -- the part on epochs stays where the words before the pools' do, and what the seat knows of it
@@ -246,7 +246,7 @@ module _ {S A R : Type 0} (m : Meaning S A R) (digest : Key → ℕ) (layout : L
       Marks mark_side layout kept.published (set s.words i n) (set s.views id w)
   marks_pool s i n id v w kept at trie kills reads words =
       marks_on m digest layout s kept (set s.words i n) id v w at (words_behind layout kept.published s.words (set s.words i n) (let same = words.before 0 (omega arith) in omega (arith, same)) words.behind) (meets_less v.trie w.trie trie)
-      (ap (λ (h : DeadHand). h.unfreed) kills) (ap (λ (r : ReaderView). r.side.loaded) reads) (ap (λ (r : ReaderView). r.side.pin) reads)
+      (ap (λ (h : DeadHand). h.unfreed) kills) (λ _. ap (λ (r : ReaderView). r.side.loaded) reads) (ap (λ (r : ReaderView). r.side.pin) reads)
 
   -- a step on a word of the part on pools, that changes this side of one view alone
   pub pools_step : (s : State (Running S) (CellView S A R)) (i n id : ℕ) (c : List (ℕ × Running S)) (v w : CellView S A R) (kept : IsCells m digest layout s) → get_elem? s.views id ≡ some v → w.seats ≡ v.seats → reader_view w ≡ reader_view v → KnowsNoMore v.trie w.trie → FitsStored layout s.words w.pools →

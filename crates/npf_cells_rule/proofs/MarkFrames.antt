@@ -131,7 +131,7 @@ module _ {S A R : Type 0} where
 
 module _ {S A R : Type 0} (m : Meaning S A R) (digest : Key → ℕ) (layout : Layout) (s : State (Running S) (CellView S A R)) (kept : IsCells m digest layout s) where
   -- the part stays where its words do, and the seat has as much of it and is in no further node
-  pub marks_on : (words' : List ℕ) (id : ℕ) (v w : CellView S A R) → get_elem? s.views id ≡ some v → SameMarkWords layout kept.published s.words words' → MeetsNoMore v.trie w.trie → w.pools.unfreed ≡ v.pools.unfreed → w.epochs.loaded ≡ v.epochs.loaded → w.epochs.pin ≡ v.epochs.pin →
+  pub marks_on : (words' : List ℕ) (id : ℕ) (v w : CellView S A R) → get_elem? s.views id ≡ some v → SameMarkWords layout kept.published s.words words' → MeetsNoMore v.trie w.trie → w.pools.unfreed ≡ v.pools.unfreed → (1 ≤ w.epochs.loaded → w.epochs.loaded ≡ v.epochs.loaded) → w.epochs.pin ≡ v.epochs.pin →
       Marks mark_side layout kept.published words' (set s.views id w)
   marks_on words' id v w at same less unfreed loaded pin = marks-same mark_side layout kept.published kept.published s.words words' s.views id v w kept.marks at (record {
     goes = same.goes;
@@ -144,12 +144,12 @@ module _ {S A R : Type 0} (m : Meaning S A R) (digest : Key → ℕ) (layout : L
     met = less.met_mark;
     unfreed = unfreed;
     locks = less.locks;
-    loaded = λ mark c some'. loaded;
+    loaded = λ mark c some'. loaded some';
     rests = λ node has rests. (in_no_more v w node less rests, ap protecting_epoch pin);
   })
 
   -- and where the seat walked nowhere, its pin may change too
-  pub marks_out : (words' : List ℕ) (id : ℕ) (v w : CellView S A R) → get_elem? s.views id ≡ some v → SameMarkWords layout kept.published s.words words' → MeetsNoMore v.trie w.trie → w.pools.unfreed ≡ v.pools.unfreed → w.epochs.loaded ≡ v.epochs.loaded → HasNoWalk w.trie →
+  pub marks_out : (words' : List ℕ) (id : ℕ) (v w : CellView S A R) → get_elem? s.views id ≡ some v → SameMarkWords layout kept.published s.words words' → MeetsNoMore v.trie w.trie → w.pools.unfreed ≡ v.pools.unfreed → (1 ≤ w.epochs.loaded → w.epochs.loaded ≡ v.epochs.loaded) → HasNoWalk w.trie →
       Marks mark_side layout kept.published words' (set s.views id w)
   marks_out words' id v w at same less unfreed loaded none = marks-same mark_side layout kept.published kept.published s.words words' s.views id v w kept.marks at (record {
     goes = same.goes;
@@ -162,6 +162,6 @@ module _ {S A R : Type 0} (m : Meaning S A R) (digest : Key → ℕ) (layout : L
     met = less.met_mark;
     unfreed = unfreed;
     locks = less.locks;
-    loaded = λ mark c some'. loaded;
+    loaded = λ mark c some'. loaded some';
     rests = λ node has rests. absurd (in_none w node none rests);
   })

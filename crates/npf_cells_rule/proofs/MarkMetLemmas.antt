@@ -25,15 +25,18 @@ use Rattle.npf_cells_words.proofs.CodeLemmas.{codes_are_apart}
 use Rattle.npf_cells_words.proofs.MarkLemmas.{marks_lead_on, marks_say_nodes, real_shown, said_shown}
 use Rattle.npf_cells_words.proofs.WordLemmas.{place_lock, place_reach}
 use Rattle.npf_cells_leaves.specs.Trie.{digits_of, holder_at, TrieWords, trie_words}
+use Rattle.npf_cells_leaves.proofs.ParentLemmas.{stands_in_trie}
 use Rattle.npf_cells_leaves.proofs.TrieLemmas.{are_digits, cell_there}
 use Rattle.npf_cells_lives.specs.Turns.{Running}
 use Rattle.npf_cells_lives.proofs.LockLemmas.{locks_alone}
 use Rattle.npf_cells_marks.specs.Marks.{HasMark, Marks}
-use Rattle.npf_cells_marks.proofs.StoringLemmas.{marks-stored}
+use Rattle.npf_cells_marks.proofs.ClearingLemmas.{in_node}
+use Rattle.npf_cells_marks.proofs.StoringLemmas.{marks-owned, marks-stored}
 use Rattle.npf_cells_rule.specs.declared.view.CellView.{CellView}
 use Rattle.npf_cells_rule.specs.Cells.{IsCells}
 use Rattle.npf_cells_rule.specs.Views.{lock_side, mark_side, protecting_epoch}
 use Rattle.npf_cells_rule.proofs.MarkFrames.{MeetsNoMore, in_no_more, place_changed}
+use Rattle.npf_cells_rule.proofs.MetLemmas.{unowned}
 
 -- a word that is read as a mark says its node
 pub mark_there : (word : ℕ) → cell_of word ≡ Mark → word ≡ mark_word (word / 4)
@@ -97,6 +100,14 @@ module _ {S A R : Type 0} (m : Meaning S A R) (digest : Key → ℕ) (layout : L
   hangs_in digits _ _ n are at_root within = absurd within
   hangs_in digits _ _ n are (further level q node on is) within = subst (Contains kept.published) within (kept.trie.nodes digits level q node are on is).published_once
 
+  -- a word that is no mark is none where it was stored
+  markless_there : (value : ℕ) → cell_of value ≢ Mark → (n : ℕ) → ¬ (IsMarkOf layout (set s.words (place_at layout p) value) p n)
+  markless_there value real n is =
+      let reach = place_reach layout p inside in
+      let long = kept.connections.reach in
+      let here = get_or-set_same s.words (place_at layout p) value 0 (omega (arith, reach, long)) in
+      real (ap cell_of (sym here ∙ is) ∙ (marks_say_nodes n n).0)
+
   -- the part stays where what is no mark is stored in a place at which a path may end, under its lock and in no node that the seat marked
   pub marks_in_place : (id value : ℕ) (v w : CellView S A R) (published' : List ℕ) (digits : ℕ → ℕ) (level : ℕ) → get_elem? s.views id ≡ some v → Contains v.trie.locks (lock_of p) → AreDigits digits → IsOnPath digits t.cell level p → IsEnd (t.cell p) → cell_of value ≢ Mark →
       ((x : Marked) → Contains v.trie.marks x → ¬ (IsPlaceIn x.node p)) → ((n : ℕ) → Contains kept.published n → Contains published' n) → MeetsNoMore v.trie w.trie → w.trie.emptied ≡ None → w.trie.met_mark ≡ v.trie.met_mark → w.pools.unfreed ≡ v.pools.unfreed →
@@ -109,7 +120,7 @@ module _ {S A R : Type 0} (m : Meaning S A R) (digest : Key → ℕ) (layout : L
         alone = λ j u ne e c. locks_alone lock_side layout s.words s.views j id u v (lock_of p) kept.locks (place_lock layout p inside) e at c locked ne;
         no_node = λ n. end_nodeless n end;
         no_mark = λ n. end_unmarked n end;
-        markless = λ n is. real (ap cell_of (sym here ∙ is) ∙ (marks_say_nodes n n).0);
+        markless = markless_there value real;
         unmarked = unmarked;
         listed = listed;
         hung = λ n within. hangs_in digits level p n are on within;
@@ -121,9 +132,23 @@ module _ {S A R : Type 0} (m : Meaning S A R) (digest : Key → ℕ) (layout : L
         loaded = loaded;
         rests = record { rests = λ node rests. in_no_more v w node less rests; protecting = ap protecting_epoch pin };
       })
+
+  -- and in a place of a node that the seat owns, in which no published node hangs
+  pub marks_in_own : (id own value : ℕ) (v w : CellView S A R) → get_elem? s.views id ≡ some v → IsPlaceIn own p → Contains v.pools.nodes own → cell_of value ≢ Mark → mark_side w ≡ mark_side v → Marks mark_side layout kept.published (set s.words (place_at layout p) value) (set s.views id w)
+  marks_in_own id own value v w at within owns real same =
+      marks-owned mark_side layout kept.published s.words (set s.words (place_at layout p) value) s.views id p own v w kept.marks at (record {
+        changes = place_changed layout s.words p value inside;
+        inside = inside;
+        within = within;
+        unlisted = unlisted;
+        unnamed = λ n listed named.
+            let hung = kept.trie.hang n listed in
+            let there = kept.trie.parents hung.digits hung.level hung.place n hung.are hung.on_path hung.there in
+            let one : hung.place ≡ p = codes_are_apart layout hung.place p (stands_in_trie layout s.words hung.place n hung.there) inside (sym there ∙ named) in
+            unlisted (hangs_in hung.digits hung.level p own hung.are (subst (IsOnPath hung.digits t.cell hung.level) one hung.on_path) within);
+        markless = markless_there value real;
+        same = same;
+      })
     where
-      here : slice_index (set s.words (place_at layout p) value) (place_at layout p) ≡ value
-      here =
-          let reach = place_reach layout p inside in
-          let long = kept.connections.reach in
-          get_or-set_same s.words (place_at layout p) value 0 (omega (arith, reach, long))
+      unlisted : ¬ (Contains kept.published own)
+      unlisted = unowned m digest layout s kept id v own at (in_node layout p own within inside).0 owns

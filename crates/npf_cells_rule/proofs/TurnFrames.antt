@@ -133,5 +133,5 @@ module _ {S A R : Type 0} (m : Meaning S A R) (digest : Key → ℕ) (layout : L
         (let same = below 0 (omega arith) in omega (arith, same)) (λ p h. other_word (field_at layout Slots p notes_field) (λ e. absurd (let low = short in omega (arith, e, low)))))
         (known_apart m digest layout s id v w k kept at (same_kills m digest layout v w (ap dead_hand pools)) (ap (λ (x : SeatSide ℕ (Entry S A R)). x.history) seats) (spares_all k))
         (notes_apart m digest layout s words' id v w k kept at ahead (ap dead_hand pools) (ap (λ (p : PoolSide). p.notes) pools) (λ conn c. subst (λ (p : PoolSide). Contains p.builds conn) (sym pools) c) (notes_stay k (λ key. refl) (λ p. inl refl)))
-        (marks_on m digest layout s kept words' id v w at (words_slot layout kept.published s.words slot field n) (subst (MeetsNoMore v.trie) (sym trie) (meets_same v.trie)) (ap (λ (p : PoolSide). p.unfreed) pools) (ap (λ (e : EpochSide). e.loaded) epochs) (ap (λ (e : EpochSide). e.pin) epochs))
+        (marks_on m digest layout s kept words' id v w at (words_slot layout kept.published s.words slot field n) (subst (MeetsNoMore v.trie) (sym trie) (meets_same v.trie)) (ap (λ (p : PoolSide). p.unfreed) pools) (λ _. ap (λ (e : EpochSide). e.loaded) epochs) (ap (λ (e : EpochSide). e.pin) epochs))
         (alone-set s.views id w alone kept.alone)
