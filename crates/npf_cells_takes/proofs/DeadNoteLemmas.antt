@@ -46,6 +46,7 @@ use Rattle.npf_cells_rule.specs.declared.view.CellView.{CellView}
 use Rattle.npf_cells_rule.specs.Cells.{IsCells}
 use Rattle.npf_cells_rule.specs.Views.{lock_side, pool_side, trie_side, turn_side, death_side}
 use Rattle.npf_cells_rule.proofs.Frames.{alone_still, private_step}
+use Rattle.npf_cells_rule.proofs.MarkFrames.{marks_on, meets_same, words_slot}
 use Rattle.npf_cells_takes.proofs.HandLemmas.{slot_listed}
 use Rattle.npf_cells_takes.proofs.NoteKeepLemmas.{other_note, note_cases, holds_last, leaf_held, was_on}
 
@@ -223,3 +224,4 @@ module _ {S A R : Type 0} (m : Meaning S A R) (digest : Key → ℕ) (layout : L
             turns_stay
             deaths
             notes_after
+            (marks_on m digest layout s kept ws id me.0 w at (words_slot layout kept.published s.words slot notes_field value) (meets_same me.0.trie) back (λ _. refl) refl)

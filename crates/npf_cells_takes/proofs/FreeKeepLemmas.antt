@@ -52,6 +52,7 @@ use Rattle.npf_cells_rule.specs.Passes.{cell_pass}
 use Rattle.npf_cells_rule.specs.Views.{seat_side, pool_side, trie_side, turn_side, leaf_id, death_side, seen_side}
 use Rattle.npf_cells_rule.proofs.EntryLemmas.{adds_entry, sole_entries}
 use Rattle.npf_cells_rule.proofs.Frames.{alone-set, alone_still, IsPoolStep, framed, stored_apart, locks_apart, epochs_apart}
+use Rattle.npf_cells_rule.proofs.MarkFrames.{marks_on, meets_same, words_behind}
 use Rattle.npf_cells_rule.proofs.StoodLemmas.{stood_so}
 use Rattle.npf_cells_takes.specs.SlotKinds.{MayGiveBack, freeing, HasFreed, FreesSlot}
 use Rattle.npf_cells_takes.proofs.FreeLemmas.{freed, freed_here, freed_else, same_inc, still_claimed, still_dead, builds_freed, gone_here, gone_else, deaths_freed}
@@ -211,6 +212,7 @@ module _ {S A R : Type 0} (m : Meaning S A R) (digest : Key → ℕ) (layout : L
           (subst (λ x. Deaths death_side layout x ws views') (sym state) deaths)
           (subst (λ x. Known (seen_side m) pool_side x views') (sym state) known)
           (subst (λ x. Notes turn_side pool_side layout (trie_words layout ws).cell x ws views') (sym state) notes)
+          (marks_on m digest layout s kept ws id me.0 w at (words_behind layout kept.published s.words ws (let same = step.before 0 (omega arith) in omega (arith, same)) step.behind) (meets_same me.0.trie) refl (λ _. refl) refl)
           (alone-set s.views id w (alone_still me.0 w (kept.alone id me.0 at) place refl (λ none. none)) kept.alone)
 
       -- the Free ends what the pass has then seen

@@ -18,7 +18,7 @@ use Rattle.npf_core.specs.Meaning.{Meaning}
 use Rattle.npf_core.proofs.EqualityLemmas.{same_conn_id}
 use Rattle.npf_core.proofs.HolderLemmas.{holders_claimed}
 use Rattle.npf_core.proofs.LifeLemmas.{IsClaimed-last}
-use Rattle.npf_paths.specs.declared.cell.Cell.TheVariants.{Leaf}
+use Rattle.npf_paths.specs.declared.cell.Cell.TheVariants.{Leaf, Mark}
 use Rattle.npf_paths.specs.declared.place.Place.{Place}
 use Rattle.npf_paths.specs.Paths.{AreDigits, IsOnPath}
 use Rattle.npf_paths.specs.Places.{lock_of}
@@ -56,6 +56,7 @@ use Rattle.npf_cells_rule.specs.Cells.{IsCells}
 use Rattle.npf_cells_rule.specs.Views.{seat_side, lock_side, pool_side, trie_side, turn_side, DeadHand, dead_hand, death_side}
 use Rattle.npf_cells_rule.proofs.DeathFrames.{gone_same}
 use Rattle.npf_cells_rule.proofs.Frames.{alone_still, same_kills, private_step}
+use Rattle.npf_cells_rule.proofs.MarkFrames.{MeetsNoMore, marks_on, meets_same, words_slot}
 use Rattle.npf_cells_rule.proofs.LawLemmas.{builds_alone}
 use Rattle.npf_cells_takes.proofs.DeathKeepLemmas.{deaths_noted, built_unmarked, held_unmarked}
 use Rattle.npf_cells_takes.specs.PrivateKinds.{MayStoreNote, MayStoreAhead}
@@ -162,6 +163,7 @@ module _ {S A R : Type 0} (m : Meaning S A R) (digest : Key → ℕ) (layout : L
       (λ j u ne e. stored_kept layout s.words words' u.pools u.pools (kept.stored j u e) refl (λ pool p f own. own) (own_else u.pools)))
       (locks-same lock_side layout s.words words' s.views (set s.views id w) kept.locks (λ lock h. other_word (lock_at layout lock) (λ e. not_slot layout slot field lock h (sym e))) (holders-set lock_side layout s.views id v w at (ap (λ side. side.locks) trie)))
       turns deaths notes
+      (marks_on m digest layout s kept words' id v w at (words_slot layout kept.published s.words slot field value) (subst (λ side. MeetsNoMore v.trie side) (sym trie) (meets_same v.trie)) (ap (λ (h : DeadHand). h.unfreed) hand) (λ _. ap (λ side. side.loaded) epochs) (ap (λ side. side.pin) epochs))
 
   -- who holds a key of that way, by a connection of the slot, is the slot's last connection
   pub holds_last : (conn : ConnId) (w : Way) → conn.slot ≡ slot → HoldsSome k conn w → HoldsSome k (last_id k slot) w
@@ -279,7 +281,7 @@ module _ {S A R : Type 0} (m : Meaning S A R) (digest : Key → ℕ) (layout : L
     is_held : HoldsSome k (last_id k slot) way
     is_held =
         let saw = (kept.trie.each id v at).seen may.sees.saw may.sees.seen in
-        let stands = saw.locked (subst (λ q. Contains v.trie.locks (lock_of q)) (sym may.sees.there) may.sees.locked) ∙ may.sees.was in
+        let stands = saw.locked (subst (λ q. Contains v.trie.locks (lock_of q)) (sym may.sees.there) may.sees.locked) (λ mark. absurd (let no : Leaf slot way ≡ Mark = sym may.sees.was ∙ mark in cc)) ∙ may.sees.was in
         leaf_held (digits_of digest may.sees.saw.key) may.sees.saw.level may.sees.saw.place (are_digits digest may.sees.saw.key) saw.on_path stands
 
     ahead_is : leader.turn ≡ Some led_turn

@@ -13,12 +13,13 @@ use Rattle.npf_core.specs.declared.slot.Slot.{Slot}
 use Rattle.npf_core.specs.History.{state_of}
 use Rattle.npf_core.specs.Meaning.{Meaning}
 use Rattle.npf_core.proofs.IdentityLemmas.{counts_incarnations}
+use Rattle.npf_paths.specs.declared.place.Place.TheVariants as Places
 use Rattle.npf_cells_words.specs.declared.layout.Layout.{Layout}
 use Rattle.npf_cells_words.specs.declared.layout.Pool.{Pool}
 use Rattle.npf_cells_words.specs.declared.layout.Pool.TheVariants.{Slots, Nodes}
-use Rattle.npf_cells_words.specs.Layout.{inc_field, phase_field, notes_field, field_at, field_count, pool_places, note_field}
-use Rattle.npf_cells_words.specs.Places.{lock_at}
-use Rattle.npf_cells_words.proofs.WordLemmas.{inc_apart, field_behind, field_reach, node_apart, note_late}
+use Rattle.npf_cells_words.specs.Layout.{inc_field, parent_field, phase_field, state_field, notes_field, field_at, field_count, pool_places, note_field}
+use Rattle.npf_cells_words.specs.Places.{lock_at, place_at}
+use Rattle.npf_cells_words.proofs.WordLemmas.{inc_apart, field_behind, field_reach, node_apart, note_late, parent_apart}
 use Rattle.npf_seats.specs.Sums.{others_than, occurs}
 use Rattle.npf_seats.proofs.ListLemmas.{occurs_or, stands_once}
 use Rattle.npf_seats.proofs.PrefixLemmas.{cons_cases}
@@ -36,12 +37,16 @@ use Rattle.npf_cells_lives.proofs.FreedLemmas.{still_there}
 use Rattle.npf_cells_lives.proofs.LockLemmas.{locks-same, holders-set}
 use Rattle.npf_cells_lives.proofs.NoteLemmas.{same_ahead}
 use Rattle.npf_cells_lives.proofs.StoredLemmas.{own_same, stored_kept, stored-set, no_lock, no_note, no_turn}
+use Rattle.npf_cells_marks.specs.Marks.{Marks}
 use Rattle.npf_cells_rule.specs.declared.view.CellView.{CellView}
 use Rattle.npf_cells_rule.specs.Cells.{IsCells}
-use Rattle.npf_cells_rule.specs.Views.{lock_side, pool_side, trie_side, turn_side, death_side, with_pools}
+use Rattle.npf_cells_rule.specs.Views.{lock_side, mark_side, pool_side, trie_side, turn_side, death_side, with_pools}
 use Rattle.npf_cells_rule.proofs.DeathFrames.{deaths_load}
 use Rattle.npf_cells_rule.proofs.Frames.{alone_still, private_step, trie_apart, stored_apart, locks_apart, turns_apart, turns_behind, notes_apart, notes_still}
 use Rattle.npf_cells_rule.proofs.LawLemmas.{builds_alone, owns_alone}
+use Rattle.npf_cells_rule.proofs.MarkFrames.{marks_on, meets_same, words_loaded, words_slot}
+use Rattle.npf_cells_rule.proofs.MarkMetLemmas.{mark_there, marks_in_own}
+use Rattle.npf_cells_rule.proofs.MetLemmas.{unowned}
 use Rattle.npf_cells_takes.specs.PrivateKinds.{ShowsInc, ShowsTurnInc, MayStore, MayStoreInNode, MayStoreInSlot, MayStorePhase, MayLetGo, storing, with_phase, letting_go, is_epoch_note, stored_in, LoadsInc, StoresPrivate, MayStoreNote, MayStoreAhead, StoresAhead, noted_in}
 use Rattle.npf_cells_takes.proofs.LetGoLemmas.{lets_go}
 use Rattle.npf_cells_takes.proofs.DeathKeepLemmas.{deaths_elsewhere, deaths_in_node}
@@ -62,7 +67,7 @@ not_below a b above = by_test (nat_lt a b) refl
 -- the pass may store in a word of its own that isn't a phase
 abbrev MayStoreOwn : {S A R : Type 0} → Meaning S A R → CellView S A R → Pool → ℕ → ℕ → ℕ → Type 0
 MayStoreOwn m v Slots slot field value = MayStoreInSlot m v slot field value
-MayStoreOwn m v Nodes node field value = MayStoreInNode v.pools node field
+MayStoreOwn m v Nodes node field value = MayStoreInNode v.pools node field value
 
 -- a note that names a place has no epoch, and one that lets go has one
 no_epoch : (field value : ℕ) → (notes_field ≤ field → value < 2 ^ 63) → is_epoch_note field value ≡ false
@@ -155,7 +160,8 @@ module _ {S A R : Type 0} (m : Meaning S A R) (digest : Key → ℕ) (layout : L
             (locks_apart m digest layout s i (slice_index s.words i) id me.0 me.0 kept at refl (λ j h. ap (λ ws. slice_index ws j) (set-get_or s.words i 0)))
             (turns_behind m digest layout s i (slice_index s.words i) id me.0 me.0 kept at refl refl (λ j h. ap (λ ws. slice_index ws j) (set-get_or s.words i 0)))
             (deaths_load m digest layout s i id me.0 me.0 kept at refl refl (record { rests = λ j dead bare rests. (rests, refl) }))
-            (notes_still m digest layout s i (slice_index s.words i) id me.0 me.0 kept at refl refl refl refl (λ j h. ap (λ ws. slice_index ws j) (set-get_or s.words i 0))),
+            (notes_still m digest layout s i (slice_index s.words i) id me.0 me.0 kept at refl refl refl refl (λ j h. ap (λ ws. slice_index ws j) (set-get_or s.words i 0)))
+            (marks_on m digest layout s kept (set s.words i (slice_index s.words i)) id me.0 me.0 at (words_loaded layout kept.published s.words i) (meets_same me.0.trie) refl (λ _. refl) refl),
         record { is = refl; shows = shows_inc s id slot me.0 kept at within; leaf = λ leaf e there. ap (λ p. inc_word layout s.words p) (sym there) ∙ ((kept.trie.each id me.0 at).leaf leaf e).inc; turn = shows_turn_inc s kept id me.0 at slot },
       )
 
@@ -238,6 +244,33 @@ module _ {S A R : Type 0} (m : Meaning S A R) (digest : Key → ℕ) (layout : L
           slots = λ slot. inl refl;
         })
 
+    -- in a place of a node that the pass owns no mark is stored, and a parent that changes is that of no published node
+    marks_stay : (pool : Pool) (unstored : List ℕ) → place < pool_places layout pool → field < field_count pool → MayStoreOwn m me.0 pool place field value → Marks mark_side layout kept.published (words' pool) (set s.views id (with_stored pool unstored))
+    marks_stay Slots unstored within exists may =
+        marks_on m digest layout s kept (words' Slots) id me.0 (with_stored Slots unstored) at (words_slot layout kept.published s.words place field value) (meets_same me.0.trie) refl (λ _. refl) refl
+    marks_stay Nodes unstored within exists may = by_field (nat_lt field 16) refl
+      where
+        -- the parent word
+        in_parent : field ≡ parent_field → Marks mark_side layout kept.published (words' Nodes) (set s.views id (with_stored Nodes unstored))
+        in_parent is = marks_on m digest layout s kept (words' Nodes) id me.0 (with_stored Nodes unstored) at (record {
+          goes = (let same = other 0 (λ e. absurd (let far = field_behind layout Nodes place field in omega (arith, e, far))) in omega (arith, same));
+          places = λ p inside. other (place_at layout p) (λ e. parent_apart layout p place inside (ap (λ f. field_at layout Nodes place f) (sym is) ∙ sym e));
+          states = λ node there. other (field_at layout Nodes node state_field) (λ e. absurd (omega (arith, is, e)));
+          parents = λ node there listed. other (field_at layout Nodes node parent_field) (λ e. unlisted (subst (λ n. Contains kept.published n) (omega (arith, is, e)) listed));
+        }) (meets_same me.0.trie) refl (λ _. refl) refl
+          where
+            other : (j : ℕ) → (j ≡ field_at layout Nodes place field → ⊥) → slice_index (words' Nodes) j ≡ slice_index s.words j
+            other j ne = get_or-set_other s.words (field_at layout Nodes place field) j value 0 ne
+
+            unlisted : ¬ (Contains kept.published place)
+            unlisted = unowned m digest layout s kept id me.0 place at within may.owned
+
+        by_field : (b : Bool) → nat_lt field 16 ≡ b → Marks mark_side layout kept.published (words' Nodes) (set s.views id (with_stored Nodes unstored))
+        by_field true e =
+            let low : field < 16 = (Decides-ltb field 16).0 e in
+            marks_in_own m digest layout s kept (Places.Node place field) (within, low) id place value me.0 (with_stored Nodes unstored) at refl may.owned (λ mark. may.markless low (let is = mark_there value mark in omega (arith, is))) refl
+        by_field false e = in_parent (let high : ¬ (field < 16) = (λ low. absurd (let no : true ≡ false = sym ((Decides-ltb field 16).1 low) ∙ e in cc)) in let ne = may.stateless in omega (arith, exists, ne, high))
+
     -- as long as the part on connections holds
     stored_step : me.0.seats.lives ≡ true → 1 ≤ length me.0.seats.readers → (pool : Pool) (unstored : List ℕ) → place < pool_places layout pool → field < field_count pool → MayStoreOwn m me.0 pool place field value →
         Conns pool_side m layout kept.log (words' pool) (set s.views id (with_stored pool unstored)) → Stored pool (with_stored pool unstored)
@@ -246,7 +279,7 @@ module _ {S A R : Type 0} (m : Meaning S A R) (digest : Key → ℕ) (layout : L
         private_step m digest layout s (field_at layout pool place field) value id me.1 me.0 (with_stored pool unstored) kept at (field_behind layout pool place field) refl refl refl refl refl (λ i c. c) (alone_still me.0 (with_stored pool unstored) (kept.alone id me.0 at) seated refl (λ none. none))
         (trie_same trie_side digest layout kept.published (state_of m kept.log) (state_of m kept.log) s.words (words' pool) s.views id me.0 (with_stored pool unstored) kept.trie at (knows_same me.0.trie) (trie_stays lives pool within exists may))
         connections (stored_stay pool unstored own (reaches pool within exists)) (locks_stay pool unstored own) (turns_stay pool unstored own)
-        (deaths_stay pool unstored within exists may) (notes_stay lives pool unstored within exists may)
+        (deaths_stay pool unstored within exists may) (notes_stay lives pool unstored within exists may) (marks_stay pool unstored within exists may)
 
     conns_stay : (pool : Pool) → ((slot : ℕ) → slot < layout.slots → field_at layout Slots slot inc_field ≢ field_at layout pool place field) → Conns pool_side m layout kept.log (words' pool) (set s.views id (with_stored pool me.0.pools.unstored))
     conns_stay pool apart = conns-same pool_side m layout kept.log s.words (words' pool) s.views (set s.views id (with_stored pool me.0.pools.unstored)) kept.connections (length-set s.words (field_at layout pool place field) value)

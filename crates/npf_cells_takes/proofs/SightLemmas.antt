@@ -79,6 +79,7 @@ sees_on m layout table seat seat' readers word found me next own same seen = rw 
   epoch = own.epoch;
   unanswered = own.unanswered;
   unlocked = own.unlocked;
+  marked = own.marked;
 })
 
 -- so it does through a load of a word of either pool
@@ -104,6 +105,7 @@ freed_on m layout table seat seat' readers conn found me next own same freed = r
   epoch = own.epoch;
   unanswered = own.unanswered;
   unlocked = own.unlocked;
+  marked = own.marked;
 })
 
 -- so it does where only what it is ahead of changes
@@ -127,4 +129,5 @@ led_on layout table seat seat' readers field value me next own same is = rw is (
   epoch = own.epoch;
   unanswered = own.unanswered;
   unlocked = own.unlocked;
+  marked = own.marked;
 })

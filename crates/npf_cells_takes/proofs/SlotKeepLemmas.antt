@@ -50,6 +50,7 @@ use Rattle.npf_cells_rule.specs.Passes.{IsProtected, cell_pass}
 use Rattle.npf_cells_rule.specs.Views.{seat_side, reader_view, pool_side, trie_side, death_side}
 use Rattle.npf_cells_rule.proofs.EntryLemmas.{adds_entry, sole_entries}
 use Rattle.npf_cells_rule.proofs.Frames.{alone_within, sight_step, entry_step}
+use Rattle.npf_cells_rule.proofs.MarkFrames.{marks_on, words_behind}
 use Rattle.npf_cells_takes.proofs.SightLemmas.{seer, seer_stored, has_seen}
 use Rattle.npf_cells_rule.proofs.PassLemmas.{pinned_in}
 use Rattle.npf_cells_rule.proofs.StoodLemmas.{stood_so}
@@ -167,6 +168,9 @@ module _ {S A R : Type 0} (m : Meaning S A R) (digest : Key → ℕ) (layout : L
         (fits_all trie_side digest layout.slots k (claimed m k id packet slot) (trie_words layout s.words) (trie_words layout (set s.words word n)) s.views (keeps_claim n clear) kept.trie.each)))
         (builds clear)
         (λ p h. incs_more m k id packet slot pool_side s.views id me.0 winner at refl may.allowed.unclaimed kept.connections.each refl refl (inc_word layout s.words) p (kept.connections.incs p h))
+        (marks_on m digest layout s kept (set s.words word n) id me.0 winner at
+        (words_behind layout kept.published s.words (set s.words word n) (let same = (pool_step layout s.words Slots slot n within).before 0 (omega arith) in omega (arith, same)) (pool_step layout s.words Slots slot n within).behind)
+        (record { stands = λ point e. e; seen = λ x e. e; locks = refl; marks = refl; emptied = λ e is. is; met_mark = λ x is. is }) refl (λ _. refl) refl)
 
     -- the claim ends what the pass has then seen
     pub has_claimed : bit_at found (slot % 64) ≡ 0 → HasClaimed m packet slot me (winner, me.1)
