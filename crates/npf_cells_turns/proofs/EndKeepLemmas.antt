@@ -208,7 +208,7 @@ module _ {S A R : Type 0} (m : Meaning S A R) (digest : Key → ℕ) (layout : L
         stored_kills : FitsStored layout s.words (record side { kills = kills })
         stored_kills = stored_kept layout s.words s.words side (record side { kills = kills }) stored_left refl (own_same layout side (record side { kills = kills }) refl refl) (λ pool place field own. refl)
 
-        pub built_ends : Epochs (epoch_word after_words) (reader_word after_words) (map reader_view (set s.views id builder)) → Deaths death_side layout (after m k entry) after_words (set s.views id builder) → IsCells m digest layout (record { words = set s.words (field_at layout Slots turn.slot turn_field) 0; homes = set s.homes turn.slot (some value); views = set s.views id builder })
+        pub built_ends : (1 ≤ loaded → loaded ≡ v.epochs.loaded) → Epochs (epoch_word after_words) (reader_word after_words) (map reader_view (set s.views id builder)) → Deaths death_side layout (after m k entry) after_words (set s.views id builder) → IsCells m digest layout (record { words = set s.words (field_at layout Slots turn.slot turn_field) 0; homes = set s.homes turn.slot (some value); views = set s.views id builder })
         built_ends = ends_with m digest layout s kept id v turn at has value quiet lives settled seated entry mine' follows freeless stage acts (bit ∙ sym is_claimed) seen_runs seen_phase (record side { kills = kills }) refl refl refl refl refl stored_kills builds_left others_fit notes_left fresh given loaded scanned behind
 
         pub built_acted : (act : TurnAct S A) → AddsOwn (cell_pass v) (kept.log ++ entry ∷ []) (act_entries m (cell_pass v) turn.was.stage act) → builder ≡ acted act v (kept.log ++ entry ∷ []) → HasActed m act (v, (turn.slot, value) ∷ []) (builder, [])
@@ -236,7 +236,7 @@ module _ {S A R : Type 0} (m : Meaning S A R) (digest : Key → ℕ) (layout : L
     starts : (conn : ConnId) (n : ℕ) (init : S) → BuildsThere v turn conn → HasBareNotes m v conn → turn.phase ≡ 1 → Ended (Start conn n init)
     starts conn n init there notes phase = (
       builder conn there entry refl (Live init 1) acts value follows (λ i e. absurd cc) refl refl phase fresh v.pools.kills given_before v.epochs.loaded v.epochs.scanned v.epochs.behind,
-      built_ends conn there entry refl (Live init 1) acts value follows (λ i e. absurd cc) refl refl phase fresh v.pools.kills given_before v.epochs.loaded v.epochs.scanned v.epochs.behind (epochs_still starter refl)
+      built_ends conn there entry refl (Live init 1) acts value follows (λ i e. absurd cc) refl refl phase fresh v.pools.kills given_before v.epochs.loaded v.epochs.scanned v.epochs.behind (λ _. refl) (epochs_still starter refl)
           (deaths_stay m digest layout s kept id v at turn.slot exists (after m k entry) (Live init 1) acts (sym (ap is_dead building)) (λ dead. absurd (let no : Building id ≡ Dead = sym building ∙ dead in cc)) starter refl refl refl),
       built_acted conn there entry refl (Live init 1) acts value follows (λ i e. absurd cc) refl refl phase fresh v.pools.kills given_before v.epochs.loaded v.epochs.scanned v.epochs.behind (Start conn n init)
           (built_adds conn there entry refl (Live init 1) acts value follows (λ i e. absurd cc) refl refl phase fresh v.pools.kills given_before v.epochs.loaded v.epochs.scanned v.epochs.behind) refl,
@@ -266,7 +266,7 @@ module _ {S A R : Type 0} (m : Meaning S A R) (digest : Key → ℕ) (layout : L
     abandons : (conn : ConnId) → BuildsThere v turn conn → HasBareNotes m v conn → turn.phase ≡ 2 → Ended (Abandoned conn)
     abandons conn there notes phase = (
       builder conn there entry refl Dead acts None follows (λ i e. absurd cc) refl refl phase (λ live way none. absurd cc) (conn ∷ v.pools.kills) killed_given 0 [] [],
-      built_ends conn there entry refl Dead acts None follows (λ i e. absurd cc) refl refl phase (λ live way none. absurd cc) (conn ∷ v.pools.kills) killed_given 0 [] [] (epochs_unloaded m digest layout s kept id v at turn.slot exists killer refl refl)
+      built_ends conn there entry refl Dead acts None follows (λ i e. absurd cc) refl refl phase (λ live way none. absurd cc) (conn ∷ v.pools.kills) killed_given 0 [] [] (λ some'. absurd (omega (arith, some'))) (epochs_unloaded m digest layout s kept id v at turn.slot exists killer refl refl)
           (deaths_killed m digest layout s kept id v at turn.slot exists (after m k entry) conn acts there.there building.0 (ap is_dead building.1) killer refl refl refl refl refl refl),
       built_acted conn there entry refl Dead acts None follows (λ i e. absurd cc) refl refl phase (λ live way none. absurd cc) (conn ∷ v.pools.kills) killed_given 0 [] [] (Abandoned conn)
           (built_adds conn there entry refl Dead acts None follows (λ i e. absurd cc) refl refl phase (λ live way none. absurd cc) (conn ∷ v.pools.kills) killed_given 0 [] []) refl,
@@ -312,7 +312,7 @@ module _ {S A R : Type 0} (m : Meaning S A R) (digest : Key → ℕ) (layout : L
       stored_on : FitsStored layout s.words (record v.pools { kills = kills })
       stored_on = stored_kept layout s.words s.words v.pools (record v.pools { kills = kills }) (kept.stored id v at) refl (own_same layout v.pools (record v.pools { kills = kills }) refl refl) (λ pool place field own. refl)
 
-      pub plain_ends : Epochs (epoch_word after_words) (reader_word after_words) (map reader_view (set s.views id stepper)) → Deaths death_side layout (after m k entry) after_words (set s.views id stepper) → IsCells m digest layout (record { words = set s.words (field_at layout Slots turn.slot turn_field) 0; homes = set s.homes turn.slot (some value); views = set s.views id stepper })
+      pub plain_ends : (1 ≤ loaded → loaded ≡ v.epochs.loaded) → Epochs (epoch_word after_words) (reader_word after_words) (map reader_view (set s.views id stepper)) → Deaths death_side layout (after m k entry) after_words (set s.views id stepper) → IsCells m digest layout (record { words = set s.words (field_at layout Slots turn.slot turn_field) 0; homes = set s.homes turn.slot (some value); views = set s.views id stepper })
       plain_ends = ends_with m digest layout s kept id v turn at has value quiet lives settled seated entry mine' follows freeless stage acts bit runs phase (record v.pools { kills = kills }) refl refl refl refl refl stored_on (fits_on id v.pools.builds v.pools.unstored mine) all_on (λ note c. kept.notes.each id v note at c) fresh given loaded scanned behind
 
       pub plain_adds : AddsOwn (cell_pass v) (kept.log ++ entry ∷ []) (record entry { seat = v.seats.number } ∷ [])
@@ -330,7 +330,7 @@ module _ {S A R : Type 0} (m : Meaning S A R) (digest : Key → ℕ) (layout : L
     steps conn n way lent there phase =
         let legal = plain_legal entry refl stage acts leaves value follows (λ i e. absurd cc) (stepped_bit m way arg x.stage) runs phased fresh v.pools.kills given_before v.epochs.loaded v.epochs.scanned v.epochs.behind in (
           walker,
-          plain_ends entry refl stage acts leaves value follows (λ i e. absurd cc) (stepped_bit m way arg x.stage) runs phased fresh v.pools.kills given_before v.epochs.loaded v.epochs.scanned v.epochs.behind (epochs_still walker refl)
+          plain_ends entry refl stage acts leaves value follows (λ i e. absurd cc) (stepped_bit m way arg x.stage) runs phased fresh v.pools.kills given_before v.epochs.loaded v.epochs.scanned v.epochs.behind (λ _. refl) (epochs_still walker refl)
               (deaths_stay m digest layout s kept id v at turn.slot exists (after m k entry) stage acts (stepped_death m way arg x.stage) (stepped_dead m way arg x.stage) walker refl refl refl),
           record {
             turn = turn;
@@ -390,7 +390,7 @@ module _ {S A R : Type 0} (m : Meaning S A R) (digest : Key → ℕ) (layout : L
     expires conn now there phase =
         let legal = plain_legal entry refl Dead acts leaves None follows (λ i e. absurd cc) bit runs phased (λ live w none. absurd cc) (conn ∷ v.pools.kills) killed_given 0 [] [] in (
           killer,
-          plain_ends entry refl Dead acts leaves None follows (λ i e. absurd cc) bit runs phased (λ live w none. absurd cc) (conn ∷ v.pools.kills) killed_given 0 [] [] (epochs_unloaded m digest layout s kept id v at turn.slot exists killer refl refl)
+          plain_ends entry refl Dead acts leaves None follows (λ i e. absurd cc) bit runs phased (λ live w none. absurd cc) (conn ∷ v.pools.kills) killed_given 0 [] [] (λ some'. absurd (omega (arith, some'))) (epochs_unloaded m digest layout s kept id v at turn.slot exists killer refl refl)
               (deaths_killed m digest layout s kept id v at turn.slot exists (after m k entry) conn acts there.there (ap (λ (y : Slot S). y.inc) same ∙ there.inc) (due_alive m now x.stage due) killer refl refl refl refl refl refl),
           record {
             turn = turn;

@@ -57,6 +57,7 @@ use Rattle.npf_cells_rule.specs.Passes.{cell_pass}
 use Rattle.npf_cells_rule.specs.Views.{seat_side, reader_view, lock_side, pool_side, trie_side, turn_side, death_side, seen_side}
 use Rattle.npf_cells_rule.proofs.EntryLemmas.{adds_entry, sole_entries}
 use Rattle.npf_cells_rule.proofs.Frames.{alone-set, alone_still, framed}
+use Rattle.npf_cells_rule.proofs.MarkFrames.{marks_on, meets_same, words_slot}
 use Rattle.npf_cells_rule.proofs.TurnFrames.{other_word, below, inc_else, lock_else, keeps_trie, stored_else, turn_step, notes_stay}
 use Rattle.npf_cells_turns.proofs.ActLemmas.{ActsOn, inc_stays, bit_stays}
 
@@ -200,8 +201,9 @@ module _ {S A R : Type 0} (m : Meaning S A R) (digest : Key → ℕ) (layout : L
           (λ live way none. fresh (ap (λ (x : Slot S). stage_phase x.stage) (sym acts.here) ∙ live) way
           (λ key holds. none key (acts.holder key ∙ subst (λ n. k.holder key ≡ Some (record { id = record { slot = slot; inc = n }; way = way })) (ap (λ (x : Slot S). x.inc) (sym acts.here)) holds)))
 
-      pub ends_with : Epochs (epoch_word ws) (reader_word ws) (map reader_view (set s.views id actor)) → Deaths death_side layout k' ws (set s.views id actor) → IsCells m digest layout (record { words = ws; homes = homes'; views = set s.views id actor })
-      ends_with epochs deaths = framed m digest layout s (record { words = ws; homes = homes'; views = set s.views id actor }) kept kept.published log' (length-set s.words (field_at layout Slots slot turn_field) 0)
+      -- an epoch that the pass still has is the one that it had
+      pub ends_with : (1 ≤ loaded → loaded ≡ v.epochs.loaded) → Epochs (epoch_word ws) (reader_word ws) (map reader_view (set s.views id actor)) → Deaths death_side layout k' ws (set s.views id actor) → IsCells m digest layout (record { words = ws; homes = homes'; views = set s.views id actor })
+      ends_with same_loaded epochs deaths = framed m digest layout s (record { words = ws; homes = homes'; views = set s.views id actor }) kept kept.published log' (length-set s.words (field_at layout Slots slot turn_field) 0)
           (subst (λ sides. Seats entry_seat layout.slots all_places log' sides) (sym (map-set seat_side s.views id actor)) (seats-adds entry_seat layout.slots all_places kept.log (map seat_side s.views) id v.seats kept.seats there lives seated entry mine))
           epochs
           (pools-kept layout (taken pool_side kept.published k s.views) (taken pool_side kept.published (state_of m log') (set s.views id actor)) s.words ws kept.pools (length-set s.words (field_at layout Slots slot turn_field) 0)
@@ -215,6 +217,7 @@ module _ {S A R : Type 0} (m : Meaning S A R) (digest : Key → ℕ) (layout : L
           (subst (λ x. Deaths death_side layout x ws (set s.views id actor)) (sym state) deaths)
           (subst (λ x. Known (seen_side m) pool_side x (set s.views id actor)) (sym state) known_after)
           (subst (λ x. Notes turn_side pool_side layout (trie_words layout ws).cell x ws (set s.views id actor)) (sym state) notes_after)
+          (marks_on m digest layout s kept ws id v actor at (words_slot layout kept.published s.words slot turn_field 0) (meets_same v.trie) back same_loaded refl)
           (alone-set s.views id actor (alone_still v actor (kept.alone id v at) seated refl (λ none. none)) kept.alone)
         where
           known_after : Known (seen_side m) pool_side k' (set s.views id actor)

@@ -16,11 +16,11 @@ use Rattle.npf_connections.specs.Pass.{all_places}
 use Rattle.npf_core.specs.declared.found.Found.{Found}
 use Rattle.npf_paths.specs.declared.cell.Cell.TheVariants.{Empty}
 use Rattle.npf_paths.specs.declared.place.Place.{Place}
-use Rattle.npf_paths.specs.CellWords.{cell_of}
 use Rattle.npf_paths.specs.Paths.{EndsAt}
 use Rattle.npf_cells_words.specs.declared.layout.Layout.{Layout}
 use Rattle.npf_cells_words.specs.declared.layout.Pool.TheVariants.{Slots}
 use Rattle.npf_cells_words.specs.Layout.{note_field, field_at}
+use Rattle.npf_cells_words.specs.MarkWords.{shown_of}
 use Rattle.npf_cells_words.specs.Places.{IsInTrie, is_in_trie, place_at}
 use Rattle.npf_cells_words.proofs.WordLemmas.{in_trie, same_note}
 use Rattle.npf_seats.specs.Seats.{Seats}
@@ -46,6 +46,7 @@ use Rattle.npf_cells_rule.specs.Cells.{IsCells}
 use Rattle.npf_cells_rule.specs.Views.{seat_side, pool_side, turn_side, death_side}
 use Rattle.npf_cells_rule.proofs.DeathFrames.{deaths_load, known_apart, gone_same}
 use Rattle.npf_cells_rule.proofs.Frames.{alone-set, alone_still, framed, epochs_apart, trie_apart, conns_apart, stored_apart, locks_apart}
+use Rattle.npf_cells_rule.proofs.MarkFrames.{marks_on, meets_same, words_loaded}
 use Rattle.npf_cells_rule.specs.NoteLaw.{NamesEnd}
 use Rattle.npf_cells_rule.proofs.NoteFrames.{notes_behind}
 use Rattle.npf_cells_rule.proofs.NoteLawLemmas.{code_above, names_end}
@@ -152,6 +153,7 @@ module _ {S A R : Type 0} (m : Meaning S A R) (digest : Key → ℕ) (layout : L
         (deaths_load m digest layout s word id v teller kept at refl refl (record { rests = λ i dead bare rests. (rests, refl) }))
         (known_apart m digest layout s id v teller k kept at (λ i x. x) refl (spares_all k))
         notes_after
+        (marks_on m digest layout s kept ws id v teller at (words_loaded layout kept.published s.words word) (meets_same v.trie) refl (λ _. refl) refl)
         (alone-set s.views id teller (alone_still v teller (kept.alone id v at) seated refl (λ none. none)) kept.alone)
 
     -- of a kill the note says whether a key is held
@@ -181,7 +183,7 @@ module _ {S A R : Type 0} (m : Meaning S A R) (digest : Key → ℕ) (layout : L
             by_place : (b : Bool) → is_in_trie layout p ≡ b → IsInTrie layout p
             by_place true is = in_trie layout p is
             by_place false is =
-                let blank : (trie_words layout s.words).cell p ≡ Empty = ap (λ b. cond b (cell_of (slice_index s.words (place_at layout p))) Empty) is in
+                let blank : (trie_words layout s.words).cell p ≡ Empty = ap (λ b. cond b (shown_of (slice_index s.words (place_at layout p))) Empty) is in
                 let asked : Found = record { id = conn; way = way } in
                 let no : None ≡ Some asked = sym (kept.trie.ends key level p end ∙ ap (λ c. holder_at (trie_words layout s.words) c key) blank) ∙ holds in
                 absurd cc

@@ -60,6 +60,7 @@ module _ {S A R : Type 0} (layout : Layout) (table seat : TableId) (readers : Li
     epoch = own.epoch;
     unanswered = own.unanswered;
     unlocked = own.unlocked;
+    marked = own.marked;
   })
 
   -- through one by which it reclaims a connection
@@ -79,6 +80,7 @@ module _ {S A R : Type 0} (layout : Layout) (table seat : TableId) (readers : Li
     epoch = own.epoch;
     unanswered = own.unanswered;
     unlocked = own.unlocked;
+    marked = own.marked;
   })
 
   -- through a load of a note under a turn
@@ -103,6 +105,7 @@ module _ {S A R : Type 0} (layout : Layout) (table seat : TableId) (readers : Li
     epoch = (let was = own.epoch in let less = loaded_after act me.0.epochs in omega (arith, was, less));
     unanswered = λ idle. own.unanswered (sym (pin_after act me.0.epochs) ∙ idle);
     unlocked = λ idle. own.unlocked (sym (pin_after act me.0.epochs) ∙ idle);
+    marked = own.marked;
   })
 
   -- a pass with a slot's turn carries its value

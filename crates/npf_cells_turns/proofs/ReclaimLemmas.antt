@@ -45,6 +45,7 @@ use Rattle.npf_cells_rule.specs.Views.{seat_side, reader_view, lock_side, pool_s
 use Rattle.npf_cells_rule.proofs.DeathFrames.{known_apart}
 use Rattle.npf_cells_rule.proofs.DeathLawLemmas.{rests_hold_back}
 use Rattle.npf_cells_rule.proofs.Frames.{alone-set, alone_still, framed, epochs_apart}
+use Rattle.npf_cells_rule.proofs.MarkFrames.{marks_on, meets_same, words_slot}
 use Rattle.npf_cells_rule.proofs.TurnFrames.{below, inc_else, lock_else, keeps_trie, stored_else, notes_stay}
 use Rattle.npf_cells_turns.specs.EndKinds.{MayReclaim, with_reclaim}
 use Rattle.npf_cells_turns.proofs.DeathEndLemmas.{same_epoch, same_notes}
@@ -177,6 +178,7 @@ module _ {S A R : Type 0} (m : Meaning S A R) (digest : Key → ℕ) (layout : L
       (known_apart m digest layout s id v reclaimer k kept at (λ i c. c) refl (spares_all k))
       (notes-set turn_side pool_side layout k k (trie_words layout s.words).cell (trie_words layout ws).cell s.words ws s.views id v reclaimer kept.notes at (ahead_none m digest layout s kept id v turn at has (running {S = S} Vacant) quiet) refl refl refl (λ i c. c)
       (notes_stay m digest layout s kept slot turn_field 0 exists (inl refl) k (λ key. refl) (λ p. inl refl)))
+      (marks_on m digest layout s kept ws id v reclaimer at (words_slot layout kept.published s.words slot turn_field 0) (meets_same v.trie) refl (λ _. refl) refl)
       (alone-set s.views id reclaimer (alone_still v reclaimer (kept.alone id v at) seated refl (λ none. none)) kept.alone)
     where
       stored_on : FitsStored layout s.words reclaimer.pools

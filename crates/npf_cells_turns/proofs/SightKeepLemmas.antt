@@ -95,4 +95,5 @@ seen_on m layout table seat seat' readers me next own same seen = rw seen.is (re
   epoch = own.epoch;
   unanswered = own.unanswered;
   unlocked = own.unlocked;
+  marked = own.marked;
 })
