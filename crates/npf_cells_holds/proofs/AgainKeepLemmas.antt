@@ -58,6 +58,7 @@ word_read (Leaf slot Port) = grind arith
 word_read (Node node) = grind arith
 word_read Mark = refl
 
+-- so that of any other than a mark is read as none
 pub real_word : (c : Cell) → c ≢ Mark → cell_of (cell_word c) ≢ Mark
 real_word c real mark = real (sym (word_read c) ∙ mark)
 

@@ -1,6 +1,6 @@
 -- Kinds 13 and 14 keep the rule: a lock is tried, and the state of what a pass has locked is stored.
 use Rattle.std.specs.List.{Contains}
-use Rattle.std.proofs.Common.{◌≡◌, ◌≢◌, ℕ, zero, suc, ◌+◌, ◌^◌, ◌<◌, ◌≤◌, ◌==◌, ◌||◌, Bool, true, false, cond, None, eqb, eq-eqb, ne_eqb, List, [], ◌∷◌, map, set, length, slice_index, sum_by, refl, sym, ap, ◌∙◌, subst, ⊎_elim, inl, arith, length-set}
+use Rattle.std.proofs.Common.{◌≡◌, ◌≢◌, ℕ, ◌+◌, ◌^◌, ◌<◌, ◌≤◌, ◌==◌, ◌||◌, Bool, true, false, cond, None, eqb, eq-eqb, ne_eqb, List, [], ◌∷◌, map, set, length, slice_index, sum_by, refl, sym, ap, ◌∙◌, subst, ⊎_elim, inl, arith, length-set}
 use Rattle.std.proofs.lemmas.Bool.{cases_eq}
 use Rattle.std.proofs.lemmas.List.{get_or-set_same, get_or-set_other}
 use mathlib.Core.Option.{some}
@@ -418,7 +418,7 @@ module _ {S A R : Type 0} (m : Meaning S A R) (digest : Key → ℕ) (layout : L
         keeps,
         tt,
         load_step m digest layout s (lock_at layout lock) id me.1 me.0 me.0.trie kept at (lock_behind layout lock) (kept.trie.each id me.0 at) refl refl refl (record { rests = λ i dead bare rests. (rests, refl) }) (kept.alone id me.0 at)
-        (marks_on m digest layout s kept (set s.words (lock_at layout lock) (slice_index s.words (lock_at layout lock))) id me.0 me.0 at (words_loaded layout kept.published s.words (lock_at layout lock)) (meets_same me.0.trie) refl (λ _. refl) refl),
+            (marks_on m digest layout s kept (set s.words (lock_at layout lock) (slice_index s.words (lock_at layout lock))) id me.0 me.0 at (words_loaded layout kept.published s.words (lock_at layout lock)) (meets_same me.0.trie) refl (λ _. refl) refl),
         record { stood = stood_so m digest layout s id me.0 (lock_at layout lock) (lock_at layout lock) kept at lives refl; won = λ free. absurd (taken free); lost = λ _. refl },
       ))
 

@@ -30,7 +30,7 @@ use Rattle.npf_paths.specs.declared.cell.Cell.{Cell}
 use Rattle.npf_paths.specs.declared.cell.Cell.TheVariants.{Empty, Leaf, Node, Mark}
 use Rattle.npf_paths.specs.declared.place.Place.{Place}
 use Rattle.npf_paths.specs.declared.place.Place.TheVariants as Places
-use Rattle.npf_paths.specs.CellWords.{cell_word, cell_of}
+use Rattle.npf_paths.specs.CellWords.{cell_word}
 use Rattle.npf_paths.specs.Growing.{IsPlaceOf, GrowsBranch}
 use Rattle.npf_paths.specs.GrowingLaw.{IsEndNow, PathsAfterGrowth}
 use Rattle.npf_paths.specs.GrowingLaw.IsEndNow.{end_stays, end_grew}
