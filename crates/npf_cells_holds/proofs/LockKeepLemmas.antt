@@ -254,7 +254,7 @@ module _ {S A R : Type 0} (m : Meaning S A R) (digest : Key → ℕ) (layout : L
     keeps_trie n = lock_keeps layout k s.words lock n exists
 
     -- a step on the word of the lock, after which the seat fits and is one of those that have it
-    lock_step : (n : ℕ) (side : TrieSide) → side.grown ≡ me.0.trie.grown → side.regained ≡ me.0.trie.regained → RestsNoMore k (death_side me.0) (death_side (having side)) → FitsAlone (having side) → FitsTrie digest layout.slots k (t' n) side → lock_holders lock_side layout (set s.views id (having side)) lock ≡ held_in n → ((digit : ℕ) → digit < 64 → lock_at layout (Locking.Root digit) ≡ word → n < 2) →
+    pub lock_step : (n : ℕ) (side : TrieSide) → side.grown ≡ me.0.trie.grown → side.regained ≡ me.0.trie.regained → RestsNoMore k (death_side me.0) (death_side (having side)) → FitsAlone (having side) → FitsTrie digest layout.slots k (t' n) side → lock_holders lock_side layout (set s.views id (having side)) lock ≡ held_in n → ((digit : ℕ) → digit < 64 → lock_at layout (Locking.Root digit) ≡ word → n < 2) →
         ((other : Lock) → lock_at layout other ≢ word → has_lock layout other side.locks ≡ has_lock layout other me.0.trie.locks) → Marks mark_side layout kept.published (words' n) (set s.views id (having side)) → IsCells m digest layout (stepped s word n id me.1 (having side) keeps)
     lock_step n side grown back less alone fits here small others marks =
         let w = having side in
@@ -283,13 +283,13 @@ module _ {S A R : Type 0} (m : Meaning S A R) (digest : Key → ℕ) (layout : L
             (λ pool place field own. get_or-set_other s.words word (field_at layout pool place field) n 0 (λ e. no_lock layout pools pool place field lock own exists (sym e)))
 
     -- what the seat knew still fits
-    fits_still : (n : ℕ) → FitsTrie digest layout.slots k (t' n) me.0.trie
+    pub fits_still : (n : ℕ) → FitsTrie digest layout.slots k (t' n) me.0.trie
     fits_still n = fits_kept digest layout.slots k k (trie_words layout s.words) (t' n) (keeps_trie n) me.0.trie me.0.trie (knows_same me.0.trie) (kept.trie.each id me.0 at)
 
     holders_after : (side : TrieSide) → lock_holders lock_side layout (set s.views id (having side)) lock + has_lock layout lock me.0.trie.locks ≡ lock_holders lock_side layout s.views lock + has_lock layout lock side.locks
     holders_after side = sum-set (λ (u : CellView S A R). has_lock layout lock u.trie.locks) s.views id me.0 (having side) at
 
-    stored_there : (n : ℕ) → slice_index (words' n) word ≡ n
+    pub stored_there : (n : ℕ) → slice_index (words' n) word ≡ n
     stored_there n = get_or-set_same s.words word n 0 (let reach = lock_reach layout lock exists in let long = kept.connections.reach in omega (arith, reach, long))
 
     -- the lock was free, and the pass has it
@@ -320,7 +320,7 @@ module _ {S A R : Type 0} (m : Meaning S A R) (digest : Key → ℕ) (layout : L
         }))
 
     -- the pass that stores the state has the lock alone
-    held : Contains me.0.trie.locks lock → (lock_holders lock_side layout s.views lock ≡ 1) × (has_lock layout lock me.0.trie.locks ≡ 1)
+    pub held : Contains me.0.trie.locks lock → (lock_holders lock_side layout s.views lock ≡ 1) × (has_lock layout lock me.0.trie.locks ≡ 1)
     held c =
         let most = kept.locks.alone lock exists in
         let mine = one_of_sum (λ (u : CellView S A R). has_lock layout lock u.trie.locks) s.views id me.0 at in
@@ -328,7 +328,7 @@ module _ {S A R : Type 0} (m : Meaning S A R) (digest : Key → ℕ) (layout : L
         (omega (arith, most, mine, once), omega (arith, most, mine, once))
 
     -- it is protected
-    locked_alone : (side : TrieSide) → 1 ≤ length me.0.seats.readers → Contains me.0.trie.locks lock → FitsAlone (having side)
+    pub locked_alone : (side : TrieSide) → 1 ≤ length me.0.seats.readers → Contains me.0.trie.locks lock → FitsAlone (having side)
     locked_alone side place c = alone_still me.0 (having side) (kept.alone id me.0 at) place refl (λ none. absurd (none_listed lock (subst (λ locks. Contains locks lock) none.locks c)))
 
     -- who has it has no other lock of its word
@@ -336,7 +336,7 @@ module _ {S A R : Type 0} (m : Meaning S A R) (digest : Key → ℕ) (layout : L
     other_word other c has ne same = (let mine = (held c).1 in let two = two_locks layout other lock me.0.trie.locks has c ne same in absurd (omega (arith, mine, two)))
 
     -- the word says that one has it
-    held_there : Contains me.0.trie.locks lock → slice_index s.words word < 2 ^ 63
+    pub held_there : Contains me.0.trie.locks lock → slice_index s.words word < 2 ^ 63
     held_there c = held_low (slice_index s.words word) (sym (kept.locks.says lock exists) ∙ (held c).0)
 
     -- a node that the pass marked is another than that which the lock is of, if that is another lock

@@ -1,1 +1,2 @@
 pub mod LearnKeepLemmas
+pub mod MarkingKeepLemmas
