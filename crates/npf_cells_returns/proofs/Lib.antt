@@ -1,2 +1,3 @@
 pub mod LearnKeepLemmas
+pub mod MarkLawLemmas
 pub mod MarkingKeepLemmas

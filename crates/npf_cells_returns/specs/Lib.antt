@@ -1,3 +1,4 @@
 pub mod LoadKinds
 pub mod MarkKinds
+pub mod MarkLaw
 pub mod ReturnsLaw

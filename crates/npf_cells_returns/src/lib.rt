@@ -5,4 +5,4 @@
 
 mod laws;
 
-pub use laws::returns_law;
+pub use laws::{mark_law, returns_law};
