@@ -1,3 +1,4 @@
 pub mod LearnKeepLemmas
 pub mod MarkLawLemmas
 pub mod MarkingKeepLemmas
+pub mod PassOnLemmas
