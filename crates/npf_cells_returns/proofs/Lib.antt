@@ -1,0 +1,3 @@
+pub mod BackFrames
+pub mod LockedLemmas
+pub mod RegainKeepLemmas
