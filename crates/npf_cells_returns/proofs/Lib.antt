@@ -1,3 +1,4 @@
 pub mod BackFrames
 pub mod LockedLemmas
+pub mod PlacingKeepLemmas
 pub mod RegainKeepLemmas
