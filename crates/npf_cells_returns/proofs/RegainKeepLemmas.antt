@@ -27,7 +27,7 @@ use Rattle.npf_cells_words.specs.Places.{IsInTrie, IsPlaceIn, place_at}
 use Rattle.npf_cells_words.proofs.CodeLemmas.{codes_are_apart}
 use Rattle.npf_cells_words.proofs.WordLemmas.{place_behind, place_lock, slot_apart}
 use Rattle.npf_seats.specs.Sums.{occurs, others_than}
-use Rattle.npf_seats.proofs.ListLemmas.{left_others, left_same, occurs-cons, occurs_or, one_where, stands_once}
+use Rattle.npf_seats.proofs.ListLemmas.{left_others, left_same, occurs-cons, one_where, stands_once}
 use Rattle.npf_seats.proofs.PrefixLemmas.{cons_cases, none_listed}
 use Rattle.npf_seats.proofs.SumLemmas.{sum-set}
 use Rattle.npf_cells_pins.specs.declared.pin.Pin.{Pin}
@@ -55,6 +55,7 @@ use Rattle.npf_cells_rule.proofs.MarkMetLemmas.{empty_below, leads_on}
 use Rattle.npf_cells_returns.specs.LoadKinds.{emptied_at}
 use Rattle.npf_cells_returns.specs.MarkKinds.{MayClearMark, RegainsNode, regaining}
 use Rattle.npf_cells_returns.proofs.BackFrames.{LeavesLives, back_step, below}
+use Rattle.npf_cells_returns.proofs.ListedLemmas.{still_listed}
 use Rattle.npf_cells_returns.proofs.LockedLemmas.{cell_else, cell_here, inc_else, key_else, lock_else, met_listed, nobody_has, parent_else, stored_there, stored_stays}
 
 -- who is protected with an epoch, or an earlier one, keeps the table's from going more than one further
@@ -62,15 +63,6 @@ pinned_before : (pin : Pin) (now epoch : ℕ) → PinAllows pin now → IsProtec
 pinned_before Idle now epoch guards by = absurd by
 pinned_before (Pinned pinned) now epoch guards by = absurd by
 pinned_before (Protected pinned protecting) now epoch guards by = let most = guards.2 in omega (arith, most, by)
-
-still_listed : (node : ℕ) (published : List ℕ) (x : ℕ) → Contains published x → x ≢ node → Contains (others_than node published) x
-still_listed node published x c ne = ⊎_elim
-    (λ (none : occurs x (others_than node published) ≡ 0).
-    let left = left_others node x published ne in
-    let one = stands_once x published c in
-    absurd (omega (arith, none, left, one)))
-    (λ listed. listed)
-    (occurs_or x (others_than node published))
 
 -- what the pass knows to be empty is the place itself
 emptied_there : (p : Place) (e : Emptied) → emptied_at p ≡ Some e → IsPlaceIn e.node p × (e.parent ≡ None) × ((digit : ℕ) → Contains e.digits digit → p ≡ Places.Node e.node digit)
