@@ -1,4 +1,10 @@
+pub mod BackFrames
+pub mod FreeingKeepLemmas
 pub mod LearnKeepLemmas
+pub mod ListedLemmas
+pub mod LockedLemmas
 pub mod MarkLawLemmas
 pub mod MarkingKeepLemmas
 pub mod PassOnLemmas
+pub mod PlacingKeepLemmas
+pub mod RegainKeepLemmas
