@@ -19,6 +19,7 @@ mod hold;
 mod kinds;
 mod locks;
 mod look;
+mod marks;
 mod notes;
 mod passing;
 mod pools;

@@ -1,0 +1,3 @@
+pub mod LoadKinds
+pub mod MarkKinds
+pub mod ReturnsLaw
