@@ -15,6 +15,7 @@ use npf_core::{ConnId, Law};
 use npf_epoch::{enter, leave, try_advance};
 use npf_paths::KeyHash;
 use npf_turn::{reclaim, regain};
+use std::sync::Wait;
 
 /// The field of the first note among a connection's words.
 const FIRST_NOTE: u32 = 18;
@@ -24,7 +25,11 @@ const EPOCHS: u64 = 1 << 63;
 
 /// Raises the epoch, twice where no other pass is left that could hinder it, and frees each connection that was let go two epochs before or
 /// more. A slot whose turn another pass has is left for the next time.
-pub(crate) fn collect<L: Law, H: KeyHash>(cells: &Cells<L, H>, pass: &mut CellPass<L>)
+pub(crate) fn collect<L: Law, H: KeyHash>(
+    rt: &impl Wait,
+    cells: &Cells<L, H>,
+    pass: &mut CellPass<L>,
+)
     requires own { IsPassIn cells.now pass.old }
     requires legal { IsPass L.meaning (cell_pass pass.old.seat.me.0) }
     requires between { IsBetweenCalls L.meaning pass.old.seat.me.0 }
@@ -38,11 +43,11 @@ pub(crate) fn collect<L: Law, H: KeyHash>(cells: &Cells<L, H>, pass: &mut CellPa
     for slot in visited..cells.layout().slots {
         collect_slot(cells, pass, slot, epoch);
     }
-    regain_nodes(cells, pass);
+    regain_nodes(rt, cells, pass);
 }
 
 // Frees each node that was taken off two epochs before or more, and takes those off in which only such a one hung. It is in a stay for that.
-fn regain_nodes<L: Law, H: KeyHash>(cells: &Cells<L, H>, pass: &mut CellPass<L>)
+fn regain_nodes<L: Law, H: KeyHash>(rt: &impl Wait, cells: &Cells<L, H>, pass: &mut CellPass<L>)
     requires own { IsPassIn cells.now pass.old }
     requires legal { IsPass L.meaning (cell_pass pass.old.seat.me.0) }
     requires between { IsBetweenCalls L.meaning pass.old.seat.me.0 }
@@ -54,7 +59,7 @@ fn regain_nodes<L: Law, H: KeyHash>(cells: &Cells<L, H>, pass: &mut CellPass<L>)
     enter(cells, pass);
     let epoch = cells.load_epoch(pass);
     for node in 0..cells.layout().nodes {
-        regain(cells, pass, node, epoch);
+        regain(rt, cells, pass, node, epoch);
     }
     leave(cells, pass);
 }

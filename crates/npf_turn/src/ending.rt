@@ -52,7 +52,7 @@ pub fn end_key<L: Law, H: KeyHash>(
     let place = place_of(cells.layout(), note);
     lock(rt, cells, pass, place.lock());
     cells.unlink(pass, place, id, way);
-    take_off(cells, pass, place);
+    take_off(rt, cells, pass, place);
     cells.end_turn(pass, id.slot, &TurnAct::Nothing);
     true
 }

@@ -13,6 +13,7 @@ use crate::taking_off::take_off;
 use npf_cells::{CellPass, Cells, Pool};
 use npf_core::Law;
 use npf_paths::{KeyHash, Place};
+use std::sync::Wait;
 
 /// The kind of a word of a place that is a mark, in its two lowest bits; above them stands the node's number.
 const MARK: u64 = 3;
@@ -41,8 +42,10 @@ pub fn clear_mark_at<L: Law, H: KeyHash>(
 }
 
 /// Frees the node, if it was let go two epochs before this one or earlier, and takes the node off in which its mark stood, if that is then empty.
-/// Answers whether it freed the node. It waits for nobody: a node whose place's lock another pass has is left for the next time.
+/// Answers whether it freed the node. A node whose place's lock another pass has is left for the next time; for the lock of the place in which that
+/// place's node hangs it may wait.
 pub fn regain<L: Law, H: KeyHash>(
+    rt: &impl Wait,
     cells: &Cells<L, H>,
     pass: &mut CellPass<L>,
     node: u32,
@@ -68,7 +71,7 @@ pub fn regain<L: Law, H: KeyHash>(
     }
     let cleared = clear_locked(cells, pass, place, epoch);
     if cleared {
-        take_off(cells, pass, place);
+        take_off(rt, cells, pass, place);
     } else {
         unlock(cells, pass, place.lock());
     }

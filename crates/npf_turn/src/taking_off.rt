@@ -1,18 +1,21 @@
 // Emptied nodes are taken off the trie, while others walk it.
 //
-// Locks are got from below up, and each but the first by one try, so nobody waits with a lock. A pass that has the lock of a node knows the
-// node to hang where it has just emptied one of its places, and then its parent word names the place in which it hangs.
+// A pass that has the lock of a node knows the node to hang where it has just emptied one of its places, and then its parent word names the place
+// in which it hangs. It waits for the lock of that place with the node's own: who waits with a lock waits for one further up, and who has the
+// topmost of them waits for none. If it gave up where it doesn't get that lock at once, nobody would come to the empty node again, and the
+// node would be lost with all those above it.
 ghost use Rattle.std.specs.Prelude.{◌≡◌, ◌<◌, [], ◌∷◌};
 ghost use Rattle.npf_paths.specs.Places.{lock_of};
 ghost use Rattle.npf_cells_words.specs.Places.{IsInTrie};
 ghost use Rattle.npf_cells.specs.Cells.{IsPassIn};
 ghost use Rattle.npf_cells_rule.specs.Passes.{IsProtected};
 
-use crate::locking::unlock;
+use crate::locking::{lock, unlock};
 use crate::naming::place_named;
 use npf_cells::{CellPass, Cells};
 use npf_core::Law;
-use npf_paths::{KeyHash, Lock, NODE_DIGITS, Place};
+use npf_paths::{KeyHash, NODE_DIGITS, Place};
+use std::sync::Wait;
 
 /// The word of a place where nothing stands.
 const NOTHING: u64 = 0;
@@ -20,9 +23,10 @@ const NOTHING: u64 = 0;
 /// The state that frees a lock.
 const FREE: u64 = 0;
 
-/// Frees the lock of a place that the pass has just emptied. Where nothing stands in the other places of its node either, and the lock of the
-/// place in which the node hangs is free, the node is taken off before: its mark stands there then, and two epochs later it may come back.
+/// Frees the lock of a place that the pass has just emptied. Where nothing stands in the other places of its node either, the node is taken off
+/// before: its mark stands then where it hung, and two epochs later it may come back. It may wait for the lock of that place.
 pub(crate) fn take_off<L: Law, H: KeyHash>(
+    rt: &impl Wait,
     cells: &Cells<L, H>,
     pass: &mut CellPass<L>,
     place: Place,
@@ -34,7 +38,8 @@ pub(crate) fn take_off<L: Law, H: KeyHash>(
     ensures own { IsPassIn cells.now pass.new }
 {
     if let Place::Node { node, .. } = place {
-        if let Some(parent) = lock_parent_of_bare(cells, pass, node) {
+        if let Some(parent) = parent_of_bare(cells, pass, node) {
+            lock(rt, cells, pass, parent.lock());
             mark_off(cells, pass, parent, node);
             return;
         }
@@ -42,9 +47,8 @@ pub(crate) fn take_off<L: Law, H: KeyHash>(
     unlock(cells, pass, place.lock());
 }
 
-// Where nothing stands in any place of a node whose lock the pass has, tries the lock of the place in which the node hangs, and answers that place
-// if it got it.
-fn lock_parent_of_bare<L: Law, H: KeyHash>(
+// The place in which a node hangs whose lock the pass has, if nothing stands in any place of the node.
+fn parent_of_bare<L: Law, H: KeyHash>(
     cells: &Cells<L, H>,
     pass: &mut CellPass<L>,
     node: u32,
@@ -56,8 +60,7 @@ fn lock_parent_of_bare<L: Law, H: KeyHash>(
         return None;
     }
     let code = cells.load_parent(pass, node);
-    let parent = place_named(cells.layout(), code)?;
-    cells.try_lock(pass, parent.lock()).then_some(parent)
+    place_named(cells.layout(), code)
 }
 
 // Whether nothing stands in any place of a node whose lock the pass has.
