@@ -1,10 +1,11 @@
-ghost use Rattle.std.specs.Prelude.{◌≡◌, ◌+◌, ◌≤◌, ◌<◌};
+ghost use Rattle.std.specs.Prelude.{◌≡◌, ◌+◌, ◌≤◌, ◌<◌, []};
 ghost use Rattle.npf_paths.specs.Digits.{digit_of};
 ghost use Rattle.npf_paths.specs.declared.place.Place.TheVariants as Places;
 ghost use Rattle.npf_cells.specs.Cells.{IsPassIn};
 ghost use Rattle.npf_cells_rule.specs.Passes.{IsProtected};
 ghost use Rattle.npf_cells_words.specs.Places.{IsInTrie};
-ghost use Rattle.npf_trie.specs.HoldKey.{CanHold, SettlesHold, IsAtPlace, StepsSo};
+ghost use Rattle.npf_turn.specs.TakingOff.{HasNoNodes};
+ghost use Rattle.npf_trie.specs.HoldKey.{CanHold, SettlesAnew, StaysAnew, IsAtPlace, StepsSo};
 
 use crate::fill::fill;
 use crate::grow::grow;
@@ -34,7 +35,7 @@ pub fn hold<L: Law, H: KeyHash>(
     requires protected { IsProtected pass.old.seat.me.0.epochs.pin }
     requires can { CanHold L.meaning cells.now.table.shared.key pass.old.seat.me.0 id way }
     ensures own { IsPassIn cells.now pass.new }
-    ensures answers { SettlesHold L.meaning cells.now.table.shared.key id key way result pass.old.seat.me pass.new.seat.me }
+    ensures answers { SettlesAnew L.meaning cells.now.table.shared.key id key way result pass.old.seat.me pass.new.seat.me }
     ensures loaded { pass.old.seat.me.0.trie.places + 1 ≤ pass.new.seat.me.0.trie.places }
 {
     let hash = H::hash(&key);
@@ -65,7 +66,9 @@ fn stay_anew<L: Law, H: KeyHash>(cells: &Cells<L, H>, pass: &mut CellPass<L>, pl
     requires protected { IsProtected pass.old.seat.me.0.epochs.pin }
     requires place { IsInTrie cells.now.table.shared.key place }
     requires unlocked { pass.old.seat.me.0.trie.locks ≡ [] }
+    requires nodes { HasNoNodes pass.old.seat.me.0.pools }
     ensures own { IsPassIn cells.now pass.new }
+    ensures anew { StaysAnew pass.old.seat.me pass.new.seat.me }
 {
     leave(cells, pass);
     try_advance(cells, pass);

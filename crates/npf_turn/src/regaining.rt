@@ -1,10 +1,10 @@
 // Nodes that were taken off come back, once nobody can be in them any more.
-ghost use Rattle.std.specs.Prelude.{◌≡◌, ◌<◌, ◌^◌, ◌↔◌, [], true};
+ghost use Rattle.std.specs.Prelude.{◌≡◌, ◌<◌, ◌∷◌, []};
 ghost use Rattle.npf_paths.specs.Places.{lock_of};
 ghost use Rattle.npf_cells_words.specs.Places.{IsInTrie};
 ghost use Rattle.npf_cells.specs.Cells.{IsPassIn};
 ghost use Rattle.npf_cells_rule.specs.Passes.{IsProtected};
-ghost use Rattle.npf_turn.specs.Reclaiming.{IsLongLeft};
+ghost use Rattle.npf_turn.specs.TakingOff.{HasNoNodes, HasReached, ReturnsNode, TriesToClear};
 
 use crate::locking::unlock;
 use crate::naming::place_named;
@@ -30,8 +30,11 @@ pub fn clear_mark_at<L: Law, H: KeyHash>(
     requires place { IsInTrie cells.now.table.shared.key place }
     requires protected { IsProtected pass.old.seat.me.0.epochs.pin }
     requires unlocked { pass.old.seat.me.0.trie.locks ≡ [] }
-    requires loaded { pass.old.seat.me.0.epochs.loaded ≡ epoch }
+    requires reached { HasReached pass.old.seat.me.0.epochs epoch }
+    requires nodes { HasNoNodes pass.old.seat.me.0.pools }
     ensures own { IsPassIn cells.now pass.new }
+    ensures returns { ReturnsNode result pass.old.seat.me pass.new.seat.me }
+    ensures epochs { pass.new.seat.me.0.epochs ≡ pass.old.seat.me.0.epochs }
 {
     if !cells.try_lock(pass, place.lock()) {
         return false;
@@ -55,8 +58,10 @@ pub fn regain<L: Law, H: KeyHash>(
     requires exists { node < cells.now.table.shared.key.nodes }
     requires protected { IsProtected pass.old.seat.me.0.epochs.pin }
     requires unlocked { pass.old.seat.me.0.trie.locks ≡ [] }
-    requires loaded { epoch < 2 ^ 63 }
+    requires reached { HasReached pass.old.seat.me.0.epochs epoch }
+    requires nodes { HasNoNodes pass.old.seat.me.0.pools }
     ensures own { IsPassIn cells.now pass.new }
+    ensures returns { ReturnsNode result pass.old.seat.me pass.new.seat.me }
 {
     // What the state and the parent say is a hint: it is looked at again under the lock of the place.
     if !is_long_left(cells.load_state(pass, node), epoch) {
@@ -86,7 +91,12 @@ fn clear_locked<L: Law, H: KeyHash>(
     epoch: u64,
 ) -> bool
     requires own { IsPassIn cells.now pass.old }
+    requires place { IsInTrie cells.now.table.shared.key place }
+    requires only { pass.old.seat.me.0.trie.locks ≡ lock_of place ∷ [] }
+    requires reached { HasReached pass.old.seat.me.0.epochs epoch }
+    requires nodes { HasNoNodes pass.old.seat.me.0.pools }
     ensures own { IsPassIn cells.now pass.new }
+    ensures tries { TriesToClear place result pass.old.seat.me pass.new.seat.me }
 {
     let word = cells.load_cell(pass, place);
     if word % 4 != MARK {
