@@ -1,4 +1,4 @@
-// Emptied nodes of the trie: one is marked, its mark takes its place, it is let go, and comes back.
+// Emptied nodes of the trie: one is marked, its mark takes its place, and once it was let go (by `store_node`) and nobody is in it any more it comes back.
 ghost use Rattle.std.specs.Prelude.{◌≡◌, ◌<◌, ◌^◌};
 ghost use Rattle.npf_cells_words.specs.MarkWords.{mark_word};
 
@@ -17,9 +17,6 @@ const MARKED: u64 = 2;
 
 /// The state of a node that nobody has: it is free.
 const FREE: u64 = 0;
-
-/// The state of a node that was let go has this bit, and an epoch.
-const LEFT: u64 = 1 << 63;
 
 /// The word of a place where nothing stands.
 const NOTHING: u64 = 0;
@@ -82,16 +79,6 @@ impl<F, S, A, R, W: Told> Play<F, CellView<S, A, R>> for PutsMark<W> {
     ghost then = { MarksPlace W.told.number };
 }
 
-pub(crate) struct LeavesNode<W> {
-    aim: PhantomData<W>,
-}
-
-impl<F, S, A, R, W: Told> Play<F, CellView<S, A, R>> for LeavesNode<W> {
-    ghost use Rattle.npf_cells_returns.specs.MarkKinds.{LetsNodeGo};
-
-    ghost then = { LetsNodeGo W.told.layout W.told.number };
-}
-
 pub(crate) struct ClearsPlace<W> {
     aim: PhantomData<W>,
 }
@@ -121,7 +108,7 @@ impl<L: Law, H: KeyHash> Cells<L, H> {
     ghost use Rattle.npf_cells_rule.specs.Stood.{StoodSo};
     ghost use Rattle.npf_cells_rule.specs.Views.{with_pools, with_trie};
     ghost use Rattle.npf_cells_returns.specs.LoadKinds.{loading_cell, loading_parent, loading_state};
-    ghost use Rattle.npf_cells_returns.specs.MarkKinds.{MayClearMark, MayLetNodeGo, MayMarkNode, MayMarkPlace, freeing_node, letting_node_go, marking, placing, regaining};
+    ghost use Rattle.npf_cells_returns.specs.MarkKinds.{MayClearMark, MayMarkNode, MayMarkPlace, freeing_node, marking, placing, regaining};
     ghost use Rattle.npf_cells.specs.Cells.{IsPassIn};
 
     /// Loads the word of a place of the trie whose lock the pass has, and makes no entry. A node that the pass finds empty is known to be so
@@ -245,34 +232,6 @@ impl<L: Law, H: KeyHash> Cells<L, H> {
         self.table
             .shared
             .store::<PutsMark<W>>(&mut pass.seat, word, mark_word(node));
-    }
-
-    /// Lets a node go whose mark the pass put in its place, with the epoch that the pass loaded since: nobody has its lock from then on, and
-    /// nobody gets it.
-    pub fn leave_node(&self, pass: &mut CellPass<L>, node: u32, epoch: u64)
-        requires own { IsPassIn self.now pass.old }
-        requires may { MayLetNodeGo pass.old.seat.me.0 node epoch }
-        requires exists { node < self.now.table.shared.key.nodes }
-        requires low { epoch < 2 ^ 63 }
-        ensures own { IsPassIn self.now pass.new }
-        ensures next { pass.new.seat.me ≡ with_trie pass.old.seat.me (letting_node_go self.now.table.shared.key node pass.old.seat.me.0.trie) }
-    {
-        self.leave_node_as::<Brand>(pass, node, epoch);
-    }
-
-    fn leave_node_as<W: Told>(&self, pass: &mut CellPass<L>, node: u32, epoch: u64)
-        requires own { IsPassIn self.now pass.old }
-        requires may { MayLetNodeGo pass.old.seat.me.0 node epoch }
-        requires exists { node < self.now.table.shared.key.nodes }
-        requires low { epoch < 2 ^ 63 }
-        requires aim { (W.told.layout ≡ self.now.table.shared.key) × (W.told.number ≡ node) }
-        ensures own { IsPassIn self.now pass.new }
-        ensures next { pass.new.seat.me ≡ with_trie pass.old.seat.me (letting_node_go self.now.table.shared.key node pass.old.seat.me.0.trie) }
-    {
-        let word = self.layout.lock_place(Lock::Node(node));
-        self.table
-            .shared
-            .store::<LeavesNode<W>>(&mut pass.seat, word, LEFT + epoch);
     }
 
     /// Clears a mark that the pass met in the place under the place's lock. Its node was let go, and since then the epoch that the pass loaded

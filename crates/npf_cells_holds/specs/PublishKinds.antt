@@ -1,6 +1,6 @@
 -- What a store in a place of the trie changes in a pass's own view, and what it tells.
 use Rattle.std.specs.List.{list_any}
-use Rattle.std.specs.Prelude.{◌≡◌, ℕ, ◌+◌, ◌<◌, ◌==◌, true, false, Option, Some, None, List, [], ◌∷◌, Contains, length, slice_index, filter, if◌then◌else◌}
+use Rattle.std.specs.Prelude.{◌≡◌, ◌≢◌, ℕ, ◌+◌, ◌<◌, ◌==◌, true, false, Option, Some, None, List, [], ◌∷◌, Contains, length, slice_index, filter, if◌then◌else◌}
 use denote.Bor.{Bor}
 use Rattle.atomic_table.specs.Table.{Me, Step}
 use Rattle.npf_types.specs.declared.key.Key.{Key}
@@ -22,9 +22,10 @@ use Rattle.npf_paths.specs.LevelLaw.{AreApart}
 use Rattle.npf_paths.specs.Paths.{IsEnd}
 use Rattle.npf_cells_words.specs.declared.layout.Layout.{Layout}
 use Rattle.npf_cells_words.specs.declared.layout.Pool.TheVariants.{Slots, Nodes}
+use Rattle.npf_cells_words.specs.declared.mark.Marked.{Marked}
 use Rattle.npf_cells_words.specs.Layout.{parent_field, key_field, note_field, field_at}
 use Rattle.npf_cells_words.specs.Codes.{place_code}
-use Rattle.npf_cells_words.specs.Places.{place_at}
+use Rattle.npf_cells_words.specs.Places.{place_at, IsPlaceIn}
 use Rattle.npf_cells_leaves.specs.Sights.{SeesLocked}
 use Rattle.npf_cells_leaves.specs.declared.trie.LoadedLeaf.{LoadedLeaf}
 use Rattle.npf_cells_leaves.specs.declared.trie.TrieSide.{TrieSide}
@@ -99,6 +100,10 @@ MovesLeaf digest v p [] = IsSettled v.turn
 MovesLeaf digest v p (node ∷ nodes) = (leaf : LoadedLeaf) → v.trie.leaf ≡ Some leaf →
     IsAheadTo v.turn leaf.slot leaf.way (place_code (foot_place (digits_of digest leaf.key) (level_at v.trie p + 1) p (node ∷ nodes)))
 
+-- the place is none of a node that was marked
+abbrev pub IsUnmarkedPlace : List Marked → Place → Type 0
+IsUnmarkedPlace marks p = (m : Marked) → Contains marks m → ¬ (IsPlaceIn m.node p)
+
 -- what a store for a key asks: the pass may hold the key, stands at the place of its path, and has stored the key, the incarnation
 -- and, as the note of the way, where the leaf will stand
 pub record MayPublishFor {S A R : Type 0} (m : Meaning S A R) (digest : Key → ℕ) (layout : Layout) (v : CellView S A R) (id : ConnId) (key : Key) (way : Way) (p : Place) (cell : Cell) : Type 0 where
@@ -111,10 +116,11 @@ pub record MayPublishFor {S A R : Type 0} (m : Meaning S A R) (digest : Key → 
   pub puts : PutsFor digest layout v id key way p cell nodes
   pub noted : HasNoted v.pools.notes id.slot way (place_code (foot_place (digits_of digest key) (level_at v.trie p + 1) p nodes))
   pub moves : MovesLeaf digest v p nodes
+  pub unmarked : IsUnmarkedPlace v.trie.marks p
 
--- what any store in a place asks: without an aim what stands there may be stored again, unless it is a node
+-- what any store in a place asks: without an aim what stands there may be stored again, unless it is a node or a mark, in a node that the pass hasn't marked
 abbrev pub MayPublish : {S A R : Type 0} → Meaning S A R → (Key → ℕ) → Layout → CellView S A R → Place → Cell → Option Aim → Type 0
-MayPublish m digest layout v p cell None = SeesLocked v.trie p cell × IsEnd cell
+MayPublish m digest layout v p cell None = SeesLocked v.trie p cell × IsEnd cell × (cell ≢ Mark) × IsUnmarkedPlace v.trie.marks p
 MayPublish m digest layout v p cell (Some (Aim.Look n key)) = ⊥
 MayPublish m digest layout v p cell (Some (Aim.Hold id key way)) = MayPublishFor m digest layout v id key way p cell
 
@@ -125,7 +131,7 @@ nodes_but published = filter (λ node. if list_any (λ x. x == node) published t
 -- the pass after a store, and after one for a key: it has seen this history, is in a new stay, and these nodes aren't its own any more but counted,
 -- nor is the note of the way; it is ahead of none
 abbrev pub publishing : TrieSide → TrieSide
-publishing side = record side { seen = None; meets = None; published = side.published + 1 }
+publishing side = record side { seen = None; meets = None; emptied = None; published = side.published + 1 }
 
 abbrev pub published_for : {S A R : Type 0} → CellView S A R → List (Entry S A R) → ConnId → Way → List ℕ → CellView S A R
 published_for v history id way nodes = record v {

@@ -205,7 +205,7 @@ module _ {S V : Type 0} (side_of : V → TrieSide) (digest : Key → ℕ) (layou
           let was = fits.seen x (less.seen x e) in
           record {
             on_path = filled_places changed was.on_path;
-            locked = λ c. (let had = subst (λ locks. Contains locks (lock_of x.place)) less.locks c in empties.others x.place (apart x e had) ∙ was.locked had);
+            locked = λ c real. (let had = subst (λ locks. Contains locks (lock_of x.place)) less.locks c in empties.others x.place (apart x e had) ∙ was.locked had real);
           };
       claimed = λ id c. takes.claimed id (fits.claimed id (less.answered id c));
     }

@@ -119,9 +119,9 @@ module _ {S : Type 0} (digest : Key → ℕ) (slots : ℕ) (k k' : Machine S) (t
         let was = fits.seen x (less.seen x e) in
         record {
           on_path = old (digits_of digest x.key) x.level x.place (are_digits digest x.key) was.on_path;
-          locked = λ c.
+          locked = λ c real.
               let had = subst (λ locks. Contains locks (lock_of x.place)) less.locks c in
-              elsewhere (digits_of digest x.key) x.level x.place (are_digits digest x.key) was.on_path (apart x e had) ∙ was.locked had;
+              elsewhere (digits_of digest x.key) x.level x.place (are_digits digest x.key) was.on_path (apart x e had) ∙ was.locked had real;
         };
     claimed = λ id c. gives.claimed id (fits.claimed id (less.answered id c));
   }

@@ -7,12 +7,12 @@ use Rattle.npf_paths.specs.declared.cell.Cell.{Cell}
 use Rattle.npf_paths.specs.declared.cell.Cell.TheVariants.{Empty, Node}
 use Rattle.npf_paths.specs.declared.place.Place.{Place}
 use Rattle.npf_paths.specs.declared.place.Place.TheVariants as Places
-use Rattle.npf_paths.specs.CellWords.{cell_of}
 use Rattle.npf_paths.specs.Growing.{IsBranch}
 use Rattle.npf_paths.specs.Growing.IsBranch.{parts, goes_on}
 use Rattle.npf_paths.specs.Paths.{IsEnd}
 use Rattle.npf_cells_words.specs.declared.layout.Layout.{Layout}
 use Rattle.npf_cells_words.specs.Codes.{place_code}
+use Rattle.npf_cells_words.specs.MarkWords.{shown_of}
 use Rattle.npf_cells_words.specs.Places.{IsInTrie, is_in_trie, place_at}
 use Rattle.npf_cells_words.proofs.CodeLemmas.{codes_are_apart}
 use Rattle.npf_cells_words.proofs.WordLemmas.{in_trie}
@@ -110,7 +110,7 @@ module _ {mine theirs : ℕ → ℕ} {cell : Place → Cell} {leaf other : Cell}
 pub stands_in_trie : (layout : Layout) (words : List ℕ) (p : Place) (node : ℕ) → cell_in layout words p ≡ Node node → IsInTrie layout p
 stands_in_trie layout words p node is = by_place (is_in_trie layout p) refl is
   where
-    by_place : (b : Bool) → is_in_trie layout p ≡ b → cond b (cell_of (slice_index words (place_at layout p))) Empty ≡ Node node → IsInTrie layout p
+    by_place : (b : Bool) → is_in_trie layout p ≡ b → cond b (shown_of (slice_index words (place_at layout p))) Empty ≡ Node node → IsInTrie layout p
     by_place true e stands = in_trie layout p e
     by_place false e stands = absurd cc
 

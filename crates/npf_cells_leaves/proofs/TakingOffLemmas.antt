@@ -1,6 +1,6 @@
 -- The trie where an emptied node is taken off, in which nobody is.
 use Rattle.std.specs.List.{Contains}
-use Rattle.std.proofs.Common.{◌≡◌, ◌≢◌, ◌⊎◌, ℕ, ◌+◌, Bool, true, false, cond, eqb, Some, None, List, [], ◌∷◌, length, refl, sym, ap, ◌∙◌, subst, ⊎_elim, inl, inr, arith}
+use Rattle.std.proofs.Common.{◌≡◌, ◌≢◌, ℕ, ◌+◌, Bool, true, false, cond, eqb, Some, None, List, [], ◌∷◌, length, refl, sym, ap, ◌∙◌, subst, ⊎_elim, inl, inr, arith}
 use Rattle.std.proofs.lemmas.Bool.{cases_eq}
 use mathlib.Core.Option.{some}
 use lib.ListN.{get_elem?}
@@ -174,7 +174,7 @@ module _ {S V : Type 0} (side_of : V → TrieSide) (digest : Key → ℕ) (layou
           let was = fits.seen x old.0 in
           record {
             on_path = stays_on (digits_of digest x.key) x.level x.place (are_digits digest x.key) was.on_path old.1;
-            locked = λ c. (let had = subst (λ locks. Contains locks (lock_of x.place)) out.locks c in off.prunes.others x.place (out.apart x e had) ∙ was.locked had);
+            locked = λ c real. (let had = subst (λ locks. Contains locks (lock_of x.place)) out.locks c in off.prunes.others x.place (out.apart x e had) ∙ was.locked had real);
           };
       claimed = λ id c. fits.claimed id (out.answered id c);
     }

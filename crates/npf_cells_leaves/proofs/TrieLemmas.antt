@@ -7,7 +7,6 @@ use lib.ListN.{get_elem?}
 use Rattle.atomic_table.proofs.Lists.{at_set, at_snoc}
 use Rattle.npf_types.specs.declared.key.Key.{Key}
 use Rattle.npf_types.specs.declared.key.Way.{Way}
-use Rattle.npf_types.specs.declared.key.Way.TheVariants.{Forward, Backward, Port}
 use Rattle.npf_core.specs.declared.conn_id.ConnId.{ConnId}
 use Rattle.npf_core.specs.declared.slot.Slot.{Slot}
 use Rattle.npf_core.specs.declared.stage.Stage.TheVariants.{Vacant, Dead}
@@ -15,7 +14,6 @@ use Rattle.npf_core.specs.Machine.{Machine, stage_at, stage_of, IsClaimed, is_ke
 use Rattle.npf_paths.specs.declared.cell.Cell.{Cell}
 use Rattle.npf_paths.specs.declared.cell.Cell.TheVariants.{Empty, Leaf, Node, Mark}
 use Rattle.npf_paths.specs.declared.place.Place.{Place}
-use Rattle.npf_paths.specs.CellWords.{cell_of, cell_word}
 use Rattle.npf_paths.specs.PathLaw.{AgreesOnPath}
 use Rattle.npf_paths.specs.Paths.{AreDigits, IsOnPath, IsEnd}
 use Rattle.npf_paths.specs.Places.{lock_of}
@@ -23,6 +21,7 @@ use Rattle.npf_paths.proofs.PathLemmas.{same_places, same_places_back}
 use Rattle.npf_cells_words.specs.declared.layout.Layout.{Layout}
 use Rattle.npf_cells_words.specs.declared.layout.Pool.TheVariants.{Slots, Nodes}
 use Rattle.npf_cells_words.specs.Layout.{root_at, inc_field, parent_field, key_field, field_at}
+use Rattle.npf_cells_words.specs.MarkWords.{shown_of}
 use Rattle.npf_cells_words.specs.Places.{IsInTrie, is_in_trie, place_at}
 use Rattle.npf_cells_words.proofs.WordLemmas.{in_trie, is_there, field_behind, place_behind}
 use Rattle.npf_seats.proofs.PrefixLemmas.{none_listed}
@@ -115,7 +114,7 @@ module _ {S : Type 0} (digest : Key → ℕ) (slots : ℕ) (k k' : Machine S) (t
         let agree = same.cells (digits_of digest s.key) (are_digits digest s.key) in
         record {
           on_path = same_places_back agree was.on_path;
-          locked = λ c. agree s.level s.place was.on_path ∙ was.locked (subst (λ locks. Contains locks (lock_of s.place)) less.locks c);
+          locked = λ c real. agree s.level s.place was.on_path ∙ was.locked (subst (λ locks. Contains locks (lock_of s.place)) less.locks c) real;
         };
     claimed = λ id c. same.claimed id (fits.claimed id (less.answered id c));
   }
@@ -130,19 +129,19 @@ module _ {S : Type 0} (digest : Key → ℕ) (slots : ℕ) (k k' : Machine S) (t
   holder_kept Mark key right = refl
 
 -- what stands in such a place
-pub cell_there : (layout : Layout) (words : List ℕ) (p : Place) → IsInTrie layout p → cell_in layout words p ≡ cell_of (slice_index words (place_at layout p))
-cell_there layout words p h = ap (λ b. cond b (cell_of (slice_index words (place_at layout p))) Empty) (is_there layout p h)
+pub cell_there : (layout : Layout) (words : List ℕ) (p : Place) → IsInTrie layout p → cell_in layout words p ≡ shown_of (slice_index words (place_at layout p))
+cell_there layout words p h = ap (λ b. cond b (shown_of (slice_index words (place_at layout p))) Empty) (is_there layout p h)
 
 -- what stands in a place goes by its word
 pub cell_same : (layout : Layout) (words words' : List ℕ) (p : Place) → slice_index words' (place_at layout p) ≡ slice_index words (place_at layout p) → cell_in layout words' p ≡ cell_in layout words p
-cell_same layout words words' p same = ap (λ word. cond (is_in_trie layout p) (cell_of word) Empty) same
+cell_same layout words words' p same = ap (λ word. cond (is_in_trie layout p) (shown_of word) Empty) same
 
 -- and so it is the same where the place is none, or its word is
 pub cell_kept : (layout : Layout) (words words' : List ℕ) (p : Place) → (IsInTrie layout p → slice_index words' (place_at layout p) ≡ slice_index words (place_at layout p)) → cell_in layout words' p ≡ cell_in layout words p
 cell_kept layout words words' p same = by_place (is_in_trie layout p) refl
   where
-    by_place : (b : Bool) → is_in_trie layout p ≡ b → cond b (cell_of (slice_index words' (place_at layout p))) Empty ≡ cond b (cell_of (slice_index words (place_at layout p))) Empty
-    by_place true e = ap cell_of (same (in_trie layout p e))
+    by_place : (b : Bool) → is_in_trie layout p ≡ b → cond b (shown_of (slice_index words' (place_at layout p))) Empty ≡ cond b (shown_of (slice_index words (place_at layout p))) Empty
+    by_place true e = ap shown_of (same (in_trie layout p e))
     by_place false e = refl
 
 module _ {S V : Type 0} (side_of : V → TrieSide) (digest : Key → ℕ) (layout : Layout) (published : List ℕ) (k k' : Machine S) (words words' : List ℕ) (views views' : List V) where
@@ -276,12 +275,3 @@ keeps_words layout k k' words words' holder claimed dead same = record {
   where
     key_same : (slot : ℕ) (way : Way) (place : ℕ) → key_word layout words' slot way place ≡ key_word layout words slot way place
     key_same slot way place = same (field_at layout Slots slot (key_field way + place)) (omega arith)
-
--- the word of a cell says that cell
-pub said : (c : Cell) → cell_of (cell_word c) ≡ c
-said Empty = refl
-said (Leaf slot Forward) = grind arith
-said (Leaf slot Backward) = grind arith
-said (Leaf slot Port) = grind arith
-said (Node node) = grind arith
-said Mark = refl

@@ -1,5 +1,5 @@
 -- The part of the rule on the trie: who holds a key stands where the key's path ends.
-use Rattle.std.specs.Prelude.{◌≡◌, ◌⊎◌, ℕ, ◌+◌, ◌<◌, Option, Some, None, List, [], ◌∷◌, Contains, length, sum_by, slice_index, if◌then◌else◌}
+use Rattle.std.specs.Prelude.{◌≡◌, ◌≢◌, ◌⊎◌, ℕ, ◌+◌, ◌<◌, Option, Some, None, List, [], ◌∷◌, Contains, length, sum_by, slice_index, if◌then◌else◌}
 use mathlib.Core.Option.{some}
 use lib.ListN.{get_elem?}
 use Rattle.npf_types.specs.declared.key.Key.{Key}
@@ -12,7 +12,6 @@ use Rattle.npf_paths.specs.declared.cell.Cell.{Cell}
 use Rattle.npf_paths.specs.declared.cell.Cell.TheVariants.{Empty, Leaf, Node, Mark}
 use Rattle.npf_paths.specs.declared.place.Lock.{Lock}
 use Rattle.npf_paths.specs.declared.place.Place.{Place}
-use Rattle.npf_paths.specs.CellWords.{cell_of}
 use Rattle.npf_paths.specs.Digits.{digit_of}
 use Rattle.npf_paths.specs.LevelLaw.{MeetsAtOneLevel}
 use Rattle.npf_paths.specs.Paths.{AreDigits, IsOnPath, EndsAt}
@@ -20,6 +19,7 @@ use Rattle.npf_paths.specs.Places.{lock_of}
 use Rattle.npf_cells_words.specs.declared.layout.Layout.{Layout}
 use Rattle.npf_cells_words.specs.declared.layout.Pool.TheVariants.{Slots, Nodes}
 use Rattle.npf_cells_words.specs.Layout.{inc_field, parent_field, key_field, field_at}
+use Rattle.npf_cells_words.specs.MarkWords.{shown_of}
 use Rattle.npf_cells_words.specs.Places.{place_at, is_in_trie}
 use Rattle.npf_cells_leaves.specs.Parents.{Parents}
 use Rattle.npf_cells_leaves.specs.declared.trie.LoadedLeaf.{LoadedLeaf}
@@ -27,9 +27,9 @@ use Rattle.npf_cells_leaves.specs.declared.trie.PathPlace.{PathPlace}
 use Rattle.npf_cells_leaves.specs.declared.trie.SeenCell.{SeenCell}
 use Rattle.npf_cells_leaves.specs.declared.trie.TrieSide.{TrieSide}
 
--- what stands in a place; nothing stands in one that the table doesn't have
+-- what stands in a place, where a mark stands for its node; nothing stands in one that the table doesn't have
 abbrev pub cell_in : Layout → List ℕ → Place → Cell
-cell_in layout words p = if is_in_trie layout p then cell_of (slice_index words (place_at layout p)) else Empty
+cell_in layout words p = if is_in_trie layout p then shown_of (slice_index words (place_at layout p)) else Empty
 
 -- one word of the key of a way, and all five as a key
 abbrev pub key_word : Layout → List ℕ → ℕ → Way → ℕ → ℕ
@@ -88,10 +88,10 @@ pub record StaysLeaf {S : Type 0} (slots : ℕ) (k : Machine S) (t : TrieWords) 
   pub key : t.key leaf.slot leaf.way ≡ leaf.key
   pub inc : t.inc leaf.slot ≡ leaf.inc
 
--- a place that a pass saw is still on the key's path, and where it has the lock the same stands there
+-- a place that a pass saw is still on the key's path, and where it has the lock the same stands there; a mark that was seen says nothing more
 pub record StaysSighted (digest : Key → ℕ) (t : TrieWords) (locks : List Lock) (s : SeenCell) : Type 0 where
   pub on_path : IsOnPath (digits_of digest s.key) t.cell s.level s.place
-  pub locked : Contains locks (lock_of s.place) → t.cell s.place ≡ s.cell
+  pub locked : Contains locks (lock_of s.place) → s.cell ≢ Mark → t.cell s.place ≡ s.cell
 
 -- what the part says of one seat: it stands on a key's path, the leaf that it loaded stays, what it saw under a lock still stands there,
 -- and what it was answered is claimed

@@ -7,6 +7,7 @@ use Rattle.std.proofs.lemmas.List.Sums.{sum_by_push}
 use mathlib.Core.Option.{some}
 use lib.ListN.{get_elem?}
 use Rattle.npf_paths.specs.declared.place.Lock.{Lock}
+use Rattle.npf_paths.specs.declared.place.Lock.TheVariants as Locking
 use Rattle.npf_cells_words.specs.declared.layout.Layout.{Layout}
 use Rattle.npf_cells_words.specs.Places.{lock_at, IsLockOf}
 use Rattle.npf_seats.proofs.ListLemmas.{stands_once}
@@ -26,7 +27,7 @@ module _ {V : Type 0} (locks_of : V → List Lock) (layout : Layout) where
       ((lock : Lock) → lock_holders locks_of layout views' lock ≡ lock_holders locks_of layout views lock) → Locks locks_of layout words' views'
   locks-same words words' views views' kept same holders = record {
     says = λ lock h. holders lock ∙ (kept.says lock h ∙ ap held_in (sym (same lock h)));
-    bit = λ lock h. subst (λ n. n < 2) (sym (same lock h)) (kept.bit lock h);
+    bit = λ digit h. subst (λ n. n < 2) (sym (same (Locking.Root digit) h)) (kept.bit digit h);
     alone = λ lock h. subst (λ n. n ≤ 1) (sym (holders lock)) (kept.alone lock h);
   }
 

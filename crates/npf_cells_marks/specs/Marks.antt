@@ -1,4 +1,4 @@
--- What a part of the rule on marks is to say; no kind of step marks a node yet. A node in whose places nothing stands is marked by who has its
+-- The part of the rule on marks; no kind of step marks a node yet. A node in whose places nothing stands is marked by who has its
 -- lock, and then its mark takes its place, until the table's epoch is two more than one that it had since; whoever may still be in the node is
 -- protected from that epoch on or from an earlier one. Then a pass may clear the mark, and the node is that pass's.
 use Rattle.std.specs.Prelude.{◌≡◌, ◌≢◌, ◌⊎◌, ℕ, ◌+◌, ◌^◌, ◌<◌, ◌≤◌, true, false, Option, Some, None, List, Contains, slice_index}

@@ -30,15 +30,18 @@ use Rattle.npf_cells_leaves.specs.Trie.{HasNoWalk, forgetting}
 use Rattle.npf_cells_leaves.proofs.TrieLemmas.{KnowsNoMore, knows_same, knows_less}
 use Rattle.npf_cells_lives.specs.Conns.{entry_seat}
 use Rattle.npf_cells_lives.specs.Deaths.{Deaths}
+use Rattle.npf_cells_marks.specs.Marks.{Marks}
 use Rattle.npf_cells_rule.specs.declared.view.CellView.{CellView}
 use Rattle.npf_cells_rule.specs.Cells.{FitsAlone, IsCells}
 use Rattle.npf_cells_rule.specs.Passes.{IsPassOf, IsProtected}
-use Rattle.npf_cells_rule.specs.Views.{seat_side, reader_view, death_side, with_epochs}
+use Rattle.npf_cells_rule.specs.Views.{seat_side, reader_view, death_side, mark_side, with_epochs}
 use Rattle.npf_cells_rule.proofs.DeathFrames.{rests_less, rests_none, deaths_on, deaths_load}
 use Rattle.npf_cells_rule.proofs.Frames.{epochs_step, alone_still, alone_within}
+use Rattle.npf_cells_rule.proofs.MarkFrames.{marks_on, marks_out, meets_less, meets_same, words_behind, words_loaded}
 use Rattle.npf_cells_rule.proofs.SoleLemmas.{raised_alone}
 use Rattle.npf_cells_rule.proofs.StoodLemmas.{stood_so}
 use Rattle.npf_cells_moves.proofs.LoadLemmas.{deaths_loading}
+use Rattle.npf_cells_moves.proofs.MarkMoveLemmas.{marks_loaded}
 use Rattle.npf_cells_moves.specs.Kinds.{unpinned, Loads, Pins, Protects, Unpins, Scans, RaisesEpoch}
 use Rattle.npf_cells_lives.specs.Turns.{Running}
 
@@ -58,11 +61,12 @@ module _ {S A R : Type 0} (m : Meaning S A R) (digest : Key → ℕ) (layout : L
 
     -- a load, which changes this side alone
     pub load_keeps : (i : ℕ) (side : EpochSide) → FitsAlone (record v { epochs = side }) → Change now reader readings id (record { places = v.seats.readers; side = side }) →
-        Deaths death_side layout (state_of m kept.log) (set s.words i (slice_index s.words i)) (set s.views id (record v { epochs = side })) → IsCells m digest layout (stepped s i (slice_index s.words i) id c (record v { epochs = side }) keeps)
-    load_keeps i side alone change deaths = epochs_step m digest layout s i (slice_index s.words i) id c v (record v { epochs = side }) kept at refl refl (knows_same v.trie) refl alone (λ j h. ap (λ ws. slice_index ws j) (set-get_or s.words i 0))
+        Deaths death_side layout (state_of m kept.log) (set s.words i (slice_index s.words i)) (set s.views id (record v { epochs = side })) → Marks mark_side layout kept.published (set s.words i (slice_index s.words i)) (set s.views id (record v { epochs = side })) → IsCells m digest layout (stepped s i (slice_index s.words i) id c (record v { epochs = side }) keeps)
+    load_keeps i side alone change deaths marks = epochs_step m digest layout s i (slice_index s.words i) id c v (record v { epochs = side }) kept at refl refl (knows_same v.trie) refl alone (λ j h. ap (λ ws. slice_index ws j) (set-get_or s.words i 0))
         (subst (λ (ws : List ℕ). Epochs (epoch_word ws) (reader_word ws) (set readings id (record { places = v.seats.readers; side = side }))) (sym (set-get_or s.words i 0))
         (changed now now reader reader readings id (record { places = v.seats.readers; side = side }) kept.epochs change))
         deaths
+        marks
 
     -- the places of seats are of the table, and no two seats own one
     pub within : (j place : ℕ) (q : ReaderView) → get_elem? readings j ≡ some q → 1 ≤ occurs place q.places → place < all_places
@@ -100,6 +104,8 @@ module _ {S A R : Type 0} (m : Meaning S A R) (digest : Key → ℕ) (layout : L
         guards free)))
         (deaths_on m digest layout s (reader_at place) (pin_word pin) id v (record v { epochs = record v.epochs { pin = pin }; trie = trie }) kept at refl refl (rests_none (state_of m kept.log) v (record v { epochs = record v.epochs { pin = pin }; trie = trie }) out)
         (omega (arith, epoch)) (λ slot h. get_or-set_other s.words (reader_at place) (field_at layout Slots slot notes_field) (pin_word pin) 0 (λ e. absurd (omega (arith, e, below)))))
+        (marks_out m digest layout s kept words' id v (record v { epochs = record v.epochs { pin = pin }; trie = trie }) at (words_behind layout kept.published s.words words' (omega (arith, epoch)) (λ j h. get_or-set_other s.words (reader_at place) j (pin_word pin) 0 (λ e. absurd (omega (arith, e, h, below)))))
+        (meets_less v.trie trie less) refl (λ _. refl) out)
 
     -- the epoch is raised
     pub raise_keeps : (greatest known raises : ℕ) → now ≡ v.epochs.loaded → v.epochs.loaded < 2 ^ 62 → HasScannedAll v.epochs → greatest ≤ v.epochs.loaded + 1 → known ≤ v.epochs.loaded + 1 → raises ≡ v.epochs.raises + 1 → 1 ≤ length v.seats.readers →
@@ -119,6 +125,8 @@ module _ {S A R : Type 0} (m : Meaning S A R) (digest : Key → ℕ) (layout : L
         (deaths_on m digest layout s 0 (v.epochs.loaded + 1) id v (record v { epochs = record v.epochs { met = now; greatest = greatest; known = known; raises = raises } }) kept at refl refl
         (rests_less (state_of m kept.log) v (record v { epochs = record v.epochs { met = now; greatest = greatest; known = known; raises = raises } }) (knows_same v.trie) refl) (omega (arith, epoch, same))
         (λ slot h. get_or-set_other s.words 0 (field_at layout Slots slot notes_field) (v.epochs.loaded + 1) 0 (λ e. absurd (omega (arith, e)))))
+        (marks_on m digest layout s kept words' id v (record v { epochs = record v.epochs { met = now; greatest = greatest; known = known; raises = raises } }) at
+        (words_behind layout kept.published s.words words' (omega (arith, epoch, same)) (λ j h. get_or-set_other s.words 0 j (v.epochs.loaded + 1) 0 (λ e. absurd (omega (arith, e, h))))) (meets_same v.trie) refl (λ _. refl) refl)
 
   pub may_load : (st : Step (Running S)) (id n : ℕ) (me : Me (Running S) (CellView S A R)) → 1 ≤ length me.0.seats.readers → Allows (IsCells m digest layout) n id me 0 (λ k. k) (Loads st me)
   may_load st id n me place s kept homes at bound = (
@@ -127,7 +135,8 @@ module _ {S A R : Type 0} (m : Meaning S A R) (digest : Key → ℕ) (layout : L
     tt,
     load_keeps s id me.1 me.0 kept at 0 (loading me.0.epochs (epoch_word s.words)) (alone_still me.0 (record me.0 { epochs = loading me.0.epochs (epoch_word s.words) }) (kept.alone id me.0 at) place refl (λ none. none))
         (loads (epoch_word s.words) (reader_word s.words) (map reader_view s.views) id (reader_view me.0) kept.epochs (there s id me.1 me.0 kept at))
-        (deaths_loading m digest layout s id me.0 kept at),
+        (deaths_loading m digest layout s id me.0 kept at)
+        (marks_loaded m digest layout s id me.0 kept at),
     record { met = is_met (epoch_word s.words) (reader_word s.words) (map reader_view s.views) id (reader_view me.0) kept.epochs (there s id me.1 me.0 kept at); dated = kept.deaths.dates id me.0 at; sole = λ all. raised_alone m digest layout s id me.0 kept at all; is = refl },
   )
 
@@ -152,7 +161,9 @@ module _ {S A R : Type 0} (m : Meaning S A R) (digest : Key → ℕ) (layout : L
     load_keeps s id me.1 me.0 kept at 0 (protecting me.0.epochs (epoch_word s.words)) (alone_within (record me.0 { epochs = protecting me.0.epochs (epoch_word s.words) }) place tt)
         (protects (epoch_word s.words) (reader_word s.words) (map reader_view s.views) id (reader_view me.0) kept.epochs (there s id me.1 me.0 kept at) epoch pin)
         (deaths_load m digest layout s 0 id me.0 (record me.0 { epochs = protecting me.0.epochs (epoch_word s.words) }) kept at refl refl
-        (rests_none (state_of m kept.log) me.0 (record me.0 { epochs = protecting me.0.epochs (epoch_word s.words) }) ((kept.alone id me.0 at).out (λ stays. subst IsProtected pin stays)))),
+        (rests_none (state_of m kept.log) me.0 (record me.0 { epochs = protecting me.0.epochs (epoch_word s.words) }) ((kept.alone id me.0 at).out (λ stays. subst IsProtected pin stays))))
+        (marks_out m digest layout s kept (set s.words 0 (epoch_word s.words)) id me.0 (record me.0 { epochs = protecting me.0.epochs (epoch_word s.words) }) at (words_loaded layout kept.published s.words 0) (meets_same me.0.trie) refl (λ _. refl)
+        ((kept.alone id me.0 at).out (λ stays. subst IsProtected pin stays))),
     record { met = is_met (epoch_word s.words) (reader_word s.words) (map reader_view s.views) id (reader_view me.0) kept.epochs (there s id me.1 me.0 kept at); sole = λ all. raised_alone m digest layout s id me.0 kept at all; is = refl },
   )
 
@@ -179,7 +190,9 @@ module _ {S A R : Type 0} (m : Meaning S A R) (digest : Key → ℕ) (layout : L
         (scans (epoch_word s.words) (reader_word s.words) (map reader_view s.views) id (reader_view me.0) kept.epochs (there s id me.1 me.0 kept at) place
         (passes_by me.0.epochs (reader_word s.words place)) refl)
         (deaths_load m digest layout s (reader_at place) id me.0 (record me.0 { epochs = scanning me.0.epochs place (reader_word s.words place) }) kept at refl refl
-        (rests_less (state_of m kept.log) me.0 (record me.0 { epochs = scanning me.0.epochs place (reader_word s.words place) }) (knows_same me.0.trie) refl)),
+        (rests_less (state_of m kept.log) me.0 (record me.0 { epochs = scanning me.0.epochs place (reader_word s.words place) }) (knows_same me.0.trie) refl))
+        (marks_on m digest layout s kept (set s.words (reader_at place) (reader_word s.words place)) id me.0 (record me.0 { epochs = scanning me.0.epochs place (reader_word s.words place) }) at
+        (words_loaded layout kept.published s.words (reader_at place)) (meets_same me.0.trie) refl (λ _. refl) refl),
     record { reader = place; there = is; stood = stood_so m digest layout s id me.0 (reader_at place) (reader_at place) kept at lives refl; is = refl },
   )
 
@@ -248,7 +261,8 @@ module _ {S A R : Type 0} (m : Meaning S A R) (digest : Key → ℕ) (layout : L
             load_keeps s id me.1 me.0 kept at 0 (advancing me.0.epochs (epoch_word s.words)) (alone_still me.0 (tried me (epoch_word s.words)) (kept.alone id me.0 at) place refl (λ none. none))
                 (misses (epoch_word s.words) (reader_word s.words) (map reader_view s.views) id (reader_view me.0) kept.epochs (there s id me.1 me.0 kept at) (epoch_word s.words)
                 (max me.0.epochs.greatest (epoch_word s.words)) (known_after me (epoch_word s.words)) (raises_after me (epoch_word s.words)) greatest le none)
-                (deaths_load m digest layout s 0 id me.0 (tried me (epoch_word s.words)) kept at refl refl (rests_less (state_of m kept.log) me.0 (tried me (epoch_word s.words)) (knows_same me.0.trie) refl)),
+                (deaths_load m digest layout s 0 id me.0 (tried me (epoch_word s.words)) kept at refl refl (rests_less (state_of m kept.log) me.0 (tried me (epoch_word s.words)) (knows_same me.0.trie) refl))
+                (marks_on m digest layout s kept (set s.words 0 (epoch_word s.words)) id me.0 (tried me (epoch_word s.words)) at (words_loaded layout kept.published s.words 0) (meets_same me.0.trie) refl (λ _. refl) refl),
             tells,
           )
 
@@ -269,6 +283,7 @@ pass_on layout table seat seat' readers me next side own same is epoch quiet fre
   epoch = epoch;
   unanswered = quiet;
   unlocked = free;
+  marked = own.marked;
 })
 
 -- and through the end of its stay
@@ -288,4 +303,5 @@ left_on layout table seat seat' readers me next own same is free = rw is (record
   epoch = own.epoch;
   unanswered = λ _. refl;
   unlocked = λ _. free;
+  marked = own.marked;
 })

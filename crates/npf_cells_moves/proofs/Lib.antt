@@ -1,3 +1,4 @@
 pub mod KeepLemmas
 pub mod LoadLemmas
+pub mod MarkMoveLemmas
 pub mod MoveLemmas

@@ -57,6 +57,7 @@ use Rattle.npf_cells_lives.specs.Notes.{Notes}
 use Rattle.npf_cells_lives.specs.Turns.{Homes, Running, Turns}
 use Rattle.npf_cells_lives.proofs.NoteLemmas.{same_ahead, NotesStay, no_notes, notes-set, notes-less, notes-push}
 use Rattle.npf_cells_rule.proofs.NoteFrames.{notes_behind}
+use Rattle.npf_cells_moves.proofs.MarkMoveLemmas.{marks_split, marks_joined}
 
 module _ {S A R : Type 0} (m : Meaning S A R) (digest : Key → ℕ) (layout : Layout) where
   keeps_all : (s : State (Running S) (CellView S A R)) (kept : IsCells m digest layout s) → KeepsTrie layout.slots (state_of m kept.log) (state_of m kept.log) (trie_words layout s.words) (trie_words layout s.words)
@@ -127,6 +128,7 @@ module _ {S A R : Type 0} (m : Meaning S A R) (digest : Key → ℕ) (layout : L
       (known-push (seen_side m) pool_side (state_of m kept.log) (set s.views id (gives_reader v)) (given_view v) (known_apart m digest layout s id v (gives_reader v) (state_of m kept.log) kept at (λ conn c. c) refl (spares_all (state_of m kept.log))) refl)
       (notes-push turn_side pool_side layout (state_of m kept.log) (state_of m kept.log) (trie_words layout s.words).cell (trie_words layout s.words).cell s.words s.words (set s.views id (gives_reader v)) (given_view v)
       (notes_moved s id v (gives_reader v) kept at refl refl refl refl refl) refl refl refl (notes_same s kept))
+      (marks_split m digest layout s id v kept at)
       (alone-push (set s.views id (gives_reader v)) (given_view v) given_alone (alone-set s.views id (gives_reader v) (alone_still v (gives_reader v) (kept.alone id v at) some_left refl (λ none. none)) kept.alone))
     where
       some_left : 1 ≤ length (gives_reader v).seats.readers
@@ -180,6 +182,7 @@ module _ {S A R : Type 0} (m : Meaning S A R) (digest : Key → ℕ) (layout : L
       (notes_moved s id v (takes_in v w) kept at refl refl refl refl refl) there (same_ahead w.turn None (sym w-turn)) (λ conn way c. absurd (none_listed conn c)) (λ conn c. absurd (none_listed conn c))
       (sym (no_notes layout (state_of m kept.log) s.words w.pools.builds w.pools.notes w-builds (λ note c. kept.notes.each other w note was c)))
       (λ conn c. absurd (none_listed conn (subst (λ ids. Contains ids conn) w-builds c))) (notes_same s kept))
+      (marks_joined m digest layout s id v kept at other w apart was)
       (alone-set (set s.views id (takes_in v w)) other nothing_left (record { out = λ _. record { stands = refl; leaf = refl; seen = refl; meets = refl; answered = refl; locks = refl }; spent = λ _. refl })
       (alone-set s.views id (takes_in v w) (alone_still v (takes_in v w) (kept.alone id v at) some_left refl (λ none. record { stands = none.stands; leaf = none.leaf; seen = none.seen; meets = none.meets; answered = none.answered; locks = none.locks })) kept.alone))
     where
@@ -397,6 +400,7 @@ module _ {S A R : Type 0} (m : Meaning S A R) (layout : Layout) (table seat : Ta
         epoch = own.epoch;
         unanswered = own.unanswered;
         unlocked = own.unlocked;
+        marked = own.marked;
       })
 
   pub given_on : (st : Step (Running S)) (seat' : TableId) (readers' : List ℕ) (found : ℕ) (next : Me (Running S) (CellView S A R)) → 2 ≤ length me.0.seats.readers → seat' ≡ seat →
@@ -417,6 +421,7 @@ module _ {S A R : Type 0} (m : Meaning S A R) (layout : Layout) (table seat : Ta
         epoch = omega arith;
         unanswered = λ _. refl;
         unlocked = λ _. refl;
+        marked = λ mark c. absurd (none_listed mark c);
       })
 
   pub joined_on : (w : CellView S A R) (st : Step (Running S)) (seat' : TableId) (readers' : List ℕ) (found : ℕ) (next : Me (Running S) (CellView S A R)) → seat' ≡ seat →
@@ -439,6 +444,7 @@ module _ {S A R : Type 0} (m : Meaning S A R) (layout : Layout) (table seat : Ta
         epoch = own.epoch;
         unanswered = own.unanswered;
         unlocked = own.unlocked;
+        marked = own.marked;
       })
 
 -- the last of the reader places is what is dropped

@@ -1,5 +1,4 @@
--- What it takes to mark a node, to put its mark in its place, to let it go, to clear the mark and to free its state, and what each changes in a
--- pass's own view.
+-- What it takes to mark a node, to put its mark in its place, to clear the mark and to free its state, and what each changes in a pass's own view.
 use Rattle.std.specs.Prelude.{◌≡◌, ℕ, ◌+◌, ◌^◌, ◌≤◌, ◌<◌, ◌==◌, true, false, Option, Some, None, List, ◌∷◌, Contains, filter, map, if◌then◌else◌}
 use Rattle.atomic_table.specs.Table.{Me, Step}
 use Rattle.npf_paths.specs.declared.place.Lock.{Lock}
@@ -53,25 +52,6 @@ placed_mark node m = if m.node == node then record m { placed = true } else m
 abbrev pub placing : {S A R F : Type 0} → ℕ → Me F (CellView S A R) → Me F (CellView S A R)
 placing node me = (record me.0 { epochs = unloaded me.0.epochs; trie = record me.0.trie { seen = None; meets = None; marks = map (placed_mark node) me.0.trie.marks } }, me.1)
 
--- it may be let go with the epoch that was loaded since
-pub record MayLetNodeGo {S A R : Type 0} (v : CellView S A R) (node epoch : ℕ) : Type 0 where
-  pub mark : Marked
-  pub mine : Contains v.trie.marks mark
-  pub there : mark.node ≡ node
-  pub placed : mark.placed ≡ true
-  pub own : Contains v.trie.locks (Locking.Node node)
-  pub loaded : 1 ≤ v.epochs.loaded
-  pub epoch_is : epoch ≡ v.epochs.loaded
-
-abbrev pub locks_without : Layout → ℕ → List Lock → List Lock
-locks_without layout node = filter (λ other. if lock_at layout other == lock_at layout (Locking.Node node) then false else true)
-
-abbrev pub marks_without : ℕ → List Marked → List Marked
-marks_without node = filter (λ (m : Marked). if m.node == node then false else true)
-
-abbrev pub letting_node_go : Layout → ℕ → TrieSide → TrieSide
-letting_node_go layout node side = record side { locks = locks_without layout node side.locks; marks = marks_without node side.marks; emptied = None; met_mark = None }
-
 -- a mark may be cleared that the pass met in the place under the place's lock, with then the epoch with which its node was let go, where it has loaded
 -- one of at least two more
 pub record MayClearMark {S A R : Type 0} (v : CellView S A R) (p : Place) (node : ℕ) : Type 0 where
@@ -99,9 +79,6 @@ pub record MarksNode {S A R F : Type 0} (step : Step F) (me : Me F (CellView S A
 
 pub record MarksPlace {S A R F : Type 0} (node : ℕ) (step : Step F) (me : Me F (CellView S A R)) (value : ℕ) (next : Me F (CellView S A R)) : Type 0 where
   pub is : next ≡ placing node me
-
-pub record LetsNodeGo {S A R F : Type 0} (layout : Layout) (node : ℕ) (step : Step F) (me : Me F (CellView S A R)) (value : ℕ) (next : Me F (CellView S A R)) : Type 0 where
-  pub is : next ≡ with_trie me (letting_node_go layout node me.0.trie)
 
 pub record RegainsNode {S A R F : Type 0} (p : Place) (node : ℕ) (step : Step F) (me : Me F (CellView S A R)) (value : ℕ) (next : Me F (CellView S A R)) : Type 0 where
   pub is : next ≡ regaining p node me

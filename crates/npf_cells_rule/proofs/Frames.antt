@@ -46,11 +46,13 @@ use Rattle.npf_cells_lives.proofs.PoolLemmas.{pools-same, pools-kept, taken-set}
 use Rattle.npf_cells_lives.proofs.StoredLemmas.{stored-set, stored-words}
 use Rattle.npf_cells_lives.proofs.NoteLemmas.{SameAhead, same_ahead, NotesStay, notes-set}
 use Rattle.npf_cells_lives.proofs.TurnLemmas.{turns-kept}
+use Rattle.npf_cells_marks.specs.Marks.{Marks}
+use Rattle.npf_cells_rule.proofs.MarkFrames.{marks_on, meets_less, words_behind, words_loaded}
 use Rattle.npf_cells_rule.proofs.NoteFrames.{notes_behind}
 use Rattle.npf_cells_rule.specs.declared.view.CellView.{CellView}
 use Rattle.npf_cells_rule.specs.Cells.{FitsAlone, AllFitAlone, IsCells}
 use Rattle.npf_cells_rule.specs.Passes.{IsProtected}
-use Rattle.npf_cells_rule.specs.Views.{seat_side, reader_view, lock_side, pool_side, trie_side, turn_side, DeadHand, dead_hand, death_side, seen_side}
+use Rattle.npf_cells_rule.specs.Views.{seat_side, reader_view, lock_side, pool_side, trie_side, turn_side, DeadHand, dead_hand, death_side, seen_side, mark_side}
 use Rattle.npf_cells_rule.proofs.DeathFrames.{rests_less, deaths_spared, deaths_apart, deaths_load, gone_same, known_apart, known_seen}
 use Rattle.npf_cells_lives.specs.Turns.{IsTurnField, Running, StaysAt, Turns}
 
@@ -93,8 +95,8 @@ module _ {S A R : Type 0} (m : Meaning S A R) (digest : Key → ℕ) (layout : L
   -- a state of as many words, with each part
   pub framed : (s s' : State (Running S) (CellView S A R)) (kept : IsCells m digest layout s) (published : List ℕ) (log : List (Entry S A R)) → length s'.words ≡ length s.words →
       Seats entry_seat layout.slots all_places log (map seat_side s'.views) → Epochs (epoch_word s'.words) (reader_word s'.words) (map reader_view s'.views) →
-      Pools layout (taken pool_side published (state_of m log) s'.views) s'.words → Trie trie_side digest layout published (state_of m log) s'.words s'.views → Conns pool_side m layout log s'.words s'.views → StoredWords pool_side layout s'.words s'.views → Locks lock_side layout s'.words s'.views → Turns turn_side layout (unreclaimed death_side s'.views (state_of m log)) s'.words s'.homes s'.views → Deaths death_side layout (state_of m log) s'.words s'.views → Known (seen_side m) pool_side (state_of m log) s'.views → Notes turn_side pool_side layout (trie_words layout s'.words).cell (state_of m log) s'.words s'.views → AllFitAlone s'.views → IsCells m digest layout s'
-  framed s s' kept published log count seats epochs pools trie connections stored locks turns deaths known notes alone = record {
+      Pools layout (taken pool_side published (state_of m log) s'.views) s'.words → Trie trie_side digest layout published (state_of m log) s'.words s'.views → Conns pool_side m layout log s'.words s'.views → StoredWords pool_side layout s'.words s'.views → Locks lock_side layout s'.words s'.views → Turns turn_side layout (unreclaimed death_side s'.views (state_of m log)) s'.words s'.homes s'.views → Deaths death_side layout (state_of m log) s'.words s'.views → Known (seen_side m) pool_side (state_of m log) s'.views → Notes turn_side pool_side layout (trie_words layout s'.words).cell (state_of m log) s'.words s'.views → Marks mark_side layout published s'.words s'.views → AllFitAlone s'.views → IsCells m digest layout s'
+  framed s s' kept published log count seats epochs pools trie connections stored locks turns deaths known notes marks alone = record {
     log = log;
     published = published;
     seats = seats;
@@ -108,6 +110,7 @@ module _ {S A R : Type 0} (m : Meaning S A R) (digest : Key → ℕ) (layout : L
     deaths = deaths;
     known = known;
     notes = notes;
+    marks = marks;
     alone = alone;
   }
 
@@ -179,8 +182,8 @@ module _ {S A R : Type 0} (m : Meaning S A R) (digest : Key → ℕ) (layout : L
   -- a step on a word of the part on epochs, that changes this side of one view alone
   pub epochs_step : (s : State (Running S) (CellView S A R)) (i n id : ℕ) (c : List (ℕ × Running S)) (v w : CellView S A R) (kept : IsCells m digest layout s) → get_elem? s.views id ≡ some v → w.seats ≡ v.seats → w.pools ≡ v.pools → KnowsNoMore v.trie w.trie → w.turn ≡ v.turn → FitsAlone w →
       ((j : ℕ) → pools_at ≤ j → slice_index (set s.words i n) j ≡ slice_index s.words j) →
-      Epochs (epoch_word (set s.words i n)) (reader_word (set s.words i n)) (set (map reader_view s.views) id (reader_view w)) → Deaths death_side layout (state_of m kept.log) (set s.words i n) (set s.views id w) → IsCells m digest layout (stepped s i n id c w keeps)
-  epochs_step s i n id c v w kept at same pools trie turn alone words epochs deaths = framed s (stepped s i n id c w keeps) kept kept.published kept.log (length-set s.words i n)
+      Epochs (epoch_word (set s.words i n)) (reader_word (set s.words i n)) (set (map reader_view s.views) id (reader_view w)) → Deaths death_side layout (state_of m kept.log) (set s.words i n) (set s.views id w) → Marks mark_side layout kept.published (set s.words i n) (set s.views id w) → IsCells m digest layout (stepped s i n id c w keeps)
+  epochs_step s i n id c v w kept at same pools trie turn alone words epochs deaths marks = framed s (stepped s i n id c w keeps) kept kept.published kept.log (length-set s.words i n)
       (subst (λ sides. Seats entry_seat layout.slots all_places kept.log sides) (sym (side_same seat_side s.views id v w at same)) kept.seats)
       (subst (λ rs. Epochs (epoch_word (set s.words i n)) (reader_word (set s.words i n)) rs) (sym (map-set reader_view s.views id w)) epochs)
       (pools-same layout (taken pool_side kept.published (state_of m kept.log) s.views) (taken pool_side kept.published (state_of m kept.log) (set s.views id w)) s.words (set s.words i n) kept.pools (length-set s.words i n) words
@@ -193,6 +196,7 @@ module _ {S A R : Type 0} (m : Meaning S A R) (digest : Key → ℕ) (layout : L
       deaths
       (known_apart m digest layout s id v w (state_of m kept.log) kept at (same_kills v w (ap dead_hand pools)) (ap (λ (x : SeatSide ℕ (Entry S A R)). x.history) same) (spares_all (state_of m kept.log)))
       (notes_still s i n id v w kept at turn (ap dead_hand pools) (ap (λ p. p.notes) pools) (ap (λ p. p.builds) pools) (λ j h. words j (omega (arith, h))))
+      marks
       (alone-set s.views id w alone kept.alone)
 
   -- a load that changes the seats' side of one view alone
@@ -212,6 +216,7 @@ module _ {S A R : Type 0} (m : Meaning S A R) (digest : Key → ℕ) (layout : L
       (deaths_load m digest layout s i id v w kept at (ap dead_hand pools) (ap (λ (r : ReaderView). r.side.loaded) same) (rests_less (state_of m kept.log) v w trie (ap (λ (r : ReaderView). r.side.pin) same)))
       (known-spared (seen_side m) pool_side (state_of m kept.log) (state_of m kept.log) s.views id w kept.known (spares_all (state_of m kept.log)) (λ j u conn e c. (kept.deaths.kills j u conn e c).dead) known)
       (notes_still s i (slice_index s.words i) id v w kept at turn (ap dead_hand pools) (ap (λ p. p.notes) pools) (ap (λ p. p.builds) pools) (λ j h. ap (λ ws. slice_index ws j) (set-get_or s.words i 0)))
+      (marks_on m digest layout s kept (set s.words i (slice_index s.words i)) id v w at (words_loaded layout kept.published s.words i) (meets_less v.trie w.trie trie) (ap (λ p. p.unfreed) pools) (λ _. ap (λ (r : ReaderView). r.side.loaded) same) (ap (λ (r : ReaderView). r.side.pin) same))
       (alone-set s.views id w alone kept.alone)
 
   -- the part on epochs stays where the words before the pools' do, and what the seat knows of it
@@ -236,6 +241,13 @@ module _ {S A R : Type 0} (m : Meaning S A R) (digest : Key → ℕ) (layout : L
   deaths_pool s i n id v w kept at kills reads less words =
       deaths_apart m digest layout s i n id v w kept at kills (ap (λ (r : ReaderView). r.side.loaded) reads) less (let same = words.before 0 (omega arith) in omega (arith, same)) words.behind
 
+  -- and so does that on marks
+  marks_pool : (s : State (Running S) (CellView S A R)) (i n id : ℕ) (v w : CellView S A R) (kept : IsCells m digest layout s) → get_elem? s.views id ≡ some v → KnowsNoMore v.trie w.trie → dead_hand w.pools ≡ dead_hand v.pools → reader_view w ≡ reader_view v → IsPoolStep layout s.words i n →
+      Marks mark_side layout kept.published (set s.words i n) (set s.views id w)
+  marks_pool s i n id v w kept at trie kills reads words =
+      marks_on m digest layout s kept (set s.words i n) id v w at (words_behind layout kept.published s.words (set s.words i n) (let same = words.before 0 (omega arith) in omega (arith, same)) words.behind) (meets_less v.trie w.trie trie)
+      (ap (λ (h : DeadHand). h.unfreed) kills) (λ _. ap (λ (r : ReaderView). r.side.loaded) reads) (ap (λ (r : ReaderView). r.side.pin) reads)
+
   -- a step on a word of the part on pools, that changes this side of one view alone
   pub pools_step : (s : State (Running S) (CellView S A R)) (i n id : ℕ) (c : List (ℕ × Running S)) (v w : CellView S A R) (kept : IsCells m digest layout s) → get_elem? s.views id ≡ some v → w.seats ≡ v.seats → reader_view w ≡ reader_view v → KnowsNoMore v.trie w.trie → FitsStored layout s.words w.pools →
       w.pools.builds ≡ v.pools.builds → w.pools.unstored ≡ v.pools.unstored → dead_hand w.pools ≡ dead_hand v.pools → w.pools.notes ≡ v.pools.notes → w.turn ≡ v.turn → FitsAlone w → IsPoolStep layout s.words i n →
@@ -252,6 +264,7 @@ module _ {S A R : Type 0} (m : Meaning S A R) (digest : Key → ℕ) (layout : L
       (deaths_pool s i n id v w kept at kills reads (rests_less (state_of m kept.log) v w trie (ap (λ (r : ReaderView). r.side.pin) reads)) words)
       (known_apart m digest layout s id v w (state_of m kept.log) kept at (same_kills v w kills) (ap (λ (x : SeatSide ℕ (Entry S A R)). x.history) same) (spares_all (state_of m kept.log)))
       (notes_still s i n id v w kept at turn kills notes builds words.behind)
+      (marks_pool s i n id v w kept at trie kills reads words)
       (alone-set s.views id w alone kept.alone)
 
   -- the same, where the pass also sees all of the history
@@ -271,6 +284,7 @@ module _ {S A R : Type 0} (m : Meaning S A R) (digest : Key → ℕ) (layout : L
       (deaths_pool s i n id v w kept at kills reads (rests_less (state_of m kept.log) v w trie (ap (λ (r : ReaderView). r.side.pin) reads)) words)
       (known_seen m digest layout s id v w (state_of m kept.log) kept at (same_kills v w kills) (ap (λ (x : SeatSide ℕ (Entry S A R)). state_of m x.history) seats) (spares_all (state_of m kept.log)))
       (notes_still s i n id v w kept at turn kills notes builds words.behind)
+      (marks_pool s i n id v w kept at trie kills reads words)
       (alone-set s.views id w alone kept.alone)
 
   -- the same, where the pass also adds an entry of its own to the history
@@ -279,8 +293,8 @@ module _ {S A R : Type 0} (m : Meaning S A R) (digest : Key → ℕ) (layout : L
       dead_hand w.pools ≡ dead_hand v.pools → Spares (state_of m kept.log) (after m (state_of m kept.log) entry) → ((slot : ℕ) → is_dead ((after m (state_of m kept.log) entry).slot slot).stage ≡ is_dead ((state_of m kept.log).slot slot).stage) → RestsNoMore (state_of m kept.log) (death_side v) (death_side w) →
       w.pools.notes ≡ v.pools.notes → ((conn : ConnId) → Contains v.pools.builds conn → Contains w.pools.builds conn) → FitsAlone w →
       IsPoolStep layout s.words i n → Pools layout (taken pool_side kept.published (after m (state_of m kept.log) entry) (set s.views id w)) (set s.words i n) → Trie trie_side digest layout kept.published (after m (state_of m kept.log) entry) (set s.words i n) (set s.views id w) → BuildsIn pool_side (after m (state_of m kept.log) entry) (set s.views id w) →
-      ((slot : ℕ) → slot < layout.slots → inc_word layout s.words slot + unstored_by pool_side (set s.views id w) slot ≡ ((after m (state_of m kept.log) entry).slot slot).inc) → IsCells m digest layout (stepped s i n id c w keeps)
-  entry_step s i n id c v w kept at lives place entry mine follows seats reads stored locks turn slots holders kills spares dead less notes more alone words pools trie builds incs =
+      ((slot : ℕ) → slot < layout.slots → inc_word layout s.words slot + unstored_by pool_side (set s.views id w) slot ≡ ((after m (state_of m kept.log) entry).slot slot).inc) → Marks mark_side layout kept.published (set s.words i n) (set s.views id w) → IsCells m digest layout (stepped s i n id c w keeps)
+  entry_step s i n id c v w kept at lives place entry mine follows seats reads stored locks turn slots holders kills spares dead less notes more alone words pools trie builds incs marks =
       let log = kept.log ++ entry ∷ [] in
       let state = state_of-append m kept.log entry in
       framed s (stepped s i n id c w keeps) kept kept.published log (length-set s.words i n)
@@ -307,13 +321,14 @@ module _ {S A R : Type 0} (m : Meaning S A R) (digest : Key → ℕ) (layout : L
       (subst (λ k. Notes turn_side pool_side layout (trie_words layout (set s.words i n)).cell k (set s.words i n) (set s.views id w)) (sym state)
       (notes_apart s (set s.words i n) id v w (after m (state_of m kept.log) entry) kept at (same_ahead v.turn w.turn turn) kills notes more
       (notes_behind layout (state_of m kept.log) (after m (state_of m kept.log) entry) s.words (set s.words i n) words.behind holders slots)))
+      marks
       (alone-set s.views id w alone kept.alone)
 
   -- a step on a word behind the pools', that changes of one view what the pass still has to store alone
   pub private_step : (s : State (Running S) (CellView S A R)) (i n id : ℕ) (c : List (ℕ × Running S)) (v w : CellView S A R) (kept : IsCells m digest layout s) → get_elem? s.views id ≡ some v → root_at layout ≤ i → w.seats ≡ v.seats → reader_view w ≡ reader_view v →
       w.pools.nodes ≡ v.pools.nodes → w.pools.unfreed ≡ v.pools.unfreed → w.pools.builds ≡ v.pools.builds → ((conn : ConnId) → Contains w.pools.kills conn → Contains v.pools.kills conn) → FitsAlone w → Trie trie_side digest layout kept.published (state_of m kept.log) (set s.words i n) (set s.views id w) → Conns pool_side m layout kept.log (set s.words i n) (set s.views id w) → StoredWords pool_side layout (set s.words i n) (set s.views id w) → Locks lock_side layout (set s.words i n) (set s.views id w) → Turns turn_side layout (unreclaimed death_side (set s.views id w) (state_of m kept.log)) (set s.words i n) s.homes (set s.views id w) → Deaths death_side layout (state_of m kept.log) (set s.words i n) (set s.views id w) →
-      Notes turn_side pool_side layout (trie_words layout (set s.words i n)).cell (state_of m kept.log) (set s.words i n) (set s.views id w) → IsCells m digest layout (stepped s i n id c w keeps)
-  private_step s i n id c v w kept at behind same reads nodes back builds kills alone trie connections stored locks turns deaths notes = framed s (stepped s i n id c w keeps) kept kept.published kept.log (length-set s.words i n)
+      Notes turn_side pool_side layout (trie_words layout (set s.words i n)).cell (state_of m kept.log) (set s.words i n) (set s.views id w) → Marks mark_side layout kept.published (set s.words i n) (set s.views id w) → IsCells m digest layout (stepped s i n id c w keeps)
+  private_step s i n id c v w kept at behind same reads nodes back builds kills alone trie connections stored locks turns deaths notes marks = framed s (stepped s i n id c w keeps) kept kept.published kept.log (length-set s.words i n)
       (subst (λ sides. Seats entry_seat layout.slots all_places kept.log sides) (sym (side_same seat_side s.views id v w at same)) kept.seats)
       (epochs_apart s i n id v w kept at reads (λ j h. below j (omega (arith, h))))
       (pools-kept layout (taken pool_side kept.published (state_of m kept.log) s.views) (taken pool_side kept.published (state_of m kept.log) (set s.views id w)) s.words (set s.words i n) kept.pools (length-set s.words i n) below (taken-set pool_side kept.published (state_of m kept.log) s.views id v w at nodes back))
@@ -325,6 +340,7 @@ module _ {S A R : Type 0} (m : Meaning S A R) (digest : Key → ℕ) (layout : L
       deaths
       (known_apart m digest layout s id v w (state_of m kept.log) kept at kills (ap (λ (x : SeatSide ℕ (Entry S A R)). x.history) same) (spares_all (state_of m kept.log)))
       notes
+      marks
       (alone-set s.views id w alone kept.alone)
     where
       below : (j : ℕ) → j < root_at layout → slice_index (set s.words i n) j ≡ slice_index s.words j

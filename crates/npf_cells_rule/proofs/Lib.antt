@@ -3,6 +3,8 @@ pub mod DeathLawLemmas
 pub mod EntryLemmas
 pub mod Frames
 pub mod LawLemmas
+pub mod MarkFrames
+pub mod MarkMetLemmas
 pub mod MetLemmas
 pub mod NoteFrames
 pub mod NoteLawLemmas

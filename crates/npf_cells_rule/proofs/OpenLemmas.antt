@@ -16,16 +16,20 @@ use Rattle.npf_core.specs.Meaning.{Meaning}
 use Rattle.npf_connections.specs.Pass.{all_places}
 use Rattle.npf_paths.specs.declared.cell.Cell.TheVariants.{Empty, Leaf, Node}
 use Rattle.npf_paths.specs.declared.place.Lock.{Lock}
+use Rattle.npf_paths.specs.declared.place.Lock.TheVariants as Locking
 use Rattle.npf_paths.specs.declared.place.Place.{Place}
-use Rattle.npf_paths.specs.CellWords.{cell_of}
 use Rattle.npf_paths.proofs.LevelLemmas.{bare_has_levels}
 use Rattle.npf_cells_words.specs.declared.layout.Layout.{Layout}
 use Rattle.npf_cells_words.specs.declared.layout.Pool.{Pool}
 use Rattle.npf_cells_words.specs.declared.layout.Pool.TheVariants.{Slots, Nodes}
-use Rattle.npf_cells_words.specs.Layout.{turn_field, inc_field, phase_field, notes_field, note_field, field_at, word_count, epoch_word, reader_word}
+use Rattle.npf_cells_words.specs.Layout.{turn_field, inc_field, phase_field, notes_field, note_field, state_field, field_at, word_count, epoch_word, reader_word}
 use Rattle.npf_cells_words.specs.Opening.{opening_words}
+use Rattle.npf_cells_words.specs.declared.mark.Emptied.{Emptied}
+use Rattle.npf_cells_words.specs.declared.mark.Marked.{Marked}
+use Rattle.npf_cells_words.specs.declared.mark.MetMark.{MetMark}
+use Rattle.npf_cells_words.specs.MarkWords.{shown_of, state_word, IsMarkOf}
 use Rattle.npf_cells_words.specs.Places.{lock_at, is_in_trie, place_at}
-use Rattle.npf_cells_words.proofs.WordLemmas.{lock_behind, place_behind}
+use Rattle.npf_cells_words.proofs.WordLemmas.{field_behind, lock_behind, place_behind}
 use Rattle.npf_cells_words.proofs.OpeningLemmas.{start_zero, count, before, behind, clear, past}
 use Rattle.npf_seats.specs.Sums.{occurs}
 use Rattle.npf_seats.proofs.PrefixLemmas.{none_listed}
@@ -48,16 +52,17 @@ use Rattle.npf_cells_lives.specs.Pools.{taken}
 use Rattle.npf_cells_lives.specs.Stored.{FitsStored}
 use Rattle.npf_cells_lives.proofs.ConnLemmas.{fits_nothing}
 use Rattle.npf_cells_lives.proofs.StoredLemmas.{fits_unstored}
+use Rattle.npf_cells_marks.specs.Marks.{FitsEmptied, FitsMarked, FitsMet, Marks}
 use Rattle.npf_cells_rule.specs.declared.view.CellView.{CellView}
 use Rattle.npf_cells_rule.specs.Cells.{FitsAlone, IsCells, first_cell_view}
-use Rattle.npf_cells_rule.specs.Views.{reader_view, lock_side, pool_side, turn_side, death_side, seen_side}
+use Rattle.npf_cells_rule.specs.Views.{reader_view, lock_side, pool_side, turn_side, death_side, seen_side, mark_side}
 use Rattle.npf_cells_lives.specs.Turns.{Running, running, stage_phase, has_turn, turn_holders, FitsTurn, Turns}
 use Rattle.npf_cells_rule.specs.Readers.{readers_in_turn}
 use Rattle.npf_cells_rule.proofs.ReaderLemmas.{in_turn_once, in_turn_never, length-in_turn}
 
 -- no cell is said by 0
-nothing_in : (b : Bool) (word : ℕ) → word ≡ 0 → cond b (cell_of word) Empty ≡ Empty
-nothing_in true word e = ap cell_of e
+nothing_in : (b : Bool) (word : ℕ) → word ≡ 0 → cond b (shown_of word) Empty ≡ Empty
+nothing_in true word e = ap shown_of e
 nothing_in false word e = refl
 
 -- what stands in each place of copies
@@ -114,13 +119,14 @@ module _ {S A R : Type 0} (layout : Layout) where
     stored = unstored;
     locks = record {
       says = λ lock h. unheld lock ∙ ap held_in (sym (unlocked lock));
-      bit = λ lock h. (let none = unlocked lock in omega (arith, none));
+      bit = λ digit h. (let none = unlocked (Locking.Root digit) in omega (arith, none));
       alone = λ lock h. (let none = unheld lock in omega (arith, none));
     };
     turns = first_turns;
     deaths = first_deaths;
     known = first_known;
     notes = first_notes;
+    marks = first_marks;
     alone = alone;
   })
     where
@@ -257,6 +263,39 @@ module _ {S A R : Type 0} (layout : Layout) where
           noteless : (j : ℕ) (v : CellView S A R) (note : Note) → get_elem? (view ∷ []) j ≡ some v → Contains v.pools.notes note → FitsNote {S = S} layout opening (opening_words layout) v.pools.builds note
           noteless zero v note e c = absurd (none_listed note (subst (λ (u : CellView S A R). Contains u.pools.notes note) (sym (some-injective _ _ e)) c))
           noteless (suc j) v note e c = absurd (some-ne-none v (sym e))
+
+      first_marks : Marks mark_side layout [] (opening_words layout) (view ∷ [])
+      first_marks = record {
+        placed = λ p node inside is. absurd (no_mark p node is);
+        held = λ j v p node e inside is c. absurd (no_mark p node is);
+        marks = markless;
+        emptied = nothing_emptied;
+        met = nothing_met;
+        unfreed = all_freed;
+        states = λ node exists e. absurd (let none = no_epoch node in omega (arith, none, e));
+      }
+        where
+          no_mark : (p : Place) (node : ℕ) → ¬ (IsMarkOf layout (opening_words layout) p node)
+          no_mark p node is = let none = behind layout (place_at layout p) (place_behind layout p) in omega (arith, none, is)
+
+          no_epoch : (node : ℕ) → has_epoch (state_word layout (opening_words layout) node) ≡ 0
+          no_epoch node = ap has_epoch (behind layout (field_at layout Nodes node state_field) (field_behind layout Nodes node state_field))
+
+          markless : (j : ℕ) (v : CellView S A R) (x : Marked) → get_elem? (view ∷ []) j ≡ some v → Contains v.trie.marks x → FitsMarked mark_side layout [] (opening_words layout) (view ∷ []) (mark_side v) x
+          markless zero v x e c = absurd (none_listed x (subst (λ (u : CellView S A R). Contains u.trie.marks x) (sym (some-injective _ _ e)) c))
+          markless (suc j) v x e c = absurd (some-ne-none v (sym e))
+
+          nothing_emptied : (j : ℕ) (v : CellView S A R) (x : Emptied) → get_elem? (view ∷ []) j ≡ some v → v.trie.emptied ≡ Some x → FitsEmptied layout [] (opening_words layout) (mark_side v) x
+          nothing_emptied zero v x e has = absurd (let no : None ≡ Some x = ap (λ (u : CellView S A R). u.trie.emptied) (some-injective _ _ e) ∙ has in cc)
+          nothing_emptied (suc j) v x e has = absurd (some-ne-none v (sym e))
+
+          nothing_met : (j : ℕ) (v : CellView S A R) (x : MetMark) → get_elem? (view ∷ []) j ≡ some v → v.trie.met_mark ≡ Some x → FitsMet layout (opening_words layout) (mark_side v) x
+          nothing_met zero v x e has = absurd (let no : None ≡ Some x = ap (λ (u : CellView S A R). u.trie.met_mark) (some-injective _ _ e) ∙ has in cc)
+          nothing_met (suc j) v x e has = absurd (some-ne-none v (sym e))
+
+          all_freed : (j : ℕ) (v : CellView S A R) (node : ℕ) → get_elem? (view ∷ []) j ≡ some v → Contains v.pools.unfreed node → (node < layout.nodes) × (has_epoch (state_word layout (opening_words layout) node) ≡ 1)
+          all_freed zero v node e c = absurd (none_listed node (subst (λ (u : CellView S A R). Contains u.pools.unfreed node) (sym (some-injective _ _ e)) c))
+          all_freed (suc j) v node e c = absurd (some-ne-none v (sym e))
 
       alone : (j : ℕ) (v : CellView S A R) → get_elem? (view ∷ []) j ≡ some v → FitsAlone v
       alone zero v e = subst (λ (u : CellView S A R). FitsAlone u) (some-injective _ _ e)

@@ -28,6 +28,7 @@ pools_on layout table seat seat' readers me next side own same is = rw is (recor
   epoch = own.epoch;
   unanswered = own.unanswered;
   unlocked = own.unlocked;
+  marked = own.marked;
 })
 
 -- a pass that is protected is in a stay

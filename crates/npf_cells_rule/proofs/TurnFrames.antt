@@ -43,6 +43,7 @@ use Rattle.npf_cells_rule.specs.declared.view.CellView.{CellView}
 use Rattle.npf_cells_rule.specs.Cells.{FitsAlone, IsCells}
 use Rattle.npf_cells_rule.specs.Views.{seat_side, lock_side, pool_side, trie_side, turn_side, dead_hand, death_side}
 use Rattle.npf_cells_rule.proofs.DeathFrames.{rests_less, deaths_on, known_apart}
+use Rattle.npf_cells_rule.proofs.MarkFrames.{MeetsNoMore, marks_on, meets_same, words_slot}
 use Rattle.npf_cells_rule.proofs.Frames.{alone-set, framed, epochs_apart, notes_apart, same_kills}
 
 module _ {S A R : Type 0} (m : Meaning S A R) (digest : Key → ℕ) (layout : Layout) where
@@ -132,4 +133,5 @@ module _ {S A R : Type 0} (m : Meaning S A R) (digest : Key → ℕ) (layout : L
         (let same = below 0 (omega arith) in omega (arith, same)) (λ p h. other_word (field_at layout Slots p notes_field) (λ e. absurd (let low = short in omega (arith, e, low)))))
         (known_apart m digest layout s id v w k kept at (same_kills m digest layout v w (ap dead_hand pools)) (ap (λ (x : SeatSide ℕ (Entry S A R)). x.history) seats) (spares_all k))
         (notes_apart m digest layout s words' id v w k kept at ahead (ap dead_hand pools) (ap (λ (p : PoolSide). p.notes) pools) (λ conn c. subst (λ (p : PoolSide). Contains p.builds conn) (sym pools) c) (notes_stay k (λ key. refl) (λ p. inl refl)))
+        (marks_on m digest layout s kept words' id v w at (words_slot layout kept.published s.words slot field n) (subst (MeetsNoMore v.trie) (sym trie) (meets_same v.trie)) (ap (λ (p : PoolSide). p.unfreed) pools) (λ _. ap (λ (e : EpochSide). e.loaded) epochs) (ap (λ (e : EpochSide). e.pin) epochs))
         (alone-set s.views id w alone kept.alone)

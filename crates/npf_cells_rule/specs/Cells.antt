@@ -21,9 +21,10 @@ use Rattle.npf_cells_lives.specs.Locks.{Locks}
 use Rattle.npf_cells_lives.specs.Notes.{Notes}
 use Rattle.npf_cells_lives.specs.Pools.{taken, Pools, empty_handed}
 use Rattle.npf_cells_lives.specs.Stored.{StoredWords}
+use Rattle.npf_cells_marks.specs.Marks.{Marks}
 use Rattle.npf_cells_rule.specs.declared.view.CellView.{CellView}
 use Rattle.npf_cells_rule.specs.Passes.{IsProtected}
-use Rattle.npf_cells_rule.specs.Views.{seat_side, reader_view, lock_side, pool_side, trie_side, turn_side, death_side, seen_side, nothing_left}
+use Rattle.npf_cells_rule.specs.Views.{seat_side, reader_view, lock_side, pool_side, trie_side, turn_side, death_side, seen_side, mark_side, nothing_left}
 use Rattle.npf_cells_lives.specs.Turns.{Running, Turns}
 use Rattle.npf_cells_rule.specs.Readers.{readers_in_turn}
 
@@ -51,6 +52,7 @@ pub record IsCells {S A R : Type 0} (m : Meaning S A R) (digest : Key → ℕ) (
   pub deaths : Deaths death_side layout (state_of m log) s.words s.views
   pub known : Known (seen_side m) pool_side (state_of m log) s.views
   pub notes : Notes turn_side pool_side layout (trie_words layout s.words).cell (state_of m log) s.words s.views
+  pub marks : Marks mark_side layout published s.words s.views
   pub alone : AllFitAlone s.views
 
 -- the first pass, which owns all reader places

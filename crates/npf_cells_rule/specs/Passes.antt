@@ -1,11 +1,13 @@
 -- What a pass of the table shows, and which passes belong to a table.
-use Rattle.std.specs.Prelude.{◌≡◌, ℕ, ◌≤◌, ◌<◌, Bool, true, false, Option, Some, None, List, [], ◌∷◌, length}
+use Rattle.std.specs.Prelude.{◌≡◌, ℕ, ◌≤◌, ◌<◌, Bool, true, false, Option, Some, None, List, [], ◌∷◌, Contains, length}
 use Rattle.atomic_table.specs.Seated.{TableId}
 use Rattle.atomic_table.specs.Table.{Me}
 use Rattle.npf_core.specs.declared.entry.Entry.{Entry}
 use Rattle.npf_connections.specs.Pass.{Pass, all_places}
 use Rattle.npf_connections.specs.Worn.{last_epoch}
+use Rattle.npf_paths.specs.declared.place.Lock.TheVariants as Locking
 use Rattle.npf_cells_words.specs.declared.layout.Layout.{Layout}
+use Rattle.npf_cells_words.specs.declared.mark.Marked.{Marked}
 use Rattle.npf_cells_words.specs.Layout.{word_count}
 use Rattle.npf_cells_pins.specs.declared.pin.Pin.{Pin}
 use Rattle.npf_cells_pins.specs.declared.pin.Pin.TheVariants.{Idle, Pinned, Protected}
@@ -45,7 +47,7 @@ abbrev pub CarriesByTurn : {S F : Type 0} → Option (Turn S) → List (ℕ × F
 CarriesByTurn {S} {F} None carried = carried ≡ []
 CarriesByTurn {S} {F} (Some turn) carried = (value : F) × (carried ≡ (turn.slot, value) ∷ [])
 
--- a pass of this table, between two calls: it has its number and all that it was told, and knows which reader places it owns
+-- a pass of this table, between two calls: it has its number and all that it was told, knows which reader places it owns, and has the locks of the nodes that it marked
 pub record IsPassOf {S A R F : Type 0} (layout : Layout) (table seat : TableId) (readers : List ℕ) (me : Me F (CellView S A R)) : Type 0 where
   pub same : seat ≡ table
   pub words : table.words ≡ word_count layout
@@ -60,3 +62,4 @@ pub record IsPassOf {S A R F : Type 0} (layout : Layout) (table seat : TableId) 
   pub epoch : me.0.epochs.loaded ≤ last_epoch
   pub unanswered : me.0.epochs.pin ≡ Idle → me.0.trie.answered ≡ []
   pub unlocked : me.0.epochs.pin ≡ Idle → me.0.trie.locks ≡ []
+  pub marked : (m : Marked) → Contains me.0.trie.marks m → Contains me.0.trie.locks (Locking.Node m.node)

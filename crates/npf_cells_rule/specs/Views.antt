@@ -8,6 +8,7 @@ use Rattle.npf_core.specs.History.{state_of}
 use Rattle.npf_core.specs.Machine.{Machine}
 use Rattle.npf_core.specs.Meaning.{Meaning}
 use Rattle.npf_paths.specs.declared.place.Lock.{Lock}
+use Rattle.npf_paths.specs.declared.place.Place.{Place}
 use Rattle.npf_seats.specs.declared.side.SeatSide.{SeatSide}
 use Rattle.npf_seats.specs.Moves.{spent_seat}
 use Rattle.npf_cells_pins.specs.declared.pin.EpochSide.{EpochSide}
@@ -15,12 +16,15 @@ use Rattle.npf_cells_pins.specs.declared.pin.Pin.{Pin}
 use Rattle.npf_cells_pins.specs.declared.pin.Pin.TheVariants.{Idle, Pinned, Protected}
 use Rattle.npf_cells_pins.specs.Epochs.{ReaderView, idle_side}
 use Rattle.npf_cells_leaves.specs.declared.trie.LoadedLeaf.{LoadedLeaf}
+use Rattle.npf_cells_leaves.specs.declared.trie.PathPlace.{PathPlace}
+use Rattle.npf_cells_leaves.specs.declared.trie.SeenCell.{SeenCell}
 use Rattle.npf_cells_leaves.specs.declared.trie.TrieSide.{TrieSide}
 use Rattle.npf_cells_leaves.specs.Trie.{unread_side}
 use Rattle.npf_cells_lives.specs.declared.pools.PoolSide.{PoolSide}
 use Rattle.npf_cells_lives.specs.declared.turn.Turn.{Turn}
 use Rattle.npf_cells_lives.specs.Deaths.{DeathSide}
 use Rattle.npf_cells_lives.specs.Pools.{empty_handed}
+use Rattle.npf_cells_marks.specs.Marks.{MarkSide}
 use Rattle.npf_cells_rule.specs.declared.view.CellView.{CellView}
 
 abbrev pub seat_side : {S A R : Type 0} → CellView S A R → SeatSide ℕ (Entry S A R)
@@ -80,6 +84,28 @@ death_side v = record {
   protecting = protecting_epoch v.epochs.pin;
   answered = v.trie.answered;
   leaf = leaf_id v.trie.leaf;
+}
+
+-- and that on marks: where the pass stands, and which place it saw last
+abbrev pub point_place : Option PathPlace → Option Place
+point_place None = None
+point_place (Some point) = Some point.place
+
+abbrev pub seen_place : Option SeenCell → Option Place
+seen_place None = None
+seen_place (Some s) = Some s.place
+
+abbrev pub mark_side : {S A R : Type 0} → CellView S A R → MarkSide
+mark_side v = record {
+  marks = v.trie.marks;
+  emptied = v.trie.emptied;
+  met = v.trie.met_mark;
+  unfreed = v.pools.unfreed;
+  locks = v.trie.locks;
+  loaded = v.epochs.loaded;
+  protecting = protecting_epoch v.epochs.pin;
+  stands = point_place v.trie.stands;
+  saw = seen_place v.trie.seen;
 }
 
 -- the pass after a step that changes only what it knows of the epoch

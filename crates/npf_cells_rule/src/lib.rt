@@ -1,5 +1,5 @@
 // The rule of the table without locks, from its parts: what each pass knows (`CellView`, a side for each part), and that a state of the table
-// keeps all eleven parts (`IsCells`). A step that leaves a region of words leaves the parts over it. The functions do nothing: each is
+// keeps all twelve parts (`IsCells`). A step that leaves a region of words leaves the parts over it. The functions do nothing: each is
 // a theorem.
 #![tactic(auto)]
 

@@ -1,5 +1,5 @@
 -- What loads and stores of a pass's own words change in its view, and what each tells.
-use Rattle.std.specs.Prelude.{◌≡◌, ◌≢◌, ◌⊎◌, ℕ, max, ◌+◌, ◌-◌, ◌^◌, ◌≤◌, ◌<◌, ◌==◌, ◌&&◌, Bool, true, false, Option, Some, None, List, ◌∷◌, Contains, filter, if◌then◌else◌, nat_lt}
+use Rattle.std.specs.Prelude.{◌≡◌, ◌≢◌, ◌⊎◌, ℕ, max, ◌+◌, ◌-◌, ◌%◌, ◌^◌, ◌≤◌, ◌<◌, ◌==◌, ◌&&◌, Bool, true, false, Option, Some, None, List, ◌∷◌, Contains, filter, if◌then◌else◌, nat_lt}
 use Rattle.atomic_table.specs.Table.{Me, Step}
 use Rattle.npf_types.specs.declared.key.Key.{Key}
 use Rattle.npf_types.specs.declared.key.Way.{Way}
@@ -51,10 +51,11 @@ HasTurnIn turn slot = (t : Turn _) × (turn ≡ Some t) × (t.slot ≡ slot) × 
 abbrev pub HasLeafIn : TrieSide → ℕ → Type 0
 HasLeafIn side slot = (leaf : LoadedLeaf) × (side.leaf ≡ Some leaf) × (leaf.slot ≡ slot)
 
--- in a node that it owns a pass may store in each word but the state, whose lock another pass may have
-pub record MayStoreInNode (side : PoolSide) (node field : ℕ) : Type 0 where
+-- in a node that it owns a pass may store in each word but the state, whose lock another pass may have; and in its places no mark
+pub record MayStoreInNode (side : PoolSide) (node field value : ℕ) : Type 0 where
   pub owned : Contains side.nodes node
   pub stateless : field ≢ state_field
+  pub markless : field < 16 → value % 4 ≢ 3
 
 -- in a connection that it is building a pass may store in each word but the turn, the phase and the notes: as incarnation the connection's,
 -- and a key word only where the connection holds no key of that way
@@ -120,7 +121,7 @@ MayClear v id = Contains v.pools.reclaims id
 -- in a place of either pool
 abbrev pub MayStore : {S A R : Type 0} → Meaning S A R → CellView S A R → Pool → ℕ → ℕ → ℕ → Type 0
 MayStore m v Slots slot field value = MayStoreInSlot m v slot field value ⊎ (MayStorePhase v slot field ⊎ (MayStoreNote m v slot field value ⊎ MayLetGo m v slot field value))
-MayStore m v Nodes node field value = MayStoreInNode v.pools node field
+MayStore m v Nodes node field value = MayStoreInNode v.pools node field value
 
 -- what the pass still has to store: an incarnation that it stores no longer
 abbrev pub owing : Pool → ℕ → ℕ → List ℕ → List ℕ

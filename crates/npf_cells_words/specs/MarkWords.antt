@@ -1,9 +1,10 @@
 -- The words of marks, by which emptied nodes come back: a node in whose places nothing stands is marked, then its mark takes its place, and
 -- once nobody can be in it any more the mark is cleared.
-use Rattle.std.specs.Prelude.{◌≡◌, ℕ, ◌+◌, ◌*◌, ◌<◌, List, slice_index}
-use Rattle.npf_paths.specs.declared.cell.Cell.TheVariants.{Mark}
+use Rattle.std.specs.Prelude.{◌≡◌, ◌≢◌, ℕ, ◌+◌, ◌*◌, ◌/◌, ◌%◌, ◌<◌, ◌==◌, List, slice_index, if◌then◌else◌}
+use Rattle.npf_paths.specs.declared.cell.Cell.{Cell}
+use Rattle.npf_paths.specs.declared.cell.Cell.TheVariants.{Node, Mark}
 use Rattle.npf_paths.specs.declared.place.Place.{Place}
-use Rattle.npf_paths.specs.CellWords.{cell_of}
+use Rattle.npf_paths.specs.CellWords.{cell_of, cell_word}
 use Rattle.npf_cells_words.specs.declared.layout.Layout.{Layout}
 use Rattle.npf_cells_words.specs.declared.layout.Pool.TheVariants.{Nodes}
 use Rattle.npf_cells_words.specs.Layout.{state_field, parent_field, field_at}
@@ -12,6 +13,10 @@ use Rattle.npf_cells_words.specs.Places.{place_at}
 -- the word of the mark of a node: it says the node that hung there
 abbrev pub mark_word : ℕ → ℕ
 mark_word node = node * 4 + 3
+
+-- where a path goes from what stands in a place: a mark still leads to its node
+abbrev pub shown_of : ℕ → Cell
+shown_of word = if word % 4 == 3 then Node (word / 4) else cell_of word
 
 -- the state of a node that its pass marked
 abbrev pub marked_state : ℕ
@@ -34,3 +39,7 @@ IsBareNode layout words node = (digit : ℕ) → digit < 16 → slice_index word
 -- each mark is read as one, and says its node
 abbrev pub MarksSayNodes : Type 0
 MarksSayNodes = (node other : ℕ) → (cell_of (mark_word node) ≡ Mark) × (mark_word node ≡ mark_word other → node ≡ other)
+
+-- a mark leads to its node, and any other cell where it says
+abbrev pub MarksLeadOn : Type 0
+MarksLeadOn = ((node : ℕ) → shown_of (mark_word node) ≡ Node node) × ((word : ℕ) → cell_of word ≢ Mark → shown_of word ≡ cell_of word) × ((c : Cell) → c ≢ Mark → shown_of (cell_word c) ≡ c)

@@ -20,7 +20,7 @@ use crate::locking::{lock, unlock};
 use crate::naming::place_named;
 use npf_cells::{CellPass, Cells};
 use npf_core::Law;
-use npf_paths::{KeyHash, NODE_DIGITS, Place};
+use npf_paths::{KeyHash, Lock, NODE_DIGITS, Place};
 use std::sync::Wait;
 
 /// The word of a place where nothing stands.
@@ -28,6 +28,9 @@ const NOTHING: u64 = 0;
 
 /// The state that frees a lock.
 const FREE: u64 = 0;
+
+/// The state of a node that was let go has this bit, and the epoch as it was then.
+const LEFT: u64 = 1 << 63;
 
 /// Frees the lock of a place that the pass has just emptied. Where nothing stands in the other places of its node either, the node is taken off
 /// before: its mark stands then where it hung, and two epochs later it may come back. It may wait for the lock of that place.
@@ -116,5 +119,5 @@ fn mark_off<L: Law, H: KeyHash>(
     cells.mark_place(pass, parent, node);
     cells.store_node(pass, parent.lock(), FREE);
     let epoch = cells.load_epoch(pass);
-    cells.leave_node(pass, node, epoch);
+    cells.store_node(pass, Lock::Node(node), LEFT + epoch);
 }

@@ -1,5 +1,5 @@
 use Rattle.npf_cells_words.proofs.CodeLemmas.{codes_are_apart, codes_fit}
-use Rattle.npf_cells_words.proofs.MarkLemmas.{marks_say_nodes}
+use Rattle.npf_cells_words.proofs.MarkLemmas.{marks_say_nodes, marks_lead_on}
 use Rattle.npf_cells_words.proofs.WordLemmas.{fields_are_apart, places_are_apart, locks_are_apart}
 use Rattle.npf_cells_words.proofs.laws.words_law.Goals as goal
 
@@ -20,3 +20,6 @@ returns-clause-fit c = codes_fit
 
 pub returns-clause-marks : goal.returns-clause-marks
 returns-clause-marks c = marks_say_nodes
+
+pub returns-clause-lead : goal.returns-clause-lead
+returns-clause-lead c = marks_lead_on
