@@ -15,6 +15,7 @@ use npf_core::Held;
 use npf_types::{Key, Way};
 use std::alloc::Global;
 use std::sync::Wait;
+use std::sync::atomic::{AtomicU64, Ordering};
 use std::test::Fail;
 use std::thread::{Threads, join, yield_now};
 
@@ -151,34 +152,52 @@ fn look_for<R: Wait, C: Connections<Sum>>(rt: &R, conns: &C, pass: &mut C::Pass,
     forward && backward
 }
 
-// Looks for the keys of as many rounds as all workers have. Answers how often those found weren't the right ones.
-fn look_beside<R: Wait, C: Connections<Sum>>(rt: &R, conns: &C, pass: &mut C::Pass) -> u64
+// Looks for the keys of one round after the other, until all workers are done. Answers how often those found weren't the right ones.
+fn look_beside<R: Wait, C: Connections<Sum>>(
+    rt: &R,
+    conns: &C,
+    pass: &mut C::Pass,
+    done: &AtomicU64,
+) -> u64
     requires out { IsOut sum_law (C.fits conns.now) C.view pass.old }
     requires place { 1 ≤ (C.view pass.old).places }
     ensures out { IsOut sum_law (C.fits conns.now) C.view pass.new }
     ensures places { (C.view pass.new).places ≡ (C.view pass.old).places }
 {
     let mut wrong = 0u64;
-    for round in 0..ROUNDS_BESIDE * WORKERS {
+    let mut round = 0u64;
+    for _ in rt.forever() {
+        if done.load(Ordering::SeqCst) >= WORKERS {
+            return wrong;
+        }
         if !look_for(rt, conns, pass, round) {
             wrong = wrong.saturating_add(1);
         }
+        round = round.wrapping_add(1);
         yield_now();
     }
-    wrong
+    unreachable!()
 }
 
 // What the pass of this number does: how many rounds held their keys, and how many looks were wrong.
-fn work<R: Wait, C: Connections<Sum>>(rt: &R, conns: &C, pass: &mut C::Pass, number: u64) -> (u64, u64)
+fn work<R: Wait, C: Connections<Sum>>(
+    rt: &R,
+    conns: &C,
+    pass: &mut C::Pass,
+    done: &AtomicU64,
+    number: u64,
+) -> (u64, u64)
     requires out { IsOut sum_law (C.fits conns.now) C.view pass.old }
     requires place { 1 ≤ (C.view pass.old).places }
     ensures out { IsOut sum_law (C.fits conns.now) C.view pass.new }
     ensures places { (C.view pass.new).places ≡ (C.view pass.old).places }
 {
     if number < WORKERS {
-        (live_rounds(rt, conns, pass, number, WORKERS, ROUNDS_BESIDE), 0)
+        let held = live_rounds(rt, conns, pass, number, WORKERS, ROUNDS_BESIDE);
+        done.fetch_add(1, Ordering::SeqCst);
+        (held, 0)
     } else {
-        (0, look_beside(rt, conns, pass))
+        (0, look_beside(rt, conns, pass, done))
     }
 }
 
@@ -187,6 +206,7 @@ fn work_beside<R: Threads + Wait + Sync, C: Connections<Sum>>(
     rt: &R,
     conns: &C,
     pass: C::Pass,
+    done: &AtomicU64,
     number: u64,
 ) -> (C::Pass, (u64, u64))
     requires out { IsOut sum_law (C.fits conns.now) C.view pass }
@@ -196,7 +216,7 @@ fn work_beside<R: Threads + Wait + Sync, C: Connections<Sum>>(
 {
     let mut pass = pass;
     if number == 0 {
-        let told = work(rt, conns, &mut pass, 0);
+        let told = work(rt, conns, &mut pass, done, 0);
         return (pass, told);
     }
     let other = conns.split(rt, &mut pass);
@@ -206,13 +226,13 @@ fn work_beside<R: Threads + Wait + Sync, C: Connections<Sum>>(
             requires { IsOut sum_law (C.fits conns.now) C.view other × (1 ≤ (C.view other).places) }
         {
             let mut pass = other;
-            let told = work(rt, conns, &mut pass, number);
+            let told = work(rt, conns, &mut pass, done, number);
             (pass, told)
         },
         move || -> (C::Pass, (u64, u64))
             requires { IsSync R.row × IsOut sum_law (C.fits conns.now) C.view pass × (0 < number) × (number ≤ (C.view pass).places) }
             ensures { IsOut sum_law (C.fits conns.entry.now) C.view result.0 × ((C.view result.0).places ≡ (C.view pass).places) }
-        { work_beside(rt, conns, pass, number - 1) },
+        { work_beside(rt, conns, pass, done, number - 1) },
     );
     let mut whole = whole;
     conns.join(rt, &mut whole, other);
@@ -234,7 +254,8 @@ fn tell_rounds_beside<R: Threads + Wait + Sync>(
     told: &mut String,
 ) -> Result<(), Fail> {
     let (conns, pass) = Conns::<Sum, OneHash>::new(alloc, 8, 400)?;
-    let (_, answer) = work_beside(rt, &conns, pass, LAST);
+    let done = AtomicU64::new(0);
+    let (_, answer) = work_beside(rt, &conns, pass, &done, LAST);
     put(told, &answer)
 }
 
@@ -286,17 +307,29 @@ fn tell_phases(rt: &impl Wait, alloc: Global, told: &mut String) -> Result<(), F
 }
 
 #[test]
-fn nodes_come_back(rt: HostRuntime) -> Result<(), Fail> {
+fn nodes_come_back_to_one_thread(rt: HostRuntime) -> Result<(), Fail> {
     let mut told = String::new(rt.alloc());
     tell_rounds(&rt, rt.alloc(), &mut told)?;
+    same(&rt, told.as_str(), "1000\n");
+    Ok(())
+}
+
+#[test]
+fn nodes_come_back_to_threads(rt: HostRuntime) -> Result<(), Fail> {
+    let mut told = String::new(rt.alloc());
     tell_rounds_beside(&rt, rt.alloc(), &mut told)?;
+    same(&rt, told.as_str(), "(10000, 0)\n");
+    Ok(())
+}
+
+#[test]
+fn each_node_comes_back(rt: HostRuntime) -> Result<(), Fail> {
+    let mut told = String::new(rt.alloc());
     tell_phases(&rt, rt.alloc(), &mut told)?;
     same(
         &rt,
         told.as_str(),
-        "1000
-(10000, 0)
-(true, 1)
+        "(true, 1)
 (true, 1)
 (true, 1)
 (true, 1)
