@@ -54,7 +54,8 @@ fn answer_of(round: u64) -> Key {
     ])
 }
 
-// Begins a connection that holds both keys of the round, and abandons it. Answers whether it held them, or none where no slot was left.
+// Begins a connection that holds both keys of the round, and abandons it. Answers whether it held
+// them, or none where no slot was left.
 fn live<R: Wait, C: Connections<Sum>>(
     rt: &R,
     conns: &C,
@@ -89,7 +90,8 @@ fn collect_often<C: Connections<Sum>>(rt: &impl Wait, conns: &C, pass: &mut C::P
     }
 }
 
-// A connection of the round, once a slot is left, and three collections after it. Answers whether it held its keys.
+// A connection of the round, once a slot is left, and three collections after it. Answers whether
+// it held its keys.
 fn live_once<R: Wait, C: Connections<Sum>>(
     rt: &R,
     conns: &C,
@@ -112,7 +114,8 @@ fn live_once<R: Wait, C: Connections<Sum>>(
     unreachable!()
 }
 
-// So many rounds, from this one on and then each of which the number is that much higher. Answers how many held their keys.
+// So many rounds, from this one on and then each of which the number is that much higher. Answers
+// how many held their keys.
 fn live_rounds<R: Wait, C: Connections<Sum>>(
     rt: &R,
     conns: &C,
@@ -136,7 +139,8 @@ fn live_rounds<R: Wait, C: Connections<Sum>>(
     held
 }
 
-// Looks for both keys of the round, in one stay. Answers whether who is found holds the one as its key there, and the other as its key back.
+// Looks for both keys of the round, in one stay. Answers whether who is found holds the one as its
+// key there, and the other as its key back.
 fn look_for<R: Wait, C: Connections<Sum>>(rt: &R, conns: &C, pass: &mut C::Pass, round: u64) -> bool
     requires out { IsOut sum_law (C.fits conns.now) C.view pass.old }
     requires place { 1 ≤ (C.view pass.old).places }
@@ -152,7 +156,8 @@ fn look_for<R: Wait, C: Connections<Sum>>(rt: &R, conns: &C, pass: &mut C::Pass,
     forward && backward
 }
 
-// Looks for the keys of one round after the other, until all workers are done. Answers how often those found weren't the right ones.
+// Looks for the keys of one round after the other, until all workers are done. Answers how often
+// those found weren't the right ones.
 fn look_beside<R: Wait, C: Connections<Sum>>(
     rt: &R,
     conns: &C,
@@ -179,7 +184,8 @@ fn look_beside<R: Wait, C: Connections<Sum>>(
     unreachable!()
 }
 
-// What the pass of this number does: how many rounds held their keys, and how many looks were wrong.
+// What the pass of this number does: how many rounds held their keys, and how many looks were
+// wrong.
 fn work<R: Wait, C: Connections<Sum>>(
     rt: &R,
     conns: &C,
@@ -201,7 +207,8 @@ fn work<R: Wait, C: Connections<Sum>>(
     }
 }
 
-// What the passes from this number down to 0 do beside each other, of which all but the last are split off, and joined again.
+// What the passes from this number down to 0 do beside each other, of which all but the last are
+// split off, and joined again.
 fn work_beside<R: Threads + Wait + Sync, C: Connections<Sum>>(
     rt: &R,
     conns: &C,
@@ -259,7 +266,8 @@ fn tell_rounds_beside<R: Threads + Wait + Sync>(
     put(told, &answer)
 }
 
-// Two keys that part at the last half-byte, below one of their own: all 94 nodes of the table are wanted for them.
+// Two keys that part at the last half-byte, below one of their own: all 94 nodes of the table are
+// wanted for them.
 fn deep_key(phase: u64, place: u64) -> Key {
     Key([phase, 0, 0, 0, place])
 }
@@ -293,7 +301,8 @@ fn live_deep<R: Wait, C: Connections<Sum>>(
     held
 }
 
-// Ten phases, in each of which a connection is opened that wants every node of the table, and expires. Each collection takes a level off, so
+// Ten phases, in each of which a connection is opened that wants every node of the table, and
+// expires. Each collection takes a level off, so
 // after 95 all nodes are free again.
 fn tell_phases(rt: &impl Wait, alloc: Global, told: &mut String) -> Result<(), Fail> {
     let (conns, mut pass) = Conns::<Sum, OneHash>::new(alloc, 2, 94)?;
