@@ -12,9 +12,10 @@ ghost use Rattle.npf_conndb.specs.Frees.{CollectsSlot, HasCollected, VisitsSlot}
 use crate::vacancy::is_vacant;
 use npf_cells::{CellPass, Cells, Pool, READERS};
 use npf_core::{ConnId, Law};
-use npf_epoch::try_advance;
+use npf_epoch::{enter, leave, try_advance};
 use npf_paths::KeyHash;
-use npf_turn::reclaim;
+use npf_turn::{reclaim, regain};
+use std::sync::Wait;
 
 /// The field of the first note among a connection's words.
 const FIRST_NOTE: u32 = 18;
@@ -24,7 +25,11 @@ const EPOCHS: u64 = 1 << 63;
 
 /// Raises the epoch, twice where no other pass is left that could hinder it, and frees each connection that was let go two epochs before or
 /// more. A slot whose turn another pass has is left for the next time.
-pub(crate) fn collect<L: Law, H: KeyHash>(cells: &Cells<L, H>, pass: &mut CellPass<L>)
+pub(crate) fn collect<L: Law, H: KeyHash>(
+    rt: &impl Wait,
+    cells: &Cells<L, H>,
+    pass: &mut CellPass<L>,
+)
     requires own { IsPassIn cells.now pass.old }
     requires legal { IsPass L.meaning (cell_pass pass.old.seat.me.0) }
     requires between { IsBetweenCalls L.meaning pass.old.seat.me.0 }
@@ -38,6 +43,25 @@ pub(crate) fn collect<L: Law, H: KeyHash>(cells: &Cells<L, H>, pass: &mut CellPa
     for slot in visited..cells.layout().slots {
         collect_slot(cells, pass, slot, epoch);
     }
+    regain_nodes(rt, cells, pass);
+}
+
+// Frees each node that was taken off two epochs before or more, and takes those off in which only such a one hung. It is in a stay for that.
+fn regain_nodes<L: Law, H: KeyHash>(rt: &impl Wait, cells: &Cells<L, H>, pass: &mut CellPass<L>)
+    requires own { IsPassIn cells.now pass.old }
+    requires legal { IsPass L.meaning (cell_pass pass.old.seat.me.0) }
+    requires between { IsBetweenCalls L.meaning pass.old.seat.me.0 }
+    requires out { pass.old.seat.me.0.epochs.pin ≡ Idle }
+    ensures own { IsPassIn cells.now pass.new }
+    ensures stays { StaysBetween L.meaning pass.old.seat.me.0 pass.new.seat.me.0 }
+    ensures same { pass.new.seat.me.0.seats ≡ pass.old.seat.me.0.seats }
+{
+    enter(cells, pass);
+    let epoch = cells.load_epoch(pass);
+    for node in 0..cells.layout().nodes {
+        regain(rt, cells, pass, node, epoch);
+    }
+    leave(cells, pass);
 }
 
 // Raises the epoch, and visits the slots up to the first that it frees. Answers the epoch, and how many slots it visited. What is freed ends

@@ -162,8 +162,8 @@ where
         count
     }
 
-    fn collect(&self, _rt: &impl Wait, pass: &mut ConnPass<L>) {
-        collect(&self.cells, &mut pass.cells);
+    fn collect(&self, rt: &impl Wait, pass: &mut ConnPass<L>) {
+        collect(rt, &self.cells, &mut pass.cells);
     }
 
     fn copy_slot(

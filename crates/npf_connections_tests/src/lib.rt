@@ -15,6 +15,8 @@ mod cases;
 #[cfg(test)]
 mod crowd;
 #[cfg(test)]
+mod returning;
+#[cfg(test)]
 mod second_pass;
 #[cfg(test)]
 mod sharing;

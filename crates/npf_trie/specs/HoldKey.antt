@@ -22,7 +22,7 @@ use Rattle.npf_cells_leaves.specs.declared.trie.TrieSide.{TrieSide}
 use Rattle.npf_cells_holds.specs.HoldKinds.{MayHoldSo, leaf_holder}
 use Rattle.npf_cells_holds.specs.LookKinds.{StandsOnPath, level_at}
 use Rattle.npf_cells_rule.specs.Views.{with_trie}
-use Rattle.npf_cells_rule.specs.Passes.{cell_pass}
+use Rattle.npf_cells_rule.specs.Passes.{IsProtected, cell_pass}
 use Rattle.npf_cells_holds.specs.PublishKinds.{HasStoredKey, IsParentStored, cell_stored, nodes_but}
 use Rattle.npf_cells_words.specs.Places.{IsInTrie}
 use Rattle.npf_cells_leaves.specs.Parents.{foot_place, NameParents}
@@ -38,7 +38,7 @@ use Rattle.npf_trie.specs.declared.step.Met.TheVariants.{Holder, Other}
 use Rattle.npf_trie.specs.declared.step.OtherLeaf.{OtherLeaf}
 use Rattle.npf_trie.specs.declared.step.Point.{Point}
 use Rattle.npf_trie.specs.declared.step.Step.{Step}
-use Rattle.npf_trie.specs.declared.step.Step.TheVariants.{Ends, Leads, Again}
+use Rattle.npf_trie.specs.declared.step.Step.TheVariants.{Ends, Leads, Again, Anew}
 use Rattle.npf_trie.specs.declared.step.Wanted.{Wanted}
 
 -- a pass that is to hold a key for a connection: it is building it, has stored its incarnation and seen it take no key of that way, and has
@@ -101,12 +101,31 @@ pub record IsAtPlace {S A R : Type 0} (digest : Key → ℕ) (layout : Layout) (
   pub level_is : level_at v.trie point.place ≡ point.level
   pub within : point.level < 95
 
--- one step of a hold at that place: it ends with this answer, or a node leads on, or the pass is still there and looks again
+-- before it ended a hold may have begun new stays, in which it may have got nodes back and has given them back: what it is building stays
+pub record StaysAnew {S A R F : Type 0} (old now : Me F (CellView S A R)) : Type 0 where
+  pub is : now ≡ (record (having_held old.0 now.0) { epochs = now.0.epochs }, old.1)
+  pub history : now.0.seats.history ≡ old.0.seats.history
+  pub sweeps : old.0.pools.sweeps ≤ now.0.pools.sweeps
+  pub unpublished : now.0.trie.published ≡ old.0.trie.published
+  pub noted : now.0.pools.notes ≡ old.0.pools.notes
+  pub places : old.0.trie.places ≤ now.0.trie.places
+  pub protected : IsProtected now.0.epochs.pin
+  pub greatest : old.0.epochs.greatest ≤ now.0.epochs.greatest
+  pub known : old.0.epochs.known ≤ now.0.epochs.known
+
+-- the hold then ends in the last of these stays
+pub record SettlesAnew {S A R F : Type 0} (m : Meaning S A R) (layout : Layout) (id : ConnId) (key : Key) (way : Way) (held : Held) (old now : Me F (CellView S A R)) : Type 0 where
+  pub between : Me F (CellView S A R)
+  pub anew : StaysAnew old between
+  pub settles : SettlesHold m layout id key way held between now
+
+-- one step of a hold at that place: it ends with this answer, or a node leads on, or the pass is still there and looks again, or a mark was met
 abbrev pub StepsSo : {S A R F : Type 0} → Meaning S A R → (Key → ℕ) → Layout → Wanted → Point → Step → Me F (CellView S A R) → Me F (CellView S A R) → Type 0
 StepsSo m digest layout wanted point (Ends held) old now = SettlesHold m layout wanted.id wanted.key wanted.way held old now
 StepsSo m digest layout wanted point (Leads node) old now = HoldsOn old now ×
     IsAtPlace digest layout now.0 wanted.key (record { place = Places.Node node (digits_of digest wanted.key (point.level + 1)); level = point.level + 1 })
 StepsSo m digest layout wanted point Again old now = HoldsOn old now × IsAtPlace digest layout now.0 wanted.key point
+StepsSo m digest layout wanted point Anew old now = HoldsOn old now
 
 -- whose key a leaf has: this key, held by its connection, or another
 abbrev pub TellsMet : LoadedLeaf → Key → Met → Type 0
@@ -185,3 +204,4 @@ HangsSo m digest layout wanted point (Ends held) old now = HasHung m wanted held
 HangsSo m digest layout wanted point (Leads node) old now = HoldsNodes old now ×
     IsAtPlace digest layout now.0 wanted.key (record { place = Places.Node node (digits_of digest wanted.key (point.level + 1)); level = point.level + 1 })
 HangsSo m digest layout wanted point Again old now = HoldsNodes old now × IsAtPlace digest layout now.0 wanted.key point
+HangsSo m digest layout wanted point Anew old now = HoldsNodes old now

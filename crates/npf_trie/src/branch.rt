@@ -1,5 +1,6 @@
-ghost use Rattle.std.specs.Prelude.{◌≡◌, ◌+◌, ◌≤◌, ◌<◌, ℕ, [], ◌∷◌, length, slice_index, Contains};
+ghost use Rattle.std.specs.Prelude.{◌≡◌, ◌≢◌, ◌+◌, ◌≤◌, ◌<◌, ℕ, [], ◌∷◌, length, slice_index, Contains};
 ghost use Rattle.npf_paths.specs.Digits.{PartsAt};
+ghost use Rattle.npf_paths.specs.declared.cell.Cell.TheVariants.{Mark};
 ghost use Rattle.npf_paths.specs.declared.place.Place.TheVariants.{Node};
 ghost use Rattle.npf_paths.specs.Growing.{IsBranch};
 ghost use Rattle.npf_cells.specs.Cells.{IsPassIn};
@@ -100,6 +101,7 @@ fn fill_node<L: Law, H: KeyHash>(
     requires own { IsPassIn cells.now pass.old }
     requires exists { node < cells.now.table.shared.key.nodes }
     requires owned { Contains pass.old.seat.me.0.pools.nodes node }
+    requires markless { (leaf ≢ Mark) × (other ≢ Mark) }
     ensures own { IsPassIn cells.now pass.new }
     ensures next { pass.new.seat.me ≡ with_pools pass.old.seat.me (record pass.old.seat.me.0.pools { stored = pass.new.seat.me.0.pools.stored }) }
     ensures cells { (digit : ℕ) → digit < 16 → cell_stored cells.now.table.shared.key pass.new.seat.me.0.pools.stored (Node node digit) ≡ forked_cell mine leaf theirs other digit }

@@ -10,7 +10,7 @@ use crate::step::{Met, Point, Step, Wanted};
 use npf_cells::{CellPass, Cells};
 use npf_core::{Held, Law};
 use npf_paths::{Cell, KeyHash};
-use npf_turn::{lock, unlock};
+use npf_turn::{lock_hung, unlock};
 use std::sync::Wait;
 
 /// Puts the connection's leaf in the place, if nothing stands there under its lock.
@@ -30,7 +30,9 @@ pub(crate) fn fill<L: Law, H: KeyHash>(
     ensures loads { pass.old.seat.me.0.trie.places ≤ pass.new.seat.me.0.trie.places }
 {
     store_key(cells, pass, wanted.id.slot, wanted.way, &wanted.key);
-    lock(rt, cells, pass, point.place.lock());
+    if !lock_hung(rt, cells, pass, point.place.lock()) {
+        return Step::Anew;
+    }
     let step = match cells.load_place(pass, point.place, &wanted.aim()) {
         Cell::Empty => {
             let place = leaf_note(point.place);
@@ -43,7 +45,7 @@ pub(crate) fn fill<L: Law, H: KeyHash>(
             Met::Holder(found) => Step::Ends(Held::Taken(found)),
             Met::Other(_) => Step::Again,
         },
-        Cell::Mark => Step::Again,
+        Cell::Mark => Step::Anew,
     };
     unlock(cells, pass, point.place.lock());
     step

@@ -19,7 +19,7 @@ use arrayvec::ArrayVec;
 use npf_cells::{CellPass, Cells, TurnAct};
 use npf_core::{Held, Law};
 use npf_paths::{Cell, KeyHash, parting_level};
-use npf_turn::{lock, unlock, wait_turn};
+use npf_turn::{lock_hung, unlock, wait_turn};
 use std::sync::Wait;
 
 /// Grows nodes in the place of the leaf of another key that the pass met there, down to the level at which the two part, if that leaf
@@ -100,10 +100,35 @@ fn move_leaf<L: Law, H: KeyHash>(
     ensures loads { pass.old.seat.me.0.trie.places ≤ pass.new.seat.me.0.trie.places }
 {
     wait_turn(rt, cells, pass, branch.other.slot);
-    lock(rt, cells, pass, point.place.lock());
+    let step = hang_locked(rt, cells, pass, wanted, point, branch);
+    cells.end_turn(pass, branch.other.slot, &TurnAct::Nothing);
+    step
+}
+
+// The same under the turn, where the place's node isn't taken off.
+fn hang_locked<L: Law, H: KeyHash>(
+    rt: &impl Wait,
+    cells: &Cells<L, H>,
+    pass: &mut CellPass<L>,
+    wanted: &Wanted,
+    point: Point,
+    branch: &Branch,
+) -> Step
+    requires own { IsPassIn cells.now pass.old }
+    requires protected { IsProtected pass.old.seat.me.0.epochs.pin }
+    requires exists { branch.now.other.slot < cells.now.table.shared.key.slots }
+    requires free { pass.old.seat.me.0.trie.locks ≡ [] }
+    requires turn { HasNewTurn pass.old.seat.me.0.turn branch.now.other.slot }
+    requires grown { HasGrown L.meaning H.digest cells.now.table.shared.key pass.old.seat.me.0 wanted.now point branch.now }
+    ensures own { IsPassIn cells.now pass.new }
+    ensures hangs { HangsSo L.meaning H.digest cells.now.table.shared.key wanted.now point result pass.old.seat.me pass.new.seat.me }
+    ensures loads { pass.old.seat.me.0.trie.places ≤ pass.new.seat.me.0.trie.places }
+{
+    if !lock_hung(rt, cells, pass, point.place.lock()) {
+        return Step::Anew;
+    }
     let step = hang(cells, pass, wanted, point, branch);
     unlock(cells, pass, point.place.lock());
-    cells.end_turn(pass, branch.other.slot, &TurnAct::Nothing);
     step
 }
 
@@ -135,7 +160,8 @@ fn hang<L: Law, H: KeyHash>(
             }
             Met::Other(_) => Step::Again,
         },
-        Cell::Empty | Cell::Mark => Step::Again,
+        Cell::Empty => Step::Again,
+        Cell::Mark => Step::Anew,
     }
 }
 

@@ -54,6 +54,8 @@ pub(crate) enum Step {
     Leads(u32),
     /// What stood there has changed meanwhile.
     Again,
+    /// A mark stands there, or the node of the place is taken off: the key's path has to be walked anew.
+    Anew,
 }
 
 impl Wanted {

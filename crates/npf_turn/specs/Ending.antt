@@ -1,5 +1,5 @@
 -- What giving up a key of a killed connection leaves.
-use Rattle.std.specs.Prelude.{◌≡◌, ◌≢◌, ◌↔◌, ℕ, Bool, true, false, Option, None, List, [], ◌∷◌, filter, map}
+use Rattle.std.specs.Prelude.{◌≡◌, ◌≢◌, ◌≤◌, ◌↔◌, ℕ, Bool, true, false, Option, None, List, [], ◌∷◌, filter, map}
 use Rattle.atomic_table.specs.Table.{Me}
 use Rattle.npf_types.specs.declared.key.Key.{Key}
 use Rattle.npf_types.specs.declared.key.Way.{Way}
@@ -19,6 +19,7 @@ use Rattle.npf_connections.specs.Ways.{HoldsThese, all_ways}
 use Rattle.npf_cells_holds.specs.PublishKinds.{publishing}
 use Rattle.npf_cells_holds.specs.UnlinkKinds.{giving_up}
 use Rattle.npf_paths.specs.declared.place.Lock.{Lock}
+use Rattle.npf_cells_pins.specs.declared.pin.EpochSide.{EpochSide}
 use Rattle.npf_cells_pins.specs.declared.pin.Pin.{Pin}
 use Rattle.npf_cells_lives.specs.declared.pools.Note.{Note}
 use Rattle.npf_cells_lives.specs.declared.turn.Turn.{Turn}
@@ -28,14 +29,15 @@ use Rattle.npf_cells_rule.specs.Passes.{cell_pass}
 use Rattle.npf_cells_rule.specs.Views.{unloaded}
 use Rattle.npf_cells_takes.specs.PrivateKinds.{HasSeenBare}
 use Rattle.npf_turn.specs.Done.{HasLetGo}
+use Rattle.npf_turn.specs.TakingOff.{EpochsGoOn}
 
--- the pass after it gave a key up, and has seen this history: it forgot the epoch that it loaded, counts the store in the trie, and has no lock and no turn
-abbrev pub without_key : {S A R : Type 0} → CellView S A R → List (Entry S A R) → ConnId → Way → CellView S A R
-without_key v history id way = record v {
+-- the pass after it gave a key up, has seen this history, and knows this of the epoch: it counts the store in the trie, and has no lock and no turn
+abbrev pub without_key : {S A R : Type 0} → CellView S A R → List (Entry S A R) → EpochSide → ConnId → Way → CellView S A R
+without_key v history epochs id way = record v {
   seats = record v.seats { history = history };
-  epochs = unloaded v.epochs;
+  epochs = epochs;
   pools = giving_up id way v.pools;
-  trie = record (publishing v.trie) { locks = [] };
+  trie = record (publishing v.trie) { locks = []; emptied = None; met_mark = None };
   turn = None;
 }
 
@@ -46,7 +48,8 @@ pub record GivesUpKey {S A R : Type 0} (m : Meaning S A R) (id : ConnId) (way : 
   pub others : (other : Way) (key : Key) → other ≢ way → Holds (state_of m old.0.seats.history) id other key ↔ Holds (state_of m now.0.seats.history) id other key
   pub adds : AddsOwn (cell_pass old.0) now.0.seats.history (entry_of (cell_pass old.0) (Unhold id way) Nothing ∷ [])
   pub legal : IsPass m (cell_pass old.0) → IsPass m (cell_pass now.0)
-  pub is : now ≡ (without_key old.0 now.0.seats.history id way, [])
+  pub is : now ≡ (without_key old.0 now.0.seats.history now.0.epochs id way, [])
+  pub epochs : EpochsGoOn (unloaded old.0.epochs) now.0.epochs
 
 -- or it held none, and nothing was done
 pub record HasNoKey {S A R : Type 0} (m : Meaning S A R) (id : ConnId) (way : Way) (old now : Me (Running S) (CellView S A R)) : Type 0 where
@@ -59,13 +62,13 @@ abbrev pub HasEndedKey : {S A R : Type 0} → Meaning S A R → ConnId → Way �
 HasEndedKey m id way true old now = GivesUpKey m id way old now
 HasEndedKey m id way false old now = HasNoKey m id way old now
 
--- the pass that has seen this history
-abbrev pub seen_with : {S A R : Type 0} → CellView S A R → List (Entry S A R) → CellView S A R
-seen_with v history = record v { seats = record v.seats { history = history } }
+-- the pass that has seen this history, and knows this of the epoch
+abbrev pub seen_with : {S A R : Type 0} → CellView S A R → List (Entry S A R) → EpochSide → CellView S A R
+seen_with v history epochs = record v { seats = record v.seats { history = history }; epochs = epochs }
 
 -- the pass after both: only in what a key that was given up changes
 abbrev pub key_ended : {S A R : Type 0} → Bool → ConnId → Way → CellView S A R → CellView S A R
-key_ended true id way v = without_key v v.seats.history id way
+key_ended true id way v = without_key v v.seats.history (unloaded v.epochs) id way
 key_ended false id way v = record v { turn = None }
 
 -- the entries by which keys of these ways are given up
@@ -79,7 +82,11 @@ pub record HasEndedKeys {S A R : Type 0} (m : Meaning S A R) (id : ConnId) (old 
   pub adds : AddsOwn (cell_pass old.0) now.0.seats.history (unhold_entries (cell_pass old.0) id held)
   pub legal : IsPass m (cell_pass old.0) → IsPass m (cell_pass now.0)
   pub bare : HasSeenBare m now.0 id
-  pub is : now ≡ (seen_with (key_ended (held Port) id Port (key_ended (held Backward) id Backward (key_ended (held Forward) id Forward old.0))) now.0.seats.history, [])
+  pub is : now ≡ (seen_with (key_ended (held Port) id Port (key_ended (held Backward) id Backward (key_ended (held Forward) id Forward old.0))) now.0.seats.history now.0.epochs, [])
+  pub pin : now.0.epochs.pin ≡ old.0.epochs.pin
+  pub raises : now.0.epochs.raises ≡ old.0.epochs.raises
+  pub greatest : old.0.epochs.greatest ≤ now.0.epochs.greatest
+  pub known : old.0.epochs.known ≤ now.0.epochs.known
 
 -- a pass that killed nothing, and remembers no key that it gave up
 pub record HasNoKills {S A R : Type 0} (v : CellView S A R) : Type 0 where

@@ -12,19 +12,18 @@ ghost use Rattle.npf_types.specs.declared.key.Way.{Way};
 ghost use Rattle.npf_turn.specs.Ending.{HasEnded, HasEndedKey, HasEndedKeys};
 
 use crate::letting_go::let_go;
-use crate::locking::{lock, unlock};
+use crate::locking::lock;
+use crate::naming::place_of;
+use crate::taking_off::take_off;
 use crate::turn::wait_turn;
-use npf_cells::{CellPass, Cells, Layout, TurnAct};
+use npf_cells::{CellPass, Cells, TurnAct};
 use npf_core::{ConnId, Law};
-use npf_paths::{KeyHash, Place};
+use npf_paths::KeyHash;
 use npf_types::Way;
 use std::sync::Wait;
 
 /// A note that names no place.
 const NO_PLACE: u64 = 0;
-
-/// The number of the first place of the first node: those of the root's places are lower.
-const NODES: u64 = 65;
 
 /// Gives up the key of that way of a connection that the pass killed, and answers whether it held one.
 pub fn end_key<L: Law, H: KeyHash>(
@@ -53,7 +52,7 @@ pub fn end_key<L: Law, H: KeyHash>(
     let place = place_of(cells.layout(), note);
     lock(rt, cells, pass, place.lock());
     cells.unlink(pass, place, id, way);
-    unlock(cells, pass, place.lock());
+    take_off(rt, cells, pass, place);
     cells.end_turn(pass, id.slot, &TurnAct::Nothing);
     true
 }
@@ -99,22 +98,4 @@ pub fn end_killed<L: Law, H: KeyHash>(
 {
     end_keys(rt, cells, pass, id);
     let_go(cells, pass, id);
-}
-
-// The place of the trie that has this number.
-fn place_of(layout: Layout, code: u64) -> Place
-    requires some { 1 ≤ code }
-    requires within { code < 65 + 16 * layout.nodes }
-    ensures is { place_code result ≡ code }
-    ensures within { IsInTrie layout result }
-{
-    if code < NODES {
-        return Place::Root((code - 1) as u32);
-    }
-    let at = code - NODES;
-    prove!(at / 16 < layout.nodes as u64);
-    Place::Node {
-        node: (at / 16) as u32,
-        digit: (at % 16) as u32,
-    }
 }

@@ -55,7 +55,7 @@ pub fn reclaim<L: Law, H: KeyHash>(
 }
 
 // Whether a note says that its connection was let go two epochs before this one, or earlier.
-fn is_long_left(note: u64, epoch: u64) -> bool
+pub(crate) fn is_long_left(note: u64, epoch: u64) -> bool
     requires epoch { epoch < 2 ^ 63 }
     ensures { (result ≡ true) ↔ IsLongLeft note epoch }
 {
