@@ -22,7 +22,7 @@ impl<L: Law, W: Told> Play<Running<L::State>, CellView<L::State, L::Arg, L::Repl
     for UnlinksLeaf<L, W> {
     ghost use Rattle.npf_cells_holds.specs.UnlinkKinds.{Unlinks};
 
-    ghost then = { Unlinks L.meaning W.told.id W.told.way };
+    ghost then = { Unlinks L.meaning W.told.id W.told.way W.told.place };
 }
 
 impl<L: Law, H: KeyHash> Cells<L, H> {
@@ -38,7 +38,7 @@ impl<L: Law, H: KeyHash> Cells<L, H> {
         requires place { IsInTrie self.now.table.shared.key place }
         requires may { MayUnlink pass.old.seat.me.0 place id way }
         ensures own { IsPassIn self.now pass.new }
-        ensures unlinked { HasUnlinked L.meaning id way pass.old.seat.me pass.new.seat.me }
+        ensures unlinked { HasUnlinked L.meaning id way place pass.old.seat.me pass.new.seat.me }
     {
         self.unlink_as::<Brand>(pass, place, id, way)
     }
@@ -47,9 +47,9 @@ impl<L: Law, H: KeyHash> Cells<L, H> {
         requires own { IsPassIn self.now pass.old }
         requires place { IsInTrie self.now.table.shared.key place }
         requires may { MayUnlink pass.old.seat.me.0 place id way }
-        requires aim { (W.told.id ≡ id) × (W.told.way ≡ way) }
+        requires aim { (W.told.id ≡ id) × (W.told.way ≡ way) × (W.told.place ≡ place) }
         ensures own { IsPassIn self.now pass.new }
-        ensures unlinked { HasUnlinked L.meaning id way pass.old.seat.me pass.new.seat.me }
+        ensures unlinked { HasUnlinked L.meaning id way place pass.old.seat.me pass.new.seat.me }
     {
         let word = self.layout.trie_place(place);
         self.table

@@ -2,7 +2,7 @@
 use Rattle.std.specs.List.{Contains}
 use Rattle.std.proofs.Common.{◌≡◌, ◌≢◌, ℕ, ◌+◌, ◌<◌, ◌≤◌, true, Some, None, List, [], ◌∷◌, ◌++◌, map, set, length, slice_index, refl, sym, ap, ◌∙◌, subst, ⊎_elim, inl, arith, length-set}
 use Rattle.std.proofs.lemmas.Bool.{cases_eq}
-use Rattle.std.proofs.lemmas.List.{map-set, get_or-set_other}
+use Rattle.std.proofs.lemmas.List.{map-set, get_or-set_other, get_or-set_same}
 use mathlib.Core.Option.{some}
 use lib.ListN.{get_elem?}
 use Rattle.atomic_table.specs.Table.{State, Me, Step, Allows, stepped, keeps}
@@ -24,19 +24,21 @@ use Rattle.npf_connections.specs.Pass.{all_places}
 use Rattle.npf_paths.specs.declared.cell.Cell.TheVariants.{Empty, Leaf}
 use Rattle.npf_paths.specs.declared.place.Place.{Place}
 use Rattle.npf_paths.specs.declared.place.Place.TheVariants as Places
-use Rattle.npf_paths.specs.Paths.{IsOnPath, IsEnd}
+use Rattle.npf_paths.specs.Paths.{AreDigits, IsOnPath, IsEnd}
+use Rattle.npf_paths.specs.Paths.IsOnPath.{at_root, further}
 use Rattle.npf_paths.specs.Places.{lock_of}
 use Rattle.npf_paths.proofs.FillingLemmas.{filled_back, filled_places}
 use Rattle.npf_cells_words.specs.declared.layout.Layout.{Layout}
 use Rattle.npf_cells_words.specs.declared.mark.Marked.{Marked}
 use Rattle.npf_cells_words.specs.Codes.{place_code}
 use Rattle.npf_cells_words.specs.Layout.{epoch_word, reader_word, root_at, turn_field, phase_field, notes_field, note_field}
-use Rattle.npf_cells_words.specs.MarkWords.{shown_of, IsBareNode}
+use Rattle.npf_cells_words.specs.MarkWords.{shown_of, IsBareNode, IsMarkOf}
+use Rattle.npf_cells_words.specs.declared.mark.Emptied.{Emptied}
 use Rattle.npf_cells_words.specs.Places.{IsInTrie, IsPlaceIn, place_at}
 use Rattle.npf_cells_words.proofs.CodeLemmas.{codes_are_apart}
-use Rattle.npf_cells_words.proofs.WordLemmas.{place_behind, place_lock}
+use Rattle.npf_cells_words.proofs.WordLemmas.{place_behind, place_lock, place_reach}
 use Rattle.npf_seats.specs.Seats.{FitsSeats, Seats}
-use Rattle.npf_seats.proofs.PrefixLemmas.{none_listed}
+use Rattle.npf_seats.proofs.PrefixLemmas.{cons_cases, none_listed}
 use Rattle.npf_seats.proofs.SeatLemmas.{seats-adds}
 use Rattle.npf_seats.specs.Sums.{occurs}
 use Rattle.npf_seats.proofs.SumLemmas.{one_there, side_same, sum-set}
@@ -65,15 +67,17 @@ use Rattle.npf_cells_lives.proofs.PoolLemmas.{pools-kept, taken-set}
 use Rattle.npf_cells_lives.proofs.StoredLemmas.{stored_kept, stored-set}
 use Rattle.npf_cells_lives.proofs.TurnLemmas.{turns-kept, turns_alone}
 use Rattle.npf_cells_marks.specs.Marks.{Marks}
+use Rattle.npf_cells_marks.proofs.StoringLemmas.{marks-stored}
 use Rattle.npf_cells_rule.specs.declared.view.CellView.{CellView}
 use Rattle.npf_cells_rule.specs.Cells.{FitsAlone, IsCells}
 use Rattle.npf_cells_rule.specs.Passes.{cell_pass}
 use Rattle.npf_cells_rule.specs.Views.{seat_side, reader_view, lock_side, mark_side, pool_side, trie_side, turn_side, death_side, seen_side}
 use Rattle.npf_cells_rule.proofs.EntryLemmas.{adds_entry, sole_entries}
 use Rattle.npf_cells_rule.proofs.Frames.{alone-set, alone_still, framed, epochs_apart}
-use Rattle.npf_cells_rule.proofs.MarkFrames.{meets_less}
-use Rattle.npf_cells_rule.proofs.MarkMetLemmas.{marks_in_place}
-use Rattle.npf_cells_holds.specs.UnlinkKinds.{MayUnlink, unlinked, HasUnlinked, Unlinks}
+use Rattle.npf_cells_rule.proofs.MarkFrames.{place_changed}
+use Rattle.npf_cells_rule.proofs.MarkMetLemmas.{end_nodeless, end_unmarked}
+use Rattle.npf_cells_holds.specs.PublishKinds.{publishing}
+use Rattle.npf_cells_holds.specs.UnlinkKinds.{emptied_at, MayUnlink, unlinked, HasUnlinked, Unlinks}
 use Rattle.npf_cells_holds.proofs.ForgottenLemmas.{epochs_forgot}
 use Rattle.npf_cells_holds.proofs.PlaceLemmas.{cell_here, cell_else, key_else, inc_else, parent_else, turn_else, lock_else, own_else, note_else}
 use Rattle.npf_cells_holds.proofs.StandingLemmas.{StandsAtEnd, stands_at_end, held_or_none, leaf_within}
@@ -114,7 +118,7 @@ module _ {S A R : Type 0} (m : Meaning S A R) (digest : Key → ℕ) (layout : L
     k' = after m k entry
 
     abbrev giver : CellView S A R
-    giver = unlinked me.0 (kept.log ++ entry ∷ []) conn way
+    giver = unlinked me.0 (kept.log ++ entry ∷ []) conn way p
 
     abbrev views' : List (CellView S A R)
     views' = set s.views id giver
@@ -221,15 +225,15 @@ module _ {S A R : Type 0} (m : Meaning S A R) (digest : Key → ℕ) (layout : L
     pools_after : Pools layout (taken pool_side kept.published k' views') words'
     pools_after = pools-kept layout (taken pool_side kept.published k s.views) (taken pool_side kept.published k' views') s.words words' kept.pools (length-set s.words word 0) below (taken-set pool_side kept.published k s.views id me.0 giver at refl refl)
 
-    -- the pass knows no more of the trie
-    less : KnowsNoMore me.0.trie giver.trie
+    -- the pass knows no more of the trie, but that the place is empty
+    less : KnowsNoMore me.0.trie (publishing me.0.trie)
     less = record { stands = λ point e. e; leaf = λ leaf e. e; seen = λ x e. absurd cc; locks = refl; answered = λ i c. c; marks = refl; emptied = λ e is. absurd cc; met_mark = λ y is. is; grown = refl; regained = refl }
 
     -- each seat fits still: none but this pass had the place's lock
     trie_after : Trie trie_side digest layout kept.published k' words' views'
     trie_after = trie_emptied trie_side digest layout kept.published k k' s.words words' s.views views' conn way p end.level (digits_of digest held.0) kept.trie takes empties (grown-set trie_side s.views id me.0 giver at refl refl)
         (others-fit trie_side layout digest k' t' s.views id giver
-        (still me.0.trie giver.trie less (λ x e. absurd cc) (kept.trie.each id me.0 at))
+        (let was = still me.0.trie (publishing me.0.trie) less (λ x e. absurd cc) (kept.trie.each id me.0 at) in record { stands = was.stands; leaf = was.leaf; seen = λ x e. absurd cc; claimed = was.claimed })
         (λ j u ne e. still u.trie u.trie (knows_same u.trie)
         (λ x seen has same. locks_alone lock_side layout s.words s.views j id u me.0 (lock_of p) kept.locks (place_lock layout p inside) e at (subst (λ q. Contains u.trie.locks (lock_of q)) same has) may.locked ne) (kept.trie.each j u e)))
       where
@@ -289,6 +293,9 @@ module _ {S A R : Type 0} (m : Meaning S A R) (digest : Key → ℕ) (layout : L
           sym (empties.others q (λ e. let no : Empty ≡ Leaf slot w = sym empties.emptied ∙ (ap t'.cell (sym e) ∙ is) in absurd cc)) ∙ is,
         ))
 
+    emptied_word : slice_index words' word ≡ 0
+    emptied_word = get_or-set_same s.words word 0 0 (let reach = place_reach layout p inside in let long = kept.connections.reach in omega (arith, reach, long))
+
     -- it is in a stay, since it has a lock
     fits_alone : FitsAlone giver
     fits_alone = alone_still me.0 giver (kept.alone id me.0 at) place refl (λ none. absurd (none_listed (lock_of p) (subst (λ locks. Contains locks (lock_of p)) none.locks may.locked)))
@@ -301,9 +308,43 @@ module _ {S A R : Type 0} (m : Meaning S A R) (digest : Key → ℕ) (layout : L
         let no : Leaf conn.slot way ≡ Empty = sym empties.stood ∙ none in
         cc
 
+    -- no mark stands there then, nor did one or a node, and the node of the place was published
+    no_mark : (n : ℕ) → ¬ (IsMarkOf layout words' p n)
+    no_mark n is =
+        let here' : slice_index words' word ≡ 0 = emptied_word in
+        absurd (omega (arith, is, here'))
+
+    hung : (digits : ℕ → ℕ) (level : ℕ) (q : Place) (n : ℕ) → AreDigits digits → IsOnPath digits t.cell level q → IsPlaceIn n q → Contains kept.published n
+    hung digits _ _ n are at_root within = absurd within
+    hung digits _ _ n are (further level q node on' is) within = subst (Contains kept.published) within (kept.trie.nodes digits level q node are on' is).published_once
+
+    -- what the pass knows to be empty then is this place, where it is one of a node
+    knows : (q : Place) → slice_index words' (place_at layout q) ≡ 0 → (e : Emptied) → emptied_at q ≡ Some e → IsPlaceIn e.node q × (e.parent ≡ None) × ((digit : ℕ) → Contains e.digits digit → q ≡ Places.Node e.node digit) × (slice_index words' (place_at layout q) ≡ 0)
+    knows (Places.Root digit) none e is = absurd cc
+    knows (Places.Node node digit) none e is = subst (λ (y : Emptied). IsPlaceIn y.node (Places.Node node digit) × (y.parent ≡ None) × ((d : ℕ) → Contains y.digits d → Places.Node node digit ≡ Places.Node y.node d) × (slice_index words' (place_at layout (Places.Node node digit)) ≡ 0))
+        (let same : (record { node = node; parent = None; digits = digit ∷ [] }) ≡ e = cc in same)
+        (refl, refl, (λ d c. ⊎_elim (λ (same : digit ≡ d). ap (Places.Node node) same) (λ (none' : Contains [] d). absurd (none_listed d none')) (cons_cases digit d [] c)), none)
+
     marks_after : Marks mark_side layout kept.published words' views'
-    marks_after = marks_in_place m digest layout s kept p inside id 0 me.0 giver kept.published (digits_of digest held.0) end.level at may.locked (are_digits digest held.0) on (subst IsEnd (sym empties.stood) tt) (λ mark. cc) unmarked
-        (λ n c. c) (meets_less me.0.trie giver.trie less) refl refl refl (λ x c one. absurd (omega (arith, one))) refl
+    marks_after = marks-stored mark_side layout kept.published kept.published s.words words' s.views id p me.0 giver kept.marks at (record {
+      changes = place_changed layout s.words p 0 inside;
+      inside = inside;
+      locked = may.locked;
+      alone = λ j u ne e c. locks_alone lock_side layout s.words s.views j id u me.0 (lock_of p) kept.locks (place_lock layout p inside) e at c may.locked ne;
+      no_node = λ n. end_nodeless m digest layout s kept p inside n (subst IsEnd (sym empties.stood) tt);
+      no_mark = λ n. end_unmarked m digest layout s kept p inside n (subst IsEnd (sym empties.stood) tt);
+      markless = no_mark;
+      unmarked = unmarked;
+      listed = λ n c. c;
+      hung = λ n within. hung (digits_of digest held.0) end.level p n (are_digits digest held.0) on within;
+      marks = refl;
+      emptied = knows p emptied_word;
+      met = refl;
+      unfreed = refl;
+      locks = refl;
+      loaded = λ x c one. absurd (omega (arith, one));
+      rests = record { rests = λ node rests. ⊎_elim (λ at_place. inl at_place) (λ none. absurd none) rests; protecting = refl };
+    })
 
     pub unlinks : IsCells m digest layout (stepped s word 0 id me.1 giver keeps)
     unlinks = framed m digest layout s (stepped s word 0 id me.1 giver keeps) kept kept.published (kept.log ++ entry ∷ []) (length-set s.words word 0)
@@ -322,7 +363,7 @@ module _ {S A R : Type 0} (m : Meaning S A R) (digest : Key → ℕ) (layout : L
         (alone-set s.views id giver fits_alone kept.alone)
 
     -- the Unhold ends what the pass has then seen
-    pub has_unlinked : HasUnlinked m conn way me (giver, me.1)
+    pub has_unlinked : HasUnlinked m conn way p me (giver, me.1)
     has_unlinked = record {
       held = (held.0, seen.back way held.0 held.1);
       dead = ap (λ x. stage_of x conn) state ∙ dead;
@@ -344,7 +385,7 @@ module _ {S A R : Type 0} (m : Meaning S A R) (digest : Key → ℕ) (layout : L
     }
 
   pub may_unlink : (st : Step (Running S)) (id n : ℕ) (conn : ConnId) (way : Way) (p : Place) (me : Me (Running S) (CellView S A R)) → IsInTrie layout p → me.0.seats.lives ≡ true → me.0.seats.theirs ≡ [] → 1 ≤ length me.0.seats.readers →
-      MayUnlink me.0 p conn way → Allows (IsCells m digest layout) n id me (place_at layout p) (λ _. 0) (λ _. Unlinks m conn way st me 0)
+      MayUnlink me.0 p conn way → Allows (IsCells m digest layout) n id me (place_at layout p) (λ _. 0) (λ _. Unlinks m conn way p st me 0)
   may_unlink st id n conn way p me inside lives settled place may s kept homes at bound = (
     giver s id me kept at lives settled place conn way p inside may,
     keeps,

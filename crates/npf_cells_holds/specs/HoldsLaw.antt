@@ -37,4 +37,4 @@ pub record KeepsHolds {S A R : Type 0} (m : Meaning S A R) (digest : Key → ℕ
   pub stores_state : (st : Step (Running S)) (id n : ℕ) (lock : Lock) (state : ℕ) (me : Me (Running S) (CellView S A R)) → 1 ≤ length me.0.seats.readers → IsLockOf layout lock → Contains me.0.trie.locks lock → MayStoreState me.0 lock state → Allows (IsCells m digest layout) n id me (lock_at layout lock) (λ _. state) (λ _. StoresState layout lock state st me state)
   pub stores_again : (st : Step (Running S)) (id n : ℕ) (p : Place) (cell : Cell) (me : Me (Running S) (CellView S A R)) → 1 ≤ length me.0.seats.readers → IsInTrie layout p → SeesLocked me.0.trie p cell → IsEnd cell → cell ≢ Mark → IsUnmarkedPlace me.0.trie.marks p → Allows (IsCells m digest layout) n id me (place_at layout p) (λ _. cell_word cell) (λ _. StoresAgain st me (cell_word cell))
   pub publishes : (st : Step (Running S)) (id n : ℕ) (conn : ConnId) (key : Key) (way : Way) (p : Place) (cell : Cell) (me : Me (Running S) (CellView S A R)) → IsInTrie layout p → me.0.seats.lives ≡ true → me.0.seats.theirs ≡ [] → 1 ≤ length me.0.seats.readers → IsProtected me.0.epochs.pin → MayPublishFor m digest layout me.0 conn key way p cell → Allows (IsCells m digest layout) n id me (place_at layout p) (λ _. cell_word cell) (λ _. PublishesFor m digest layout conn key way p cell st me (cell_word cell))
-  pub unlinks : (st : Step (Running S)) (id n : ℕ) (conn : ConnId) (way : Way) (p : Place) (me : Me (Running S) (CellView S A R)) → IsInTrie layout p → me.0.seats.lives ≡ true → me.0.seats.theirs ≡ [] → 1 ≤ length me.0.seats.readers → MayUnlink me.0 p conn way → Allows (IsCells m digest layout) n id me (place_at layout p) (λ _. 0) (λ _. Unlinks m conn way st me 0)
+  pub unlinks : (st : Step (Running S)) (id n : ℕ) (conn : ConnId) (way : Way) (p : Place) (me : Me (Running S) (CellView S A R)) → IsInTrie layout p → me.0.seats.lives ≡ true → me.0.seats.theirs ≡ [] → 1 ≤ length me.0.seats.readers → MayUnlink me.0 p conn way → Allows (IsCells m digest layout) n id me (place_at layout p) (λ _. 0) (λ _. Unlinks m conn way p st me 0)

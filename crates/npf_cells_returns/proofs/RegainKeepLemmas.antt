@@ -52,7 +52,7 @@ use Rattle.npf_cells_rule.specs.Views.{lock_side, mark_side, point_place, pool_s
 use Rattle.npf_cells_rule.proofs.Frames.{alone_still, epochs_apart}
 use Rattle.npf_cells_rule.proofs.MarkFrames.{place_changed}
 use Rattle.npf_cells_rule.proofs.MarkMetLemmas.{empty_below, leads_on}
-use Rattle.npf_cells_returns.specs.LoadKinds.{emptied_at}
+use Rattle.npf_cells_holds.specs.UnlinkKinds.{emptied_at}
 use Rattle.npf_cells_returns.specs.MarkKinds.{MayClearMark, RegainsNode, regaining}
 use Rattle.npf_cells_returns.proofs.BackFrames.{LeavesLives, back_step, below}
 use Rattle.npf_cells_returns.proofs.ListedLemmas.{still_listed}

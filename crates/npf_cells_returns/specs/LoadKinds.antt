@@ -17,11 +17,6 @@ use Rattle.npf_cells_rule.specs.declared.view.CellView.{CellView}
 use Rattle.npf_cells_rule.specs.Stood.{StoodSo}
 use Rattle.npf_cells_rule.specs.Views.{with_trie}
 
--- a place of a node that has just been emptied there
-abbrev pub emptied_at : Place → Option Emptied
-emptied_at (Places.Root digit) = None
-emptied_at (Places.Node node digit) = Some (record { node = node; parent = None; digits = digit ∷ [] })
-
 -- a word of a place, loaded under its lock: nothing stands there, or the mark of a node does
 abbrev pub with_digit : Place → ℕ → Option Emptied → Option Emptied
 with_digit p found None = None

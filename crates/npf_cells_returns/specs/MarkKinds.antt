@@ -15,7 +15,7 @@ use Rattle.npf_cells_leaves.specs.declared.trie.TrieSide.{TrieSide}
 use Rattle.npf_cells_lives.specs.declared.pools.PoolSide.{PoolSide}
 use Rattle.npf_cells_rule.specs.declared.view.CellView.{CellView}
 use Rattle.npf_cells_rule.specs.Views.{unloaded, with_pools, with_trie}
-use Rattle.npf_cells_returns.specs.LoadKinds.{emptied_at}
+use Rattle.npf_cells_holds.specs.UnlinkKinds.{emptied_at}
 
 -- a node may be marked where nothing was found in any of its 16 places under its lock, and the pass has that lock and the lock of the place that
 -- the parent word names
