@@ -27,7 +27,9 @@ use Rattle.npf_core.proofs.HolderLemmas.{claimed_by, holders_claimed}
 use Rattle.npf_connections.specs.Adding.{AddsOwn}
 use Rattle.npf_paths.specs.declared.cell.Cell.{Cell}
 use Rattle.npf_paths.specs.declared.cell.Cell.TheVariants.{Empty, Leaf, Node, Mark}
+use Rattle.npf_paths.specs.declared.place.Lock.TheVariants as Locking
 use Rattle.npf_paths.specs.declared.place.Place.{Place}
+use Rattle.npf_paths.specs.CellWords.{cell_of}
 use Rattle.npf_paths.specs.Paths.{IsOnPath}
 use Rattle.npf_paths.specs.Paths.IsOnPath.{further}
 use Rattle.npf_cells_words.specs.declared.layout.Layout.{Layout}
@@ -39,8 +41,8 @@ use Rattle.npf_cells_pins.proofs.EpochLemmas.{within_last}
 use Rattle.npf_cells_leaves.specs.declared.trie.LoadedLeaf.{LoadedLeaf}
 use Rattle.npf_cells_leaves.specs.declared.trie.PathPlace.{PathPlace}
 use Rattle.npf_cells_leaves.specs.declared.trie.TrieSide.{TrieSide}
-use Rattle.npf_cells_leaves.specs.Trie.{cell_in, digits_of, TrieWords, trie_words, leaf_found, IsRightLeaf, StaysLeaf, FitsTrie, Trie}
-use Rattle.npf_cells_leaves.proofs.TrieLemmas.{grown-set, KeepsTrie, knows_same, keeps_words, fits_kept, fits-set, fits_all, trie_kept, are_digits, cell_there}
+use Rattle.npf_cells_leaves.specs.Trie.{digits_of, TrieWords, trie_words, leaf_found, IsRightLeaf, StaysLeaf, FitsTrie, Trie}
+use Rattle.npf_cells_leaves.proofs.TrieLemmas.{grown-set, KeepsTrie, knows_same, keeps_words, fits_kept, fits-set, fits_all, trie_kept, are_digits}
 use Rattle.npf_cells_lives.specs.Conns.{inc_word, entry_seat}
 use Rattle.npf_cells_lives.specs.Deaths.{IsKeyless}
 use Rattle.npf_cells_lives.specs.Pools.{taken}
@@ -58,7 +60,7 @@ use Rattle.npf_cells_rule.proofs.Frames.{alone_within, entry_step}
 use Rattle.npf_cells_rule.proofs.PassLemmas.{pinned_in}
 use Rattle.npf_cells_holds.specs.HoldKinds.{MayHoldSo, renewed, leaf_holder, meeting, taken_by, HasMetHolder, MeetsLeaf, HoldsAt, LoadsForHold}
 use Rattle.npf_cells_holds.specs.LookKinds.{StandsOnPath, level_at, sighting, descending, FitsLayout}
-use Rattle.npf_cells_holds.proofs.LookKeepLemmas.{some_same, load_step, on, sees, fits_table, shallow}
+use Rattle.npf_cells_holds.proofs.LookKeepLemmas.{some_same, load_step, on, shown, sees, marks_seen, marks_led, fits_table, shallow}
 use Rattle.npf_cells_lives.specs.Turns.{Running}
 
 -- a hold of a key that has a holder changes no holder
@@ -70,7 +72,7 @@ holder_stays k key holder asks held other false e = refl
 
 module _ {S A R : Type 0} (m : Meaning S A R) (digest : Key → ℕ) (layout : Layout) where
   module _ (s : State (Running S) (CellView S A R)) (id : ℕ) (me : Me (Running S) (CellView S A R)) (kept : IsCells m digest layout s) (at : get_elem? s.views id ≡ some me.0)
-      (lives : me.0.seats.lives ≡ true) (settled : me.0.seats.theirs ≡ []) (place : 1 ≤ length me.0.seats.readers) (stays : IsProtected me.0.epochs.pin) (key : Key) (p : Place) (stands : StandsOnPath digest me.0.trie key p) where
+      (lives : me.0.seats.lives ≡ true) (settled : me.0.seats.theirs ≡ []) (place : 1 ≤ length me.0.seats.readers) (stays : IsProtected me.0.epochs.pin) (key : Key) (p : Place) (inside : IsInTrie layout p) (stands : StandsOnPath digest me.0.trie key p) where
     abbrev word : ℕ
     word = place_at layout p
 
@@ -83,8 +85,12 @@ module _ {S A R : Type 0} (m : Meaning S A R) (digest : Key → ℕ) (layout : L
     abbrev level : ℕ
     level = level_at me.0.trie p
 
+    -- what the word says; where it is a mark, the path goes on to its node
+    abbrev shows : Cell
+    shows = cell_of (slice_index s.words word)
+
     here : IsOnPath (digits_of digest key) t.cell level p
-    here = on m digest layout s id me kept at lives settled place stays 0 key p stands
+    here = on m digest layout s id me kept at lives settled place stays 0 key p inside stands
 
     was : FitsTrie digest layout.slots k t me.0.trie
     was = kept.trie.each id me.0 at
@@ -100,29 +106,31 @@ module _ {S A R : Type 0} (m : Meaning S A R) (digest : Key → ℕ) (layout : L
         rests)
 
     -- a node leads on
-    pub leads : (node : ℕ) → t.cell p ≡ Node node → IsCells m digest layout (stepped s word (slice_index s.words word) id me.1 (record me.0 { trie = descending digest key p level node (renewed me.0.trie) }) keeps)
+    pub leads : (node : ℕ) → shows ≡ Node node → IsCells m digest layout (stepped s word (slice_index s.words word) id me.1 (record me.0 { trie = descending digest key p level node (renewed me.0.trie) }) keeps)
     leads node is = load_step m digest layout s word id me.1 me.0 (descending digest key p level node (renewed me.0.trie)) kept at (place_behind layout p) (record {
-      stands = λ point e. subst (λ (x : PathPlace). IsOnPath (digits_of digest x.key) t.cell x.level x.place) (some_same _ _ e) (further level p node here is);
+      stands = λ point e. subst (λ (x : PathPlace). IsOnPath (digits_of digest x.key) t.cell x.level x.place) (some_same _ _ e) (further level p node here (shown m digest layout s id me kept at lives settled place stays 0 key p inside stands (Node node) is (λ no. absurd cc)));
       leaf = was.leaf;
-      seen = sees m digest layout s id me kept at lives settled place stays 0 key p stands (Node node) is;
+      seen = sees m digest layout s id me kept at lives settled place stays 0 key p inside stands (Node node) is;
       claimed = λ i c. absurd (none_listed i c);
     }) refl refl refl (fewer_rests (descending digest key p level node (renewed me.0.trie)) refl refl) (alone_within (record me.0 { trie = descending digest key p level node (renewed me.0.trie) }) place stays)
+        (marks_led m digest layout s id me kept at lives settled place stays 0 key p inside stands (record me.0 { trie = descending digest key p level node (renewed me.0.trie) }) node (digits_of digest key (level + 1)) is refl)
 
     -- where nothing stands only that is seen
-    pub sights : IsCells m digest layout (stepped s word (slice_index s.words word) id me.1 (record me.0 { trie = sighting key level p (t.cell p) (renewed me.0.trie) }) keeps)
-    sights = load_step m digest layout s word id me.1 me.0 (sighting key level p (t.cell p) (renewed me.0.trie)) kept at (place_behind layout p) (record {
+    pub sights : IsCells m digest layout (stepped s word (slice_index s.words word) id me.1 (record me.0 { trie = sighting key level p shows (renewed me.0.trie) }) keeps)
+    sights = load_step m digest layout s word id me.1 me.0 (sighting key level p shows (renewed me.0.trie)) kept at (place_behind layout p) (record {
       stands = was.stands;
       leaf = was.leaf;
-      seen = sees m digest layout s id me kept at lives settled place stays 0 key p stands (t.cell p) refl;
+      seen = sees m digest layout s id me kept at lives settled place stays 0 key p inside stands shows refl;
       claimed = λ i c. absurd (none_listed i c);
-    }) refl refl refl (fewer_rests (sighting key level p (t.cell p) (renewed me.0.trie)) refl refl) (alone_within (record me.0 { trie = sighting key level p (t.cell p) (renewed me.0.trie) }) place stays)
+    }) refl refl refl (fewer_rests (sighting key level p shows (renewed me.0.trie)) refl refl) (alone_within (record me.0 { trie = sighting key level p shows (renewed me.0.trie) }) place stays)
+        (marks_seen m digest layout s id me kept at lives settled place stays 0 key p inside stands (record me.0 { trie = sighting key level p shows (renewed me.0.trie) }) refl)
 
-    module _ (slot : ℕ) (leaf_way : Way) (is : t.cell p ≡ Leaf slot leaf_way) where
+    module _ (slot : ℕ) (leaf_way : Way) (is : shows ≡ Leaf slot leaf_way) where
       abbrev leaf : LoadedLeaf
       leaf = record { slot = slot; way = leaf_way; key = t.key slot leaf_way; inc = t.inc slot }
 
       right : IsRightLeaf layout.slots k.holder t slot leaf_way
-      right = kept.trie.leaves (digits_of digest key) level p slot leaf_way (are_digits digest key) here is
+      right = kept.trie.leaves (digits_of digest key) level p slot leaf_way (are_digits digest key) here (shown m digest layout s id me kept at lives settled place stays 0 key p inside stands (Leaf slot leaf_way) is (λ no. absurd cc))
 
       leaf_stays : (x : LoadedLeaf) → Some leaf ≡ Some x → StaysLeaf layout.slots k t x
       leaf_stays x e = subst (StaysLeaf layout.slots k t) (some_same _ _ e) (record { right = inl right; key = refl; inc = refl })
@@ -130,20 +138,21 @@ module _ {S A R : Type 0} (m : Meaning S A R) (digest : Key → ℕ) (layout : L
       leaf_keyed : (i : ConnId) → leaf_id (Some leaf) ≡ Some i → ¬ (IsKeyless k i)
       leaf_keyed i e = subst (λ (x : ConnId). ¬ (IsKeyless k x)) (some_same _ _ e) (holder_keyed k (t.key slot leaf_way) (leaf_found t slot leaf_way) right.held)
 
-      meeter_rests : RestsNoMore k (death_side me.0) (death_side (record me.0 { trie = meeting key p (t.cell p) level leaf me.0.trie }))
-      meeter_rests = rests_or_holds k (death_side me.0) (death_side (record me.0 { trie = meeting key p (t.cell p) level leaf me.0.trie })) refl (λ i rests. inr (⊎_elim
+      meeter_rests : RestsNoMore k (death_side me.0) (death_side (record me.0 { trie = meeting key p shows level leaf me.0.trie }))
+      meeter_rests = rests_or_holds k (death_side me.0) (death_side (record me.0 { trie = meeting key p shows level leaf me.0.trie })) refl (λ i rests. inr (⊎_elim
           (λ (c : Contains [] i). absurd (none_listed i c))
           (λ (e : leaf_id (Some leaf) ≡ Some i). leaf_keyed i e)
           rests))
 
       -- the leaf of another key is met
-      pub meets : IsCells m digest layout (stepped s word (slice_index s.words word) id me.1 (record me.0 { trie = meeting key p (t.cell p) level leaf me.0.trie }) keeps)
-      meets = load_step m digest layout s word id me.1 me.0 (meeting key p (t.cell p) level leaf me.0.trie) kept at (place_behind layout p) (record {
+      pub meets : IsCells m digest layout (stepped s word (slice_index s.words word) id me.1 (record me.0 { trie = meeting key p shows level leaf me.0.trie }) keeps)
+      meets = load_step m digest layout s word id me.1 me.0 (meeting key p shows level leaf me.0.trie) kept at (place_behind layout p) (record {
         stands = was.stands;
         leaf = leaf_stays;
-        seen = sees m digest layout s id me kept at lives settled place stays 0 key p stands (t.cell p) refl;
+        seen = sees m digest layout s id me kept at lives settled place stays 0 key p inside stands shows refl;
         claimed = λ i c. absurd (none_listed i c);
-      }) refl refl refl meeter_rests (alone_within (record me.0 { trie = meeting key p (t.cell p) level leaf me.0.trie }) place stays)
+      }) refl refl refl meeter_rests (alone_within (record me.0 { trie = meeting key p shows level leaf me.0.trie }) place stays)
+          (marks_seen m digest layout s id me kept at lives settled place stays 0 key p inside stands (record me.0 { trie = meeting key p shows level leaf me.0.trie }) refl)
 
       module _ (conn : ConnId) (way : Way) (may : MayHoldSo m me.0 conn way) (same : is_key leaf.key key ≡ true) where
         abbrev entry : Entry S A R
@@ -153,7 +162,7 @@ module _ {S A R : Type 0} (m : Meaning S A R) (digest : Key → ℕ) (layout : L
         k' = after m k entry
 
         abbrev asker : CellView S A R
-        asker = taken_by me.0 key p (t.cell p) (kept.log ++ entry ∷ []) leaf
+        asker = taken_by me.0 key p shows (kept.log ++ entry ∷ []) leaf
 
         held : k.holder key ≡ Some (leaf_holder leaf)
         held = ap k.holder (sym ((is_key-Decides leaf.key key).0 same)) ∙ right.held
@@ -179,7 +188,7 @@ module _ {S A R : Type 0} (m : Meaning S A R) (digest : Key → ℕ) (layout : L
         asker_fits = fits_kept digest layout.slots k k' t t keeps_trie asker.trie asker.trie (knows_same asker.trie) (record {
           stands = was.stands;
           leaf = leaf_stays;
-          seen = sees m digest layout s id me kept at lives settled place stays 0 key p stands (t.cell p) refl;
+          seen = sees m digest layout s id me kept at lives settled place stays 0 key p inside stands shows refl;
           claimed = λ i c. ⊎_elim
               (λ (e : (leaf_holder leaf).id ≡ i). subst (λ (x : ConnId). IsClaimed (stage_of k x)) e (holders_claimed m layout.slots kept.log kept.connections.legal key (leaf_holder leaf) held))
               (λ d. absurd (none_listed i d))
@@ -215,9 +224,10 @@ module _ {S A R : Type 0} (m : Meaning S A R) (digest : Key → ℕ) (layout : L
             (subst (λ ws. Trie trie_side digest layout kept.published k' ws (set s.views id asker)) (sym words) trie_after)
             builds_after
             (λ slot h. ap (λ n. inc_word layout s.words slot + n) (unstored-set pool_side s.views id me.0 asker at refl slot) ∙ kept.connections.incs slot h)
+            (marks_seen m digest layout s id me kept at lives settled place stays 0 key p inside stands asker refl)
 
         -- the hold ends what the pass has then seen
-        pub has_met : HasMetHolder m conn key way p (t.cell p) leaf me (asker, me.1)
+        pub has_met : HasMetHolder m conn key way p shows leaf me (asker, me.1)
         has_met =
             let there = at_map seat_side s.views id me.0 at in
             let number = (fits.lives lives).number in
@@ -237,7 +247,7 @@ module _ {S A R : Type 0} (m : Meaning S A R) (digest : Key → ℕ) (layout : L
 
   pub may_load_for_hold : (st : Step (Running S)) (id n : ℕ) (conn : ConnId) (key : Key) (way : Way) (p : Place) (me : Me (Running S) (CellView S A R)) → IsInTrie layout p → me.0.seats.lives ≡ true → me.0.seats.theirs ≡ [] → 1 ≤ length me.0.seats.readers → IsProtected me.0.epochs.pin →
       StandsOnPath digest me.0.trie key p → MayHoldSo m me.0 conn way → Allows (IsCells m digest layout) n id me (place_at layout p) (λ x. x) (LoadsForHold m digest layout conn key way p st me)
-  may_load_for_hold st id n conn key way p me inside lives settled place stays stands may s kept homes at bound = by_cell (cell_in layout s.words p) refl
+  may_load_for_hold st id n conn key way p me inside lives settled place stays stands may s kept homes at bound = by_cell (cell_of (slice_index s.words (place_at layout p))) refl
     where
       number : ℕ
       number = slice_index s.words (place_at layout p)
@@ -245,25 +255,25 @@ module _ {S A R : Type 0} (m : Meaning S A R) (digest : Key → ℕ) (layout : L
       level' : ℕ
       level' = level_at me.0.trie p
 
-      fits' : FitsLayout layout (cell_in layout s.words p)
-      fits' = fits_table m digest layout s id me kept at lives settled place stays 0 key p stands
+      fits' : FitsLayout layout (cell_of number)
+      fits' = fits_table m digest layout s id me kept at lives settled place stays 0 key p inside stands
 
-      told : (w : CellView S A R) → HoldsAt m digest layout conn key way p (cell_in layout s.words p) me (w, me.1) → LoadsForHold m digest layout conn key way p st me number (w, me.1)
-      told w holds = record { holds = subst (λ c. HoldsAt m digest layout conn key way p c me (w, me.1)) (cell_there layout s.words p inside) holds }
+      told : (w : CellView S A R) → HoldsAt m digest layout conn key way p (cell_of number) me (w, me.1) → LoadsForHold m digest layout conn key way p st me number (w, me.1)
+      told w holds = record { holds = holds }
 
       Loaded : Type 0
       Loaded = (w : CellView S A R) × (a : Act (Running S)) × Valid s.homes me.1 a × IsCells m digest layout (stepped s (place_at layout p) number id me.1 w a) × LoadsForHold m digest layout conn key way p st me number (w, carried_after me.1 a)
 
-      at_nothing : ((slot : ℕ) (leaf_way : Way) → ¬ (cell_in layout s.words p ≡ Leaf slot leaf_way)) → ((node : ℕ) → ¬ (cell_in layout s.words p ≡ Node node)) → Loaded
+      at_nothing : ((slot : ℕ) (leaf_way : Way) → ¬ (cell_of number ≡ Leaf slot leaf_way)) → ((node : ℕ) → ¬ (cell_of number ≡ Node node)) → Loaded
       at_nothing no_leaf no_node = (
-        record me.0 { trie = sighting key level' p (cell_in layout s.words p) (renewed me.0.trie) },
+        record me.0 { trie = sighting key level' p (cell_of number) (renewed me.0.trie) },
         keeps,
         tt,
-        sights s id me kept at lives settled place stays key p stands,
+        sights s id me kept at lives settled place stays key p inside stands,
         told _ (record { fits = fits'; leads = λ node e. absurd (no_node node e); meets = λ slot leaf_way e. absurd (no_leaf slot leaf_way e); nothing = λ _. refl }),
       )
 
-      at_leaf : (slot : ℕ) (leaf_way : Way) → cell_in layout s.words p ≡ Leaf slot leaf_way → (w : CellView S A R) → MeetsLeaf m conn key way p (cell_in layout s.words p) slot leaf_way me (w, me.1) → HoldsAt m digest layout conn key way p (cell_in layout s.words p) me (w, me.1)
+      at_leaf : (slot : ℕ) (leaf_way : Way) → cell_of number ≡ Leaf slot leaf_way → (w : CellView S A R) → MeetsLeaf m conn key way p (cell_of number) slot leaf_way me (w, me.1) → HoldsAt m digest layout conn key way p (cell_of number) me (w, me.1)
       at_leaf slot leaf_way e w met = record {
         fits = fits';
         leads = λ node is. let no : Leaf slot leaf_way ≡ Node node = sym e ∙ is in absurd cc;
@@ -271,37 +281,37 @@ module _ {S A R : Type 0} (m : Meaning S A R) (digest : Key → ℕ) (layout : L
             let both : Leaf slot leaf_way ≡ Leaf slot' way' = sym e ∙ is in
             let slots : slot ≡ slot' = cc in
             let ways : leaf_way ≡ way' = cc in
-            subst (λ (x : ℕ × Way). MeetsLeaf m conn key way p (cell_in layout s.words p) x.0 x.1 me (w, me.1)) (λ i. (slots i, ways i)) met;
+            subst (λ (x : ℕ × Way). MeetsLeaf m conn key way p (cell_of number) x.0 x.1 me (w, me.1)) (λ i. (slots i, ways i)) met;
         nothing = λ none. ⊎_elim (λ is. let no : Leaf slot leaf_way ≡ Empty = sym e ∙ is in absurd cc) (λ is. let no : Leaf slot leaf_way ≡ Mark = sym e ∙ is in absurd cc) none;
       }
 
-      by_key : (slot : ℕ) (leaf_way : Way) (e : cell_in layout s.words p ≡ Leaf slot leaf_way) (b : Bool) → is_key ((trie_words layout s.words).key slot leaf_way) key ≡ b → Loaded
+      by_key : (slot : ℕ) (leaf_way : Way) (e : cell_of number ≡ Leaf slot leaf_way) (b : Bool) → is_key ((trie_words layout s.words).key slot leaf_way) key ≡ b → Loaded
       by_key slot leaf_way e true is = (
-        asker s id me kept at lives settled place stays key p stands slot leaf_way e conn way may is,
+        asker s id me kept at lives settled place stays key p inside stands slot leaf_way e conn way may is,
         keeps,
         tt,
-        takes s id me kept at lives settled place stays key p stands slot leaf_way e conn way may is,
+        takes s id me kept at lives settled place stays key p inside stands slot leaf_way e conn way may is,
         told _ (at_leaf slot leaf_way e _ (record {
-          leaf = leaf s id me kept at lives settled place stays key p stands slot leaf_way e;
+          leaf = leaf s id me kept at lives settled place stays key p inside stands slot leaf_way e;
           is_leaf = record { slot_is = refl; way_is = refl; five = refl };
-          same = λ _. has_met s id me kept at lives settled place stays key p stands slot leaf_way e conn way may is;
+          same = λ _. has_met s id me kept at lives settled place stays key p inside stands slot leaf_way e conn way may is;
           other = λ no. absurd (true≢false (sym is ∙ no));
         })),
       )
       by_key slot leaf_way e false is = (
-        record me.0 { trie = meeting key p (cell_in layout s.words p) level' (leaf s id me kept at lives settled place stays key p stands slot leaf_way e) me.0.trie },
+        record me.0 { trie = meeting key p (cell_of number) level' (leaf s id me kept at lives settled place stays key p inside stands slot leaf_way e) me.0.trie },
         keeps,
         tt,
-        meets s id me kept at lives settled place stays key p stands slot leaf_way e,
+        meets s id me kept at lives settled place stays key p inside stands slot leaf_way e,
         told _ (at_leaf slot leaf_way e _ (record {
-          leaf = leaf s id me kept at lives settled place stays key p stands slot leaf_way e;
+          leaf = leaf s id me kept at lives settled place stays key p inside stands slot leaf_way e;
           is_leaf = record { slot_is = refl; way_is = refl; five = refl };
           same = λ same. absurd (true≢false (sym same ∙ is));
           other = λ _. refl;
         })),
       )
 
-      by_cell : (c : Cell) → cell_in layout s.words p ≡ c → Loaded
+      by_cell : (c : Cell) → cell_of number ≡ c → Loaded
       by_cell Empty e = at_nothing (λ slot leaf_way is. let no : Empty ≡ Leaf slot leaf_way = sym e ∙ is in cc) (λ node is. let no : Empty ≡ Node node = sym e ∙ is in cc)
       by_cell Mark e = at_nothing (λ slot leaf_way is. let no : Mark ≡ Leaf slot leaf_way = sym e ∙ is in cc) (λ node is. let no : Mark ≡ Node node = sym e ∙ is in cc)
       by_cell (Leaf slot leaf_way) e = by_key slot leaf_way e (is_key ((trie_words layout s.words).key slot leaf_way) key) refl
@@ -309,21 +319,21 @@ module _ {S A R : Type 0} (m : Meaning S A R) (digest : Key → ℕ) (layout : L
         record me.0 { trie = descending digest key p level' node (renewed me.0.trie) },
         keeps,
         tt,
-        leads s id me kept at lives settled place stays key p stands node e,
+        leads s id me kept at lives settled place stays key p inside stands node e,
         told _ (record {
           fits = fits';
           leads = λ other is.
               let same : node ≡ other = (let both : Node node ≡ Node other = sym e ∙ is in cc) in
-              (shallow m digest layout s id me kept at lives settled place stays 0 key p stands node e, ap (λ x. with_trie me (descending digest key p level' x (renewed me.0.trie))) same);
+              (shallow m digest layout s id me kept at lives settled place stays 0 key p inside stands node e, ap (λ x. with_trie me (descending digest key p level' x (renewed me.0.trie))) same);
           meets = λ slot leaf_way is. let no : Node node ≡ Leaf slot leaf_way = sym e ∙ is in absurd cc;
           nothing = λ none. ⊎_elim (λ is. let no : Node node ≡ Empty = sym e ∙ is in absurd cc) (λ is. let no : Node node ≡ Mark = sym e ∙ is in absurd cc) none;
         }),
       )
 
   -- a pass in a stay that has seen more, and knows more of the trie under the same locks, is still one of the table
-  pass_stays : (table seat : TableId) (readers : List ℕ) (me : Me (Running S) (CellView S A R)) (history : List (Entry S A R)) (side : TrieSide) → IsProtected me.0.epochs.pin → IsPassOf layout table seat readers me →
+  pass_stays : (table seat : TableId) (readers : List ℕ) (me : Me (Running S) (CellView S A R)) (history : List (Entry S A R)) (side : TrieSide) → IsProtected me.0.epochs.pin → side.locks ≡ me.0.trie.locks → side.marks ≡ me.0.trie.marks → IsPassOf layout table seat readers me →
       IsPassOf layout table seat readers (record me.0 { seats = record me.0.seats { history = history }; trie = side }, me.1)
-  pass_stays table seat readers me history side stays own = record {
+  pass_stays table seat readers me history side stays locks marks own = record {
     same = own.same;
     words = own.words;
     carries = own.carries;
@@ -337,6 +347,7 @@ module _ {S A R : Type 0} (m : Meaning S A R) (digest : Key → ℕ) (layout : L
     epoch = own.epoch;
     unanswered = λ idle. absurd (subst IsProtected idle stays);
     unlocked = λ idle. absurd (subst IsProtected idle stays);
+    marked = λ mark c. subst (λ ls. Contains ls (Locking.Node mark.node)) (sym locks) (own.marked mark (subst (λ ms. Contains ms mark) marks c));
   }
 
   -- so is one that loaded a place to hold a key
@@ -344,15 +355,15 @@ module _ {S A R : Type 0} (m : Meaning S A R) (digest : Key → ℕ) (layout : L
       HoldsAt m digest layout conn key way p cell old now → IsPassOf layout table seat readers now
   own_after table seat readers conn key way p cell old now stays own holds = by_cell cell refl
     where
-      with_side : (side : TrieSide) → now ≡ with_trie old side → IsPassOf layout table seat readers now
-      with_side side is = subst (IsPassOf layout table seat readers) (sym is) (pass_stays table seat readers old old.0.seats.history side stays own)
+      with_side : (side : TrieSide) → side.locks ≡ old.0.trie.locks → side.marks ≡ old.0.trie.marks → now ≡ with_trie old side → IsPassOf layout table seat readers now
+      with_side side locks marks is = subst (IsPassOf layout table seat readers) (sym is) (pass_stays table seat readers old old.0.seats.history side stays locks marks own)
 
       by_key : (slot : ℕ) (leaf_way : Way) (met : MeetsLeaf m conn key way p cell slot leaf_way old now) (b : Bool) → is_key met.leaf.key key ≡ b → IsPassOf layout table seat readers now
-      by_key slot leaf_way met true e = subst (IsPassOf layout table seat readers) (sym (met.same e).is) (pass_stays table seat readers old now.0.seats.history (taken_by old.0 key p cell now.0.seats.history met.leaf).trie stays own)
-      by_key slot leaf_way met false e = with_side _ (met.other e)
+      by_key slot leaf_way met true e = subst (IsPassOf layout table seat readers) (sym (met.same e).is) (pass_stays table seat readers old now.0.seats.history (taken_by old.0 key p cell now.0.seats.history met.leaf).trie stays refl refl own)
+      by_key slot leaf_way met false e = with_side _ refl refl (met.other e)
 
       by_cell : (c : Cell) → cell ≡ c → IsPassOf layout table seat readers now
-      by_cell Empty e = with_side _ (holds.nothing (inl e))
-      by_cell Mark e = with_side _ (holds.nothing (inr e))
+      by_cell Empty e = with_side _ refl refl (holds.nothing (inl e))
+      by_cell Mark e = with_side _ refl refl (holds.nothing (inr e))
       by_cell (Leaf slot leaf_way) e = let met = holds.meets slot leaf_way e in by_key slot leaf_way met (is_key met.leaf.key key) refl
-      by_cell (Node node) e = with_side _ (holds.leads node e).1
+      by_cell (Node node) e = with_side _ refl refl (holds.leads node e).1

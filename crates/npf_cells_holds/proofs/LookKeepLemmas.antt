@@ -1,6 +1,6 @@
 -- Kind 11 with its look, and kind 12, keep the rule.
 use Rattle.std.specs.List.{Contains}
-use Rattle.std.proofs.Common.{◌≡◌, ◌⊎◌, ℕ, zero, suc, ◌+◌, ◌/◌, ◌%◌, ◌^◌, ◌<◌, ◌≤◌, cond, eqb, eq-eqb, ne_eqb, true, true≢false, Option, Some, None, List, [], ◌∷◌, ◌++◌, map, set, length, slice_index, refl, sym, ap, ◌∙◌, subst, ⊎_elim, inl, inr, arith, length-set}
+use Rattle.std.proofs.Common.{◌≡◌, ◌⊎◌, ℕ, zero, suc, ◌+◌, ◌/◌, ◌%◌, ◌^◌, ◌<◌, ◌≤◌, cond, eqb, eq-eqb, ne_eqb, ◌≢◌, true, true≢false, Option, Some, None, List, [], ◌∷◌, ◌++◌, map, set, length, slice_index, refl, sym, ap, ◌∙◌, subst, ⊎_elim, inl, inr, arith, length-set}
 use Rattle.std.proofs.lemmas.List.{set-get_or}
 use mathlib.Core.Option.{some}
 use lib.ListN.{get_elem?}
@@ -31,7 +31,7 @@ use Rattle.npf_paths.specs.Paths.IsOnPath.{at_root, further}
 use Rattle.npf_cells_words.specs.declared.layout.Layout.{Layout}
 use Rattle.npf_cells_words.specs.declared.layout.Pool.TheVariants.{Slots}
 use Rattle.npf_cells_words.specs.Layout.{root_at, key_field, field_at}
-use Rattle.npf_cells_words.specs.Places.{IsInTrie, place_at}
+use Rattle.npf_cells_words.specs.Places.{IsInTrie, IsPlaceIn, place_at}
 use Rattle.npf_cells_words.proofs.WordLemmas.{place_behind}
 use Rattle.npf_seats.specs.Seats.{FitsSeats}
 use Rattle.npf_seats.proofs.PrefixLemmas.{cons_cases}
@@ -40,21 +40,26 @@ use Rattle.npf_cells_leaves.specs.declared.trie.LoadedLeaf.{LoadedLeaf}
 use Rattle.npf_cells_leaves.specs.declared.trie.PathPlace.{PathPlace}
 use Rattle.npf_cells_leaves.specs.declared.trie.SeenCell.{SeenCell}
 use Rattle.npf_cells_leaves.specs.declared.trie.TrieSide.{TrieSide}
-use Rattle.npf_cells_leaves.specs.Trie.{cell_in, key_in, digits_of, TrieWords, trie_words, leaf_found, holder_at, StaysLeaf, StaysSighted, FitsTrie, Trie}
-use Rattle.npf_cells_leaves.proofs.TrieLemmas.{are_digits, cell_there, trie_moved}
+use Rattle.npf_cells_leaves.specs.Trie.{key_in, digits_of, TrieWords, trie_words, leaf_found, holder_at, StaysLeaf, StaysSighted, FitsTrie, Trie}
+use Rattle.npf_cells_leaves.proofs.TrieLemmas.{are_digits, trie_moved}
 use Rattle.npf_cells_lives.specs.Conns.{inc_word, entry_seat}
 use Rattle.npf_cells_lives.specs.Deaths.{IsKeyless, last_id}
 use Rattle.npf_cells_lives.specs.Pools.{taken}
 use Rattle.npf_cells_lives.proofs.ConnLemmas.{builds-kept, unstored-set}
 use Rattle.npf_cells_lives.proofs.DeathLemmas.{spares_all, RestsNoMore}
 use Rattle.npf_cells_lives.proofs.PoolLemmas.{pools-same, taken-set}
+use Rattle.npf_cells_marks.specs.Marks.{MarkSide, IsSomePlaceIn, RestsIn, HasMark, Marks}
+use Rattle.npf_cells_marks.specs.Steps.{LeavesMarks}
+use Rattle.npf_cells_marks.proofs.StepLemmas.{marks-same}
 use Rattle.npf_cells_rule.specs.declared.view.CellView.{CellView}
 use Rattle.npf_cells_rule.specs.Cells.{FitsAlone, IsCells}
 use Rattle.npf_cells_rule.specs.Passes.{IsProtected, cell_pass}
-use Rattle.npf_cells_rule.specs.Views.{seat_side, reader_view, with_trie, pool_side, trie_side, leaf_id, death_side}
+use Rattle.npf_cells_rule.specs.Views.{seat_side, reader_view, with_trie, pool_side, trie_side, leaf_id, death_side, mark_side, point_place}
 use Rattle.npf_cells_rule.proofs.DeathFrames.{rests_or_holds, holder_keyed, deaths_load}
 use Rattle.npf_cells_rule.proofs.EntryLemmas.{adds_entry, sole_entries}
 use Rattle.npf_cells_rule.proofs.Frames.{notes_still, alone_still, alone_within, conns_apart, stored_apart, locks_apart, turns_behind, entry_step, private_step}
+use Rattle.npf_cells_rule.proofs.MarkFrames.{words_loaded, marks_on}
+use Rattle.npf_cells_rule.proofs.MarkMetLemmas.{mark_said, real_there, mark_holds_none, hangs_unmarked}
 use Rattle.npf_cells_rule.proofs.PassLemmas.{pinned_in}
 use Rattle.npf_cells_holds.specs.LookKinds.{StandsOnPath, level_of, level_at, descending, TellsHolder, looked, HasLooked, FitsLayout, LooksAt, LoadsPlace, reading, LoadsKey}
 use Rattle.npf_cells_holds.proofs.StandingLemmas.{stands_at_end}
@@ -111,8 +116,8 @@ module _ {S A R : Type 0} (m : Meaning S A R) (digest : Key → ℕ) (layout : L
   -- a load of a word behind the pools', after which the seat still fits
   pub load_step : (s : State (Running S) (CellView S A R)) (i id : ℕ) (c : List (ℕ × Running S)) (v : CellView S A R) (side : TrieSide) (kept : IsCells m digest layout s) → get_elem? s.views id ≡ some v → root_at layout ≤ i →
       FitsTrie digest layout.slots (state_of m kept.log) (trie_words layout s.words) side → side.locks ≡ v.trie.locks → side.grown ≡ v.trie.grown → side.regained ≡ v.trie.regained → RestsNoMore (state_of m kept.log) (death_side v) (death_side (record v { trie = side })) → FitsAlone (record v { trie = side }) →
-      IsCells m digest layout (stepped s i (slice_index s.words i) id c (record v { trie = side }) keeps)
-  load_step s i id c v side kept at behind fits locks grown back less alone =
+      Marks mark_side layout kept.published (set s.words i (slice_index s.words i)) (set s.views id (record v { trie = side })) → IsCells m digest layout (stepped s i (slice_index s.words i) id c (record v { trie = side }) keeps)
+  load_step s i id c v side kept at behind fits locks grown back less alone marks =
       let w : CellView S A R = record v { trie = side } in
       private_step m digest layout s i (slice_index s.words i) id c v w kept at behind refl refl refl refl refl (λ conn killed. killed) alone
       (subst (λ ws. Trie trie_side digest layout kept.published (state_of m kept.log) ws (set s.views id w)) (sym (set-get_or s.words i 0)) (trie_moved trie_side digest layout kept.published (state_of m kept.log) s.words s.views id v w kept.trie at grown back fits))
@@ -122,9 +127,10 @@ module _ {S A R : Type 0} (m : Meaning S A R) (digest : Key → ℕ) (layout : L
       (turns_behind m digest layout s i (slice_index s.words i) id v w kept at refl refl (λ j h. ap (λ ws. slice_index ws j) (set-get_or s.words i 0)))
       (deaths_load m digest layout s i id v w kept at refl refl less)
       (notes_still m digest layout s i (slice_index s.words i) id v w kept at refl refl refl refl (λ j h. ap (λ ws. slice_index ws j) (set-get_or s.words i 0)))
+      marks
 
   module _ (s : State (Running S) (CellView S A R)) (id : ℕ) (me : Me (Running S) (CellView S A R)) (kept : IsCells m digest layout s) (at : get_elem? s.views id ≡ some me.0)
-      (lives : me.0.seats.lives ≡ true) (settled : me.0.seats.theirs ≡ []) (place : 1 ≤ length me.0.seats.readers) (stays : IsProtected me.0.epochs.pin) (packet : ℕ) (key : Key) (p : Place) (stands : StandsOnPath digest me.0.trie key p) where
+      (lives : me.0.seats.lives ≡ true) (settled : me.0.seats.theirs ≡ []) (place : 1 ≤ length me.0.seats.readers) (stays : IsProtected me.0.epochs.pin) (packet : ℕ) (key : Key) (p : Place) (inside : IsInTrie layout p) (stands : StandsOnPath digest me.0.trie key p) where
     abbrev word : ℕ
     word = place_at layout p
 
@@ -137,6 +143,10 @@ module _ {S A R : Type 0} (m : Meaning S A R) (digest : Key → ℕ) (layout : L
     abbrev level : ℕ
     level = level_at me.0.trie p
 
+    -- what the word says; where it is a mark, the path goes on to its node
+    abbrev shows : Cell
+    shows = cell_of (slice_index s.words word)
+
     abbrev found : Option Found
     found = k.holder key
 
@@ -144,7 +154,7 @@ module _ {S A R : Type 0} (m : Meaning S A R) (digest : Key → ℕ) (layout : L
     entry = record { seat = id; act = Look packet key; reply = ToLook found }
 
     abbrev looker : CellView S A R
-    looker = looked me.0 key p (t.cell p) (kept.log ++ entry ∷ []) (leaf_after t (t.cell p) me.0.trie.leaf) found
+    looker = looked me.0 key p shows (kept.log ++ entry ∷ []) (leaf_after t shows me.0.trie.leaf) found
 
     pub on : IsOnPath (digits_of digest key) t.cell level p
     on = on_path digest layout.slots k t me.0.trie key p (kept.trie.each id me.0 at) stands
@@ -158,24 +168,72 @@ module _ {S A R : Type 0} (m : Meaning S A R) (digest : Key → ℕ) (layout : L
     number : me.0.seats.number ≡ id
     number = (fits.lives lives).number
 
+    -- what no mark is leads where it says
+    pub shown : (cell : Cell) → shows ≡ cell → cell ≢ Mark → t.cell p ≡ cell
+    shown cell is real = real_there m digest layout s kept p inside cell is real
+
     -- what it then saw stands there
-    pub sees : (cell : Cell) → t.cell p ≡ cell → (x : SeenCell) → Some (record { key = key; level = level; place = p; cell = cell }) ≡ Some x → StaysSighted digest t me.0.trie.locks x
-    sees cell is x e = subst (StaysSighted digest t me.0.trie.locks) (some_same _ _ e) (record { on_path = on; locked = λ _. is })
+    pub sees : (cell : Cell) → shows ≡ cell → (x : SeenCell) → Some (record { key = key; level = level; place = p; cell = cell }) ≡ Some x → StaysSighted digest t me.0.trie.locks x
+    sees cell is x e = subst (StaysSighted digest t me.0.trie.locks) (some_same _ _ e) (record { on_path = on; locked = λ _ real. shown cell is real })
+
+    -- who sees a place in a node stood there
+    stood_in : (x : ℕ) → IsPlaceIn x p → IsSomePlaceIn x (point_place me.0.trie.stands)
+    stood_in x within = in_place p stands within
+      where
+        in_place : (q : Place) → StandsOnPath digest me.0.trie key q → IsPlaceIn x q → IsSomePlaceIn x (point_place me.0.trie.stands)
+        in_place (Places.Root digit) first within' = absurd within'
+        in_place (Places.Node node digit) (at_level, is) within' = subst (λ o. IsSomePlaceIn x (point_place o)) (sym is) within'
+
+    -- the part on marks stays where only the place is seen, and where a node leads on: no mark of it stands
+    marks_loaded : (w : CellView S A R) (side : MarkSide) → mark_side w ≡ side → LeavesMarks layout kept.published kept.published s.words (set s.words word (slice_index s.words word)) (mark_side me.0) side → Marks mark_side layout kept.published (set s.words word (slice_index s.words word)) (set s.views id w)
+    marks_loaded w side is leaves = marks-same mark_side layout kept.published kept.published s.words (set s.words word (slice_index s.words word)) s.views id me.0 w kept.marks at
+        (subst (LeavesMarks layout kept.published kept.published s.words (set s.words word (slice_index s.words word)) (mark_side me.0)) (sym is) leaves)
+
+    leaves_marks : (side : MarkSide) → side ≡ record (mark_side me.0) { stands = side.stands; saw = side.saw } → ((x : ℕ) → HasMark layout s.words x → RestsIn side x → RestsIn (mark_side me.0) x) →
+        LeavesMarks layout kept.published kept.published s.words (set s.words word (slice_index s.words word)) (mark_side me.0) side
+    leaves_marks side same rests =
+        let words = words_loaded layout kept.published s.words word in
+        record {
+          goes = words.goes;
+          places = words.places;
+          states = words.states;
+          parents = words.parents;
+          listed = λ x c. c;
+          marks = ap (λ (y : MarkSide). y.marks) same;
+          emptied = λ e is. ap (λ (y : MarkSide). y.emptied) (sym same) ∙ is;
+          met = λ e is. ap (λ (y : MarkSide). y.met) (sym same) ∙ is;
+          unfreed = ap (λ (y : MarkSide). y.unfreed) same;
+          locks = ap (λ (y : MarkSide). y.locks) same;
+          loaded = λ mark c some'. ap (λ (y : MarkSide). y.loaded) same;
+          rests = λ x has within. (rests x has within, ap (λ (y : MarkSide). y.protecting) same);
+        }
+
+    pub marks_seen : (w : CellView S A R) → mark_side w ≡ record (mark_side me.0) { saw = Some p } → Marks mark_side layout kept.published (set s.words word (slice_index s.words word)) (set s.views id w)
+    marks_seen w is = marks_loaded w (record (mark_side me.0) { saw = Some p }) is
+        (leaves_marks (record (mark_side me.0) { saw = Some p }) refl (λ x has rests. ⊎_elim (λ (there : IsSomePlaceIn x (point_place me.0.trie.stands)). inl there) (λ (saw : IsPlaceIn x p). inl (stood_in x saw)) rests))
+
+    pub marks_led : (w : CellView S A R) (node digit : ℕ) → shows ≡ Node node → mark_side w ≡ record (mark_side me.0) { stands = Some (Places.Node node digit); saw = Some p } → Marks mark_side layout kept.published (set s.words word (slice_index s.words word)) (set s.views id w)
+    marks_led w node digit leads is = marks_loaded w (record (mark_side me.0) { stands = Some (Places.Node node digit); saw = Some p }) is
+        (leaves_marks (record (mark_side me.0) { stands = Some (Places.Node node digit); saw = Some p }) refl (λ x has rests. ⊎_elim
+        (λ (same : node ≡ x). absurd (hangs_unmarked m digest layout s kept p inside (digits_of digest key) level node (are_digits digest key) on leads (subst (HasMark layout s.words) (sym same) has)))
+        (λ (saw : IsPlaceIn x p). inl (stood_in x saw))
+        rests))
 
     -- a node leads on
-    pub descends : (node : ℕ) → t.cell p ≡ Node node → IsCells m digest layout (stepped s word (slice_index s.words word) id me.1 (record me.0 { trie = descending digest key p level node me.0.trie }) keeps)
+    pub descends : (node : ℕ) → shows ≡ Node node → IsCells m digest layout (stepped s word (slice_index s.words word) id me.1 (record me.0 { trie = descending digest key p level node me.0.trie }) keeps)
     descends node is = load_step s word id me.1 me.0 (descending digest key p level node me.0.trie) kept at (place_behind layout p) (record {
-      stands = λ point e. subst (λ (x : PathPlace). IsOnPath (digits_of digest x.key) t.cell x.level x.place) (some_same _ _ e) (further level p node on is);
+      stands = λ point e. subst (λ (x : PathPlace). IsOnPath (digits_of digest x.key) t.cell x.level x.place) (some_same _ _ e) (further level p node on (shown (Node node) is (λ no. absurd cc)));
       leaf = (kept.trie.each id me.0 at).leaf;
       seen = sees (Node node) is;
       claimed = (kept.trie.each id me.0 at).claimed;
     }) refl refl refl (record { rests = λ i dead bare rests. (rests, refl) }) (alone_within (record me.0 { trie = descending digest key p level node me.0.trie }) place stays)
+        (marks_led (record me.0 { trie = descending digest key p level node me.0.trie }) node (digits_of digest key (level + 1)) is refl)
 
     -- the leaf that is then known stays
-    leaf_fits : (cell : Cell) → t.cell p ≡ cell → (leaf : LoadedLeaf) → leaf_after t cell me.0.trie.leaf ≡ Some leaf → StaysLeaf layout.slots k t leaf
+    leaf_fits : (cell : Cell) → shows ≡ cell → (leaf : LoadedLeaf) → leaf_after t cell me.0.trie.leaf ≡ Some leaf → StaysLeaf layout.slots k t leaf
     leaf_fits Empty is leaf e = (kept.trie.each id me.0 at).leaf leaf e
     leaf_fits (Leaf slot way) is leaf e =
-        let right = kept.trie.leaves (digits_of digest key) level p slot way (are_digits digest key) on is in
+        let right = kept.trie.leaves (digits_of digest key) level p slot way (are_digits digest key) on (shown (Leaf slot way) is (λ no. absurd cc)) in
         subst (StaysLeaf layout.slots k t) (some_same _ _ e) (record { right = inl right; key = refl; inc = refl })
     leaf_fits (Node node) is leaf e = (kept.trie.each id me.0 at).leaf leaf e
     leaf_fits Mark is leaf e = (kept.trie.each id me.0 at).leaf leaf e
@@ -189,13 +247,13 @@ module _ {S A R : Type 0} (m : Meaning S A R) (digest : Key → ℕ) (layout : L
         (cons_cases holder.id i me.0.trie.answered c)
 
     looker_fits : FitsTrie digest layout.slots k t looker.trie
-    looker_fits = record { stands = (kept.trie.each id me.0 at).stands; leaf = leaf_fits (t.cell p) refl; seen = sees (t.cell p) refl; claimed = found_claimed found refl }
+    looker_fits = record { stands = (kept.trie.each id me.0 at).stands; leaf = leaf_fits shows refl; seen = sees shows refl; claimed = found_claimed found refl }
 
     -- whom it rests on anew holds a key
-    leaf_holds : (cell : Cell) → t.cell p ≡ cell → (i : ConnId) → leaf_id (leaf_after t cell me.0.trie.leaf) ≡ Some i → (leaf_id me.0.trie.leaf ≡ Some i) ⊎ ¬ (IsKeyless k i)
+    leaf_holds : (cell : Cell) → shows ≡ cell → (i : ConnId) → leaf_id (leaf_after t cell me.0.trie.leaf) ≡ Some i → (leaf_id me.0.trie.leaf ≡ Some i) ⊎ ¬ (IsKeyless k i)
     leaf_holds Empty is i e = inl e
     leaf_holds (Leaf slot way) is i e =
-        let right = kept.trie.leaves (digits_of digest key) level p slot way (are_digits digest key) on is in
+        let right = kept.trie.leaves (digits_of digest key) level p slot way (are_digits digest key) on (shown (Leaf slot way) is (λ no. absurd cc)) in
         inr (subst (λ (x : ConnId). ¬ (IsKeyless k x)) (some_same _ _ e) (holder_keyed k (t.key slot way) (leaf_found t slot way) right.held))
     leaf_holds (Node node) is i e = inl e
     leaf_holds Mark is i e = inl e
@@ -210,7 +268,7 @@ module _ {S A R : Type 0} (m : Meaning S A R) (digest : Key → ℕ) (layout : L
     looker_rests : RestsNoMore k (death_side me.0) (death_side looker)
     looker_rests = rests_or_holds k (death_side me.0) (death_side looker) refl (λ i rests. ⊎_elim
         (λ (c : Contains looker.trie.answered i). ⊎_elim (λ c'. inl (inl c')) (λ no. inr no) (answered_holds found refl i c))
-        (λ (e : leaf_id looker.trie.leaf ≡ Some i). ⊎_elim (λ e'. inl (inr e')) (λ no. inr no) (leaf_holds (t.cell p) refl i e))
+        (λ (e : leaf_id looker.trie.leaf ≡ Some i). ⊎_elim (λ e'. inl (inr e')) (λ no. inr no) (leaf_holds shows refl i e))
         rests)
 
     follows : MayFollow m layout.slots k entry
@@ -226,9 +284,22 @@ module _ {S A R : Type 0} (m : Meaning S A R) (digest : Key → ℕ) (layout : L
         (subst (λ ws. Trie trie_side digest layout kept.published k ws (set s.views id looker)) (sym words) (trie_moved trie_side digest layout kept.published k s.words s.views id me.0 looker kept.trie at refl refl looker_fits))
         (builds-kept pool_side k s.views id me.0 looker at refl refl kept.connections.each)
         (λ slot h. ap (λ n. inc_word layout s.words slot + n) (unstored-set pool_side s.views id me.0 looker at refl slot) ∙ kept.connections.incs slot h)
+        (marks_seen looker refl)
+
+    -- the end of the path says who holds the key; a mark says that nobody does
+    told_real : (cell : Cell) → t.cell p ≡ cell → IsEnd cell → TellsHolder cell key found me.0.trie.leaf (leaf_after t cell me.0.trie.leaf)
+    told_real cell is end =
+        let holds = kept.trie.ends key level p (record { on_path = on; is_end = subst IsEnd (sym is) end }) ∙ ap (λ c. holder_at t c key) is in
+        subst (λ x. TellsHolder cell key x me.0.trie.leaf (leaf_after t cell me.0.trie.leaf)) (sym holds) (tells t (λ slot way. refl) cell key me.0.trie.leaf end)
+
+    told_of : (cell : Cell) → shows ≡ cell → IsEnd cell → TellsHolder cell key found me.0.trie.leaf (leaf_after t cell me.0.trie.leaf)
+    told_of Empty is end = told_real Empty (shown Empty is (λ no. absurd cc)) end
+    told_of (Leaf slot way) is end = told_real (Leaf slot way) (shown (Leaf slot way) is (λ no. absurd cc)) end
+    told_of (Node node) is end = absurd end
+    told_of Mark is end = (mark_holds_none m digest layout s kept p inside key level (slice_index s.words word / 4) on (mark_said m digest layout s kept p inside is), refl)
 
     -- the look ends what the pass has then seen
-    pub has_looked : IsEnd (t.cell p) → HasLooked m packet key p (t.cell p) me (looker, me.1)
+    pub has_looked : IsEnd shows → HasLooked m packet key p shows me (looker, me.1)
     has_looked end = record {
       found = found;
       adds = subst (AddsOwn (cell_pass me.0) (kept.log ++ entry ∷ [])) (ap (λ n. record entry { seat = n } ∷ []) (sym number)) (adds_entry layout.slots kept.log (map seat_side s.views) id me.0 kept.seats there lives place entry refl);
@@ -241,45 +312,45 @@ module _ {S A R : Type 0} (m : Meaning S A R) (digest : Key → ℕ) (layout : L
         alone = sole_entries layout.slots kept.log (map seat_side s.views) id me.0 kept.seats there lives place entry refl settled;
         most = within_last _ _ _ kept.epochs id (reader_view me.0) (at_map reader_view s.views id me.0 at);
       };
-      tells = subst (λ x. TellsHolder (t.cell p) key x me.0.trie.leaf (leaf_after t (t.cell p) me.0.trie.leaf)) (sym (kept.trie.ends key level p (record { on_path = on; is_end = end }))) (tells t (λ slot way. refl) (t.cell p) key me.0.trie.leaf end);
+      tells = told_of shows refl end;
       is = refl;
     }
 
-    pub fits_table : FitsLayout layout (t.cell p)
-    fits_table = fits_layout layout (t.cell p)
-        (λ slot way e. (kept.trie.leaves (digits_of digest key) level p slot way (are_digits digest key) on e).exists)
-        (λ node e. (kept.trie.nodes (digits_of digest key) level p node (are_digits digest key) on e).exists)
+    pub fits_table : FitsLayout layout shows
+    fits_table = fits_layout layout shows
+        (λ slot way e. (kept.trie.leaves (digits_of digest key) level p slot way (are_digits digest key) on (shown (Leaf slot way) e (λ no. absurd cc))).exists)
+        (λ node e. (kept.trie.nodes (digits_of digest key) level p node (are_digits digest key) on (shown (Node node) e (λ no. absurd cc))).exists)
 
-    pub shallow : (node : ℕ) → t.cell p ≡ Node node → level < 94
-    shallow node e = (kept.trie.nodes (digits_of digest key) level p node (are_digits digest key) on e).within
+    pub shallow : (node : ℕ) → shows ≡ Node node → level < 94
+    shallow node e = (kept.trie.nodes (digits_of digest key) level p node (are_digits digest key) on (shown (Node node) e (λ no. absurd cc))).within
 
   pub may_look : (st : Step (Running S)) (id n packet : ℕ) (key : Key) (p : Place) (me : Me (Running S) (CellView S A R)) → IsInTrie layout p → me.0.seats.lives ≡ true → me.0.seats.theirs ≡ [] → 1 ≤ length me.0.seats.readers → IsProtected me.0.epochs.pin →
       StandsOnPath digest me.0.trie key p → Allows (IsCells m digest layout) n id me (place_at layout p) (λ x. x) (LoadsPlace m digest layout packet key p st me)
-  may_look st id n packet key p me inside lives settled place stays stands s kept homes at bound = by_cell (cell_in layout s.words p) refl
+  may_look st id n packet key p me inside lives settled place stays stands s kept homes at bound = by_cell (cell_of (slice_index s.words (place_at layout p))) refl
     where
       number : ℕ
       number = slice_index s.words (place_at layout p)
 
-      fits : FitsLayout layout (cell_in layout s.words p)
-      fits = fits_table s id me kept at lives settled place stays packet key p stands
+      fits : FitsLayout layout (cell_of number)
+      fits = fits_table s id me kept at lives settled place stays packet key p inside stands
 
-      told : (w : CellView S A R) → LooksAt m digest layout packet key p (cell_in layout s.words p) me (w, me.1) → LoadsPlace m digest layout packet key p st me number (w, me.1)
-      told w looks = record { looks = subst (λ c. LooksAt m digest layout packet key p c me (w, me.1)) (cell_there layout s.words p inside) looks }
+      told : (w : CellView S A R) → LooksAt m digest layout packet key p (cell_of number) me (w, me.1) → LoadsPlace m digest layout packet key p st me number (w, me.1)
+      told w looks = record { looks = looks }
 
       Loaded : Type 0
       Loaded = (w : CellView S A R) × (a : Act (Running S)) × Valid s.homes me.1 a × IsCells m digest layout (stepped s (place_at layout p) number id me.1 w a) × LoadsPlace m digest layout packet key p st me number (w, carried_after me.1 a)
 
-      at_end : IsEnd (cell_in layout s.words p) → ((node : ℕ) → ¬ (cell_in layout s.words p ≡ Node node)) → Loaded
+      at_end : IsEnd (cell_of number) → ((node : ℕ) → ¬ (cell_of number ≡ Node node)) → Loaded
       at_end end other = (
-        looker s id me kept at lives settled place stays packet key p stands,
+        looker s id me kept at lives settled place stays packet key p inside stands,
         keeps,
         tt,
-        ends s id me kept at lives settled place stays packet key p stands,
-        told (looker s id me kept at lives settled place stays packet key p stands)
-            (record { fits = fits; leads = λ node e. absurd (other node e); ends = λ _. has_looked s id me kept at lives settled place stays packet key p stands end }),
+        ends s id me kept at lives settled place stays packet key p inside stands,
+        told (looker s id me kept at lives settled place stays packet key p inside stands)
+            (record { fits = fits; leads = λ node e. absurd (other node e); ends = λ _. has_looked s id me kept at lives settled place stays packet key p inside stands end }),
       )
 
-      by_cell : (c : Cell) → cell_in layout s.words p ≡ c → Loaded
+      by_cell : (c : Cell) → cell_of number ≡ c → Loaded
       by_cell Empty e = at_end (rw e tt) (λ node is. let no : Empty ≡ Node node = sym e ∙ is in cc)
       by_cell (Leaf slot way) e = at_end (rw e tt) (λ node is. let no : Leaf slot way ≡ Node node = sym e ∙ is in cc)
       by_cell Mark e = at_end (rw e tt) (λ node is. let no : Mark ≡ Node node = sym e ∙ is in cc)
@@ -287,12 +358,12 @@ module _ {S A R : Type 0} (m : Meaning S A R) (digest : Key → ℕ) (layout : L
         record me.0 { trie = descending digest key p (level_at me.0.trie p) node me.0.trie },
         keeps,
         tt,
-        descends s id me kept at lives settled place stays packet key p stands node e,
+        descends s id me kept at lives settled place stays packet key p inside stands node e,
         told (record me.0 { trie = descending digest key p (level_at me.0.trie p) node me.0.trie }) (record {
           fits = fits;
           leads = λ other is.
               let same : node ≡ other = (let both : Node node ≡ Node other = sym e ∙ is in cc) in
-              (shallow s id me kept at lives settled place stays packet key p stands node e, ap (λ x. with_trie me (descending digest key p (level_at me.0.trie p) x me.0.trie)) same);
+              (shallow s id me kept at lives settled place stays packet key p inside stands node e, ap (λ x. with_trie me (descending digest key p (level_at me.0.trie p) x me.0.trie)) same);
           ends = λ end. absurd (rw e at end);
         }),
       )
@@ -306,7 +377,9 @@ module _ {S A R : Type 0} (m : Meaning S A R) (digest : Key → ℕ) (layout : L
     load_step s (field_at layout Slots slot (key_field way + place)) id me.1 me.0 (reading me.0.trie) kept at (omega arith)
         (let fits = kept.trie.each id me.0 at in record { stands = fits.stands; leaf = fits.leaf; seen = fits.seen; claimed = fits.claimed }) refl refl refl (record { rests = λ i dead bare rests. (rests, refl) })
         (alone_still me.0 (record me.0 { trie = reading me.0.trie }) (kept.alone id me.0 at) seated refl
-        (λ none. record { stands = none.stands; leaf = none.leaf; seen = none.seen; meets = none.meets; answered = none.answered; locks = none.locks })),
+        (λ none. record { stands = none.stands; leaf = none.leaf; seen = none.seen; meets = none.meets; answered = none.answered; locks = none.locks }))
+        (marks_on m digest layout s kept (set s.words (field_at layout Slots slot (key_field way + place)) (slice_index s.words (field_at layout Slots slot (key_field way + place)))) id me.0 (record me.0 { trie = reading me.0.trie }) at
+        (words_loaded layout kept.published s.words (field_at layout Slots slot (key_field way + place))) (record { stands = λ point e. e; seen = λ x e. e; locks = refl; marks = refl; emptied = λ e is. is; met_mark = λ x is. is }) refl (λ _. refl) refl),
     record {
       is = refl;
       stored = λ x e. (kept.stored id me.0 at).stands (field_at layout Slots slot (key_field way + place)) x e;

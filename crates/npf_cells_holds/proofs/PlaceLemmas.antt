@@ -10,12 +10,12 @@ use Rattle.npf_types.specs.declared.key.Way.{Way}
 use Rattle.npf_core.specs.Meaning.{Meaning}
 use Rattle.npf_paths.specs.declared.place.Lock.{Lock}
 use Rattle.npf_paths.specs.declared.place.Place.{Place}
-use Rattle.npf_paths.specs.CellWords.{cell_of}
 use Rattle.npf_paths.specs.Paths.{AreDigits, IsOnPath}
 use Rattle.npf_cells_words.specs.declared.layout.Layout.{Layout}
 use Rattle.npf_cells_words.specs.declared.layout.Pool.{Pool}
 use Rattle.npf_cells_words.specs.declared.layout.Pool.TheVariants.{Slots, Nodes}
 use Rattle.npf_cells_words.specs.Layout.{inc_field, parent_field, key_field, note_field, field_at}
+use Rattle.npf_cells_words.specs.MarkWords.{shown_of}
 use Rattle.npf_cells_words.specs.Places.{lock_at, IsLockOf, IsInTrie, place_at}
 use Rattle.npf_cells_words.proofs.WordLemmas.{place_reach, one_word, slot_apart, parent_apart, lock_apart}
 use Rattle.npf_cells_leaves.specs.Trie.{cell_in, key_word, trie_words}
@@ -35,11 +35,11 @@ module _ {S A R : Type 0} (m : Meaning S A R) (digest : Key → ℕ) (layout : L
   other_word j ne = get_or-set_other s.words (place_at layout p) j value 0 ne
 
   -- what stands there, and elsewhere
-  pub cell_here : cell_in layout words' p ≡ cell_of value
+  pub cell_here : cell_in layout words' p ≡ shown_of value
   cell_here =
       let reach = place_reach layout p inside in
       let long = kept.connections.reach in
-      cell_there layout words' p inside ∙ ap cell_of (get_or-set_same s.words (place_at layout p) value 0 (omega (arith, reach, long)))
+      cell_there layout words' p inside ∙ ap shown_of (get_or-set_same s.words (place_at layout p) value 0 (omega (arith, reach, long)))
 
   pub cell_else : (q : Place) → q ≢ p → cell_in layout words' q ≡ cell_in layout s.words q
   cell_else q ne = cell_kept layout s.words words' q (λ there. other_word (place_at layout q) (λ e. ne (one_word layout q p there inside e)))

@@ -10,9 +10,9 @@ use Rattle.npf_core.proofs.EqualityLemmas.{is_key-Decides, is_found-Decides}
 use Rattle.npf_paths.specs.declared.cell.Cell.{Cell}
 use Rattle.npf_paths.specs.declared.cell.Cell.TheVariants.{Empty, Leaf, Node, Mark}
 use Rattle.npf_paths.specs.declared.place.Place.{Place}
-use Rattle.npf_paths.specs.CellWords.{cell_of}
 use Rattle.npf_paths.specs.Paths.{EndsAt}
 use Rattle.npf_cells_words.specs.declared.layout.Layout.{Layout}
+use Rattle.npf_cells_words.specs.MarkWords.{shown_of}
 use Rattle.npf_cells_words.specs.Places.{IsInTrie, is_in_trie, place_at}
 use Rattle.npf_cells_words.proofs.WordLemmas.{in_trie}
 use Rattle.npf_cells_leaves.specs.declared.trie.TrieSide.{TrieSide}
@@ -48,7 +48,7 @@ says_holder t Mark key found e = absurd cc
 pub leaf_within : (layout : Layout) (words : List ℕ) (p : Place) (slot : ℕ) (way : Way) → cell_in layout words p ≡ Leaf slot way → IsInTrie layout p
 leaf_within layout words p slot way e = by_place (is_in_trie layout p) refl e
   where
-    by_place : (b : Bool) → is_in_trie layout p ≡ b → cond b (cell_of (slice_index words (place_at layout p))) Empty ≡ Leaf slot way → IsInTrie layout p
+    by_place : (b : Bool) → is_in_trie layout p ≡ b → cond b (shown_of (slice_index words (place_at layout p))) Empty ≡ Leaf slot way → IsInTrie layout p
     by_place true there is = in_trie layout p there
     by_place false there is = absurd cc
 
