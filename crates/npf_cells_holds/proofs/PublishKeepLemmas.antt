@@ -3,6 +3,7 @@ use Rattle.std.specs.List.{Contains}
 use Rattle.std.proofs.Common.{◌≡◌, ◌≢◌, ℕ, ◌+◌, ◌<◌, ◌≤◌, true, false, true≢false, cond, Option, Some, None, List, [], ◌∷◌, ◌++◌, map, set, length, slice_index, refl, sym, ap, ◌∙◌, subst, ⊎_elim, inl, inr, arith, length-set, ◌⊎◌, ◌-◌}
 use Rattle.std.proofs.lemmas.Grind.{same_number_lists}
 use Rattle.std.proofs.lemmas.List.{map-set, get_or-set_other}
+use Rattle.std.proofs.lemmas.List.Elements.{Contains-append_right}
 use mathlib.Core.Option.{some}
 use lib.ListN.{get_elem?}
 use Rattle.atomic_table.specs.Table.{State, Me, Step, Allows, stepped, keeps}
@@ -29,7 +30,7 @@ use Rattle.npf_paths.specs.declared.cell.Cell.{Cell}
 use Rattle.npf_paths.specs.declared.cell.Cell.TheVariants.{Empty, Leaf, Node, Mark}
 use Rattle.npf_paths.specs.declared.place.Place.{Place}
 use Rattle.npf_paths.specs.declared.place.Place.TheVariants as Places
-use Rattle.npf_paths.specs.CellWords.{cell_word, cell_of}
+use Rattle.npf_paths.specs.CellWords.{cell_word}
 use Rattle.npf_paths.specs.Growing.{IsPlaceOf, GrowsBranch}
 use Rattle.npf_paths.specs.GrowingLaw.{IsEndNow, PathsAfterGrowth}
 use Rattle.npf_paths.specs.GrowingLaw.IsEndNow.{end_stays, end_grew}
@@ -45,7 +46,9 @@ use Rattle.npf_cells_words.specs.declared.layout.Pool.{Pool}
 use Rattle.npf_cells_words.specs.declared.layout.Pool.TheVariants.{Slots, Nodes}
 use Rattle.npf_cells_words.specs.Layout.{root_at, parent_field, key_field, field_at, notes_field, turn_field, phase_field, note_field}
 use Rattle.npf_cells_words.specs.Codes.{place_code}
+use Rattle.npf_cells_words.specs.MarkWords.{shown_of}
 use Rattle.npf_cells_words.specs.Places.{IsInTrie, place_at}
+use Rattle.npf_cells_words.proofs.MarkLemmas.{real_shown, said_shown}
 use Rattle.npf_cells_words.proofs.WordLemmas.{place_lock, place_behind, same_note}
 use Rattle.npf_seats.specs.Seats.{FitsSeats, Seats}
 use Rattle.npf_seats.specs.Sums.{occurs}
@@ -62,7 +65,7 @@ use Rattle.npf_cells_leaves.proofs.FillLemmas.{FillsFor, fills_place, trie_fille
 use Rattle.npf_cells_leaves.proofs.GivenLemmas.{key_cases, keys_apart, other_holds, GivesKey, fits_still, others-fit}
 use Rattle.npf_cells_leaves.proofs.GrowLemmas.{branch_seen, trie_grown}
 use Rattle.npf_cells_leaves.proofs.ParentLemmas.{names_so, mine_foot, theirs_foot}
-use Rattle.npf_cells_leaves.proofs.TrieLemmas.{said, knows_same, are_digits, cell_there}
+use Rattle.npf_cells_leaves.proofs.TrieLemmas.{knows_same, are_digits, cell_there}
 use Rattle.npf_cells_lives.specs.Conns.{Conns, entry_seat}
 use Rattle.npf_cells_lives.specs.Deaths.{Deaths, last_id, unreclaimed}
 use Rattle.npf_cells_lives.specs.Known.{Known}
@@ -78,19 +81,21 @@ use Rattle.npf_cells_lives.proofs.TurnLemmas.{turns-like}
 use Rattle.npf_cells_rule.proofs.LawLemmas.{builds_alone}
 use Rattle.npf_cells_lives.proofs.PoolLemmas.{pools-kept}
 use Rattle.npf_cells_lives.proofs.StoredLemmas.{fits_unstored, stored_kept, stored-set}
+use Rattle.npf_cells_marks.specs.Marks.{Marks}
 use Rattle.npf_cells_rule.specs.declared.view.CellView.{CellView}
 use Rattle.npf_cells_rule.specs.Cells.{IsCells, FitsAlone}
 use Rattle.npf_cells_rule.specs.Passes.{IsProtected, cell_pass}
-use Rattle.npf_cells_rule.specs.Views.{seat_side, reader_view, lock_side, pool_side, trie_side, turn_side, leaf_id, death_side, seen_side}
+use Rattle.npf_cells_rule.specs.Views.{seat_side, reader_view, lock_side, mark_side, pool_side, trie_side, turn_side, leaf_id, death_side, seen_side}
 use Rattle.npf_cells_rule.proofs.DeathFrames.{rests_or_holds, deaths_spared, gone_same, known_seen}
 use Rattle.npf_cells_rule.proofs.EntryLemmas.{adds_entry, sole_entries}
 use Rattle.npf_cells_rule.proofs.Frames.{alone-set, alone_within, framed, epochs_apart}
+use Rattle.npf_cells_rule.proofs.MarkMetLemmas.{marks_in_place}
 use Rattle.npf_cells_rule.proofs.MetLemmas.{unowned}
 use Rattle.npf_cells_rule.proofs.PassLemmas.{pinned_in}
 use Rattle.npf_cells_holds.specs.HoldKinds.{renewed}
 use Rattle.npf_cells_holds.specs.LookKinds.{level_at}
 use Rattle.npf_cells_holds.specs.PublishKinds.{stored_cell, cell_stored, IsParentStored, GrowsNodes, HasNoted, IsSettled, IsAheadTo, MovesLeaf, PutsFor, MayPublishFor, published_for, HasHeld, PublishesFor, publishing}
-use Rattle.npf_cells_holds.proofs.AgainKeepLemmas.{stands_there}
+use Rattle.npf_cells_holds.proofs.AgainKeepLemmas.{real_word, stands_there}
 use Rattle.npf_cells_holds.proofs.LookKeepLemmas.{word_of, on_path}
 use Rattle.npf_cells_holds.proofs.OwnedLemmas.{owns_there, taken_moved}
 use Rattle.npf_cells_holds.proofs.PlaceLemmas.{cell_here, cell_else, key_else, inc_else, parent_else, turn_else, lock_else, own_else, note_else}
@@ -108,9 +113,9 @@ module _ {S A R : Type 0} (m : Meaning S A R) (digest : Key → ℕ) (layout : L
   publish_step : (s : State (Running S) (CellView S A R)) (i n id : ℕ) (v w : CellView S A R) (kept : IsCells m digest layout s) (published : List ℕ) → get_elem? s.views id ≡ some v → root_at layout ≤ i → v.seats.lives ≡ true → 1 ≤ length v.seats.readers →
       (entry : Entry S A R) → entry.seat ≡ id → MayFollow m layout.slots (state_of m kept.log) entry → w.seats ≡ record v.seats { history = kept.log ++ entry ∷ [] } → reader_view w ≡ reader_view v →
       ((pool : Pool) (place : ℕ) → taken pool_side published (after m (state_of m kept.log) entry) (set s.views id w) pool place ≡ taken pool_side kept.published (state_of m kept.log) s.views pool place) →
-      Trie trie_side digest layout published (after m (state_of m kept.log) entry) (set s.words i n) (set s.views id w) → Conns pool_side m layout (kept.log ++ entry ∷ []) (set s.words i n) (set s.views id w) → StoredWords pool_side layout (set s.words i n) (set s.views id w) → Locks lock_side layout (set s.words i n) (set s.views id w) → Turns turn_side layout (unreclaimed death_side (set s.views id w) (after m (state_of m kept.log) entry)) (set s.words i n) s.homes (set s.views id w) → Deaths death_side layout (after m (state_of m kept.log) entry) (set s.words i n) (set s.views id w) → Known (seen_side m) pool_side (after m (state_of m kept.log) entry) (set s.views id w) → Notes turn_side pool_side layout (trie_words layout (set s.words i n)).cell (after m (state_of m kept.log) entry) (set s.words i n) (set s.views id w) → FitsAlone w →
+      Trie trie_side digest layout published (after m (state_of m kept.log) entry) (set s.words i n) (set s.views id w) → Conns pool_side m layout (kept.log ++ entry ∷ []) (set s.words i n) (set s.views id w) → StoredWords pool_side layout (set s.words i n) (set s.views id w) → Locks lock_side layout (set s.words i n) (set s.views id w) → Turns turn_side layout (unreclaimed death_side (set s.views id w) (after m (state_of m kept.log) entry)) (set s.words i n) s.homes (set s.views id w) → Deaths death_side layout (after m (state_of m kept.log) entry) (set s.words i n) (set s.views id w) → Known (seen_side m) pool_side (after m (state_of m kept.log) entry) (set s.views id w) → Notes turn_side pool_side layout (trie_words layout (set s.words i n)).cell (after m (state_of m kept.log) entry) (set s.words i n) (set s.views id w) → Marks mark_side layout published (set s.words i n) (set s.views id w) → FitsAlone w →
       (c : List (ℕ × Running S)) → IsCells m digest layout (stepped s i n id c w keeps)
-  publish_step s i n id v w kept published at behind lives place entry mine follows seats reads takes trie connections stored locks turns deaths known notes alone c =
+  publish_step s i n id v w kept published at behind lives place entry mine follows seats reads takes trie connections stored locks turns deaths known notes marks alone c =
       let log = kept.log ++ entry ∷ [] in
       let state = state_of-append m kept.log entry in
       framed m digest layout s (stepped s i n id c w keeps) kept published log (length-set s.words i n)
@@ -127,6 +132,7 @@ module _ {S A R : Type 0} (m : Meaning S A R) (digest : Key → ℕ) (layout : L
       (subst (λ k. Deaths death_side layout k (set s.words i n) (set s.views id w)) (sym state) deaths)
       (subst (λ k. Known (seen_side m) pool_side k (set s.views id w)) (sym state) known)
       (subst (λ k. Notes turn_side pool_side layout (trie_words layout (set s.words i n)).cell k (set s.words i n) (set s.views id w)) (sym state) notes)
+      marks
       (alone-set s.views id w alone kept.alone)
     where
       below : (j : ℕ) → j < root_at layout → slice_index (set s.words i n) j ≡ slice_index s.words j
@@ -242,7 +248,7 @@ module _ {S A R : Type 0} (m : Meaning S A R) (digest : Key → ℕ) (layout : L
         (j : ℕ) (u : CellView S A R) → get_elem? (set s.views id (holding nodes)) j ≡ some u → FitsTrie digest layout.slots k' t' u.trie
     all_fit free nodes locked old elsewhere = others-fit trie_side layout digest k' t' s.views id (holding nodes)
         (fits_grown nodes (fits_still digest layout.slots k k' t t' conn key way (gives free) p old elsewhere me.0.trie (publishing (renewed me.0.trie))
-        (record { stands = λ point e. e; leaf = λ leaf e. e; seen = λ x e. absurd cc; locks = refl; answered = λ i c. absurd (none_listed i c); marks = refl; emptied = λ e is. is; met_mark = λ y is. is; grown = refl; regained = refl }) (λ x e. absurd cc) (kept.trie.each id me.0 at)))
+        (record { stands = λ point e. e; leaf = λ leaf e. e; seen = λ x e. absurd cc; locks = refl; answered = λ i c. absurd (none_listed i c); marks = refl; emptied = λ e is. absurd cc; met_mark = λ y is. is; grown = refl; regained = refl }) (λ x e. absurd cc) (kept.trie.each id me.0 at)))
         (λ j u ne e. fits_still digest layout.slots k k' t t' conn key way (gives free) p old elsewhere u.trie u.trie (knows_same u.trie)
         (λ x seen has same. locks_alone lock_side layout s.words s.views j id u me.0 (lock_of p) kept.locks (place_lock layout p inside) e at (subst (λ q. Contains u.trie.locks (lock_of q)) same has) locked ne) (kept.trie.each j u e))
 
@@ -347,12 +353,17 @@ module _ {S A R : Type 0} (m : Meaning S A R) (digest : Key → ℕ) (layout : L
     own_noted : (nodes : List ℕ) → HasNoted me.0.pools.notes conn.slot way (place_code (foot_place (digits_of digest key) (level + 1) p nodes)) → note_word layout s.words conn.slot way ≡ place_code (foot_place (digits_of digest key) (level + 1) p nodes)
     own_noted nodes noted = let fits = kept.notes.each id me.0 _ at noted in ap (note_word layout s.words conn.slot) (same_note way fits.way fits.field_is) ∙ fits.stands
 
+    -- what stands there then is no mark, and the pass marked no node that has the place
+    marks_after : (nodes : List ℕ) → IsEnd (t.cell p) → Contains me.0.trie.locks (lock_of p) → cell ≢ Mark → Marks mark_side layout (nodes ++ kept.published) words' (set s.views id (holding nodes))
+    marks_after nodes end locked real = marks_in_place m digest layout s kept p inside id (cell_word cell) me.0 (holding nodes) (nodes ++ kept.published) (digits_of digest key) level at locked (are_digits digest key) on end (real_word cell real) may.unmarked
+        (λ n c. Contains-append_right nodes kept.published n c) (record { stands = λ point e. e; seen = λ x e. absurd cc; locks = refl; marks = refl; emptied = λ e is. absurd cc; met_mark = λ y is. is }) refl refl refl (λ x c one. refl) refl
+
     -- the rule, as long as the trie's part holds and the nodes pass from the pass to the trie
-    held_so : (nodes : List ℕ) → k.holder key ≡ None → Names nodes →
+    held_so : (nodes : List ℕ) → k.holder key ≡ None → IsEnd (t.cell p) → Contains me.0.trie.locks (lock_of p) → cell ≢ Mark → Names nodes →
         ((pool : Pool) (x : ℕ) → taken pool_side (nodes ++ kept.published) k' (set s.views id (holding nodes)) pool x ≡ taken pool_side kept.published k s.views pool x) →
         Trie trie_side digest layout (nodes ++ kept.published) k' words' (set s.views id (holding nodes)) → IsCells m digest layout (stepped s word (cell_word cell) id me.1 (holding nodes) keeps)
-    held_so nodes free names takes trie = publish_step s word (cell_word cell) id me.0 (holding nodes) kept (nodes ++ kept.published) at (place_behind layout p) lives place entry refl (follows free) refl refl takes trie (connected nodes free) (stored_stays nodes) (locks_stay nodes)
-        (turns_after nodes) (deaths_held nodes) (known_held nodes) (notes_after nodes free names) (alone_within (holding nodes) place stays) me.1
+    held_so nodes free end locked real names takes trie = publish_step s word (cell_word cell) id me.0 (holding nodes) kept (nodes ++ kept.published) at (place_behind layout p) lives place entry refl (follows free) refl refl takes trie (connected nodes free) (stored_stays nodes) (locks_stay nodes)
+        (turns_after nodes) (deaths_held nodes) (known_held nodes) (notes_after nodes free names) (marks_after nodes end locked real) (alone_within (holding nodes) place stays) me.1
 
     -- the hold ends what the pass has then seen
     pub has_held : (nodes : List ℕ) → PutsFor digest layout me.0 conn key way p cell nodes → k.holder key ≡ None → HasHeld m digest layout conn key way p cell me (holding nodes, me.1)
@@ -377,7 +388,7 @@ module _ {S A R : Type 0} (m : Meaning S A R) (digest : Key → ℕ) (layout : L
     filled_for put empty = record {
       on_path = on;
       empty = empty;
-      filled = cell_here m digest layout s kept p inside (cell_word cell) ∙ (said cell ∙ put);
+      filled = cell_here m digest layout s kept p inside (cell_word cell) ∙ (said_shown cell (λ mark. let no : Leaf conn.slot way ≡ Mark = sym put ∙ mark in cc) ∙ put);
       others = cell_else m digest layout s kept p inside (cell_word cell);
       parents = parent_else m digest layout s kept p inside (cell_word cell);
     }
@@ -398,10 +409,10 @@ module _ {S A R : Type 0} (m : Meaning S A R) (digest : Key → ℕ) (layout : L
 
     held_by_filling : cell ≡ Leaf conn.slot way → HasNoted me.0.pools.notes conn.slot way (place_code p) → IsSettled me.0.turn → SeesLocked me.0.trie p Empty → IsCells m digest layout (stepped s word (cell_word cell) id me.1 (holding []) keeps)
     held_by_filling put noted settled sees =
-        let empty = (stands_there m digest layout s id me kept at p inside Empty sees).is in
+        let empty = (stands_there m digest layout s id me kept at p inside Empty sees (λ mark. cc)).is in
         let free = free_empty empty in
         let changed = fills_place digest t t' conn.slot key way p level (filled_for put empty) in
-        held_so [] free (named_filled (filled_for put empty) noted settled) (taken_moved m digest layout s kept id me.0 at k k' (holding []) [] (λ i j h. absurd (omega (arith, h))) (λ node c. absurd (none_listed node c)) refl refl (λ slot. refl))
+        held_so [] free (subst IsEnd (sym empty) tt) sees.locked (λ mark. let no : Leaf conn.slot way ≡ Mark = sym put ∙ mark in cc) (named_filled (filled_for put empty) noted settled) (taken_moved m digest layout s kept id me.0 at k k' (holding []) [] (λ i j h. absurd (omega (arith, h))) (λ node c. absurd (none_listed node c)) refl refl (λ slot. refl))
         (trie_filled trie_side digest layout kept.published k k' s.words words' s.views (set s.views id (holding [])) conn key way p level kept.trie (gives free) (filled_for put empty)
         (record { grown = (let sums = all_after [] in omega (arith, sums)); regained = back_after [] })
         (all_fit free [] sees.locked (λ digits l q are on'. filled_places changed on') (λ digits l q are on' ne. changed.others q ne)))
@@ -416,8 +427,11 @@ module _ {S A R : Type 0} (m : Meaning S A R) (digest : Key → ℕ) (layout : L
       abbrev theirs : ℕ → ℕ
       theirs = digits_of digest leaf.key
 
+      node_put : cell ≢ Mark
+      node_put mark = let no : Node first ≡ Mark = sym put ∙ mark in cc
+
       stood : t.cell p ≡ Leaf leaf.slot leaf.way
-      stood = (stands_there m digest layout s id me kept at p inside (Leaf leaf.slot leaf.way) sees).is
+      stood = (stands_there m digest layout s id me kept at p inside (Leaf leaf.slot leaf.way) sees (λ mark. cc)).is
 
       leaf_stays : StaysLeaf layout.slots k t leaf
       leaf_stays = (kept.trie.each id me.0 at).leaf leaf known
@@ -439,9 +453,9 @@ module _ {S A R : Type 0} (m : Meaning S A R) (digest : Key → ℕ) (layout : L
           cell_else m digest layout s kept p inside (cell_word cell) (Places.Node node digit) (λ e. fresh mine level p (are_digits digest key) on (subst (IsPlaceOf nodes) e has))
           ∙ (cell_there layout s.words (Places.Node node digit) (owns_there m digest layout s kept id me.0 at node (news.owned node has), low) ∙ by_value (stored_value layout me.0.pools.stored (place_at layout (Places.Node node digit))) refl is)
         where
-          by_value : (x : Option ℕ) → stored_value layout me.0.pools.stored (place_at layout (Places.Node node digit)) ≡ x → stored_cell x ≡ c → cell_of (slice_index s.words (place_at layout (Places.Node node digit))) ≡ c
+          by_value : (x : Option ℕ) → stored_value layout me.0.pools.stored (place_at layout (Places.Node node digit)) ≡ x → stored_cell x ≡ c → shown_of (slice_index s.words (place_at layout (Places.Node node digit))) ≡ c
           by_value None e stored = absurd (full (sym stored))
-          by_value (Some n) e stored = ap cell_of ((kept.stored id me.0 at).stands (place_at layout (Places.Node node digit)) n e) ∙ stored
+          by_value (Some n) e stored = ap shown_of ((kept.stored id me.0 at).stands (place_at layout (Places.Node node digit)) n e) ∙ (real_shown n (λ mark. full (sym stored ∙ mark)) ∙ stored)
 
       grows_branch : GrowsBranch mine theirs t.cell t'.cell (Leaf conn.slot way) (Leaf leaf.slot leaf.way) level p first nodes
       grows_branch = record {
@@ -450,7 +464,7 @@ module _ {S A R : Type 0} (m : Meaning S A R) (digest : Key → ℕ) (layout : L
         was_end = subst IsEnd (sym stood) tt;
         leaf_ends = tt;
         other_ends = tt;
-        hangs = cell_here m digest layout s kept p inside (cell_word cell) ∙ (said cell ∙ put);
+        hangs = cell_here m digest layout s kept p inside (cell_word cell) ∙ (said_shown cell node_put ∙ put);
         branch = branch_seen news.branch (are_digits digest key) (are_digits digest leaf.key) (omega arith) (λ e. cc) (λ e. cc) stored_stands;
         others = λ q ne other. cell_else m digest layout s kept p inside (cell_word cell) q ne;
         fresh = fresh;
@@ -518,7 +532,7 @@ module _ {S A R : Type 0} (m : Meaning S A R) (digest : Key → ℕ) (layout : L
 
       held_by_growing : IsCells m digest layout (stepped s word (cell_word cell) id me.1 (holding nodes) keeps)
       held_by_growing =
-          held_so nodes free_other named_grown (taken_moved m digest layout s kept id me.0 at k k' (holding nodes) nodes news.apart news.owned refl refl (λ slot. refl))
+          held_so nodes free_other (subst IsEnd (sym stood) tt) sees.locked node_put named_grown (taken_moved m digest layout s kept id me.0 at k k' (holding nodes) nodes news.apart news.owned refl refl (λ slot. refl))
           (trie_grown trie_side digest layout kept.published k k' s.words words' s.views (set s.views id (holding nodes)) conn key way leaf p level first nodes kept.trie (gives free_other) leaf_stays (kept.trie.leaves mine level p leaf.slot leaf.way (are_digits digest key) on stood) other_key stood grows_branch news.apart
           (λ node has. owns_there m digest layout s kept id me.0 at node (news.owned node has)) may.key_stored.five (parent_else m digest layout s kept p inside (cell_word cell)) named
           (let sums = all_after nodes in omega (arith, sums)) (back_after nodes)
@@ -542,7 +556,7 @@ module _ {S A R : Type 0} (m : Meaning S A R) (digest : Key → ℕ) (layout : L
 
         by_puts : (cell' : Cell) (nodes' : List ℕ) → PutsFor digest layout me.0 conn key way p cell' nodes' → cell ≡ cell' → nodes ≡ nodes' → Holds nodes
         by_puts _ _ (fills sees) is none =
-            (subst (λ ns. IsCells m digest layout (stepped s word (cell_word cell) id me.1 (holding ns) keeps)) (sym none) (held_by_filling is (subst (λ ns. HasNoted me.0.pools.notes conn.slot way (place_code (foot_place (digits_of digest key) (level + 1) p ns))) none noted) (subst (MovesLeaf digest me.0 p) none moves) sees), has_held nodes puts (free_empty (stands_there m digest layout s id me kept at p inside Empty sees).is))
+            (subst (λ ns. IsCells m digest layout (stepped s word (cell_word cell) id me.1 (holding ns) keeps)) (sym none) (held_by_filling is (subst (λ ns. HasNoted me.0.pools.notes conn.slot way (place_code (foot_place (digits_of digest key) (level + 1) p ns))) none noted) (subst (MovesLeaf digest me.0 p) none moves) sees), has_held nodes puts (free_empty (stands_there m digest layout s id me kept at p inside Empty sees (λ mark. cc)).is))
         by_puts _ _ (grows leaf first news known other_key sees grown) is same = (
           subst (λ ns. IsCells m digest layout (stepped s word (cell_word cell) id me.1 (holding ns) keeps)) (sym same) (held_by_growing leaf first news is known other_key sees grown (noted_as news same) (ahead_to leaf first news known grown same)),
           has_held nodes puts (free_other leaf first news is known other_key sees grown (noted_as news same) (ahead_to leaf first news known grown same)),

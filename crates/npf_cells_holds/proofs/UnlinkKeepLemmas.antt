@@ -24,13 +24,15 @@ use Rattle.npf_connections.specs.Pass.{all_places}
 use Rattle.npf_paths.specs.declared.cell.Cell.TheVariants.{Empty, Leaf}
 use Rattle.npf_paths.specs.declared.place.Place.{Place}
 use Rattle.npf_paths.specs.declared.place.Place.TheVariants as Places
-use Rattle.npf_paths.specs.Paths.{IsOnPath}
+use Rattle.npf_paths.specs.Paths.{IsOnPath, IsEnd}
 use Rattle.npf_paths.specs.Places.{lock_of}
 use Rattle.npf_paths.proofs.FillingLemmas.{filled_back, filled_places}
 use Rattle.npf_cells_words.specs.declared.layout.Layout.{Layout}
+use Rattle.npf_cells_words.specs.declared.mark.Marked.{Marked}
 use Rattle.npf_cells_words.specs.Codes.{place_code}
 use Rattle.npf_cells_words.specs.Layout.{epoch_word, reader_word, root_at, turn_field, phase_field, notes_field, note_field}
-use Rattle.npf_cells_words.specs.Places.{IsInTrie, place_at}
+use Rattle.npf_cells_words.specs.MarkWords.{shown_of, IsBareNode}
+use Rattle.npf_cells_words.specs.Places.{IsInTrie, IsPlaceIn, place_at}
 use Rattle.npf_cells_words.proofs.CodeLemmas.{codes_are_apart}
 use Rattle.npf_cells_words.proofs.WordLemmas.{place_behind, place_lock}
 use Rattle.npf_seats.specs.Seats.{FitsSeats, Seats}
@@ -45,7 +47,7 @@ use Rattle.npf_cells_leaves.specs.declared.trie.TrieSide.{TrieSide}
 use Rattle.npf_cells_leaves.specs.Trie.{digits_of, TrieWords, trie_words, FitsTrie, Trie}
 use Rattle.npf_cells_leaves.proofs.EmptyLemmas.{TakesKey, EmptiesPlace, empties_place, trie_emptied, fits_emptied}
 use Rattle.npf_cells_leaves.proofs.GivenLemmas.{others-fit}
-use Rattle.npf_cells_leaves.proofs.TrieLemmas.{KnowsNoMore, grown-set, knows_same, are_digits}
+use Rattle.npf_cells_leaves.proofs.TrieLemmas.{KnowsNoMore, cell_there, grown-set, knows_same, are_digits}
 use Rattle.npf_cells_lives.specs.declared.turn.Turn.{Turn}
 use Rattle.npf_cells_lives.specs.Conns.{Conns, entry_seat}
 use Rattle.npf_cells_lives.specs.Deaths.{first_note, slots_named, Deaths, unreclaimed}
@@ -62,12 +64,15 @@ use Rattle.npf_cells_lives.proofs.LockLemmas.{locks-same, holders-set, locks_alo
 use Rattle.npf_cells_lives.proofs.PoolLemmas.{pools-kept, taken-set}
 use Rattle.npf_cells_lives.proofs.StoredLemmas.{stored_kept, stored-set}
 use Rattle.npf_cells_lives.proofs.TurnLemmas.{turns-kept, turns_alone}
+use Rattle.npf_cells_marks.specs.Marks.{Marks}
 use Rattle.npf_cells_rule.specs.declared.view.CellView.{CellView}
 use Rattle.npf_cells_rule.specs.Cells.{FitsAlone, IsCells}
 use Rattle.npf_cells_rule.specs.Passes.{cell_pass}
-use Rattle.npf_cells_rule.specs.Views.{seat_side, reader_view, lock_side, pool_side, trie_side, turn_side, death_side, seen_side}
+use Rattle.npf_cells_rule.specs.Views.{seat_side, reader_view, lock_side, mark_side, pool_side, trie_side, turn_side, death_side, seen_side}
 use Rattle.npf_cells_rule.proofs.EntryLemmas.{adds_entry, sole_entries}
 use Rattle.npf_cells_rule.proofs.Frames.{alone-set, alone_still, framed, epochs_apart}
+use Rattle.npf_cells_rule.proofs.MarkFrames.{meets_less}
+use Rattle.npf_cells_rule.proofs.MarkMetLemmas.{marks_in_place}
 use Rattle.npf_cells_holds.specs.UnlinkKinds.{MayUnlink, unlinked, HasUnlinked, Unlinks}
 use Rattle.npf_cells_holds.proofs.ForgottenLemmas.{epochs_forgot}
 use Rattle.npf_cells_holds.proofs.PlaceLemmas.{cell_here, cell_else, key_else, inc_else, parent_else, turn_else, lock_else, own_else, note_else}
@@ -78,6 +83,11 @@ use Rattle.npf_cells_holds.proofs.UnheldLemmas.{still_held, held_before, killer_
 numbered : (p : Place) → 1 ≤ place_code p
 numbered (Places.Root digit) = omega arith
 numbered (Places.Node node digit) = omega arith
+
+-- nothing stands in a place of a bare node
+bare_place : (layout : Layout) (words : List ℕ) (p : Place) (node : ℕ) → IsPlaceIn node p → IsInTrie layout p → IsBareNode layout words node → slice_index words (place_at layout p) ≡ 0
+bare_place layout words (Places.Root digit) node within inside bare = absurd within
+bare_place layout words (Places.Node other digit) node within inside bare = ap (λ x. slice_index words (place_at layout (Places.Node x digit))) within ∙ bare digit inside.1
 
 module _ {S A R : Type 0} (m : Meaning S A R) (digest : Key → ℕ) (layout : Layout) where
   module _ (s : State (Running S) (CellView S A R)) (id : ℕ) (me : Me (Running S) (CellView S A R)) (kept : IsCells m digest layout s) (at : get_elem? s.views id ≡ some me.0) (lives : me.0.seats.lives ≡ true) (settled : me.0.seats.theirs ≡ []) (place : 1 ≤ length me.0.seats.readers)
@@ -211,11 +221,15 @@ module _ {S A R : Type 0} (m : Meaning S A R) (digest : Key → ℕ) (layout : L
     pools_after : Pools layout (taken pool_side kept.published k' views') words'
     pools_after = pools-kept layout (taken pool_side kept.published k s.views) (taken pool_side kept.published k' views') s.words words' kept.pools (length-set s.words word 0) below (taken-set pool_side kept.published k s.views id me.0 giver at refl refl)
 
+    -- the pass knows no more of the trie
+    less : KnowsNoMore me.0.trie giver.trie
+    less = record { stands = λ point e. e; leaf = λ leaf e. e; seen = λ x e. absurd cc; locks = refl; answered = λ i c. c; marks = refl; emptied = λ e is. absurd cc; met_mark = λ y is. is; grown = refl; regained = refl }
+
     -- each seat fits still: none but this pass had the place's lock
     trie_after : Trie trie_side digest layout kept.published k' words' views'
     trie_after = trie_emptied trie_side digest layout kept.published k k' s.words words' s.views views' conn way p end.level (digits_of digest held.0) kept.trie takes empties (grown-set trie_side s.views id me.0 giver at refl refl)
         (others-fit trie_side layout digest k' t' s.views id giver
-        (still me.0.trie giver.trie (record { stands = λ point e. e; leaf = λ leaf e. e; seen = λ x e. absurd cc; locks = refl; answered = λ i c. c; marks = refl; emptied = λ e is. is; met_mark = λ y is. is; grown = refl; regained = refl }) (λ x e. absurd cc) (kept.trie.each id me.0 at))
+        (still me.0.trie giver.trie less (λ x e. absurd cc) (kept.trie.each id me.0 at))
         (λ j u ne e. still u.trie u.trie (knows_same u.trie)
         (λ x seen has same. locks_alone lock_side layout s.words s.views j id u me.0 (lock_of p) kept.locks (place_lock layout p inside) e at (subst (λ q. Contains u.trie.locks (lock_of q)) same has) may.locked ne) (kept.trie.each j u e)))
       where
@@ -279,6 +293,18 @@ module _ {S A R : Type 0} (m : Meaning S A R) (digest : Key → ℕ) (layout : L
     fits_alone : FitsAlone giver
     fits_alone = alone_still me.0 giver (kept.alone id me.0 at) place refl (λ none. absurd (none_listed (lock_of p) (subst (λ locks. Contains locks (lock_of p)) none.locks may.locked)))
 
+    -- the pass marked no node in which a leaf stands
+    unmarked : (x : Marked) → Contains me.0.trie.marks x → ¬ (IsPlaceIn x.node p)
+    unmarked x c within =
+        let bare = (kept.marks.marks id me.0 x at c).bare in
+        let none : t.cell p ≡ Empty = cell_there layout s.words p inside ∙ ap shown_of (bare_place layout s.words p x.node within inside bare) in
+        let no : Leaf conn.slot way ≡ Empty = sym empties.stood ∙ none in
+        cc
+
+    marks_after : Marks mark_side layout kept.published words' views'
+    marks_after = marks_in_place m digest layout s kept p inside id 0 me.0 giver kept.published (digits_of digest held.0) end.level at may.locked (are_digits digest held.0) on (subst IsEnd (sym empties.stood) tt) (λ mark. cc) unmarked
+        (λ n c. c) (meets_less me.0.trie giver.trie less) refl refl refl (λ x c one. absurd (omega (arith, one))) refl
+
     pub unlinks : IsCells m digest layout (stepped s word 0 id me.1 giver keeps)
     unlinks = framed m digest layout s (stepped s word 0 id me.1 giver keeps) kept kept.published (kept.log ++ entry ∷ []) (length-set s.words word 0)
         seats_after
@@ -292,6 +318,7 @@ module _ {S A R : Type 0} (m : Meaning S A R) (digest : Key → ℕ) (layout : L
         (subst (λ x. Deaths death_side layout x words' views') (sym state) deaths_after)
         (subst (λ x. Known (seen_side m) pool_side x views') (sym state) known_after)
         (subst (λ x. Notes turn_side pool_side layout t'.cell x words' views') (sym state) notes_after)
+        marks_after
         (alone-set s.views id giver fits_alone kept.alone)
 
     -- the Unhold ends what the pass has then seen
