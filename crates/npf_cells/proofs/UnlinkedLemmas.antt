@@ -26,4 +26,5 @@ unlinked_on layout table seat seat' readers history id way me next own same is =
   epoch = omega arith;
   unanswered = own.unanswered;
   unlocked = own.unlocked;
+  marked = own.marked;
 })
