@@ -29,13 +29,14 @@ use Rattle.npf_cells_rule.specs.Views.{unloaded}
 use Rattle.npf_cells_takes.specs.PrivateKinds.{HasSeenBare}
 use Rattle.npf_turn.specs.Done.{HasLetGo}
 
--- the pass after it gave a key up, and has seen this history: it forgot the epoch that it loaded, counts the store in the trie, and has no lock and no turn
+-- the pass after it gave a key up, and has seen this history: it forgot the epoch that it loaded, counts the store in the trie, has no lock and no turn,
+-- and forgot what it found under its locks
 abbrev pub without_key : {S A R : Type 0} → CellView S A R → List (Entry S A R) → ConnId → Way → CellView S A R
 without_key v history id way = record v {
   seats = record v.seats { history = history };
   epochs = unloaded v.epochs;
   pools = giving_up id way v.pools;
-  trie = record (publishing v.trie) { locks = [] };
+  trie = record (publishing v.trie) { locks = []; emptied = None; met_mark = None };
   turn = None;
 }
 

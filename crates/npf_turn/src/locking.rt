@@ -1,4 +1,4 @@
-ghost use Rattle.std.specs.Prelude.{◌≡◌, [], ◌∷◌};
+ghost use Rattle.std.specs.Prelude.{◌≡◌, None, [], ◌∷◌};
 ghost use Rattle.npf_cells_holds.specs.LockKinds.{locking};
 ghost use Rattle.npf_cells_words.specs.Places.{IsLockOf};
 ghost use Rattle.npf_cells_rule.specs.Views.{with_trie};
@@ -36,13 +36,14 @@ pub fn lock<L: Law, H: KeyHash>(
     unreachable!()
 }
 
-/// Frees the one lock that the pass has.
+/// Frees the one lock that the pass has, which marked no node, and forgets what it found under the lock.
 pub fn unlock<L: Law, H: KeyHash>(cells: &Cells<L, H>, pass: &mut CellPass<L>, lock: Lock)
     requires own { IsPassIn cells.now pass.old }
     requires lock { IsLockOf cells.now.table.shared.key lock }
     requires only { pass.old.seat.me.0.trie.locks ≡ lock ∷ [] }
+    requires unmarked { pass.old.seat.me.0.trie.marks ≡ [] }
     ensures own { IsPassIn cells.now pass.new }
-    ensures frees { pass.new.seat.me ≡ with_trie pass.old.seat.me (record pass.old.seat.me.0.trie { locks = [] }) }
+    ensures frees { pass.new.seat.me ≡ with_trie pass.old.seat.me (record pass.old.seat.me.0.trie { locks = []; emptied = None; met_mark = None }) }
 {
     cells.store_node(pass, lock, FREE);
 }
