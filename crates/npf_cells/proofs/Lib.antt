@@ -1,2 +1,3 @@
+mod OwnLemmas
 mod PublishedLemmas
 mod UnlinkedLemmas

@@ -28,4 +28,5 @@ published_on layout table seat seat' readers history id way nodes me next own sa
   epoch = own.epoch;
   unanswered = λ _. refl;
   unlocked = own.unlocked;
+  marked = own.marked;
 })

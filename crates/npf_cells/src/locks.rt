@@ -76,13 +76,13 @@ impl<L: Law, H: KeyHash> Cells<L, H> {
         found == FREE
     }
 
-    /// Stores the state of a node, or of a place of the root, whose lock the pass has: 0 frees the lock. A node that the pass marked is let go with
-    /// the epoch that it loaded since it put the mark in the node's place, plus 2^63: nobody has its lock from then on, and nobody gets it.
+    /// Stores the state of a node, or of a place of the root, whose lock the pass has: 0 frees the lock, unless it is of a node that the pass
+    /// marked. Such a node it lets go, once its mark stands in its place, by the epoch that it loaded since, plus 2^63.
     pub fn store_node(&self, pass: &mut CellPass<L>, lock: Lock, state: u64)
         requires own { IsPassIn self.now pass.old }
         requires lock { IsLockOf self.now.table.shared.key lock }
         requires locked { Contains pass.old.seat.me.0.trie.locks lock }
-        requires may { MayStoreState pass.old.seat.me.0 lock state }
+        requires state { MayStoreState pass.old.seat.me.0 lock state }
         ensures own { IsPassIn self.now pass.new }
         ensures next { pass.new.seat.me ≡ with_trie pass.old.seat.me (unlocking self.now.table.shared.key lock state pass.old.seat.me.0.trie) }
     {
@@ -93,7 +93,7 @@ impl<L: Law, H: KeyHash> Cells<L, H> {
         requires own { IsPassIn self.now pass.old }
         requires lock { IsLockOf self.now.table.shared.key lock }
         requires locked { Contains pass.old.seat.me.0.trie.locks lock }
-        requires may { MayStoreState pass.old.seat.me.0 lock state }
+        requires state { MayStoreState pass.old.seat.me.0 lock state }
         requires aim { (W.told.layout ≡ self.now.table.shared.key) × (W.told.lock ≡ lock) × (W.told.state ≡ state) }
         ensures own { IsPassIn self.now pass.new }
         ensures next { pass.new.seat.me ≡ with_trie pass.old.seat.me (unlocking self.now.table.shared.key lock state pass.old.seat.me.0.trie) }

@@ -34,12 +34,13 @@ impl<F, S, A, R> Play<F, CellView<S, A, R>> for StoresSame {
 }
 
 impl<L: Law, H: KeyHash> Cells<L, H> {
-    ghost use Rattle.std.specs.Prelude.{◌≡◌};
+    ghost use Rattle.std.specs.Prelude.{◌≡◌, ◌≢◌};
     ghost use Rattle.npf_cells_rule.specs.Views.{with_trie};
+    ghost use Rattle.npf_paths.specs.declared.cell.Cell.TheVariants.{Mark};
     ghost use Rattle.npf_paths.specs.Paths.{IsEnd};
     ghost use Rattle.npf_cells.specs.Cells.{IsPassIn};
     ghost use Rattle.npf_cells_rule.specs.Passes.{IsProtected};
-    ghost use Rattle.npf_cells_holds.specs.PublishKinds.{aim_now, MayPublish, MayPublishFor, Published, HasHeld, publishing};
+    ghost use Rattle.npf_cells_holds.specs.PublishKinds.{aim_now, IsUnmarkedPlace, MayPublish, MayPublishFor, Published, HasHeld, publishing};
     ghost use Rattle.npf_cells_leaves.specs.Sights.{SeesLocked};
     ghost use Rattle.npf_cells_words.specs.Places.{IsInTrie};
 
@@ -67,6 +68,8 @@ impl<L: Law, H: KeyHash> Cells<L, H> {
         requires place { IsInTrie self.now.table.shared.key place }
         requires sees { SeesLocked pass.old.seat.me.0.trie place cell }
         requires end { IsEnd cell }
+        requires real { cell ≢ Mark }
+        requires unmarked { IsUnmarkedPlace pass.old.seat.me.0.trie.marks place }
         ensures own { IsPassIn self.now pass.new }
         ensures next { pass.new.seat.me ≡ with_trie pass.old.seat.me (publishing pass.old.seat.me.0.trie) }
     {

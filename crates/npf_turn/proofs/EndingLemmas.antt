@@ -1,6 +1,6 @@
 -- A key of a killed connection is given up under the slot's turn, where its note names the place of its leaf.
 use Rattle.std.specs.List.{Contains}
-use Rattle.std.proofs.Common.{◌≡◌, ◌≢◌, ℕ, ◌+◌, ◌*◌, ◌<◌, ◌≤◌, ◌↔◌, Some, None, List, [], ◌∷◌, refl, sym, ap, ◌∙◌, subst, ⊎_elim, arith}
+use Rattle.std.proofs.Common.{◌≡◌, ◌≢◌, ℕ, ◌+◌, ◌*◌, ◌<◌, ◌≤◌, ◌↔◌, Some, None, [], ◌∷◌, refl, sym, ap, ◌∙◌, subst, ⊎_elim, arith}
 use Rattle.std.proofs.lemmas.List.Elements.{Contains-append_left, Contains-push}
 use Rattle.atomic_table.specs.Table.{Me}
 use Rattle.npf_types.specs.declared.key.Way.{Way}
@@ -10,7 +10,7 @@ use Rattle.npf_core.specs.History.{state_of}
 use Rattle.npf_core.specs.declared.act.Act.TheVariants.{Unhold}
 use Rattle.npf_core.specs.declared.reply.Reply.TheVariants.{Nothing as Replied}
 use Rattle.npf_core.specs.declared.stage.Stage.TheVariants.{Dead}
-use Rattle.npf_core.specs.Machine.{stage_of, Holds, HoldsNone}
+use Rattle.npf_core.specs.Machine.{stage_of, Holds}
 use Rattle.npf_connections.specs.Adding.{AddsOwn}
 use Rattle.npf_connections.specs.Entries.{entry_of}
 use Rattle.npf_connections.specs.Pass.{IsPass}
@@ -34,7 +34,7 @@ use Rattle.npf_cells_holds.specs.UnlinkKinds.{MayUnlink, HasUnlinked}
 use Rattle.npf_cells_turns.specs.declared.act.TurnAct.TheVariants.{Nothing}
 use Rattle.npf_cells_turns.specs.EndKinds.{MayEndBy}
 use Rattle.npf_cells_turns.specs.NoteKinds.{noting, TellsKilledKey, ShowsKill}
-use Rattle.npf_cells_turns.specs.TurnKinds.{HasTaken, HasSlotTurn, turn_at}
+use Rattle.npf_cells_turns.specs.TurnKinds.{HasSlotTurn, turn_at}
 use Rattle.npf_turn.specs.Ending.{without_key, GivesUpKey, HasNoKey}
 
 -- the lock of a place that the table has is one of the table's
@@ -105,22 +105,25 @@ module _ {S A R : Type 0} (m : Meaning S A R) (layout : Layout) (old : Me (Runni
     pub only : gone.0.trie.locks ≡ lock ∷ []
     only = ap (λ (y : Me (Running S) (CellView S A R)). y.0.trie.locks) unlinks_so.is ∙ ap (λ locks. lock ∷ locks) unlocked
 
-    pub may_end_after : (freed : Me (Running S) (CellView S A R)) → freed ≡ with_trie gone (record gone.0.trie { locks = [] }) → MayEndBy m Nothing id.slot freed
-    may_end_after freed frees = subst (λ (y : Me (Running S) (CellView S A R)). MayEndBy m Nothing id.slot y) (sym (frees ∙ ap (λ (y : Me (Running S) (CellView S A R)). with_trie y (record y.0.trie { locks = [] })) unlinks_so.is))
+    pub unmarked : old.0.trie.marks ≡ [] → gone.0.trie.marks ≡ []
+    unmarked none = ap (λ (y : Me (Running S) (CellView S A R)). y.0.trie.marks) unlinks_so.is ∙ none
+
+    pub may_end_after : (freed : Me (Running S) (CellView S A R)) → freed ≡ with_trie gone (record gone.0.trie { locks = []; emptied = None; met_mark = None }) → MayEndBy m Nothing id.slot freed
+    may_end_after freed frees = subst (λ (y : Me (Running S) (CellView S A R)). MayEndBy m Nothing id.slot y) (sym (frees ∙ ap (λ (y : Me (Running S) (CellView S A R)). with_trie y (record y.0.trie { locks = []; emptied = None; met_mark = None })) unlinks_so.is))
         (record { turn = turn_told; has = refl; there = refl; may = tt; carries = refl; phase = refl; settled = refl })
 
-    pub gives_up : (freed now : Me (Running S) (CellView S A R)) → freed ≡ with_trie gone (record gone.0.trie { locks = [] }) → now ≡ (record freed.0 { turn = None }, []) → GivesUpKey m id way old now
+    pub gives_up : (freed now : Me (Running S) (CellView S A R)) → freed ≡ with_trie gone (record gone.0.trie { locks = []; emptied = None; met_mark = None }) → now ≡ (record freed.0 { turn = None }, []) → GivesUpKey m id way old now
     gives_up freed now frees ended = record {
       held = unlinks_so.held;
       dead = subst (λ h. stage_of (state_of m h) id ≡ Dead) (sym same) unlinks_so.dead;
       others = λ other key ne. subst (λ h. Holds (state_of m old.0.seats.history) id other key ↔ Holds (state_of m h) id other key) (sym same) (unlinks_so.others other key ne);
       adds = subst (λ h. AddsOwn (cell_pass old.0) h (entry_of (cell_pass old.0) (Unhold id way) Replied ∷ [])) (sym same) unlinks_so.adds;
-      legal = λ pass. subst (λ (y : Me (Running S) (CellView S A R)). IsPass m (cell_pass y.0)) (sym ended_is) (subst (λ (y : Me (Running S) (CellView S A R)). IsPass m (cell_pass (record y.0 { trie = record y.0.trie { locks = [] }; turn = None }))) (sym unlinks_so.is)
+      legal = λ pass. subst (λ (y : Me (Running S) (CellView S A R)). IsPass m (cell_pass y.0)) (sym ended_is) (subst (λ (y : Me (Running S) (CellView S A R)). IsPass m (cell_pass (record y.0 { trie = record y.0.trie { locks = []; emptied = None; met_mark = None }; turn = None }))) (sym unlinks_so.is)
           (subst (λ (y : Me (Running S) (CellView S A R)). IsPass m (cell_pass y.0)) unlinks_so.is (unlinks_so.legal pass)));
-      is = ended_is ∙ (ap (λ (y : Me (Running S) (CellView S A R)). (record y.0 { trie = record y.0.trie { locks = [] }; turn = None }, [])) unlinks_so.is ∙ ap (λ h. (without_key old.0 h id way, [])) (sym same));
+      is = ended_is ∙ (ap (λ (y : Me (Running S) (CellView S A R)). (record y.0 { trie = record y.0.trie { locks = []; emptied = None; met_mark = None }; turn = None }, [])) unlinks_so.is ∙ ap (λ h. (without_key old.0 h id way, [])) (sym same));
     }
       where
-        ended_is : now ≡ (record gone.0 { trie = record gone.0.trie { locks = [] }; turn = None }, [])
+        ended_is : now ≡ (record gone.0 { trie = record gone.0.trie { locks = []; emptied = None; met_mark = None }; turn = None }, [])
         ended_is = ended ∙ ap (λ (y : Me (Running S) (CellView S A R)). (record y.0 { turn = None }, [])) frees
 
         same : now.0.seats.history ≡ gone.0.seats.history

@@ -28,8 +28,8 @@ use Rattle.npf_seats.proofs.PrefixLemmas.{cons_cases, none_listed}
 use Rattle.npf_cells_lives.specs.Deaths.{ids_elsewhere}
 use Rattle.npf_cells_lives.specs.Turns.{Running}
 use Rattle.npf_cells_rule.specs.declared.view.CellView.{CellView}
-use Rattle.npf_cells_rule.specs.Passes.{cell_pass, IsProtected}
-use Rattle.npf_turn.specs.Ending.{without_key, HasEndedKey, HasEndedKeys, key_ended, seen_with, unhold_entries, HasNoKills, hands}
+use Rattle.npf_cells_rule.specs.Passes.{cell_pass}
+use Rattle.npf_turn.specs.Ending.{HasEndedKey, HasEndedKeys, key_ended, seen_with, unhold_entries, HasNoKills, hands}
 use Rattle.npf_turn.specs.Done.{HasLetGo}
 
 -- what gave a key up doesn't hold it

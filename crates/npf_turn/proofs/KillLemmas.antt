@@ -1,6 +1,6 @@
 -- A connection that a pass builds without keys and then kills has none.
 use Rattle.std.specs.List.{Contains}
-use Rattle.std.proofs.Common.{◌≡◌, ℕ, ◌==◌, Bool, true, false, cond, List, [], ◌∷◌, ◌++◌, refl, sym, ap, ◌∙◌, subst}
+use Rattle.std.proofs.Common.{◌≡◌, ℕ, ◌==◌, Bool, true, false, cond, List, [], ◌∷◌, refl, sym, ap, ◌∙◌, subst}
 use Rattle.std.proofs.lemmas.Bool.Decides.{Decides-eqb, not_from_Decides}
 use Rattle.atomic_table.specs.Table.{Me}
 use Rattle.npf_core.specs.declared.act.Act.TheVariants.{Kill}
@@ -9,7 +9,7 @@ use Rattle.npf_core.specs.declared.conn_id.ConnId.{ConnId}
 use Rattle.npf_core.specs.declared.entry.Entry.{Entry}
 use Rattle.npf_core.specs.declared.reply.Reply.TheVariants.{Nothing}
 use Rattle.npf_core.specs.declared.stage.Stage.TheVariants.{Building, Dead}
-use Rattle.npf_core.specs.History.{LegalFrom, Legal, MayFollow, after, by, state_from, state_of}
+use Rattle.npf_core.specs.History.{LegalFrom, Legal, after, by, state_from, state_of}
 use Rattle.npf_core.specs.Machine.{Machine, stage_of}
 use Rattle.npf_core.specs.Meaning.{Meaning}
 use Rattle.npf_core.proofs.BuildingLemmas.{builds_by, holds_none_by}

@@ -1,6 +1,5 @@
 -- A slot's connection is reclaimed under its turn, and freed.
-use Rattle.std.specs.List.{Contains}
-use Rattle.std.proofs.Common.{◌≡◌, ◌≢◌, ℕ, ◌+◌, ◌-◌, ◌^◌, ◌<◌, ◌≤◌, Bool, true, false, cond, eqb, eq-eqb, Some, None, List, [], ◌∷◌, refl, sym, ap, ◌∙◌, subst, inr, inl, arith}
+use Rattle.std.proofs.Common.{◌≡◌, ◌≢◌, ℕ, ◌-◌, ◌^◌, ◌<◌, true, false, cond, eqb, eq-eqb, Some, None, [], ◌∷◌, refl, sym, ap, ◌∙◌, subst, inr, inl, arith}
 use Rattle.std.proofs.lemmas.List.Elements.{Contains-append_left, Contains-push}
 use Rattle.atomic_table.specs.Table.{Me}
 use Rattle.npf_types.specs.declared.key.Key.{Key}
@@ -10,26 +9,21 @@ use Rattle.npf_core.specs.declared.slot.Slot.{Slot}
 use Rattle.npf_core.specs.declared.stage.Stage.{Stage}
 use Rattle.npf_core.specs.declared.stage.Stage.TheVariants.{Vacant, Building, Live, Dead}
 use Rattle.npf_core.specs.Meaning.{Meaning}
-use Rattle.npf_connections.specs.Adding.{AddsOwn}
-use Rattle.npf_connections.specs.Entries.{free_entries}
-use Rattle.npf_connections.specs.Pass.{IsPass}
 use Rattle.npf_cells_words.specs.declared.layout.Layout.{Layout}
 use Rattle.npf_cells_words.specs.declared.layout.Pool.TheVariants.{Slots}
-use Rattle.npf_cells_words.specs.Layout.{phase_field, notes_field, note_field, field_at}
+use Rattle.npf_cells_words.specs.Layout.{phase_field, notes_field, note_field}
 use Rattle.npf_cells_lives.specs.declared.turn.Turn.{Turn}
 use Rattle.npf_cells_lives.specs.Turns.{Running, running, stage_phase}
 use Rattle.npf_cells_rule.specs.declared.view.CellView.{CellView}
-use Rattle.npf_cells_rule.specs.Passes.{cell_pass}
-use Rattle.npf_cells_rule.specs.Stood.{StoodSo}
 use Rattle.npf_cells_rule.specs.Views.{with_pools}
 use Rattle.npf_cells_takes.specs.PrivateKinds.{HasTurnIn, MayClear, MayStore, ShowsTurnInc, clearing, stored_in}
 use Rattle.npf_cells_takes.specs.SlotKinds.{HasFreed, MayGiveBack}
 use Rattle.npf_cells_turns.specs.declared.act.TurnAct.TheVariants.{Nothing, Reclaim}
 use Rattle.npf_cells_turns.specs.EndKinds.{MayEndBy, with_reclaim}
 use Rattle.npf_cells_turns.specs.NoteKinds.{noting}
-use Rattle.npf_cells_turns.specs.TurnKinds.{GotTurn, HasTaken, HasSlotTurn, turn_at}
+use Rattle.npf_cells_turns.specs.TurnKinds.{HasSlotTurn, turn_at}
 use Rattle.npf_cells_turns.specs.WordKinds.{ShowsPhase}
-use Rattle.npf_turn.specs.Reclaiming.{IsLongLeft, turning, WhyLeft, was_taken, was_alive, was_early, was_last, HasFreedSlot, LeavesSlot}
+use Rattle.npf_turn.specs.Reclaiming.{IsLongLeft, turning, HasFreedSlot}
 
 -- what has this phase is Dead
 pub dead_phase : {S : Type 0} (stage : Stage S) → stage_phase stage ≡ 2 → stage ≡ Dead

@@ -80,7 +80,7 @@ fn is_marked<L: Law, H: KeyHash>(cells: &Cells<L, H>, pass: &mut CellPass<L>, lo
     }
 }
 
-/// Frees the one lock that the pass has.
+/// Frees the one lock that the pass has, which is of no node that it marked, and forgets what it found under the lock.
 pub fn unlock<L: Law, H: KeyHash>(cells: &Cells<L, H>, pass: &mut CellPass<L>, lock: Lock)
     requires own { IsPassIn cells.now pass.old }
     requires lock { IsLockOf cells.now.table.shared.key lock }

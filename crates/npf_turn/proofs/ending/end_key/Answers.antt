@@ -1,7 +1,8 @@
-use Rattle.std.proofs.Common.{◌≡◌, ℕ, ◌+◌, ◌*◌, ◌<◌, refl, sym, ap, ◌∙◌, subst}
+use Rattle.std.proofs.Common.{◌≡◌, ◌+◌, ◌*◌, ◌<◌, sym, subst}
 use Rattle.npf_paths.specs.declared.place.Lock.{Lock}
 use Rattle.npf_cells_words.specs.declared.layout.Layout.{Layout}
-use Rattle.npf_turn.proofs.EndingLemmas.{names_within, told_so, tells_keys, holding, holds_lock, may_unlink, gives_up, has_none}
+use Rattle.npf_turn.proofs.EndingLemmas.{names_within, told_so, tells_keys, holding, holds_lock, may_unlink, unmarked, gives_up, has_none}
+use Rattle.npf_turn.proofs.MarkLemmas.{none_marked}
 use Rattle.npf_turn.proofs.ending.end_key.Goals as goal
 
 pub returns-then-note-eq-NO_PLACE-clause-ends : goal.returns-then-note-eq-NO_PLACE-clause-ends
@@ -36,6 +37,17 @@ unlink-requires-clause-may g c =
     may_unlink m layout old c.args.id c.args.way taken.was note _ c.place_of-place.result
     (subst (λ (lock : Lock). c.lock-2.new.pass.seat.me ≡ holding m layout old c.args.id c.args.way taken.was note lock) c.lock.ensures held)
     c.place_of-place.ensures.is c.requires.killed c.requires.held
+
+pub unlock-requires-clause-unmarked : goal.unlock-requires-clause-unmarked
+unlock-requires-clause-unmarked g c =
+    let m = g.L.Law.meaning in
+    let layout = c.args.cells.now.table.shared.key in
+    let old = c.args.pass.now.seat.me in
+    let taken = c.wait_turn.ensures.takes in
+    let note = c.load_note-note.result in
+    let told' = told_so m layout old c.args.id c.args.way taken.was note _ _ taken.is c.load_note-note.ensures.next in
+    let held = holds_lock m layout old c.args.id c.args.way taken.was note _ _ c.lock.result told' c.lock-2.ensures.gets in
+    unmarked m layout old c.args.id c.args.way taken.was note c.lock.result _ _ held c.unlink.ensures.unlinked c.requires.unlocked (none_marked c.requires.own c.requires.unlocked)
 
 pub returns-clause-ends : goal.returns-clause-ends
 returns-clause-ends g c =

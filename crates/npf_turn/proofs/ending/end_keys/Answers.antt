@@ -1,5 +1,4 @@
-use Rattle.std.proofs.Common.{◌≡◌, refl, ap}
-use Rattle.npf_types.specs.declared.key.Way.{Way}
+use Rattle.std.proofs.Common.{◌≡◌, ap}
 use Rattle.npf_types.specs.declared.key.Way.TheVariants.{Forward, Backward, Port}
 use Rattle.npf_core.specs.declared.found.Found.{Found}
 use Rattle.npf_turn.proofs.KeysLemmas.{goes, ended_keys}

@@ -1,9 +1,9 @@
-use Rattle.std.proofs.Common.{◌≡◌, ◌⊎◌, ℕ, ◌-◌, ◌^◌, true, false, None, [], refl, sym, ap, ◌∙◌, subst, ⊎_elim}
+use Rattle.std.proofs.Common.{◌≡◌, ◌-◌, ◌^◌, true, false, None, [], refl, sym, ap, ◌∙◌, subst, ⊎_elim}
 use Rattle.npf_cells_words.specs.declared.layout.Pool.TheVariants.{Slots}
 use Rattle.npf_cells_words.specs.Layout.{phase_field, notes_field, field_at}
 use Rattle.npf_cells_rule.specs.Stood.{StoodSo}
 use Rattle.npf_cells_takes.specs.PrivateKinds.{stored_in}
-use Rattle.npf_turn.specs.Reclaiming.{IsLongLeft, WhyLeft, was_alive, was_early, was_last}
+use Rattle.npf_turn.specs.Reclaiming.{IsLongLeft, was_alive, was_early, was_last}
 use Rattle.npf_turn.proofs.ReclaimLemmas.{told_so, phase_shown, inc_is, may_reclaim}
 use Rattle.npf_turn.proofs.reclaiming.reclaim.Goals as goal
 

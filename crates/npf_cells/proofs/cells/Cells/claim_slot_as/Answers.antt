@@ -6,6 +6,7 @@ use Rattle.npf_cells_words.specs.declared.layout.Pool.TheVariants.{Slots}
 use Rattle.npf_cells_words.specs.Layout.{pool_at, place_word}
 use Rattle.npf_cells_takes.specs.SlotKinds.{HasSeenSlots}
 use Rattle.npf_cells_takes.proofs.SlotKeepLemmas.{may_claim_slot}
+use Rattle.npf_cells.proofs.OwnLemmas.{claimed_on}
 use Rattle.npf_cells.proofs.cells.Cells.claim_slot_as.Goals as goal
 
 pub fetch_or-found-requires : goal.fetch_or-found-requires
@@ -23,3 +24,6 @@ returns-clause-loses g c = λ no.
     let set : bit_at c.fetch_or-found.result (c.args.slot % 64) ≢ 0 = not_from_Decides _ (Decides-eqb (bit_at c.fetch_or-found.result (c.args.slot % 64)) 0) (sym c.is_clear.ensures ∙ no) in
     subst (λ (y : Layout × ℕ × ℕ). HasSeenSlots g.L.Law.meaning y.0 (y.1 / 64) y.2 c.args.pass.now.seat.me c.fetch_or-found.new.seat.me) (λ i. (aim.0 i, aim.1 i, sym told.finds i))
     (told.lost (λ e. set (ap (λ n. bit_at c.fetch_or-found.result (n % 64)) (sym aim.1) ∙ e)))
+
+pub returns-clause-own : goal.returns-clause-own
+returns-clause-own g c = claimed_on c.args.self.now.table.shared.key _ _ _ _ c.args.pass.now.seat.me _ c.requires.own c.fetch_or-found.ensures.0 g.L.Law.meaning g.W.Told.told.layout g.W.Told.told.packet g.W.Told.told.number _ c.fetch_or-found.ensures.2.won c.fetch_or-found.ensures.2.lost c.requires.protected

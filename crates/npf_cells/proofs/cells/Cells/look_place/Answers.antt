@@ -3,6 +3,7 @@ use Rattle.npf_cells_words.specs.declared.layout.Layout.{Layout}
 use Rattle.npf_cells_words.specs.Places.{place_at}
 use Rattle.npf_cells_holds.proofs.LookKeepLemmas.{may_look, fits_word}
 use Rattle.npf_cells_words.proofs.WordLemmas.{place_reach}
+use Rattle.npf_cells.proofs.OwnLemmas.{looked_on}
 use Rattle.npf_cells.proofs.cells.Cells.look_place.Goals as goal
 
 pub load-found-requires : goal.load-found-requires
@@ -18,3 +19,6 @@ of_word-requires g c =
     let table = c.args.self.now in
     let narrow : (table.table.shared.key.slots < 2 ^ 32) × (table.table.shared.key.nodes < 2 ^ 32) = subst (λ (l : Layout). (l.slots < 2 ^ 32) × (l.nodes < 2 ^ 32)) (sym table.laid) table.narrow in
     fits_word table.table.shared.key _ narrow.0 narrow.1 (rw c.requires.aim.0 at c.load-found.ensures.2.looks.fits)
+
+pub returns-clause-own : goal.returns-clause-own
+returns-clause-own g c = looked_on c.args.self.now.table.shared.key _ _ _ _ c.args.pass.now.seat.me _ c.requires.own c.load-found.ensures.0 g.L.Law.meaning g.H.KeyHash.digest g.W.Told.told.layout g.W.Told.told.packet g.W.Told.told.key g.W.Told.told.place _ c.load-found.ensures.2.looks c.requires.protected
