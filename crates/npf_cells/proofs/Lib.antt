@@ -1,2 +1,3 @@
 mod PublishedLemmas
 mod UnlinkedLemmas
+mod ZeroLemmas
