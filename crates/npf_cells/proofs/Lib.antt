@@ -1,3 +1,4 @@
 mod OwnLemmas
 mod PublishedLemmas
 mod UnlinkedLemmas
+mod ZeroLemmas

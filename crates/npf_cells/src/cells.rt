@@ -13,6 +13,8 @@ use crate::rule::CellsRule;
 use crate::told::Told;
 use arrayvec::ArrayVec;
 use atomic_table::{Refused, Seat, Table};
+use bumpalo::Bump;
+use bumpalo::collections::into_bump_slice;
 use npf_cells_rule::CellView;
 use npf_cells_words::{EPOCH, FIRST_EPOCH, IDLE, Layout, Pool, READERS, reader_place};
 use npf_core::Law;
@@ -109,9 +111,10 @@ impl<L: Law, H: KeyHash> Cells<L, H> {
         ensures turnless { IfOk result (λ made. made.1.seat.me.0.turn ≡ None) }
     {
         let layout = Layout { slots, nodes };
-        let words = first_words(alloc, layout)?;
+        let arena = Bump::new(alloc);
+        let words = first_words(&arena, layout)?;
         let homes = vacant_homes::<L::State>(alloc, slots)?;
-        match Table::new(alloc, words.as_slice(), homes, &layout) {
+        match Table::new(alloc, words, homes, &layout) {
             Ok((table, seat)) => {
                 let cells = Cells { table, layout };
                 let readers = all_readers();
@@ -294,23 +297,44 @@ impl<L: Law, H: KeyHash> Cells<L, H> {
     }
 }
 
-// The words of a new table: but for the epoch and the bits past each pool's last place, all are 0.
-fn first_words(alloc: Global, layout: Layout) -> Result<Vec<u64>, NoMemory>
-    ensures words { IfOk result (λ words. words.items ≡ opening_words layout) }
-    ensures count { IfOk result (λ words. length words.items ≡ word_count layout) }
+// The words of a new table: but for the epoch and the bits past each pool's last place, all are 0. They stand in an arena, which lets
+// go of all at once: there are millions, and one by one takes an unproved build a second.
+fn first_words<'a>(arena: &'a Bump, layout: Layout) -> Result<&'a [u64], NoMemory>
+    ensures { IfOk result (λ words. words.now ≡ opening_words layout) }
 {
-    let mut words = vec![in alloc; 0; layout.words()]?;
+    let mut words = zeros(arena, layout.words())?;
     words[EPOCH] = FIRST_EPOCH;
     set_past(&mut words, layout.pool_place(Pool::Slots, 0), layout.slots);
     set_past(&mut words, layout.pool_place(Pool::Nodes, 0), layout.nodes);
+    Ok(into_bump_slice(words))
+}
+
+// So many words, all of them 0, block by block.
+fn zeros<'a>(arena: &'a Bump, count: usize) -> Result<Vec<u64, &'a Bump>, NoMemory>
+    ensures { IfOk result (λ words. words.items ≡ replicate count 0) }
+{
+    let block = [0; 512];
+    let mut words = Vec::with_capacity(arena, count)?;
+    while words.len() < count {
+        let more = (count - words.len()).min(block.len());
+        words.extend_from_slice(zeros_of(&block, more))?;
+    }
     Ok(words)
 }
 
+// So many words of a block that has 0 alone.
+fn zeros_of(block: &[u64], count: usize) -> &[u64]
+    requires zeros { block.now ≡ replicate (length block.now) 0 }
+    requires fits { count ≤ length block.now }
+    ensures { result.now ≡ replicate count 0 }
+{
+    &block[..count]
+}
+
 // The bits past the last of so many places are set, where their words begin there.
-fn set_past(words: &mut Vec<u64>, at: usize, places: u32)
-    requires { at + pool_words places ≤ length words.old.items }
-    ensures past { words.new.items ≡ with_past at places words.old.items }
-    ensures count { length words.new.items ≡ length words.old.items }
+fn set_past(words: &mut [u64], at: usize, places: u32)
+    requires { at + pool_words places ≤ length words.old }
+    ensures { words.new ≡ with_past at places words.old }
 {
     if places % 64 != 0 {
         words[at + places as usize / 64] = u64::MAX << (places % 64);
