@@ -19,7 +19,7 @@ going_answer m way arg None = Steppeds.NotLive
 going_answer m way arg (Some held) = Steppeds.Done (m.answer held.0 way arg) held.1
 
 -- the pass carries the slot's flow one step further, and nothing else of it changes
-pub record GoesOn {S A R : Type 0} (m : Meaning S A R) (slot : ℕ) (way : Way) (arg : A) (answer : Stepped R) (old now : Me (Running S) (CellView S A R)) : Type 0 where
+pub record StepsFlow {S A R : Type 0} (m : Meaning S A R) (slot : ℕ) (way : Way) (arg : A) (answer : Stepped R) (old now : Me (Running S) (CellView S A R)) : Type 0 where
   pub held : Running S
   pub was : old.1 ≡ (slot, held) ∷ []
   pub is : now ≡ (old.0, (slot, gone_on m way arg held) ∷ [])

@@ -7,7 +7,7 @@ use npf_types::Way;
 impl<L: Law, H: KeyHash> Cells<L, H> {
     ghost use Rattle.std.specs.Prelude.{◌<◌};
     ghost use Rattle.npf_cells.specs.Cells.{IsPassIn};
-    ghost use Rattle.npf_cells.specs.Stepping.{GoesOn};
+    ghost use Rattle.npf_cells.specs.Stepping.{StepsFlow};
     ghost use Rattle.npf_cells_turns.specs.TurnKinds.{HasSlotTurn};
 
     /// The flow that the slot holds goes on by a packet of that way, and has one step more, under the slot's turn. `NotLive` where the slot
@@ -24,7 +24,7 @@ impl<L: Law, H: KeyHash> Cells<L, H> {
         requires slot { slot < self.now.table.shared.key.slots }
         requires turn { HasSlotTurn pass.old.seat.me.0 slot }
         ensures own { IsPassIn self.now pass.new }
-        ensures goes { GoesOn L.meaning slot way arg.now result pass.old.seat.me pass.new.seat.me }
+        ensures steps { StepsFlow L.meaning slot way arg.now result pass.old.seat.me pass.new.seat.me }
     {
         match pass.seat.slot_mut(&self.table.shared, slot as usize) {
             Some(running) => {
