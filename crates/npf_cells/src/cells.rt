@@ -341,11 +341,14 @@ fn set_past(words: &mut [u64], at: usize, places: u32)
     }
 }
 
-// The slots of a new table.
+// The slots of a new table. There is room for twice as many, which is never touched: a block of more than 32 MB goes back to the system
+// once it is let go, where after a smaller one the C library keeps for itself what is let go later.
 fn vacant_homes<S: Copy>(alloc: Global, slots: u32) -> Result<Vec<Option<(S, u64)>>, NoMemory>
     ensures { IfOk result (λ homes. homes.items ≡ replicate slots None) }
 {
-    Ok(vec![in alloc; None; slots as usize]?)
+    let mut homes = Vec::with_capacity(alloc, 2 * slots as usize)?;
+    homes.resize(slots as usize, None)?;
+    Ok(homes)
 }
 
 // Each reader place, in the order in which the first pass has them.

@@ -28,6 +28,7 @@ mod publish;
 mod rule;
 mod sight;
 mod slots;
+mod stepping;
 mod told;
 mod turns;
 mod unlink;

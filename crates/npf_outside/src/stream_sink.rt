@@ -1,5 +1,5 @@
 // A sink over a stream, behind a buffer of its own, since `BufWriter` drops its stream where memory for a buffer is wanted.
-ghost use Rattle.std.specs.Prelude.{◌≡◌, ◌⊎◌, ◌+◌, ◌<◌, ◌≤◌, [], length, OnOk, IsErrOf, vec_len, vec_capacity};
+ghost use Rattle.std.specs.Prelude.{◌≡◌, ◌⊎◌, ◌+◌, ◌<◌, ◌≤◌, [], length, drop, OnOk, IsErrOf, vec_len, vec_capacity};
 ghost use Rattle.npf_outside.specs.Sink.{Appends, AppendsFront};
 
 use crate::sink::{Sink, SinkFault};
@@ -45,7 +45,7 @@ impl<W: Stream> StreamSink<W> {
         ensures faults { self.new.faults ≡ self.old.faults }
     {
         let (taken, passed) = write_front(&mut self.stream, self.buffer.as_slice());
-        self.buffer.drain(..taken);
+        drop_front(&mut self.buffer, taken);
         passed
     }
 
@@ -164,5 +164,18 @@ impl<W: Stream> Drop for StreamSink<W> {
             room: _,
             faults: _,
         } = self;
+    }
+}
+
+/// Drops so many bytes in front. Where they are all, none is moved, as `drain` would.
+fn drop_front(bytes: &mut Vec<u8>, count: usize)
+    requires { count ≤ length bytes.old.items }
+    ensures items { bytes.new.items ≡ drop count bytes.old.items }
+    ensures capacity { vec_capacity bytes.new ≡ vec_capacity bytes.old }
+{
+    if count == bytes.len() {
+        bytes.clear();
+    } else {
+        bytes.drain(..count);
     }
 }
