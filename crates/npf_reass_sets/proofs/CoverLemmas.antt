@@ -1,5 +1,5 @@
 -- Each piece of a key is in one of the key's sets.
-use Rattle.std.proofs.Common.{if◌then◌else◌, ◌≡◌, ◌∙◌, ◌⊎◌, ⊎_elim, inl, inr, true, false, Bool, refl, sym, subst, List, [], ◌∷◌, ◌++◌, Option, Some, None, append_assoc, append-nil, arith}
+use Rattle.std.proofs.Common.{if◌then◌else◌, ⊎_elim, true, false, Bool, sym, subst, List, [], ◌∷◌, ◌++◌, Option, Some, None, append_assoc, append-nil, arith}
 use Rattle.std.specs.Prelude.{Contains}
 use Rattle.std.proofs.lemmas.List.Elements.{Contains-append_cases, Contains-append_left, Contains-append_right, Contains-push}
 use Rattle.npf_pieces.specs.declared.arrived.Arrived.{Arrived}

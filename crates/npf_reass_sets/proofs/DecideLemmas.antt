@@ -1,22 +1,21 @@
 -- How far the sets of a class are found follows each key, and what is found of all is what is decided.
-use Rattle.std.proofs.Common.{◌≡◌, ℕ, ◌+◌, ◌-◌, ◌<◌, ◌≤◌, ◌∙◌, false, refl, sym, ap, subst, ⊎_elim, List, [], ◌∷◌, ◌++◌, length, drop, get_or, length-drop, arith}
-use Rattle.std.specs.Prelude.{All, Contains, filter, map, slice_range}
-use Rattle.std.specs.List.Sorted.{IsPermutation, IsSortedBy, ties}
+use Rattle.std.proofs.Common.{◌≡◌, ℕ, ◌+◌, ◌-◌, ◌<◌, ◌≤◌, ◌∙◌, refl, sym, ap, subst, ⊎_elim, List, [], ◌∷◌, ◌++◌, length, drop, get_or, length-drop, arith}
+use Rattle.std.specs.Prelude.{All, Contains, map, slice_range}
+use Rattle.std.specs.List.Sorted.{IsPermutation}
 use Rattle.std.proofs.lemmas.Bool.{cases_lt}
 use Rattle.std.proofs.lemmas.List.{get_or-drop, get_or-take, get_or_default, length-take}
-use Rattle.std.proofs.lemmas.List.Elements.{All-append, All-nil, Contains-get_or, filter_agree}
+use Rattle.std.proofs.lemmas.List.Elements.{All-append, All-nil, Contains-get_or}
 use Rattle.std.proofs.lemmas.List.Sorted.{Contains-permutation}
 use Rattle.npf_pieces.specs.declared.arrived.Arrived.{Arrived}
 use Rattle.npf_pieces.specs.declared.arrived.SetAt.{SetAt}
 use Rattle.npf_pieces.specs.Sets.{Set, StandsIn, set_at, sets_from}
 use Rattle.npf_reass_sets.specs.declared.class.ClassSets.{ClassSets}
 use Rattle.npf_reass_sets.specs.Among.{IsSetAmong}
-use Rattle.npf_reass_sets.specs.Class.{DecidesClass, IsInSet, IsRunOfKey, class_sets, same_key}
+use Rattle.npf_reass_sets.specs.Class.{DecidesClass, IsInSet, IsRunOfKey, class_sets}
 use Rattle.npf_reass_sets.specs.Found.{HasFound}
 use Rattle.npf_reass_sets.specs.Key.{of_key}
-use Rattle.npf_reass_sets.specs.Order.{SortsByKey, is_key_below}
+use Rattle.npf_reass_sets.specs.Order.{SortsByKey}
 use Rattle.npf_reass_sets.proofs.CoverLemmas.{all_in_sets, in_left, in_right}
-use Rattle.npf_reass_sets.proofs.KeyLemmas.{ties_are_same}
 use Rattle.npf_reass_sets.proofs.RunLemmas.{run_is_key, splits_behind}
 
 some : (xs : List Arrived) → 0 < length xs → Arrived
@@ -89,14 +88,3 @@ decided old all sets same sorts found places class arrived is =
           let there = Contains-permutation old all (get_or old k d) same (Contains-get_or old k d h) in
           subst (IsInSet (map (set_at all) sets)) there.2 (f.each there.0 (get_or old k d) there.1));
     }
-
--- where pieces are sorted by the numbers of their keys
-pub sorted_by_key : (old new : List Arrived) → IsSortedBy is_key_below new → ((x : Arrived) → filter (ties is_key_below x) new ≡ filter (ties is_key_below x) old)
-    → SortsByKey old new
-sorted_by_key old new sorted stable = record {
-  sorted = sorted;
-  stable = λ key.
-      let x : Arrived = record { place = 0; time = 0; piece = record { key = key; from = 0; last = false; ip_at = 0; next_at = 0; next = 0; head_end = 0; data_at = 0; end = 0 } } in
-      let agree = filter_agree (ties is_key_below x) (same_key x) (ties_are_same x) in
-      sym (agree new) ∙ stable x ∙ agree old;
-}

@@ -1,6 +1,5 @@
 -- The order of keys, and their sameness.
-use Rattle.std.proofs.Common.{◌≡◌, ℕ, ◌∙◌, ◌&&◌, Bool, true, false, refl, sym, ap, nat_eq, List, arith}
-use Rattle.std.specs.Prelude.{not}
+use Rattle.std.proofs.Common.{◌≡◌, ℕ, ◌∙◌, true, false, refl, ap, nat_eq, List, arith}
 use Rattle.std.specs.Cmp.Lexicographic.{pointwise, slice_cmp}
 use Rattle.std.specs.Ordering.{is_eq, is_gt, is_lt, nat_cmp, ordering_reverse}
 use Rattle.std.specs.declared.cmp.Ordering.{Ordering}
@@ -37,12 +36,3 @@ pub between : (r : Ordering) → is_lt r ≡ false → is_gt r ≡ false → is_
 between Less h k = grind (arith, h)
 between Equal h k = refl
 between Greater h k = grind (arith, k)
-
-neither_is_equal : (r s : Ordering) → is_gt r ≡ is_lt s → (not (is_lt r) && not (is_lt s)) ≡ is_eq r
-neither_is_equal Less s h = refl
-neither_is_equal Equal s h = ap not (sym h)
-neither_is_equal Greater s h = ap not (sym h)
-
--- two keys tie exactly where they are the same
-pub ties_are_same : (a b : Arrived) → (not (is_key_below a b) && not (is_key_below b a)) ≡ same_key a b
-ties_are_same a b = neither_is_equal (key_cmp a b) (key_cmp b a) (above_is_below a b) ∙ same_is_equal a b

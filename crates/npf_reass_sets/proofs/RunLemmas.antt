@@ -11,13 +11,13 @@ use Rattle.std.proofs.lemmas.List.Elements.{All-head, All-tail, filter-append}
 use Rattle.std.proofs.lemmas.List.Sorted.{ranks_by, sorted_far}
 use Rattle.npf_pieces.specs.declared.arrived.Arrived.{Arrived}
 use Rattle.npf_reass_sets.specs.Class.{IsRunOfKey, SplitsKeys, same_key}
-use Rattle.npf_reass_sets.specs.Key.{key_numbers, is_frag_key, of_key}
+use Rattle.npf_reass_sets.specs.Key.{key_numbers, of_key}
 use Rattle.npf_reass_sets.specs.Order.{is_key_below}
 use Rattle.std.specs.List.Sorted.{IsSortedBy}
 use Rattle.npf_reass_sets.proofs.KeyLemmas.{above_is_below, between, key_cmp, same_is_equal}
 
 -- what is known of same keys
-equal_of : (a b : Arrived) → same_key a b ≡ true → key_cmp a b ≡ Equal
+pub equal_of : (a b : Arrived) → same_key a b ≡ true → key_cmp a b ≡ Equal
 equal_of a b h = (Equal-is (key_cmp a b)).0 (same_is_equal a b ∙ h)
 
 same_of : (a b : Arrived) → key_cmp a b ≡ Equal → same_key a b ≡ true

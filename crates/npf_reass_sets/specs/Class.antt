@@ -1,7 +1,6 @@
 -- What the decision of a class tells.
-use Rattle.std.specs.Prelude.{ℕ, ◌+◌, ◌<◌, ◌≤◌, ◌≡◌, true, false, Bool, List, All, Contains, IsPermutation, length, map, slice_index_or}
+use Rattle.std.specs.Prelude.{ℕ, ◌<◌, ◌≤◌, ◌≡◌, true, false, Bool, List, All, Contains, IsPermutation, length, map, slice_index_or}
 use Rattle.npf_pieces.specs.declared.arrived.Arrived.{Arrived}
-use Rattle.npf_pieces.specs.declared.arrived.SetAt.{SetAt}
 use Rattle.npf_pieces.specs.Sets.{Set, StandsIn, set_at}
 use Rattle.npf_reass_sets.specs.declared.class.ClassSets.{ClassSets}
 use Rattle.npf_reass_sets.specs.Among.{IsSetAmong}

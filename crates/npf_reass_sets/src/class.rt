@@ -6,7 +6,7 @@ ghost use Rattle.npf_pieces.specs.Sets.{StandsIn, set_at};
 ghost use Rattle.npf_reass_sets.specs.Class.{DecidesClass, IsRunOfKey, same_key};
 ghost use Rattle.npf_reass_sets.specs.Found.{HasFound};
 ghost use Rattle.npf_reass_sets.specs.Key.{key_numbers};
-ghost use Rattle.npf_reass_sets.specs.Order.{SortsByKey};
+ghost use Rattle.npf_reass_sets.specs.Order.{AreByPlace, SortsByKey};
 
 use crate::key::key_numbers;
 use npf_pieces::{Arrived, SetAt, SetFinder};
@@ -37,7 +37,8 @@ impl ClassSets {
 
     /// Decides what becomes of the pieces, if there is memory for it.
     pub fn decide(&mut self, alloc: Global)
-        requires { All IsTaken self.old.arrived.items }
+        requires taken { All IsTaken self.old.arrived.items }
+        requires order { AreByPlace self.old.arrived.items }
         ensures { self.new.decided ≡ true → DecidesClass self.old.arrived.items self.new }
     {
         self.decided = self.find_sets(alloc).is_ok();
@@ -45,26 +46,28 @@ impl ClassSets {
 
     /// Finds the sets of the pieces.
     fn find_sets(&mut self, alloc: Global) -> Result<(), NoMemory>
-        requires { All IsTaken self.old.arrived.items }
+        requires taken { All IsTaken self.old.arrived.items }
+        requires order { AreByPlace self.old.arrived.items }
         ensures { OnOk result (DecidesClass self.old.arrived.items self.new) }
     {
-        sort_by_key(&mut self.arrived)?;
+        sort_by_key(&mut self.arrived);
         self.sets = sets_by_key(alloc, self.arrived.as_slice())?;
         Ok(())
     }
 }
 
-/// Brings the pieces of each key side by side, in the order in which they came.
-fn sort_by_key(arrived: &mut Vec<Arrived>) -> Result<(), NoMemory>
+/// Brings the pieces of each key side by side, in the order in which they came. Their places tell that order, so it is
+/// done in place.
+fn sort_by_key(arrived: &mut Vec<Arrived>)
+    requires { AreByPlace arrived.old.items }
     ensures same { IsPermutation arrived.old.items arrived.new.items }
-    ensures sorts { IfOk result (λ _. SortsByKey arrived.old.items arrived.new.items) }
+    ensures sorts { SortsByKey arrived.old.items arrived.new.items }
 {
-    arrived.sort_by_key(
+    arrived.sort_unstable_by_key(
         |arrived: &Arrived|
-            ensures { result ≡ key_numbers arrived.now.piece.key }
-        { key_numbers(&arrived.piece.key) },
-    )?;
-    Ok(())
+            ensures { result ≡ (key_numbers arrived.now.piece.key, arrived.now.place) }
+        { (key_numbers(&arrived.piece.key), arrived.place) },
+    );
 }
 
 /// The sets of pieces that are in the order of their keys.

@@ -1,5 +1,5 @@
 -- The pieces among packets, by their places.
-use Rattle.std.proofs.Common.{◌≡◌, ℕ, ◌+◌, ◌-◌, ◌<◌, ◌≤◌, ◌∙◌, ⊎_elim, zero, suc, refl, sym, ap, subst, List, [], ◌∷◌, ◌++◌, length, get_or, arith}
+use Rattle.std.proofs.Common.{◌≡◌, ℕ, ◌+◌, ◌-◌, ◌<◌, ◌≤◌, ◌∙◌, ⊎_elim, zero, suc, refl, sym, ap, subst, List, [], ◌∷◌, length, get_or, arith}
 use Rattle.std.specs.Prelude.{Contains}
 use Rattle.std.specs.List.{AllZip}
 use Rattle.std.proofs.lemmas.List.Elements.{Contains-append_cases, Contains-append_left, Contains-append_right}
@@ -8,7 +8,7 @@ use Rattle.npf_pieces.specs.declared.arrived.Arrived.{Arrived}
 use Rattle.npf_pieces.specs.declared.piece.Piece.{Piece}
 use Rattle.npf_pieces.specs.declared.piece.Seen.{Seen}
 use Rattle.npf_reass_sets.specs.Among.{arrived_at, arrived_from}
-use Rattle.npf_reass_whole.proofs.WriteLemmas.{head}
+use Rattle.npf_reass_sets.proofs.FilterLemmas.{head}
 
 -- what holds of two lists side by side
 pub all_zip_at : {A B : Type 0} (R : A → B → Type 0) (xs : List A) (ys : List B) (i : ℕ) (d : A) (e : B) → AllZip R xs ys → i < length xs

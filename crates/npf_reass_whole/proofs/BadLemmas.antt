@@ -1,5 +1,5 @@
 -- Fragments that are held as bad, packet by packet.
-use Rattle.std.proofs.Common.{◌≡◌, ◌≢◌, ℕ, ◌+◌, ◌<◌, ◌≤◌, ◌∙◌, ⊎_elim, refl, sym, ap, subst, List, length, get_or, set, arith, get_or-set_other}
+use Rattle.std.proofs.Common.{◌≡◌, ◌≢◌, ℕ, ◌+◌, ◌<◌, ◌≤◌, ◌∙◌, ⊎_elim, sym, subst, List, length, get_or, set, arith, get_or-set_other}
 use Rattle.std.proofs.lemmas.Bool.{cases_lt}
 use Rattle.std.proofs.lemmas.List.{get_or-set_same, get_or_default}
 use Rattle.npf_traffic.specs.declared.packet.Packet.{Packet}

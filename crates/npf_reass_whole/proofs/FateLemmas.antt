@@ -1,11 +1,8 @@
 -- What became of each packet, from what was held and what was put in its place.
-use Rattle.std.proofs.Common.{◌≡◌, ◌≢◌, ℕ, ◌+◌, ◌-◌, ◌<◌, ◌≤◌, ◌∙◌, ◌⊎◌, Bool, true, false, ⊎_elim, zero, suc, refl, sym, ap, subst, List, [], ◌∷◌, length, get_or, arith}
+use Rattle.std.proofs.Common.{◌≡◌, ◌≢◌, ℕ, ◌+◌, ◌-◌, ◌<◌, ◌≤◌, ◌∙◌, Bool, true, false, ⊎_elim, zero, suc, refl, sym, ap, subst, List, [], ◌∷◌, length, get_or, arith}
 use Rattle.std.specs.Prelude.{All, Contains}
 use Rattle.std.specs.List.{AllZip}
-use Rattle.std.proofs.lemmas.Bool.{cases_eq}
 use Rattle.std.proofs.lemmas.List.Elements.{All-contains}
-use Rattle.npf_types.specs.declared.link.Link.TheVariants.{Raw}
-use Rattle.npf_traffic.specs.declared.packet.FragWhy.{FragWhy}
 use Rattle.npf_traffic.specs.declared.packet.Packet.{Packet}
 use Rattle.npf_pieces.specs.declared.arrived.Arrived.{Arrived}
 use Rattle.npf_pieces.specs.declared.arrived.Ending.{Ending}

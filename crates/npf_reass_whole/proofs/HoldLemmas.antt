@@ -1,5 +1,5 @@
 -- Packets that are held, step by step, and which were held in the end.
-use Rattle.std.proofs.Common.{◌≡◌, ◌≢◌, ℕ, ◌+◌, ◌<◌, ◌∙◌, ◌⊎◌, ⊎_elim, inl, inr, suc, refl, sym, ap, List, [], ◌∷◌, ◌++◌, length, drop, get_or, set, arith}
+use Rattle.std.proofs.Common.{◌≡◌, ◌≢◌, ℕ, ◌+◌, ◌<◌, ◌∙◌, ◌⊎◌, ⊎_elim, inl, inr, refl, sym, ap, List, [], ◌∷◌, ◌++◌, length, drop, get_or, set, arith}
 use Rattle.std.specs.Prelude.{All, Contains, map, slice_range}
 use Rattle.std.proofs.lemmas.List.{drop_more}
 use Rattle.std.proofs.lemmas.List.Elements.{Contains-append_cases, Contains-append_left, Contains-append_right}
@@ -14,7 +14,8 @@ use Rattle.npf_reass_sets.specs.declared.class.ClassSets.{ClassSets}
 use Rattle.npf_reass_sets.specs.Class.{class_sets}
 use Rattle.npf_reass_whole.specs.Fate.{held_as}
 use Rattle.npf_reass_whole.specs.Run.{all_sets, why_held, with_held, with_sets_held}
-use Rattle.npf_reass_whole.proofs.WriteLemmas.{IsUnwritten, IsWritten, head, length-with_packet, parts, tail, written, written_or_not}
+use Rattle.npf_reass_sets.proofs.FilterLemmas.{head, parts, tail}
+use Rattle.npf_reass_whole.proofs.WriteLemmas.{IsUnwritten, IsWritten, length-with_packet, written, written_or_not}
 
 -- what is left to be held, one step on
 pub held_step : (why : FragWhy) (pieces : List Arrived) (i : ℕ) (d : Arrived) (packets : List Packet) (p : Packet) (n : ℕ) → i < length pieces

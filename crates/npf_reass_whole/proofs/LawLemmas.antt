@@ -14,7 +14,7 @@ use Rattle.npf_pieces.specs.Piece.{SeenAs}
 use Rattle.npf_pieces.specs.Sets.{Set}
 use Rattle.npf_reass_sets.specs.Among.{arrived_from}
 use Rattle.npf_reass_whole.specs.Fate.{FollowsEnding, HasFate}
-use Rattle.npf_reass_whole.specs.Whole.{CrossesAlike, NoFragmentsStay, Whole, WholeKeeps}
+use Rattle.npf_reass_whole.specs.Whole.{CrossesAlike, NoFragmentsStay, WholeKeeps}
 
 abbrev no_seens : List Packet → List Seen
 no_seens [] = []

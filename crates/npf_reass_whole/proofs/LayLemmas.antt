@@ -1,6 +1,6 @@
 -- Datagrams of sets, put together set by set and class by class.
-use Rattle.std.proofs.Common.{◌≡◌, ◌≢◌, ◌∙◌, ⊎_elim, refl, sym, ap, subst, ℕ, ◌+◌, ◌<◌, List, [], ◌∷◌, ◌++◌, length, take, get_or, append-nil, append_assoc, zero, suc, arith}
-use Rattle.std.specs.Prelude.{All, Contains, map}
+use Rattle.std.proofs.Common.{◌≡◌, ◌≢◌, ◌∙◌, refl, sym, ap, subst, ℕ, ◌+◌, ◌<◌, List, [], ◌∷◌, ◌++◌, length, take, get_or, append-nil, append_assoc, zero, suc, arith}
+use Rattle.std.specs.Prelude.{All, map}
 use Rattle.std.proofs.lemmas.List.{map-append, take_more}
 use Rattle.std.proofs.lemmas.List.Elements.{All-append, All-cons, All-head, All-nil, All-tail, All-weaker, Contains-append_left, Contains-append_right}
 use Rattle.npf_traffic.specs.declared.packet.Packet.{Packet}
@@ -14,7 +14,7 @@ use Rattle.npf_pieces.specs.Sets.{Set, set_at}
 use Rattle.npf_reass_sets.specs.declared.class.ClassSets.{ClassSets}
 use Rattle.npf_reass_sets.specs.Class.{class_sets}
 use Rattle.npf_reass_whole.specs.Run.{AddsDatagrams, HasDatagram, HasDatagramIfComplete, IsDatagramAmong, LaysOut, all_sets}
-use Rattle.npf_reass_whole.proofs.WriteLemmas.{head}
+use Rattle.npf_reass_sets.proofs.FilterLemmas.{head}
 
 pub all_sets_append : (xs ys : List ClassSets) → all_sets (xs ++ ys) ≡ all_sets xs ++ all_sets ys
 all_sets_append [] ys = refl

@@ -1,17 +1,15 @@
 -- What the sets of a run say of its packets: their datagrams can be laid out, and each piece is the packet of its place.
-use Rattle.std.proofs.Common.{◌≡◌, ℕ, ◌+◌, ◌-◌, ◌<◌, ◌≤◌, ◌∙◌, true, refl, sym, ap, subst, List, [], ◌∷◌, ◌++◌, length, drop, take, get_or, map, append-nil, arith}
-use Rattle.std.specs.Prelude.{All, Contains, slice_range}
+use Rattle.std.proofs.Common.{◌≡◌, ℕ, ◌-◌, ◌<◌, ◌≤◌, ◌∙◌, true, sym, ap, subst, List, [], ◌∷◌, ◌++◌, length, drop, take, get_or, append-nil, arith}
+use Rattle.std.specs.Prelude.{All, Contains}
 use Rattle.std.specs.List.{AllZip}
 use Rattle.std.proofs.lemmas.List.{drop_all, take_all}
 use Rattle.std.proofs.lemmas.List.Elements.{All-append, All-contains, All-contains_itself, All-drop, All-filter, All-get_or, All-head, All-map, All-nil, All-tail, All-take, All-weaker}
 use Rattle.npf_traffic.specs.declared.packet.Packet.{Packet}
 use Rattle.npf_traffic.specs.Packet.{IsShortPacket}
 use Rattle.npf_pieces.specs.declared.arrived.Arrived.{Arrived}
-use Rattle.npf_pieces.specs.declared.arrived.SetAt.{SetAt}
 use Rattle.npf_pieces.specs.declared.arrived.Ending.TheVariants.{Complete}
-use Rattle.npf_pieces.specs.declared.piece.Piece.{Piece}
 use Rattle.npf_pieces.specs.declared.piece.Seen.{Seen}
-use Rattle.npf_pieces.specs.Datagram.{CompleteIsWhole, IsPieceOf, StandsAmong, WholeIfComplete}
+use Rattle.npf_pieces.specs.Datagram.{CompleteIsWhole, StandsAmong, WholeIfComplete}
 use Rattle.npf_pieces.specs.DatagramAt.{PutTogether}
 use Rattle.npf_pieces.specs.OpenSet.{IsTaken}
 use Rattle.npf_pieces.specs.Piece.{SeenAs}
@@ -19,7 +17,7 @@ use Rattle.npf_pieces.specs.Sets.{Set, is_whole, set_at, sets_from}
 use Rattle.npf_pieces.proofs.OpenSetLemmas.{taken_of}
 use Rattle.npf_reass_sets.specs.declared.class.ClassSets.{ClassSets}
 use Rattle.npf_reass_sets.specs.Among.{IsSetAmong, arrived_from}
-use Rattle.npf_reass_sets.specs.Class.{IsInSet, class_sets}
+use Rattle.npf_reass_sets.specs.Class.{class_sets}
 use Rattle.npf_reass_sets.specs.Key.{is_frag_key, of_key}
 use Rattle.npf_reass_whole.specs.Run.{CanLayOut, DecidesRun, HasPlacesBelow, HoldsBad, IsClassAmong, IsDatagramAmong, IsSeenAs, LaysOut, PutsAll, all_sets, with_sets_held}
 use Rattle.npf_pieces.specs.DatagramAt.{with_datagrams}

@@ -1,5 +1,5 @@
 -- The packets of a run whose fragments are put together are short.
-use Rattle.std.proofs.Common.{◌≡◌, ℕ, ◌+◌, ◌-◌, ◌<◌, ◌≤◌, ◌∙◌, ⊎_elim, refl, sym, ap, subst, List, ◌++◌, length, length-append, drop, get_or, arith}
+use Rattle.std.proofs.Common.{◌≡◌, ℕ, ◌-◌, ◌<◌, ◌≤◌, ◌∙◌, ⊎_elim, ap, List, length, length-append, drop, get_or, arith}
 use Rattle.std.specs.Prelude.{All, Contains}
 use Rattle.std.specs.List.{AllZip}
 use Rattle.std.proofs.lemmas.List.{length-take}
@@ -15,7 +15,7 @@ use Rattle.npf_pieces.specs.declared.piece.Seen.{Seen}
 use Rattle.npf_pieces.specs.Datagram.{IsDatagram, IsHeaderOf, IsWholeSet, WholeIfComplete}
 use Rattle.npf_pieces.specs.DatagramAt.{PutTogether, with_datagrams}
 use Rattle.npf_pieces.specs.Piece.{SeenAs}
-use Rattle.npf_pieces.specs.Sets.{Set, not_counted, reach}
+use Rattle.npf_pieces.specs.Sets.{Set, not_counted}
 use Rattle.npf_pieces.proofs.WholeSetLemmas.{told_within}
 use Rattle.npf_reass_whole.specs.Run.{HeldIfBad, HoldsBad, IsDatagramAmong, LaysOut, with_sets_held}
 use Rattle.npf_reass_whole.proofs.AmongLemmas.{all_zip_at}

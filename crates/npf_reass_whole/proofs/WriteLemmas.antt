@@ -4,6 +4,7 @@ use Rattle.std.specs.Prelude.{Contains}
 use Rattle.std.proofs.lemmas.Bool.{cases_eq}
 use Rattle.npf_traffic.specs.declared.packet.Packet.{Packet}
 use Rattle.npf_pieces.specs.DatagramAt.{with_packet}
+use Rattle.npf_reass_sets.proofs.FilterLemmas.{head, parts, tail}
 
 pub length-with_packet : (change : Packet → Packet) (place : ℕ) (packets : List Packet) → length (with_packet change place packets) ≡ length packets
 length-with_packet change place [] = refl
@@ -23,19 +24,6 @@ kept_elsewhere change zero zero (p ∷ packets) d h = absurd (h refl)
 kept_elsewhere change zero (suc i) (p ∷ packets) d h = refl
 kept_elsewhere change (suc place) zero (p ∷ packets) d h = refl
 kept_elsewhere change (suc place) (suc i) (p ∷ packets) d h = kept_elsewhere change place i packets d (λ e. h (ap suc e))
-
-pub head : {W : Type 0} (w : W) (ws : List W) → Contains (w ∷ ws) w
-head w ws = (zero, omega arith, refl)
-
-pub tail : {W : Type 0} (v w : W) (ws : List W) → Contains ws w → Contains (v ∷ ws) w
-tail v w ws h = (suc h.0, omega (arith, h.1), h.2)
-
-parts_at : {W : Type 0} (v w : W) (ws : List W) (k : ℕ) → k < length (v ∷ ws) → get_or (v ∷ ws) k w ≡ w → (v ≡ w) ⊎ Contains ws w
-parts_at v w ws zero h e = inl e
-parts_at v w ws (suc k) h e = inr (k, omega (arith, h), e)
-
-pub parts : {W : Type 0} (v w : W) (ws : List W) → Contains (v ∷ ws) w → (v ≡ w) ⊎ Contains ws w
-parts v w ws c = parts_at v w ws c.0 c.1 c.2
 
 module _ {W : Type 0} (place_of : W → ℕ) (change : W → Packet → Packet) (last_stands : (v w : W) (p : Packet) → change w (change v p) ≡ change w p) where
   abbrev pub written : List W → List Packet → List Packet

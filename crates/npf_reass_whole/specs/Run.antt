@@ -1,5 +1,5 @@
 -- The sets of a run's pieces, as its classes tell them, and what follows of its packets.
-use Rattle.std.specs.Prelude.{◌≡◌, ℕ, ◌<◌, Some, List, [], ◌∷◌, ◌++◌, All, Contains, length, slice_index_or}
+use Rattle.std.specs.Prelude.{◌≡◌, ℕ, ◌<◌, List, [], ◌∷◌, ◌++◌, All, Contains, length, slice_index_or}
 use Rattle.std.specs.List.{AllZip}
 use Rattle.npf_traffic.specs.declared.packet.FragWhy.{FragWhy}
 use Rattle.npf_traffic.specs.declared.packet.FragWhy.TheVariants.{Held, Overlap}

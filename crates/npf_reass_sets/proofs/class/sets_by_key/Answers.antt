@@ -1,6 +1,5 @@
-use Rattle.std.proofs.Common.{◌≡◌, ℕ, ◌≤◌, ◌<◌, ◌∙◌, sym, subst, ap, List, map, length, arith}
-use Rattle.npf_pieces.specs.declared.arrived.Arrived.{Arrived}
-use Rattle.npf_pieces.specs.Sets.{Set, set_at}
+use Rattle.std.proofs.Common.{◌≡◌, ℕ, subst, map, length, arith}
+use Rattle.npf_pieces.specs.Sets.{set_at}
 use Rattle.npf_reass_sets.specs.Found.{HasFound}
 use Rattle.npf_reass_sets.proofs.DecideLemmas.{found_more}
 use Rattle.npf_reass_sets.proofs.class.sets_by_key.Goals as goal

@@ -1,4 +1,4 @@
-use Rattle.std.proofs.Common.{◌≡◌, ◌-◌, ◌≤◌, List, length, map}
+use Rattle.std.proofs.Common.{◌-◌, ◌≤◌, List, length, map}
 use Rattle.std.specs.Prelude.{All}
 use Rattle.npf_pieces.specs.declared.arrived.Arrived.{Arrived}
 use Rattle.npf_pieces.specs.Judged.{reached}

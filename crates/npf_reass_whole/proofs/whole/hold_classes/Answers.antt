@@ -1,5 +1,4 @@
 use Rattle.std.proofs.Common.{◌∙◌, ℕ, sym, subst, length, get_or}
-use Rattle.npf_reass_sets.specs.declared.class.ClassSets.{ClassSets}
 use Rattle.npf_reass_whole.specs.Run.{HasPlacesBelow}
 use Rattle.npf_reass_whole.proofs.HoldLemmas.{classes_step}
 use Rattle.npf_reass_whole.proofs.whole.hold_classes.Goals as goal

@@ -1,4 +1,4 @@
-use Rattle.std.proofs.Common.{◌≡◌, drop, length}
+use Rattle.std.proofs.Common.{◌≡◌, drop}
 use Rattle.npf_reass_whole.specs.Run.{with_held}
 use Rattle.npf_reass_whole.proofs.whole.hold_pieces.Given as goal
 

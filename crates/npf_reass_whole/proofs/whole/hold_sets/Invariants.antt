@@ -1,4 +1,4 @@
-use Rattle.std.proofs.Common.{◌≡◌, drop, map, length}
+use Rattle.std.proofs.Common.{◌≡◌, drop, map}
 use Rattle.npf_pieces.specs.Sets.{set_at}
 use Rattle.npf_reass_whole.specs.Run.{with_sets_held}
 use Rattle.npf_reass_whole.proofs.whole.hold_sets.Given as goal

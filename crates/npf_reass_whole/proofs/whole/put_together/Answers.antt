@@ -1,7 +1,5 @@
-use Rattle.std.proofs.Common.{◌≡◌, ◌∙◌, List, sym, subst, ap, All, length, arith}
-use Rattle.npf_traffic.specs.declared.packet.Packet.{Packet}
+use Rattle.std.proofs.Common.{◌≡◌, ap, length, arith}
 use Rattle.npf_pieces.specs.Datagrams.{laid_out}
-use Rattle.npf_reass_whole.specs.Whole.{Whole}
 use Rattle.npf_reass_whole.proofs.PutLemmas.{can_lay_out, datagrams_here, has_places, puts_short, puts_whole, whole_items}
 use Rattle.npf_reass_whole.proofs.whole.put_together.Goals as goal
 
