@@ -64,9 +64,9 @@ impl<L: Law, H: KeyHash, W: Told> Play<Running<L::State>, CellView<L::State, L::
 pub(crate) struct MarksState;
 
 impl<F, S, A, R> Play<F, CellView<S, A, R>> for MarksState {
-    ghost use Rattle.npf_cells_returns.specs.MarkKinds.{MarksNode};
+    ghost use Rattle.npf_cells_returns.specs.MarkKinds.{MarksEmptied};
 
-    ghost then = { MarksNode };
+    ghost then = { MarksEmptied };
 }
 
 pub(crate) struct PutsMark<W> {

@@ -34,7 +34,7 @@ use Rattle.npf_cells_rule.specs.Cells.{IsCells}
 use Rattle.npf_cells_rule.specs.Views.{lock_side, mark_side}
 use Rattle.npf_cells_rule.proofs.MarkFrames.{lock_changed}
 use Rattle.npf_cells_holds.proofs.LockKeepLemmas.{lock_step, fits_still, stored_there, held, held_there, locked_alone}
-use Rattle.npf_cells_returns.specs.MarkKinds.{MayMarkNode, MarksNode, marked_by, marking, parent_said}
+use Rattle.npf_cells_returns.specs.MarkKinds.{MayMarkNode, MarksEmptied, marked_by, marking, parent_said}
 
 -- where a path goes on to a node its word or its mark stands
 node_shown : (word node : ℕ) → shown_of word ≡ Cells.Node node → (word ≡ mark_word node) ⊎ (word ≡ cell_word (Cells.Node node))
@@ -106,7 +106,7 @@ module _ {S A R : Type 0} (m : Meaning S A R) (digest : Key → ℕ) (layout : L
       (holders-set lock_side layout s.views id me.0 marker at refl lock ∙ (held m digest layout s id me kept at lock within may.own).0) (λ digit h e. absurd (omega (arith, h, e))) (λ other ne. refl) marks_after
 
 pub may_mark_node : {S A R : Type 0} (m : Meaning S A R) (digest : Key → ℕ) (layout : Layout) (st : Step (Running S)) (id n node : ℕ) (me : Me (Running S) (CellView S A R)) → 1 ≤ length me.0.seats.readers → node < layout.nodes → MayMarkNode layout me.0 node →
-    Allows (IsCells m digest layout) n id me (lock_at layout (Locking.Node node)) (λ _. marked_state) (λ _. MarksNode st me marked_state)
+    Allows (IsCells m digest layout) n id me (lock_at layout (Locking.Node node)) (λ _. marked_state) (λ _. MarksEmptied st me marked_state)
 may_mark_node m digest layout st id n node me seated within may s kept homes at bound = (
   record me.0 { trie = marking me.0.trie },
   keeps,

@@ -74,7 +74,7 @@ abbrev pub freeing_node : ℕ → PoolSide → PoolSide
 freeing_node node side = record side { unfreed = others_than node side.unfreed; nodes = node ∷ side.nodes }
 
 -- the kinds, as what they tell
-pub record MarksNode {S A R F : Type 0} (step : Step F) (me : Me F (CellView S A R)) (value : ℕ) (next : Me F (CellView S A R)) : Type 0 where
+pub record MarksEmptied {S A R F : Type 0} (step : Step F) (me : Me F (CellView S A R)) (value : ℕ) (next : Me F (CellView S A R)) : Type 0 where
   pub is : next ≡ with_trie me (marking me.0.trie)
 
 pub record MarksPlace {S A R F : Type 0} (node : ℕ) (step : Step F) (me : Me F (CellView S A R)) (value : ℕ) (next : Me F (CellView S A R)) : Type 0 where
