@@ -2,6 +2,8 @@ pub mod EndingLemmas
 pub mod KeysLemmas
 pub mod KillLemmas
 pub mod LetGoLemmas
+pub mod LockLemmas
 pub mod MarkLemmas
 pub mod ReclaimLemmas
+pub mod TakingOffLemmas
 pub mod WorkLemmas
