@@ -4,7 +4,7 @@
 // in which it hangs. It waits for the lock of that place with the node's own: who waits with a lock waits for one further up, and who has the
 // topmost of them waits for none. If it gave up where it doesn't get that lock at once, nobody would come to the empty node again, and the
 // node would be lost with all those above it.
-ghost use Rattle.std.specs.Prelude.{◌≡◌, ◌<◌, ℕ, Some, None, [], ◌∷◌, true, false, IfSome, Contains};
+ghost use Rattle.std.specs.Prelude.{◌≡◌, ◌≢◌, ◌<◌, ℕ, Some, None, [], ◌∷◌, true, false, IfSome, Contains};
 ghost use Rattle.npf_paths.specs.declared.place.Lock.TheVariants as Locking;
 ghost use Rattle.npf_paths.specs.Places.{lock_of};
 ghost use Rattle.npf_cells_words.specs.declared.mark.Emptied.{Emptied};
@@ -110,6 +110,7 @@ fn mark_off<L: Law, H: KeyHash>(
     requires may { MayMarkNode cells.now.table.shared.key pass.old.seat.me.0 node }
     requires hangs { (found : Emptied) × (pass.old.seat.me.0.trie.emptied ≡ Some found) × (found.parent ≡ Some (place_code parent)) }
     requires both { pass.old.seat.me.0.trie.locks ≡ lock_of parent ∷ Locking.Node node ∷ [] }
+    requires apart { lock_of parent ≢ Locking.Node node }
     requires unmarked { pass.old.seat.me.0.trie.marks ≡ [] }
     requires unseen { (pass.old.seat.me.0.trie.seen ≡ None) × (pass.old.seat.me.0.trie.meets ≡ None) }
     ensures own { IsPassIn cells.now pass.new }
