@@ -1,5 +1,5 @@
 -- What a pass has while it works under a turn, and what is left when it has ended it.
-use Rattle.std.proofs.Common.{◌≡◌, ℕ, ◌+◌, ◌-◌, ◌^◌, min, Some, None, List, [], ◌∷◌, refl, sym, ap, ◌∙◌, subst, inl, inr, IsTrue, Contains}
+use Rattle.std.proofs.Common.{◌≡◌, ℕ, Some, None, List, [], ◌∷◌, refl, sym, ap, ◌∙◌, subst, inl, inr, IsTrue, Contains}
 use denote.Bor.{Bor}
 use Rattle.atomic_table.specs.Table.{Me}
 use Rattle.npf_types.specs.declared.key.Way.{Way}
@@ -7,7 +7,7 @@ use Rattle.npf_core.specs.declared.conn_id.ConnId.{ConnId}
 use Rattle.npf_core.specs.declared.slot.Slot.{Slot}
 use Rattle.npf_core.specs.declared.stage.Stage.{Stage}
 use Rattle.npf_core.specs.declared.stage.Stage.TheVariants.{Vacant, Building, Live, Dead}
-use Rattle.npf_core.specs.declared.stepped.Stepped.TheVariants as Steppeds
+use Rattle.npf_core.specs.declared.stepped.Stepped.{Stepped}
 use Rattle.npf_core.specs.Allowed.{IsDue}
 use Rattle.npf_core.specs.Meaning.{Meaning}
 use Rattle.npf_core.specs.NextState.{stepped}
@@ -25,6 +25,7 @@ use Rattle.npf_cells_turns.specs.declared.act.TurnAct.TheVariants.{Start, Step a
 use Rattle.npf_cells_turns.specs.EndKinds.{BuildsThere, HasBareNotes, stage_by, MayAct, MayEndBy}
 use Rattle.npf_cells_turns.specs.TurnKinds.{HasTaken, HasSlotTurn}
 use Rattle.npf_cells_turns.proofs.ActLemmas.{stepped_phase}
+use Rattle.npf_cells.specs.Stepping.{StepsFlow, gone_on, going_answer}
 
 -- what holds something is Live
 pub is_live : {S : Type 0} (stage : Stage S) (flow : S) (steps : ℕ) → running stage ≡ Some (flow, steps) → stage ≡ Live flow steps
@@ -37,12 +38,18 @@ is_live {S} (Live f n) flow steps e = ap alive e
     alive (Some x) = Live x.0 x.1
 is_live {S} Dead flow steps e = absurd cc
 
--- and what holds nothing takes no step
-pub stays_idle : {S A R : Type 0} (m : Meaning S A R) (way : Way) (arg : A) (stage : Stage S) → running stage ≡ None → (running (stepped m way arg stage) ≡ None) × (step_answer m way arg stage ≡ Steppeds.NotLive)
-stays_idle m way arg Vacant e = (refl, refl)
-stays_idle m way arg (Building seat) e = (refl, refl)
-stays_idle m way arg (Live flow steps) e = absurd cc
-stays_idle m way arg Dead e = (refl, refl)
+-- a step of what a stage holds is a step of the stage
+pub runs_on : {S A R : Type 0} (m : Meaning S A R) (way : Way) (arg : A) (stage : Stage S) → gone_on m way arg (running stage) ≡ running (stepped m way arg stage)
+runs_on m way arg Vacant = refl
+runs_on m way arg (Building seat) = refl
+runs_on m way arg (Live flow steps) = refl
+runs_on m way arg Dead = refl
+
+pub answers_on : {S A R : Type 0} (m : Meaning S A R) (way : Way) (arg : A) (stage : Stage S) → going_answer m way arg (running stage) ≡ step_answer m way arg stage
+answers_on m way arg Vacant = refl
+answers_on m way arg (Building seat) = refl
+answers_on m way arg (Live flow steps) = refl
+answers_on m way arg Dead = refl
 
 -- a turn of a slot that was at this, with this phase
 abbrev pub turn_of : {S : Type 0} → ℕ → Slot S → ℕ → Turn S
@@ -108,13 +115,28 @@ module _ {S A R : Type 0} where
         value_is phase_is
 
     -- it may end the turn with a step, where it carries the flow and the count that the step leaves
-    pub may_step : (m : Meaning S A R) (id : ConnId) (n : ℕ) (way : Way) (arg : Bor A) (flow : S) (steps : ℕ) → id.slot ≡ slot → old.0.turn ≡ None → Knows (cell_pass old.0) id → running was.stage ≡ Some (flow, steps) → phase ≡ stage_phase was.stage →
-        value ≡ Some (m.next flow way arg.now, min (steps + 1) (2 ^ 64 - 1)) → MayEndBy m (Steps id n way arg) slot now
-    may_step m id n way arg flow steps there turnless known held phase_is value_is =
-        let live = is_live was.stage flow steps held in
+    pub may_step : (m : Meaning S A R) (id : ConnId) (n : ℕ) (way : Way) (arg : Bor A) → id.slot ≡ slot → old.0.turn ≡ None → Knows (cell_pass old.0) id → phase ≡ stage_phase was.stage →
+        value ≡ running (stepped m way arg.now was.stage) → MayEndBy m (Steps id n way arg) slot now
+    may_step m id n way arg there turnless known phase_is value_is =
         may_end m (Steps id n way arg)
         (record { known = subst (λ (y : Me (Running S) (CellView S A R)). Knows (cell_pass y.0) id) (sym so.is) known; there = there })
-        (value_is ∙ ap (λ x. running (stepped m way arg.now x)) (sym live)) (phase_is ∙ sym (stepped_phase m way arg.now was.stage))
+        value_is (phase_is ∙ sym (stepped_phase m way arg.now was.stage))
+
+    -- what it carries after a step of the flow that the slot held
+    pub gone : (m : Meaning S A R) (way : Way) (arg : A) (answer : Stepped R) (next : Me (Running S) (CellView S A R)) → StepsFlow m slot way arg answer now next → value ≡ running was.stage →
+        Works old slot was phase (running (stepped m way arg was.stage)) next
+    gone m way arg answer next on held =
+        let flow_is : gone_on m way arg on.held ≡ running (stepped m way arg was.stage) = ap (gone_on m way arg) (sym (gave on.held on.was) ∙ held) ∙ runs_on m way arg was.stage in
+        record {
+          is = on.is
+            ∙ ap (λ v. (now.0, (slot, v) ∷ [])) flow_is
+            ∙ ap (λ (y : Me (Running S) (CellView S A R)). (y.0, (slot, running (stepped m way arg was.stage)) ∷ [])) so.is;
+        }
+
+    -- and what the step was answered
+    pub answered : (m : Meaning S A R) (way : Way) (arg : A) (answer : Stepped R) (next : Me (Running S) (CellView S A R)) → StepsFlow m slot way arg answer now next → value ≡ running was.stage →
+        answer ≡ step_answer m way arg was.stage
+    answered m way arg answer next on held = on.answers ∙ ap (going_answer m way arg) (sym (gave on.held on.was) ∙ held) ∙ answers_on m way arg was.stage
 
     -- or by killing what was Live and due
     pub may_expire : (m : Meaning S A R) (id : ConnId) (time : ℕ) (flow : S) (steps : ℕ) → id.slot ≡ slot → was.inc ≡ id.inc → running was.stage ≡ Some (flow, steps) → IsTrue (m.is_due flow time) → phase ≡ 2 → value ≡ None → MayEndBy m (Expired id time) slot now

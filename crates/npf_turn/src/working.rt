@@ -3,7 +3,7 @@
 // Who kills forgets the epoch that it loaded, so a pass with several kills loads it once behind the last, and its scan of the readers
 // begins anew. That a slot has nothing due is learned by `see`, which makes no entry: the pass sees the history as it is while it has the
 // turn.
-ghost use Rattle.std.specs.Prelude.{◌≡◌, ◌<◌, ◌+◌, ◌-◌, ◌^◌, min, None, Contains};
+ghost use Rattle.std.specs.Prelude.{◌≡◌, ◌<◌, None, Contains};
 ghost use Rattle.npf_connections.specs.Pass.{Knows};
 ghost use Rattle.npf_cells.specs.Cells.{IsPassIn};
 ghost use Rattle.npf_cells_rule.specs.Passes.{cell_pass};
@@ -66,31 +66,9 @@ pub fn step<L: Law, H: KeyHash>(
     ensures steps { HasStepped L.meaning id n way arg.now result pass.old.seat.me pass.new.seat.me }
 {
     wait_turn(rt, cells, pass, id.slot);
-    let act = TurnAct::Step { id, n, way, arg };
-    match cells.exchange(pass, id.slot, None) {
-        Some(mut running) => {
-            let place = running.1;
-            let reply = advance::<L>(&mut running, way, arg);
-            cells.exchange(pass, id.slot, Some(running));
-            cells.end_turn(pass, id.slot, &act);
-            Stepped::Done { reply, place }
-        }
-        None => {
-            cells.end_turn(pass, id.slot, &act);
-            Stepped::NotLive
-        }
-    }
-}
-
-// The flow goes on by a packet, where it stands, and has one step more; and the answer.
-#[inline(always)]
-fn advance<L: Law>(running: &mut (L::State, u64), way: Way, arg: &L::Arg) -> L::Reply
-    ensures next { running.new ≡ (L.meaning.next running.old.0 way arg.now, min (running.old.1 + 1) (2 ^ 64 - 1)) }
-    ensures answer { result ≡ L.meaning.answer running.old.0 way arg.now }
-{
-    let reply = L::advance(&mut running.0, way, arg);
-    running.1 = running.1.saturating_add(1);
-    reply
+    let stepped = cells.step_flow(pass, id.slot, way, arg);
+    cells.end_turn(pass, id.slot, &TurnAct::Step { id, n, way, arg });
+    stepped
 }
 
 /// Kills a connection that the pass is building, which has stored 0 as the note of each way of which it holds no key. It keeps its keys, and is
