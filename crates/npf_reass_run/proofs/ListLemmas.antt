@@ -1,8 +1,8 @@
 -- The classes of which the lists of offers are gone through.
-use Rattle.std.proofs.Common.{◌≡◌, ℕ, ◌+◌, ◌<◌, ◌∙◌, refl, sym, ap, subst, append-nil, append_assoc, arith}
-use Rattle.std.proofs.Common.{List, [], ◌∷◌, ◌++◌, length, take, get_or, Global, Vec}
+use Rattle.std.proofs.Common.{◌≡◌, ℕ, ◌<◌, ◌∙◌, refl, sym, ap, subst, append-nil, append_assoc, arith}
+use Rattle.std.proofs.Common.{List, [], ◌∷◌, ◌++◌, length, reverse, Global, Vec}
 use Rattle.std.specs.List.{AllZip}
-use Rattle.std.proofs.lemmas.List.{take_more}
+use Rattle.std.proofs.lemmas.List.{reverse-append}
 use Rattle.std.proofs.lemmas.Slice.Zip.{all_zipped_more}
 use Rattle.npf_traffic.specs.declared.packet.Packet.{Packet}
 use Rattle.npf_pieces.specs.declared.arrived.Arrived.{Arrived}
@@ -28,17 +28,36 @@ pub some_of : {X : Type 0} (xs : List X) (i : ℕ) → i < length xs → X
 some_of [] i h = absurd (omega (arith, h))
 some_of (x ∷ xs) i h = x
 
--- one more piece of a list
-pub arrived_more : (packets : List Packet) (list : List (ℕ × Piece)) (arrived : List Arrived)
-    (i : ℕ) (a : Arrived) → i < length list → AllZip (IsArrivedOffer packets) (take i list) arrived
-    → ((d : ℕ × Piece) → IsArrivedOffer packets (get_or list i d) a)
-    → AllZip (IsArrivedOffer packets) (take (i + 1) list) (arrived ++ a ∷ [])
-arrived_more packets list arrived i a h so_far one =
-    let d = some_of list i h in
-    subst (λ (os : List (ℕ × Piece)). AllZip (IsArrivedOffer packets) os (arrived ++ a ∷ []))
-    (sym (take_more list i d h))
-    (all_zipped_more (IsArrivedOffer packets) (take i list) arrived (get_or list i d) a so_far
-    (one d))
+-- of a list the offers from a place on have their pieces, of which the last came first
+pub record HasTaken (packets : List Packet) (all rest : List (ℕ × Piece)) (arrived : List Arrived)
+    : Type 0 where
+  pub done : List (ℕ × Piece)
+  pub is : all ≡ rest ++ done
+  pub each : AllZip (IsArrivedOffer packets) done (reverse arrived)
+
+module _ (packets : List Packet) (all : List (ℕ × Piece)) where
+  pub none_taken : HasTaken packets all all []
+  none_taken = record { done = []; is = sym (append-nil all); each = search }
+
+  pub taken_more : (before after : List (ℕ × Piece)) (offer : ℕ × Piece) (arrived : List Arrived)
+      (a : Arrived) → before ≡ after ++ offer ∷ [] → HasTaken packets all before arrived
+      → IsArrivedOffer packets offer a → HasTaken packets all after (arrived ++ a ∷ [])
+  taken_more before after offer arrived a is has one = record {
+    done = offer ∷ has.done;
+    is = has.is
+        ∙ ap (λ (l : List (ℕ × Piece)). l ++ has.done) is
+        ∙ append_assoc after (offer ∷ []) has.done;
+    each = subst (λ (l : List Arrived). AllZip (IsArrivedOffer packets) (offer ∷ has.done) l)
+        (sym (reverse-append arrived (a ∷ []))) (one, has.each);
+  }
+
+  pub all_taken : (rest : List (ℕ × Piece)) (arrived : List Arrived) → rest ≡ []
+      → HasTaken packets all rest arrived
+      → AllZip (IsArrivedOffer packets) all (reverse arrived)
+  all_taken rest arrived none has =
+      let whole = has.is ∙ ap (λ (l : List (ℕ × Piece)). l ++ has.done) none in
+      subst (λ (l : List (ℕ × Piece)). AllZip (IsArrivedOffer packets) l (reverse arrived))
+      (sym whole) has.each
 
 module _ (packets : List Packet) (all : List OfferList) where
   pub none_arrived : HasArrived packets all all []

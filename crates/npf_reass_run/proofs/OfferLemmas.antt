@@ -22,13 +22,13 @@ use Rattle.npf_pieces.specs.declared.piece.Seen.{Seen}
 use Rattle.npf_reass_sets.specs.Among.{arrived_at, arrived_from}
 use Rattle.npf_reass_whole.specs.Run.{IsSeenAs}
 use Rattle.npf_reass_whole.proofs.AmongLemmas.{all_zip_long}
-use Rattle.npf_reass_whole.proofs.WriteLemmas.{head, parts, tail}
+use Rattle.npf_reass_sets.proofs.FilterLemmas.{filter_kept, filter_left, filter_none, head, parts, tail}
 use Rattle.npf_reass.specs.declared.offer.Offer.{Offer}
 use Rattle.npf_reass.specs.Class.{offer_seat, offered}
 use Rattle.npf_reass.specs.Sight.{AddsOffer, JoinsSight, ReassSight, SplitsSight}
 use Rattle.npf_reass_run.specs.Offering.{HasOffered, OffersPacket}
 use Rattle.npf_reass_run.specs.Offering.{is_number_among, of_place, own_pieces, placed}
-use Rattle.npf_reass_run.proofs.FilterLemmas.{either_kept, filter_kept, filter_left, filter_none}
+use Rattle.npf_reass_run.proofs.FilterLemmas.{either_kept}
 
 listed_more : (m n : ℕ) (numbers : List ℕ) (b : Bool) → (m == n) ≡ b
     → (b || is_number_among numbers n) ≡ true → (is_number_among numbers n ≡ true → Contains numbers n)

@@ -11,11 +11,12 @@ use Rattle.npf_pieces.specs.declared.piece.Piece.{Piece}
 use Rattle.npf_pieces.specs.Sets.{Set, ended_by, ending_with, is_late, sets_from, unfinished}
 use Rattle.npf_reass_sets.specs.Among.{arrived_from}
 use Rattle.npf_reass_sets.specs.Key.{is_frag_key, key_numbers, of_key}
-use Rattle.npf_reass_whole.proofs.WriteLemmas.{parts}
+use Rattle.npf_reass_sets.proofs.FilterLemmas.{parts}
+use Rattle.npf_reass_sets.proofs.RiseLemmas.{AreAbove, Rise, rise_filter}
 use Rattle.npf_reass_run.specs.Laws.{OneSet}
 use Rattle.npf_reass_run.specs.Offering.{placed}
 use Rattle.npf_reass_run.proofs.FilterLemmas.{filter_map_same}
-use Rattle.npf_reass_run.proofs.GatherLemmas.{AreAbove, Rise, rise_filter, rise_from}
+use Rattle.npf_reass_run.proofs.GatherLemmas.{number_of, rise_from}
 use Rattle.npf_reass_run.proofs.ShareLemmas.{same_numbers}
 
 -- the sets' pieces, one set after the other
@@ -60,7 +61,7 @@ set_pieces [] begun = unfinished_pieces begun ∙ sym (append-nil begun)
 set_pieces (a ∷ rest) begun = by_time rest (set_pieces rest) begun a (is_late begun a)
 
 -- of places that rise each stands once
-above_all : (low : ℕ) (xs : List Arrived) (a : Arrived) → AreAbove low (map placed xs)
+above_all : (low : ℕ) (xs : List Arrived) (a : Arrived) → AreAbove number_of low (map placed xs)
     → Contains xs a → low < a.place
 above_all low [] a above c = absurd (omega (arith, c.1))
 above_all low (x ∷ xs) a above c = ⊎_elim
@@ -68,7 +69,7 @@ above_all low (x ∷ xs) a above c = ⊎_elim
     (λ (k : Contains xs a). above_all low xs a above.1 k)
     (parts x a xs c)
 
-rise_apart : (xs ys : List Arrived) (a b : Arrived) → Rise (map placed (xs ++ ys))
+rise_apart : (xs ys : List Arrived) (a b : Arrived) → Rise number_of (map placed (xs ++ ys))
     → Contains xs a → Contains ys b → a.place < b.place
 rise_apart [] ys a b rise c d = absurd (omega (arith, c.1))
 rise_apart (x ∷ xs) ys a b rise c d =
@@ -78,7 +79,7 @@ rise_apart (x ∷ xs) ys a b rise c d =
     (λ (k : Contains xs a). rise_apart xs ys a b rise.1 k d)
     (parts x a xs c)
 
-rise_behind : (xs ys : List Arrived) → Rise (map placed (xs ++ ys)) → Rise (map placed ys)
+rise_behind : (xs ys : List Arrived) → Rise number_of (map placed (xs ++ ys)) → Rise number_of (map placed ys)
 rise_behind [] ys rise = rise
 rise_behind (x ∷ xs) ys rise = rise_behind xs ys rise.1
 
@@ -94,7 +95,7 @@ in_pieces (s ∷ sets) set a among has = ⊎_elim
 
 -- a piece of the first set isn't in one of the others
 in_first : (s : Set) (sets : List Set) (set other : Set) (a : Arrived)
-    → Rise (map placed (s.pieces ++ all_pieces sets)) → s ≡ set → Contains sets other
+    → Rise number_of (map placed (s.pieces ++ all_pieces sets)) → s ≡ set → Contains sets other
     → Contains set.pieces a → Contains other.pieces a → ⊥
 in_first s sets set other a rise e k has too =
     let here = subst (λ (t : Set). Contains t.pieces a) (sym e) has in
@@ -102,7 +103,7 @@ in_first s sets set other a rise e k has too =
     let less = rise_apart s.pieces (all_pieces sets) a a rise here there in
     omega (arith, less)
 
-one_of : (sets : List Set) (set other : Set) (a : Arrived) → Rise (map placed (all_pieces sets))
+one_of : (sets : List Set) (set other : Set) (a : Arrived) → Rise number_of (map placed (all_pieces sets))
     → Contains sets set → Contains sets other → Contains set.pieces a → Contains other.pieces a
     → set ≡ other
 one_of [] set other a rise among also has too = absurd (omega (arith, among.1))
@@ -141,9 +142,9 @@ set_alone packets seens a set other is also has too =
     (λ b. ap (λ (list : List ℕ). pointwise nat_eq list (key_numbers b.piece.key)) numbers)
     arrived in
     let test = λ (o : ℕ × Piece). is_frag_key is.key o.1.key in
-    let rise : Rise (map placed mine) =
-    subst Rise (filter_map_same placed test arrived)
-    (rise_filter test (map placed arrived) (rise_from 0 packets seens)) in
+    let rise : Rise number_of (map placed mine) =
+    subst (Rise number_of) (filter_map_same placed test arrived)
+    (rise_filter number_of test (map placed arrived) (rise_from 0 packets seens)) in
     one_of (sets_from [] mine) set other a
-    (subst (λ (l : List Arrived). Rise (map placed l)) (sym (set_pieces mine [])) rise) is.is
+    (subst (λ (l : List Arrived). Rise number_of (map placed l)) (sym (set_pieces mine [])) rise) is.is
     (subst (λ (l : List Arrived). Contains (sets_from [] l) other) same also.is) has too

@@ -3,7 +3,8 @@ use Rattle.std.proofs.Common.{◌≡◌, ℕ, ◌-◌, ◌<◌, ◌≤◌, ◌==
 use Rattle.std.specs.Prelude.{All, Contains, bit_xor, filter}
 use Rattle.std.specs.Cmp.Lexicographic.{pointwise}
 use Rattle.std.proofs.lemmas.Bool.{and_parts, eqb-true, eq-eqb}
-use Rattle.std.proofs.lemmas.List.Elements.{All-contains, All-filter, All-get_or, All-head, filter_passes, All-weaker, All-contains_itself, Contains-get_or}
+use Rattle.std.proofs.lemmas.List.Elements.{All-cons, All-contains, All-filter, All-get_or, All-head, All-nil, filter_passes, All-weaker, All-contains_itself, Contains-get_or}
+use Rattle.std.proofs.lemmas.List.Kept.{AllPairs-cons, AllPairs-filter}
 use Rattle.std.proofs.lemmas.List.Sorted.{All-permutation}
 use Rattle.npf_types.specs.declared.address.Addr.{Addr}
 use Rattle.npf_types.specs.declared.address.Addr.TheVariants.{V4, V6}
@@ -17,6 +18,7 @@ use Rattle.npf_pieces.specs.Sets.{Set, sets_from}
 use Rattle.npf_reass_sets.specs.declared.class.ClassSets.{ClassSets}
 use Rattle.npf_reass_sets.specs.Among.{IsSetAmong, arrived_from}
 use Rattle.npf_reass_sets.specs.Class.{DecidesClass, IsInSet, class_sets}
+use Rattle.npf_reass_sets.specs.Order.{AreByPlace}
 use Rattle.npf_reass_sets.specs.Key.{key_address, is_frag_key, key_numbers, of_key, key_version}
 use Rattle.npf_reass_whole.specs.Run.{DecidesRun, IsClassAmong, IsSeenAs, all_sets}
 use Rattle.npf_reass_whole.proofs.AmongLemmas.{all_zip_at, at_place}
@@ -24,7 +26,7 @@ use Rattle.npf_pieces.proofs.OpenSetLemmas.{taken_of}
 use Rattle.npf_reass_sets.proofs.CoverLemmas.{in_left, in_right}
 use Rattle.npf_reass.specs.Class.{class_of, folded_halves}
 use Rattle.npf_reass_run.specs.Gathering.{GathersPieces, class_pieces}
-use Rattle.npf_reass_run.proofs.FilterLemmas.{contains_filter}
+use Rattle.npf_reass_sets.proofs.FilterLemmas.{contains_filter}
 use Rattle.npf_reass_run.proofs.ListLemmas.{some_of}
 use Rattle.std.proofs.lemmas.Nat.{mod_below}
 
@@ -101,6 +103,25 @@ module _ (classes class : ℕ) (arrived : List Arrived) where
     sets = All-weaker (IsSetAmong mine) (IsSetAmong arrived) set_among (class_sets one) h.sets;
   }
 
+-- pieces come in the order of their packets
+from_place : (low first : ℕ) (packets : List Packet) (seens : List Seen) → low < first → All (λ a. low < a.place) (arrived_from first packets seens)
+from_place low first [] seens h = All-nil (λ (a : Arrived). low < a.place)
+from_place low first (p ∷ packets) [] h = All-nil (λ (a : Arrived). low < a.place)
+from_place low first (p ∷ packets) (Seen.NoFragment ∷ seens) h = from_place low (suc first) packets seens (omega (arith, h))
+from_place low first (p ∷ packets) (Seen.Bad ∷ seens) h = from_place low (suc first) packets seens (omega (arith, h))
+from_place low first (p ∷ packets) (Seen.Piece piece ∷ seens) h =
+    All-cons (λ (a : Arrived). low < a.place) (record { place = first; time = p.time; piece = piece }) (arrived_from (suc first) packets seens) h
+    (from_place low (suc first) packets seens (omega (arith, h)))
+
+by_place : (first : ℕ) (packets : List Packet) (seens : List Seen) → AreByPlace (arrived_from first packets seens)
+by_place first [] seens = λ i j d less h. absurd (omega (arith, h))
+by_place first (p ∷ packets) [] = λ i j d less h. absurd (omega (arith, h))
+by_place first (p ∷ packets) (Seen.NoFragment ∷ seens) = by_place (suc first) packets seens
+by_place first (p ∷ packets) (Seen.Bad ∷ seens) = by_place (suc first) packets seens
+by_place first (p ∷ packets) (Seen.Piece piece ∷ seens) =
+    AllPairs-cons (λ (a b : Arrived). a.place < b.place) (record { place = first; time = p.time; piece = piece }) (arrived_from (suc first) packets seens)
+    (from_place first (suc first) packets seens (omega arith)) (by_place (suc first) packets seens)
+
 in_all : (classes : List ClassSets) (i : ℕ) (d : ClassSets) (a : Arrived) → i < length classes → IsInSet (class_sets (get_or classes i d)) a → IsInSet (all_sets classes) a
 in_all [] i d a h x = absurd (omega (arith, h))
 in_all (class ∷ classes) zero d a h x = in_left (class_sets class) (all_sets classes) a x
@@ -124,6 +145,12 @@ module _ (packets : List Packet) (classes : List ClassSets) (gathers : GathersPi
         subst (All IsTaken) (sym (gathers.each k d h))
         (All-filter (λ a. class_of (length classes) a.piece.key == k) IsTaken arrived
         (All-weaker (Contains arrived) IsTaken is_taken arrived (All-contains_itself arrived)))
+
+  -- those of a class come in the order of their packets
+  pub classes_by_place : All (λ class. AreByPlace class.arrived.items) classes
+  classes_by_place k d h =
+      subst AreByPlace (sym (gathers.each k d h))
+      (AllPairs-filter (λ a b. a.place < b.place) (λ a. class_of (length classes) a.piece.key == k) arrived (by_place 0 packets gathers.seens))
 
   module _ (some : 1 ≤ length classes) (decided : List ClassSets) (count : length decided ≡ length classes)
       (each : (i : ℕ) (d : ClassSets) → i < length classes → DecidesClass (get_or classes i d).arrived.items (get_or decided i d)) where

@@ -1,7 +1,6 @@
 // The pieces among the packets of a run, gathered in classes by workers at one time.
-ghost use Rattle.std.specs.Prelude.{◌≡◌, ◌≤◌, ◌<◌, ℕ, true, false, All, IfOk, length, slice_index_or};
+ghost use Rattle.std.specs.Prelude.{◌≡◌, ◌≤◌, false, true, All, IfOk, length};
 ghost use Rattle.std.specs.List.{AllZip};
-ghost use Rattle.npf_pieces.specs.declared.piece.Piece.{Piece as PieceType};
 ghost use Rattle.npf_pieces.specs.declared.piece.Seen.TheVariants.{NoFragment};
 ghost use Rattle.npf_pieces.specs.Piece.{SeenAs};
 ghost use Rattle.npf_traffic.specs.Packet.{IsShortPacket};
@@ -17,6 +16,9 @@ use npf_types::NoMemory;
 use std::alloc::Global;
 use std::sync::Wait;
 use std::thread::Threads;
+
+/// After how many pieces a list of offers gives back the room that they took.
+const GIVEN_BACK: usize = 4096;
 
 /// Whether one of the packets is a fragment.
 pub(crate) fn has_fragment(packets: &[Packet<'_>]) -> bool
@@ -61,7 +63,7 @@ pub(crate) fn gather<R: Threads + Wait + Sync>(
     arrived_lists(alloc, packets, lists)
 }
 
-/// The classes of which these are the lists of offers. Each list is let go once its class is there.
+/// The classes of which these are the lists of offers. Each list is let go while its class grows.
 fn arrived_lists(
     alloc: Global,
     packets: &[Packet<'_>],
@@ -73,37 +75,48 @@ fn arrived_lists(
 {
     let mut classes = Vec::with_capacity(alloc, lists.len())?;
     for list in lists {
-        classes.push_reserved(arrived_list(alloc, packets, list.as_slice())?);
+        classes.push_reserved(arrived_list(alloc, packets, list)?);
     }
     Ok(classes)
 }
 
-/// The class of which this is the list of offers.
+/// The class of which this is the list of offers. It is gone through from its end, and gives its
+/// room back on the way: all pieces of a run may be of one class, and so they take room once.
 fn arrived_list(
     alloc: Global,
     packets: &[Packet<'_>],
-    list: &[(u64, Piece)],
+    list: Vec<(u64, Piece)>,
 ) -> Result<ClassSets, NoMemory>
-    requires { All (IsOfferAmong packets.now) list.now }
-    ensures { IfOk result (HasListed packets.now list.now) }
+    requires { All (IsOfferAmong packets.now) list.items }
+    ensures { IfOk result (HasListed packets.now list.items) }
 {
-    let mut arrived = Vec::with_capacity(alloc, list.len())?;
-    for place in 0..list.len() {
-        arrived.push_reserved(arrived_offer(packets, list, place));
+    let mut offers = list;
+    let mut arrived = Vec::with_capacity(alloc, offers.len())?;
+    while let Some(offer) = offers.pop() {
+        arrived.push_reserved(arrived_offer(packets, offer));
+        give_back(&mut offers);
     }
+    arrived.reverse();
     let mut class = ClassSets::new(alloc);
     class.arrived = arrived;
     Ok(class)
 }
 
-/// The piece that was offered at this place of the list, with the time of its packet.
-fn arrived_offer(packets: &[Packet<'_>], list: &[(u64, Piece)], at: usize) -> Arrived
-    requires at { at < length list.now }
-    requires among { All (IsOfferAmong packets.now) list.now }
-    ensures { (d : ℕ × PieceType)
-        → IsArrivedOffer packets.now (slice_index_or list.now at d) result }
+/// Gives back the room of the offers that were taken, each time that there are so many of them.
+fn give_back(offers: &mut Vec<(u64, Piece)>)
+    ensures { offers.new.items ≡ offers.old.items }
 {
-    let (n, piece) = list[at];
+    if offers.len() % GIVEN_BACK == 0 {
+        offers.shrink_to_fit();
+    }
+}
+
+/// The piece that was offered, with the time of its packet.
+fn arrived_offer(packets: &[Packet<'_>], offer: (u64, Piece)) -> Arrived
+    requires { IsOfferAmong packets.now offer }
+    ensures { IsArrivedOffer packets.now offer result }
+{
+    let (n, piece) = offer;
     let place = n as usize;
     Arrived {
         place,

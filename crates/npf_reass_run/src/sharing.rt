@@ -2,6 +2,7 @@
 ghost use Rattle.std.specs.Prelude.{◌≡◌, ◌≤◌, ◌<◌, ℕ, true, All, IfOk, length, slice_index_or};
 ghost use Rattle.npf_pieces.specs.OpenSet.{IsTaken};
 ghost use Rattle.npf_reass_sets.specs.Class.{DecidesClass};
+ghost use Rattle.npf_reass_sets.specs.Order.{AreByPlace};
 
 use npf_reass_sets::ClassSets;
 use npf_types::NoMemory;
@@ -16,6 +17,7 @@ pub(crate) fn decide_all<R: Threads + Sync>(
     workers: u32,
 ) -> Result<(), NoMemory>
     requires taken { All (λ class. All IsTaken class.arrived.items) classes.old }
+    requires order { All (λ class. AreByPlace class.arrived.items) classes.old }
     requires workers { 1 ≤ workers }
     ensures count { length classes.new ≡ length classes.old }
     ensures each { IfOk result (λ _. (i : ℕ) (d : _) → i < length classes.old
@@ -31,6 +33,7 @@ pub(crate) fn decide_all<R: Threads + Sync>(
 
 fn work_all<R: Threads + Sync>(rt: &R, alloc: Global, classes: &mut [ClassSets], workers: u32)
     requires taken { All (λ class. All IsTaken class.arrived.items) classes.old }
+    requires order { All (λ class. AreByPlace class.arrived.items) classes.old }
     requires workers { 1 ≤ workers }
     ensures count { length classes.new ≡ length classes.old }
     ensures each { (i : ℕ) (d : _) → i < length classes.old → (slice_index_or classes.new i d).decided ≡ true
@@ -41,7 +44,7 @@ fn work_all<R: Threads + Sync>(rt: &R, alloc: Global, classes: &mut [ClassSets],
         classes,
         workers as usize,
         &|_, class: &mut ClassSets|
-            requires { All IsTaken class.old.arrived.items }
+            requires { All IsTaken class.old.arrived.items × AreByPlace class.old.arrived.items }
         { class.decide(alloc) },
     );
 }

@@ -56,8 +56,8 @@ impl ClassSets {
     }
 }
 
-/// Brings the pieces of each key side by side, in the order in which they came. Their places tell that order, so it is
-/// done in place.
+/// Brings the pieces of each key side by side, in the order in which they came. Their places tell
+/// that order, so it takes no room beside them.
 fn sort_by_key(arrived: &mut Vec<Arrived>)
     requires { AreByPlace arrived.old.items }
     ensures same { IsPermutation arrived.old.items arrived.new.items }

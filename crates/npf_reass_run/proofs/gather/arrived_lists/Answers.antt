@@ -15,7 +15,7 @@ loop-list-preserved c =
     let after = into_iter_items c.next.new.self in
     let inv = c.loop-list.invariant in
     let items : before ≡ list ∷ after = c.in-Some.ensures.steps.0 in
-    let one = rw c.as_slice.ensures.value at c.in_ok-arrived_list.ensures in
+    let one = c.in_ok-arrived_list.ensures in
     let more = ap length items in
     let room = inv.4 in (
       tt,
