@@ -1,6 +1,6 @@
 -- A node in whose places nothing stands is found so, and may be marked.
 use Rattle.std.specs.List.{Contains}
-use Rattle.std.proofs.Common.{◌≡◌, ℕ, ◌+◌, ◌<◌, ◌≤◌, cond, eq-eqb, Option, Some, None, IfSome, [], ◌∷◌, refl, sym, ap, ◌∙◌, subst, ⊎_elim, arith}
+use Rattle.std.proofs.Common.{◌≡◌, ℕ, ◌+◌, ◌<◌, ◌≤◌, cond, eq-eqb, Option, Some, None, IfSome, [], ◌∷◌, sym, ap, ◌∙◌, subst, ⊎_elim, arith}
 use Rattle.std.proofs.lemmas.List.Elements.{Contains-append_left, Contains-append_right, Contains-push}
 use Rattle.atomic_table.specs.Table.{Me}
 use Rattle.npf_paths.specs.declared.place.Lock.{Lock}
