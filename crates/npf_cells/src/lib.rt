@@ -5,10 +5,10 @@
 // move: making, splitting and joining passes. Epochs are those of Fraser, "Practical lock-freedom" (2004), section 5.2.3, with the
 // second load of crossbeam-epoch: what a pin protects is fixed by an epoch that is loaded after it.
 //
-// The one contract: the rule of npf_cells_rule (IsCells), the conjunction of eleven parts (seats, epochs, pools, trie, connections, stored
-// words, locks, turns, deaths, what killers know, notes) over words, the slots' values and sides of the views, of which some serve two of them, and that a spent seat owns
+// The one contract: the rule of npf_cells_rule (IsCells), the conjunction of twelve parts (seats, epochs, pools, trie, connections, stored
+// words, locks, turns, deaths, what killers know, notes, marks) over words, the slots' values and sides of the views, of which some serve two of them, and that a spent seat owns
 // nothing. A kind of step proves what it changes, in the crates below this one (npf_cells_moves, npf_cells_takes, npf_cells_holds,
-// npf_cells_turns). What the rule says stands in npf_cells_rule's laws: a node has one owner at most and a slot one builder, a protected pass
+// npf_cells_turns, npf_cells_returns). What the rule says stands in npf_cells_rule's laws: a node has one owner at most and a slot one builder, a protected pass
 // holds the epoch back, no pass raises it without counting it, and what stands where a key's path ends names the key's holder.
 #![tactic(auto)]
 
