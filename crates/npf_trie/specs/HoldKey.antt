@@ -42,12 +42,13 @@ use Rattle.npf_trie.specs.declared.step.Step.TheVariants.{Ends, Leads, Again, An
 use Rattle.npf_trie.specs.declared.step.Wanted.{Wanted}
 
 -- a pass that is to hold a key for a connection: it is building it, has stored its incarnation and seen it take no key of that way, and has
--- neither a node nor a lock nor a turn
+-- neither a node, also none that it got back, nor a lock nor a turn
 pub record CanHold {S A R : Type 0} (m : Meaning S A R) (layout : Layout) (v : CellView S A R) (id : ConnId) (way : Way) : Type 0 where
   pub may : MayHoldSo m v id way
   pub exists : id.slot < layout.slots
   pub stored : ¬ Contains v.pools.unstored id.slot
   pub nodes : v.pools.nodes ≡ []
+  pub unfreed : v.pools.unfreed ≡ []
   pub locks : v.trie.locks ≡ []
   pub turnless : v.turn ≡ None
 

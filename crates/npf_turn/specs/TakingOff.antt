@@ -8,7 +8,7 @@ use Rattle.npf_cells_leaves.specs.declared.trie.TrieSide.{TrieSide}
 use Rattle.npf_cells_lives.specs.declared.pools.PoolSide.{PoolSide}
 use Rattle.npf_cells_rule.specs.declared.view.CellView.{CellView}
 use Rattle.npf_cells_rule.specs.Views.{with_trie}
-use Rattle.npf_cells_returns.specs.LoadKinds.{emptied_at}
+use Rattle.npf_cells_holds.specs.UnlinkKinds.{emptied_at}
 
 -- the pass has just emptied this place, and has its lock and no other: it marked nothing, and what it loaded before is forgotten
 pub record HasEmptied (side : TrieSide) (p : Place) : Type 0 where
