@@ -2,6 +2,9 @@ pub mod EndingLemmas
 pub mod KeysLemmas
 pub mod KillLemmas
 pub mod LetGoLemmas
+pub mod LockLemmas
 pub mod MarkLemmas
 pub mod ReclaimLemmas
+pub mod RegainLemmas
+pub mod TakingOffLemmas
 pub mod WorkLemmas

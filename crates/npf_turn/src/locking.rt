@@ -1,4 +1,4 @@
-ghost use Rattle.std.specs.Prelude.{◌≡◌, None, [], ◌∷◌, true, false};
+ghost use Rattle.std.specs.Prelude.{◌≡◌, None, [], ◌∷◌, true, false, Contains};
 ghost use Rattle.npf_cells_holds.specs.LockKinds.{locking};
 ghost use Rattle.npf_cells_words.specs.Places.{IsLockOf};
 ghost use Rattle.npf_cells_rule.specs.Views.{with_trie};
@@ -18,7 +18,7 @@ const FREE: u64 = 0;
 /// The state of a node that its pass marked; one of a node that was let go is higher.
 const MARKED: u64 = 2;
 
-/// Gets a lock, and waits as long as another pass has it. After each refused try another thread may run.
+/// Gets a lock that the pass hasn't, and waits as long as another pass has it. After each refused try another thread may run.
 pub fn lock<L: Law, H: KeyHash>(
     rt: &impl Wait,
     cells: &Cells<L, H>,
@@ -30,6 +30,7 @@ pub fn lock<L: Law, H: KeyHash>(
     requires protected { IsProtected pass.old.seat.me.0.epochs.pin }
     ensures own { IsPassIn cells.now pass.new }
     ensures gets { pass.new.seat.me ≡ with_trie pass.old.seat.me (locking lock pass.old.seat.me.0.trie) }
+    ensures other { ¬ Contains pass.old.seat.me.0.trie.locks lock }
 {
     for _ in rt.forever() {
         if cells.try_lock(pass, lock) {
