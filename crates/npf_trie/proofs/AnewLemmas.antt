@@ -18,6 +18,7 @@ use Rattle.npf_cells_lives.specs.declared.pools.PoolSide.{PoolSide}
 use Rattle.npf_cells_moves.specs.Kinds.{unpinned}
 use Rattle.npf_cells_rule.specs.Passes.{IsProtected}
 use Rattle.npf_cells_rule.specs.Views.{with_epochs}
+use Rattle.npf_connections.specs.Worn.{last_epoch}
 use Rattle.npf_epoch.specs.Stays.{HasEntered}
 use Rattle.npf_turn.specs.TakingOff.{HasNoNodes, ReturnsNode}
 use Rattle.npf_trie.specs.HoldKey.{CanHold, HoldsOn, SettlesHold, SettlesAnew, StaysAnew, having_held}
@@ -28,7 +29,7 @@ nodeless can = record { nodes = can.nodes; unfreed = can.unfreed }
 
 module _ {S A R F : Type 0} where
   pub anew_self : (a : Me F (CellView S A R)) → IsProtected a.0.epochs.pin → StaysAnew a a
-  anew_self a protected = record { is = refl; history = refl; sweeps = omega arith; unpublished = refl; noted = refl; places = omega arith; protected = protected; greatest = omega arith; known = omega arith }
+  anew_self a protected = record { is = refl; history = refl; sweeps = omega arith; unpublished = refl; noted = refl; places = omega arith; protected = protected; greatest = omega arith; known = omega arith; most = λ low. low }
 
   pub anew_after : (a b c : Me F (CellView S A R)) → StaysAnew a b → StaysAnew b c → StaysAnew a c
   anew_after a b c ab bc =
@@ -43,6 +44,7 @@ module _ {S A R F : Type 0} where
         protected = bc.protected;
         greatest = let x = ab.greatest in let y = bc.greatest in omega (arith, x, y);
         known = let x = ab.known in let y = bc.known in omega (arith, x, y);
+        most = λ low. bc.most (ab.most low);
       }
 
   same_epochs : (b c : Me F (CellView S A R)) → HoldsOn b c → c.0.epochs ≡ b.0.epochs
@@ -62,6 +64,7 @@ module _ {S A R F : Type 0} where
         protected = subst (λ (e : EpochSide). IsProtected e.pin) (sym same) protected;
         greatest = let e = ap (λ (side : EpochSide). side.greatest) same in omega (arith, e);
         known = let e = ap (λ (side : EpochSide). side.known) same in omega (arith, e);
+        most = λ low. let e = ap (λ (side : EpochSide). side.greatest) same in omega (arith, e, low);
       }
 
   pub anew_on : (a b c : Me F (CellView S A R)) → StaysAnew a b → HoldsOn b c → b.0.trie.places + 1 ≤ c.0.trie.places → StaysAnew a c
@@ -109,8 +112,9 @@ module _ {S A R F : Type 0} where
           y.1,
         ) in z) stays_loaded
 
-    pub stays_anew : HasEntered tried.0.epochs entered.0.epochs → IsProtected entered.0.epochs.pin → left.0.epochs.greatest ≤ tried.0.epochs.greatest → left.0.epochs.known ≤ tried.0.epochs.known → StaysAnew a now
-    stays_anew has protected greatest known =
+    pub stays_anew : HasEntered tried.0.epochs entered.0.epochs → IsProtected entered.0.epochs.pin → left.0.epochs.greatest ≤ tried.0.epochs.greatest → left.0.epochs.known ≤ tried.0.epochs.known →
+        (left.0.epochs.greatest ≤ last_epoch → tried.0.epochs.greatest ≤ last_epoch) → epoch ≤ last_epoch → StaysAnew a now
+    stays_anew has protected greatest known most low =
         let first_g = ap (λ (y : Me F (CellView S A R)). y.0.epochs.greatest) leaves in
         let first_k = ap (λ (y : Me F (CellView S A R)). y.0.epochs.known) leaves in
         let then_g = ap (λ (e : EpochSide). e.greatest) has.is in
@@ -131,6 +135,7 @@ module _ {S A R F : Type 0} where
           protected = subst (λ (e : EpochSide). IsProtected e.pin) (sym (same ∙ ap (λ (y : Me F (CellView S A R)). y.0.epochs) loads)) protected;
           greatest = omega (arith, first_g, greatest, then_g, load_g, last_g);
           known = omega (arith, first_k, known, then_k, load_k, last_k);
+          most = λ below. let tried_low = most (omega (arith, first_g, below)) in let order = has.order in let last = has.most in omega (arith, tried_low, order, last, then_g, load_g, last_g, low);
         }
       where
         settles_so : now ≡ (record (having_held a.0 now.0) { epochs = now.0.epochs }, a.1)
