@@ -1,11 +1,9 @@
 -- New stays of a hold: what it is building stays.
-use Rattle.std.proofs.Common.{◌≡◌, ◌≢◌, ℕ, ◌+◌, ◌≤◌, Bool, None, [], max, refl, sym, ap, ◌∙◌, subst, arith}
+use Rattle.std.proofs.Common.{◌≡◌, ℕ, ◌+◌, ◌≤◌, Bool, None, [], refl, sym, ap, ◌∙◌, subst, arith}
 use Rattle.std.specs.List.{Contains}
 use Rattle.atomic_table.specs.Table.{Me}
-use Rattle.npf_types.specs.declared.key.Key.{Key}
 use Rattle.npf_types.specs.declared.key.Way.{Way}
 use Rattle.npf_core.specs.declared.conn_id.ConnId.{ConnId}
-use Rattle.npf_core.specs.declared.held.Held.{Held}
 use Rattle.npf_core.specs.History.{state_of}
 use Rattle.npf_core.specs.Machine.{HoldsNone}
 use Rattle.npf_core.specs.Meaning.{Meaning}
@@ -21,7 +19,7 @@ use Rattle.npf_cells_rule.specs.Views.{with_epochs}
 use Rattle.npf_connections.specs.Worn.{last_epoch}
 use Rattle.npf_epoch.specs.Stays.{HasEntered}
 use Rattle.npf_turn.specs.TakingOff.{HasNoNodes, ReturnsNode}
-use Rattle.npf_trie.specs.HoldKey.{CanHold, HoldsOn, SettlesHold, SettlesAnew, StaysAnew, having_held}
+use Rattle.npf_trie.specs.HoldKey.{CanHold, HoldsOn, StaysAnew, having_held}
 
 -- who can hold a key may clear a mark
 pub nodeless : {S A R : Type 0} {m : Meaning S A R} {layout : Layout} {v : CellView S A R} {id : ConnId} {way : Way} → CanHold m layout v id way → HasNoNodes v.pools

@@ -46,7 +46,7 @@ use Rattle.npf_cells_lives.specs.declared.pools.StoredWord.{StoredWord}
 use Rattle.npf_cells_lives.specs.declared.turn.Ahead.{Ahead}
 use Rattle.npf_cells_lives.specs.declared.turn.Turn.{Turn}
 use Rattle.npf_cells_lives.specs.Notes.{notes_but, with_ahead}
-use Rattle.npf_cells_lives.specs.Turns.{Running, running}
+use Rattle.npf_cells_lives.specs.Turns.{Running}
 use Rattle.npf_cells_takes.specs.PrivateKinds.{MayStoreAhead, leading}
 use Rattle.npf_cells_turns.specs.declared.act.TurnAct.TheVariants.{Nothing}
 use Rattle.npf_cells_turns.specs.EndKinds.{MayEndBy}
