@@ -11,8 +11,6 @@ use Rattle.npf_cells_words.specs.declared.layout.Layout.{Layout}
 use Rattle.npf_cells_rule.specs.declared.view.CellView.{CellView}
 use Rattle.npf_cells_pins.specs.declared.pin.EpochSide.{EpochSide}
 use Rattle.npf_cells_pins.specs.Pinning.{loading}
-use Rattle.npf_cells_leaves.specs.declared.trie.TrieSide.{TrieSide}
-use Rattle.npf_cells_lives.specs.declared.pools.PoolSide.{PoolSide}
 use Rattle.npf_cells_moves.specs.Kinds.{unpinned}
 use Rattle.npf_cells_rule.specs.Passes.{IsProtected}
 use Rattle.npf_cells_rule.specs.Views.{with_epochs}
@@ -137,8 +135,4 @@ module _ {S A R F : Type 0} where
         }
       where
         settles_so : now ≡ (record (having_held a.0 now.0) { epochs = now.0.epochs }, a.1)
-        settles_so =
-            let side' : EpochSide = now.0.epochs in
-            let pools' : PoolSide = now.0.pools in
-            let trie' : TrieSide = now.0.trie in
-            subst (λ (y : Me F (CellView S A R)). y ≡ (record (having_held a.0 y.0) { epochs = y.0.epochs }, a.1)) (sym stays_is) refl
+        settles_so = subst (λ (y : Me F (CellView S A R)). y ≡ (record (having_held a.0 y.0) { epochs = y.0.epochs }, a.1)) (sym stays_is) refl
