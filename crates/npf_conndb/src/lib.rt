@@ -5,7 +5,7 @@
 // npf_pool, npf_trie and npf_turn, become the calls of a table.
 //
 // A connection that ends gives its keys up, whose leaves are unlinked, and is let go with the epoch as it is then. Two epochs later nobody
-// speaks of it any more, and a collection frees its slot.
+// speaks of it any more, and a collection frees its slot, and gets back the nodes that were emptied.
 //
 // The contract: `Conns` meets `Connections<L>` for every law `L` whose flows may go to another thread. Its own `enter`, `look` and `leave` say
 // the same as those, take no handle to wait by, and a look loads at most 95 places of the trie and five words of keys.

@@ -5,6 +5,8 @@
 // there is the answer from that load on: nothing, or one leaf, whose connection holds the key only if the five words of its own key agree.
 // A hold walks the same path. It puts its leaf in the place where the path ends, under that place's lock; where the leaf of another key
 // stands there, it grows a node for each level down to the one at which the two keys part, and hangs the first of them in the place.
+// Where it meets the mark of an emptied node it leaves its stay, tries to raise the epoch, enters again, clears the mark if it may, and walks anew;
+// a look ends there with nobody.
 //
 // The contract: a look adds its entry to the history of the pass, with the answer as reply, and loads 95 places and five words of keys at
 // most. It has the locks then that it had before, and waits for nobody. A hold's entry is the pass's one new and ends its history as it

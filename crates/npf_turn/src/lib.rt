@@ -1,5 +1,6 @@
 // Connections of the table without locks under the turns of their slots: a turn is waited for, and a connection is started, stepped or killed
 // under it. A connection that a pass killed is its own until it lets it go, after it gave up its keys; two epochs later any pass may free it.
+// A node of the trie in which nothing stands any more after a key was given up is taken off, and got back two epochs later.
 //
 // The contract: each call makes the entry that it names, and no other, with the reply that the connection then gave, and has no turn before
 // and after. It may wait for a turn that another pass has.
