@@ -34,6 +34,7 @@ use Rattle.npf_trie.specs.declared.step.Wanted.{Wanted}
 use Rattle.npf_trie.specs.HoldKey.{CanHold, IsAtPlace, StepsSo, TellsMet}
 use Rattle.npf_trie.specs.LookUp.{ComparesWords}
 use Rattle.npf_trie.specs.Stores.{MayStoreKey}
+use Rattle.npf_turn.proofs.MarkLemmas.{none_in_place}
 use Rattle.npf_trie.proofs.StoreLemmas.{noting}
 use Rattle.npf_cells_words.specs.Codes.{place_code}
 use Rattle.npf_cells_words.specs.Layout.{note_field}
@@ -61,14 +62,15 @@ pub record IsReady {S A R F : Type 0} (m : Meaning S A R) (digest : Key → ℕ)
   pub at : IsAtPlace digest layout d.0 wanted.key point
   pub nodes : d.0.pools.nodes ≡ []
   pub locks : d.0.trie.locks ≡ lock_of point.place ∷ []
+  pub unmarked : d.0.trie.marks ≡ []
   pub free : a.0.trie.locks ≡ []
   pub turnless : d.0.turn ≡ None
 
 -- it stored the key and got the lock
 pub ready_now : {S A R F : Type 0} (m : Meaning S A R) (digest : Key → ℕ) (layout : Layout) (wanted : Wanted) (point : Point) (lock : Lock) (words : List StoredWord) (a b d : Me F (CellView S A R)) →
-    CanHold m layout a.0 wanted.id wanted.way → IsAtPlace digest layout a.0 wanted.key point → lock ≡ lock_of point.place → b ≡ with_pools a (record a.0.pools { stored = words }) →
+    CanHold m layout a.0 wanted.id wanted.way → a.0.trie.marks ≡ [] → IsAtPlace digest layout a.0 wanted.key point → lock ≡ lock_of point.place → b ≡ with_pools a (record a.0.pools { stored = words }) →
     HasStoredKey layout b.0.pools.stored wanted.id.slot wanted.way wanted.key → d ≡ with_trie b (locking lock b.0.trie) → IsReady m digest layout wanted point a d
-ready_now {S} {A} {R} {F} m digest layout wanted point lock words a b d can at is_lock stores has gets =
+ready_now {S} {A} {R} {F} m digest layout wanted point lock words a b d can unmarked at is_lock stores has gets =
     let stays = stays_after a b d (stays_stored a b words stores) (stays_trie b d _ gets refl) in
     record {
       stays = stays;
@@ -79,6 +81,7 @@ ready_now {S} {A} {R} {F} m digest layout wanted point lock words a b d can at i
       at = at_after digest layout a d wanted.key point (ap (λ (y : Me F (CellView S A R)). y.0.trie.stands) gets ∙ ap (λ (y : Me F (CellView S A R)). y.0.trie.stands) stores) at;
       nodes = stays.keeps.nodes ∙ can.nodes;
       locks = ap (λ (y : Me F (CellView S A R)). y.0.trie.locks) gets ∙ (ap (λ locks. lock ∷ locks) (ap (λ (y : Me F (CellView S A R)). y.0.trie.locks) stores ∙ can.locks) ∙ ap (λ l. l ∷ []) is_lock);
+      unmarked = ap (λ (y : Me F (CellView S A R)). y.0.trie.marks) gets ∙ (ap (λ (y : Me F (CellView S A R)). y.0.trie.marks) stores ∙ unmarked);
       free = can.locks;
       turnless = stays.keeps.turn ∙ can.turnless;
     }
@@ -88,8 +91,12 @@ module _ {S A R F : Type 0} {m : Meaning S A R} {digest : Key → ℕ} {layout :
   pub only_lock : (step : Step) (e e' : Me F (CellView S A R)) (lock : Lock) → e' ≡ e → lock ≡ lock_of point.place → Comes m digest layout wanted point step d e → e'.0.trie.locks ≡ lock ∷ []
   only_lock step e e' lock same is came = ap (λ (y : Me F (CellView S A R)). y.0.trie.locks) same ∙ (came.locks ∙ (ready.locks ∙ ap (λ l. l ∷ []) (sym is)))
 
+  -- and has marked no node
+  pub still_unmarked : (step : Step) (e e' : Me F (CellView S A R)) → e' ≡ e → Comes m digest layout wanted point step d e → e'.0.trie.marks ≡ []
+  still_unmarked step e e' same came = ap (λ (y : Me F (CellView S A R)). y.0.trie.marks) same ∙ (came.marks ∙ ready.unmarked)
+
   -- and frees it
-  pub freed_so : (step step' : Step) (e e' f : Me F (CellView S A R)) → step' ≡ step → e' ≡ e → f ≡ with_trie e' (record e'.0.trie { locks = [] }) → Comes m digest layout wanted point step d e → StepsSo m digest layout wanted point step' a f
+  pub freed_so : (step step' : Step) (e e' f : Me F (CellView S A R)) → step' ≡ step → e' ≡ e → f ≡ with_trie e' (record e'.0.trie { locks = []; emptied = None; met_mark = None }) → Comes m digest layout wanted point step d e → StepsSo m digest layout wanted point step' a f
   freed_so step step' e e' f step_is same frees came =
       let came' : Comes m digest layout wanted point step d e' = subst (λ (y : Me F (CellView S A R)). Comes m digest layout wanted point step d y) (sym same) came in
       subst (λ (x : Step). StepsSo m digest layout wanted point x a f) (sym step_is) (steps_so m digest layout wanted point step a f
@@ -143,6 +150,7 @@ module _ {S A R F : Type 0} {m : Meaning S A R} {digest : Key → ℕ} {layout :
               nodes = [];
               puts = fills (sees_empty m digest layout wanted point d e [] loads ready.locks);
               noted = (0, omega arith, λ i. record { slot = wanted.id.slot; field = note_field wanted.way; value = names i });
+              unmarked = none_in_place e.0.trie.marks point.place (stayed.marks ∙ ready.unmarked);
               moves = λ t has. absurd (let no : None ≡ Some t = sym (stayed.comes.0.keeps.turn ∙ ready.turnless) ∙ has in cc);
             })))
 
@@ -150,4 +158,4 @@ module _ {S A R F : Type 0} {m : Meaning S A R} {digest : Key → ℕ} {layout :
         came_empty f published =
             let held = subst (λ (x : Aim). Published m digest layout point.place leaf (Some x) n f) aimed' published in
             let ended = published_ends m digest layout wanted point leaf value e n f noted held (stayed.comes.0.keeps.nodes ∙ ready.nodes) (stayed.comes.0.keeps.turn ∙ ready.turnless) in
-            record { comes = comes_after m digest layout wanted point (Ends Held.Done) d e f stayed.comes.0 ended.comes; locks = ended.locks ∙ stayed.locks }
+            record { comes = comes_after m digest layout wanted point (Ends Held.Done) d e f stayed.comes.0 ended.comes; locks = ended.locks ∙ stayed.locks; marks = ended.marks ∙ stayed.marks }

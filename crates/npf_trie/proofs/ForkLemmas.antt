@@ -1,8 +1,10 @@
 -- Nodes that lead two keys on, from the foot up.
-use Rattle.std.proofs.Common.{◌≡◌, ◌≢◌, ℕ, ◌+◌, ◌<◌, ◌≤◌, cond, eqb, eq-eqb, ne_eqb, List, [], ◌∷◌, length, slice_index, zero, suc, refl, sym, ap, ◌∙◌, subst, arith}
+use Rattle.std.proofs.Common.{◌≡◌, ◌≢◌, ℕ, ◌+◌, ◌%◌, ◌<◌, ◌≤◌, Bool, true, false, cond, eqb, eq-eqb, ne_eqb, List, [], ◌∷◌, length, slice_index, zero, suc, refl, sym, ap, ◌∙◌, subst, arith}
 use Rattle.std.specs.Prelude.{Contains}
 use Rattle.std.proofs.lemmas.Grind.{get_or_default_zero}
 use Rattle.npf_types.specs.declared.key.Key.{Key}
+use Rattle.npf_types.specs.declared.key.Way.{Way}
+use Rattle.npf_paths.specs.CellWords.{cell_word}
 use Rattle.npf_paths.specs.Digits.{digit_of, PartsAt}
 use Rattle.npf_paths.specs.declared.cell.Cell.{Cell}
 use Rattle.npf_paths.specs.declared.cell.Cell.TheVariants as Cells
@@ -38,6 +40,28 @@ at_theirs d d' leaf other digit ne e = ap (λ b. cond b leaf (cond (eqb digit d'
 
 at_neither : (d d' : ℕ) (leaf other : Cell) (digit : ℕ) → digit ≢ d → digit ≢ d' → forked_cell d leaf d' other digit ≡ Cells.Empty
 at_neither d d' leaf other digit ne ne' = ap (λ b. cond b leaf (cond (eqb digit d') other Cells.Empty)) (ne_eqb digit d ne) ∙ ap (λ b. cond b other Cells.Empty) (ne_eqb digit d' ne')
+
+-- none is a mark where neither of the two is, nor is its word that of one
+forked_real : (d d' : ℕ) (leaf other : Cell) (digit : ℕ) → leaf ≢ Cells.Mark → other ≢ Cells.Mark → forked_cell d leaf d' other digit ≢ Cells.Mark
+forked_real d d' leaf other digit real real' = by_digit (eqb digit d) (eqb digit d')
+  where
+    by_digit : (b b' : Bool) → cond b leaf (cond b' other Cells.Empty) ≢ Cells.Mark
+    by_digit true b' = real
+    by_digit false true = real'
+    by_digit false false = λ e. cc
+
+word_real : (cell : Cell) → cell ≢ Cells.Mark → cell_word cell % 4 ≢ 3
+word_real Cells.Empty real e = omega (arith, e)
+word_real (Cells.Leaf slot way) real e = omega (arith, e)
+word_real (Cells.Node node) real e = omega (arith, e)
+word_real Cells.Mark real e = real refl
+
+pub forked_word : (d d' : ℕ) (leaf other : Cell) (digit word : ℕ) → leaf ≢ Cells.Mark → other ≢ Cells.Mark → word ≡ cell_word (forked_cell d leaf d' other digit) → word % 4 ≢ 3
+forked_word d d' leaf other digit word real real' is = subst (λ (w : ℕ). w % 4 ≢ 3) (sym is) (word_real (forked_cell d leaf d' other digit) (forked_real d d' leaf other digit real real'))
+
+-- a leaf is no mark
+pub leaf_real : (cell : Cell) (slot : ℕ) (way : Way) → cell ≡ Cells.Leaf slot way → cell ≢ Cells.Mark
+leaf_real cell slot way is mark = let no : Cells.Leaf slot way ≡ Cells.Mark = sym is ∙ mark in cc
 
 module _ (mine theirs : ℕ → ℕ) (cell : Place → Cell) (leaf other : Cell) (level node d : ℕ) (is : d ≡ mine level) (low : mine level < 16) where
   -- the node at the foot has either leaf

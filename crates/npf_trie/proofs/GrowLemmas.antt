@@ -99,7 +99,7 @@ module _ {S A R : Type 0} where
   settled v history pools found nodes stored notes side = record v {
     seats = record v.seats { history = history };
     pools = record v.pools { found = found; row = pools.row; sweeps = pools.sweeps; nodes = nodes; stored = stored; notes = notes };
-    trie = record side { locks = v.trie.locks };
+    trie = record side { locks = v.trie.locks; marks = v.trie.marks };
   }
 
 module _ {S A R F : Type 0} where
@@ -177,12 +177,13 @@ module _ {S A R F : Type 0} (m : Meaning S A R) (digest : Key → ℕ) (layout :
       IsBranch (digits_of digest wanted.key) (digits_of digest branch.other.key) (cell_stored layout before) (Cells.Leaf wanted.id.slot wanted.way) (Cells.Leaf branch.other.slot branch.other.way) (point.level + 1) branch.first nodes →
       NameParents (digits_of digest wanted.key) (IsParentStored layout before) (point.level + 1) point.place nodes → 1 ≤ length nodes →
       branch.own_place ≡ foot_place (digits_of digest wanted.key) (point.level + 1) point.place nodes → branch.moved_to ≡ foot_place (digits_of digest branch.other.key) (point.level + 1) point.place nodes →
-      HasGrown m digest layout filled.0 wanted point branch
-  has_grown branch count nodes took filled before stored at takes ready key_stored keeps leads parents some own moved =
+      old.0.trie.marks ≡ [] → HasGrown m digest layout filled.0 wanted point branch
+  has_grown branch count nodes took filled before stored at takes ready key_stored keeps leads parents some own moved unmarked =
       let made : HasGrown m digest layout (readied old.0 took.0.pools stored) wanted point branch = record {
         may = record { built = can.may.built; bare = can.may.bare };
         exists = can.exists;
         stored = can.stored;
+        unmarked = unmarked;
         at = place_stays digest layout old.0 _ wanted.key point refl at;
         key_stored = key_stored;
         nodes = nodes;
@@ -235,7 +236,7 @@ module _ {S A R F : Type 0} (m : Meaning S A R) (digest : Key → ℕ) (layout :
           record y.0 {
             seats = record y.0.seats { history = history };
             pools = record y.0.pools { nodes = []; stored = words; notes = notes_but wanted.id.slot (note_field wanted.way) y.0.pools.notes };
-            trie = record side { locks = y.0.trie.locks };
+            trie = record side { locks = y.0.trie.locks; marks = y.0.trie.marks };
             turn = with_ahead None y.0.turn;
           },
           y.1,
@@ -255,10 +256,10 @@ module _ {S A R F : Type 0} (m : Meaning S A R) (digest : Key → ℕ) (layout :
 
     -- and then they are given back
     module _ (now : Me F (CellView S A R)) (found : ℕ) (left : List StoredWord) (gives : now ≡ gave_back found left hung) where
-      at_end : (history : List (Entry S A R)) (side : TrieSide) → hung ≡ (record filled.0 { seats = record filled.0.seats { history = history }; trie = record side { locks = filled.0.trie.locks } }, filled.1) →
+      at_end : (history : List (Entry S A R)) (side : TrieSide) → hung ≡ (record filled.0 { seats = record filled.0.seats { history = history }; trie = record side { locks = filled.0.trie.locks; marks = filled.0.trie.marks } }, filled.1) →
           now ≡ (settled old.0 history pools found [] left old.0.pools.notes side, old.1)
       at_end history side stays =
-          gives ∙ ap (gave_back found left) (stays ∙ ap (λ (y : Me F (CellView S A R)). (record y.0 { seats = record y.0.seats { history = history }; trie = record side { locks = y.0.trie.locks } }, y.1)) ready)
+          gives ∙ ap (gave_back found left) (stays ∙ ap (λ (y : Me F (CellView S A R)). (record y.0 { seats = record y.0.seats { history = history }; trie = record side { locks = y.0.trie.locks; marks = y.0.trie.marks } }, y.1)) ready)
 
       same_place : (point' : Point) → IsAtPlace digest layout hung.0 wanted.key point' → IsAtPlace digest layout now.0 wanted.key point'
       same_place point' at = place_stays digest layout hung.0 now.0 wanted.key point' (ap (λ (y : Me F (CellView S A R)). y.0.trie.stands) gives) at

@@ -62,6 +62,7 @@ use Rattle.npf_trie.specs.declared.step.Wanted.{Wanted}
 use Rattle.npf_trie.specs.declared.step.Branch.{Branch}
 use Rattle.npf_trie.specs.declared.step.Step.{Step}
 use Rattle.npf_trie.specs.declared.step.Step.TheVariants.{Ends, Leads, Again}
+use Rattle.npf_turn.proofs.MarkLemmas.{none_in_place}
 use Rattle.npf_trie.specs.HoldKey.{IsAtPlace, TellsMet, HasNewTurn, HasGrown, SeesOtherLeaf, HoldsNodes, HasHung, HangsSo}
 use Rattle.npf_trie.specs.Stores.{MayStoreKey}
 use Rattle.npf_trie.proofs.StoreLemmas.{noting, notes_once}
@@ -221,7 +222,7 @@ module _ {S A R F : Type 0} (m : Meaning S A R) (digest : Key → ℕ) (layout :
           legal = subst (λ (y : Me F (CellView S A R)). IsPass m (cell_pass y.0)) (sym compares.is) held.legal;
           answered = ap (λ (y : Me F (CellView S A R)). y.0.trie.answered) is ∙ ap (λ (f : Found). f.id ∷ []) (sym tells.1);
           done = λ e. absurd cc;
-          taken = λ e. subst (λ (y : Me F (CellView S A R)). y ≡ (record old.0 { seats = record old.0.seats { history = y.0.seats.history }; trie = record y.0.trie { locks = old.0.trie.locks } }, old.1)) (sym is) refl;
+          taken = λ e. subst (λ (y : Me F (CellView S A R)). y ≡ (record old.0 { seats = record old.0.seats { history = y.0.seats.history }; trie = record y.0.trie { locks = old.0.trie.locks; marks = old.0.trie.marks } }, old.1)) (sym is) refl;
         }
 
 -- it is protected still
@@ -242,7 +243,7 @@ module _ {S A R F : Type 0} (digest : Key → ℕ) (layout : Layout) where
       SeesOther key point.place slot leaf_way other old now → HoldsNodes old now × IsAtPlace digest layout now.0 key point
   still_there key point slot leaf_way other old now at sees = (
     record {
-      is = subst (λ (y : Me F (CellView S A R)). y ≡ with_trie old (record y.0.trie { locks = old.0.trie.locks })) (sym sees.is) refl;
+      is = subst (λ (y : Me F (CellView S A R)). y ≡ with_trie old (record y.0.trie { locks = old.0.trie.locks; marks = old.0.trie.marks })) (sym sees.is) refl;
       unpublished = ap (λ (y : Me F (CellView S A R)). y.0.trie.published) sees.is;
     },
     place_stays digest layout old.0 now.0 key point (ap (λ (y : Me F (CellView S A R)). y.0.trie.stands) sees.is) at,
@@ -264,6 +265,7 @@ module _ {S A R F : Type 0} (m : Meaning S A R) (digest : Key → ℕ) (layout :
       may = record { built = grown.may.built; bare = grown.may.bare };
       exists = grown.exists;
       stored = grown.stored;
+      unmarked = grown.unmarked;
       at = place_stays digest layout old.0 _ wanted.key point refl grown.at;
       key_stored = grown.key_stored;
       nodes = grown.nodes;
@@ -311,7 +313,7 @@ module _ {S A R F : Type 0} (m : Meaning S A R) (digest : Key → ℕ) (layout :
             record y.0 {
               seats = record y.0.seats { history = history };
               pools = record y.0.pools { nodes = []; stored = words; notes = notes_but wanted.id.slot (note_field wanted.way) y.0.pools.notes };
-              trie = record last { locks = y.0.trie.locks };
+              trie = record last { locks = y.0.trie.locks; marks = y.0.trie.marks };
               turn = with_ahead None y.0.turn;
             },
             y.1,
@@ -404,6 +406,7 @@ module _ {S A R F : Type 0} (m : Meaning S A R) (digest : Key → ℕ) (layout :
             },
           );
           moves = moves grown.nodes refl;
+          unmarked = none_in_place old.0.trie.marks point.place grown.unmarked;
         } in
         subst (λ a. MayPublish m digest layout h.0 point.place (Cells.Node branch.first) (Some a)) (sym is)
         (subst (λ (y : Me F (CellView S A R)). MayPublishFor m digest layout y.0 wanted.id wanted.key wanted.way point.place (Cells.Node branch.first)) (sym h_is) may)
@@ -436,7 +439,7 @@ module _ {S A R F : Type 0} (m : Meaning S A R) (digest : Key → ℕ) (layout :
             record old.0 {
               seats = record old.0.seats { history = y.0.seats.history };
               pools = record old.0.pools { nodes = []; stored = y.0.pools.stored; notes = notes_but wanted.id.slot (note_field wanted.way) old.0.pools.notes };
-              trie = record y.0.trie { locks = old.0.trie.locks };
+              trie = record y.0.trie { locks = old.0.trie.locks; marks = old.0.trie.marks };
               turn = with_ahead None old.0.turn;
             },
             old.1,
@@ -458,6 +461,7 @@ module _ {S A R : Type 0} (m : Meaning S A R) (digest : Key → ℕ) (layout : L
     may = record { built = grown.may.built; bare = grown.may.bare };
     exists = grown.exists;
     stored = grown.stored;
+    unmarked = grown.unmarked;
     at = place_stays digest layout old.0 _ wanted.key point refl grown.at;
     key_stored = grown.key_stored;
     nodes = grown.nodes;
@@ -484,22 +488,25 @@ module _ {S A R : Type 0} (m : Meaning S A R) (digest : Key → ℕ) (layout : L
   loads_locked = ap (λ (y : Pass'). y.0.trie.places) locked_is
 
   module _ (hung : Me (Running S) (CellView S A R)) where
-    -- what comes of it leaves the locks and the turn
-    pub locks_hung : (step : Step) → HangsSo m digest layout wanted point step locked hung → hung.0.trie.locks ≡ lock ∷ []
-    locks_hung step hangs = same step hangs ∙ locks_locked
+    -- what comes of it leaves the locks, the marks and the turn
+    side_hung : (step : Step) → HangsSo m digest layout wanted point step locked hung → hung.0.trie ≡ record hung.0.trie { locks = locked.0.trie.locks; marks = locked.0.trie.marks }
+    side_hung (Ends held) has = by_held held has
       where
-        by_held : (held : Held) → HasHung m wanted held locked hung → hung.0.trie.locks ≡ locked.0.trie.locks
-        by_held Held.Done has = ap (λ (y : Pass'). y.0.trie.locks) (has.done refl)
-        by_held (Held.Taken found) has = ap (λ (y : Pass'). y.0.trie.locks) (has.taken (λ e. cc))
-        by_held Held.NoNode has = absurd (has.some refl)
+        by_held : (held : Held) → HasHung m wanted held locked hung → hung.0.trie ≡ record hung.0.trie { locks = locked.0.trie.locks; marks = locked.0.trie.marks }
+        by_held Held.Done has' = ap (λ (y : Pass'). y.0.trie) (has'.done refl)
+        by_held (Held.Taken found) has' = ap (λ (y : Pass'). y.0.trie) (has'.taken (λ e. cc))
+        by_held Held.NoNode has' = absurd (has'.some refl)
+    side_hung (Leads node) hangs = ap (λ (y : Pass'). y.0.trie) hangs.0.is
+    side_hung Again hangs = ap (λ (y : Pass'). y.0.trie) hangs.0.is
 
-        same : (s : Step) → HangsSo m digest layout wanted point s locked hung → hung.0.trie.locks ≡ locked.0.trie.locks
-        same (Ends held) has = by_held held has
-        same (Leads node) hangs' = ap (λ (y : Pass'). y.0.trie.locks) hangs'.0.is
-        same Again hangs' = ap (λ (y : Pass'). y.0.trie.locks) hangs'.0.is
+    pub locks_hung : (step : Step) → HangsSo m digest layout wanted point step locked hung → hung.0.trie.locks ≡ lock ∷ []
+    locks_hung step hangs = ap (λ (t : TrieSide). t.locks) (side_hung step hangs) ∙ locks_locked
+
+    pub marks_hung : (step : Step) → HangsSo m digest layout wanted point step locked hung → hung.0.trie.marks ≡ old.0.trie.marks
+    marks_hung step hangs = ap (λ (t : TrieSide). t.marks) (side_hung step hangs) ∙ ap (λ (y : Pass'). y.0.trie.marks) locked_is
 
     -- so the turn may be ended with nothing
-    pub ends_nothing : (unlocked : Me (Running S) (CellView S A R)) (step : Step) → HangsSo m digest layout wanted point step locked hung → unlocked ≡ with_trie hung (record hung.0.trie { locks = [] }) → MayEndBy m Nothing slot unlocked
+    pub ends_nothing : (unlocked : Me (Running S) (CellView S A R)) (step : Step) → HangsSo m digest layout wanted point step locked hung → unlocked ≡ with_trie hung (record hung.0.trie { locks = []; emptied = None; met_mark = None }) → MayEndBy m Nothing slot unlocked
     ends_nothing unlocked step hangs frees = record {
       turn = turn_at slot takes.was;
       has = ap (λ (y : Pass'). y.0.turn) frees ∙ turned step hangs;
@@ -533,9 +540,9 @@ module _ {S A R : Type 0} (m : Meaning S A R) (digest : Key → ℕ) (layout : L
         carried (Leads node) hangs' = ap (λ (y : Pass'). y.1) hangs'.0.is
         carried Again hangs' = ap (λ (y : Pass'). y.1) hangs'.0.is
 
-    module _ (unlocked now : Me (Running S) (CellView S A R)) (frees : unlocked ≡ with_trie hung (record hung.0.trie { locks = [] })) (ends : now ≡ (record unlocked.0 { turn = None }, [])) where
+    module _ (unlocked now : Me (Running S) (CellView S A R)) (frees : unlocked ≡ with_trie hung (record hung.0.trie { locks = []; emptied = None; met_mark = None })) (ends : now ≡ (record unlocked.0 { turn = None }, [])) where
       abbrev after : Pass' → Pass'
-      after y = (record y.0 { trie = record y.0.trie { locks = [] }; turn = None }, [])
+      after y = (record y.0 { trie = record y.0.trie { locks = []; emptied = None; met_mark = None }; turn = None }, [])
 
       now_is : now ≡ after hung
       now_is = ends ∙ ap (λ (y : Pass'). let z : Pass' = (record y.0 { turn = None }, []) in z) frees
@@ -543,9 +550,9 @@ module _ {S A R : Type 0} (m : Meaning S A R) (digest : Key → ℕ) (layout : L
       stayed : HoldsNodes locked hung → HoldsNodes old now
       stayed stays =
           let last : TrieSide = hung.0.trie in
-          let at_last = now_is ∙ (ap after stays.is ∙ ap (λ (y : Pass'). after (with_trie y (record last { locks = y.0.trie.locks }))) locked_is) in
+          let at_last = now_is ∙ (ap after stays.is ∙ ap (λ (y : Pass'). after (with_trie y (record last { locks = y.0.trie.locks; marks = y.0.trie.marks }))) locked_is) in
           record {
-            is = subst (λ (y : Pass'). y ≡ with_trie old (record y.0.trie { locks = old.0.trie.locks })) (sym at_last) (λ i. (record old.0 { trie = record last { locks = sym free i }; turn = sym turnless i }, sym carries i));
+            is = subst (λ (y : Pass'). y ≡ with_trie old (record y.0.trie { locks = old.0.trie.locks; marks = old.0.trie.marks })) (sym at_last) (λ i. (record old.0 { trie = record last { locks = sym free i; marks = old.0.trie.marks; emptied = None; met_mark = None }; turn = sym turnless i }, sym carries i));
             unpublished = ap (λ (y : Pass'). y.0.trie.published) now_is ∙ (stays.unpublished ∙ ap (λ (y : Pass'). y.0.trie.published) locked_is);
           }
 
@@ -569,7 +576,7 @@ module _ {S A R : Type 0} (m : Meaning S A R) (digest : Key → ℕ) (layout : L
                   record y.0 {
                     seats = record y.0.seats { history = history };
                     pools = record y.0.pools { nodes = []; stored = words; notes = notes_but wanted.id.slot (note_field wanted.way) y.0.pools.notes };
-                    trie = record last { locks = y.0.trie.locks };
+                    trie = record last { locks = y.0.trie.locks; marks = y.0.trie.marks };
                     turn = with_ahead None y.0.turn;
                   },
                   y.1,
@@ -578,7 +585,7 @@ module _ {S A R : Type 0} (m : Meaning S A R) (digest : Key → ℕ) (layout : L
                   record old.0 {
                     seats = record old.0.seats { history = y.0.seats.history };
                     pools = record old.0.pools { nodes = []; stored = y.0.pools.stored; notes = notes_but wanted.id.slot (note_field wanted.way) old.0.pools.notes };
-                    trie = record y.0.trie { locks = old.0.trie.locks };
+                    trie = record y.0.trie { locks = old.0.trie.locks; marks = old.0.trie.marks };
                     turn = with_ahead None old.0.turn;
                   },
                   old.1,
@@ -586,15 +593,15 @@ module _ {S A R : Type 0} (m : Meaning S A R) (digest : Key → ℕ) (layout : L
                   record old.0 {
                     seats = record old.0.seats { history = history };
                     pools = record old.0.pools { nodes = []; stored = words; notes = notes_but wanted.id.slot (note_field wanted.way) old.0.pools.notes };
-                    trie = record last { locks = sym free i };
+                    trie = record last { locks = sym free i; marks = old.0.trie.marks; emptied = None; met_mark = None };
                     turn = sym (ap (with_ahead None) turnless) i;
                   },
                   sym carries i,
                 ));
             taken = λ e.
-                let at_last = now_is ∙ (ap after (has.taken e) ∙ ap (λ (y : Pass'). after (record y.0 { seats = record y.0.seats { history = history }; trie = record last { locks = y.0.trie.locks } }, y.1)) locked_is) in
-                subst (λ (y : Pass'). y ≡ (record old.0 { seats = record old.0.seats { history = y.0.seats.history }; trie = record y.0.trie { locks = old.0.trie.locks } }, old.1))
-                (sym at_last) (λ i. (record old.0 { seats = record old.0.seats { history = history }; trie = record last { locks = sym free i }; turn = sym turnless i }, sym carries i));
+                let at_last = now_is ∙ (ap after (has.taken e) ∙ ap (λ (y : Pass'). after (record y.0 { seats = record y.0.seats { history = history }; trie = record last { locks = y.0.trie.locks; marks = y.0.trie.marks } }, y.1)) locked_is) in
+                subst (λ (y : Pass'). y ≡ (record old.0 { seats = record old.0.seats { history = y.0.seats.history }; trie = record y.0.trie { locks = old.0.trie.locks; marks = old.0.trie.marks } }, old.1))
+                (sym at_last) (λ i. (record old.0 { seats = record old.0.seats { history = history }; trie = record last { locks = sym free i; marks = old.0.trie.marks; emptied = None; met_mark = None }; turn = sym turnless i }, sym carries i));
           }
 
       pub moves_so : (step : Step) → HangsSo m digest layout wanted point step locked hung → HangsSo m digest layout wanted point step old now

@@ -70,10 +70,11 @@ module _ {S A R F : Type 0} where
     abbrev pub Loads : Cell → Me F (CellView S A R) → Me F (CellView S A R) → Type 0
     Loads cell a b = HoldsAt m digest layout wanted.id wanted.key wanted.way point.place cell a b
 
-    -- a step's outcome, with the same locks
+    -- a step's outcome, with the same locks and marks
     pub record Comes (step : Step) (a b : Me F (CellView S A R)) : Type 0 where
       pub comes : ComesTo m digest layout wanted point step a b
       pub locks : b.0.trie.locks ≡ a.0.trie.locks
+      pub marks : b.0.trie.marks ≡ a.0.trie.marks
 
     -- a node leads on
     pub node_leads : (node : ℕ) (a b : Me F (CellView S A R)) → Loads (Node node) a b → IsAtPlace digest layout a.0 wanted.key point → Comes (Leads node) a b
@@ -93,6 +94,7 @@ module _ {S A R F : Type 0} where
             },
           );
           locks = ap (λ (y : Me F (CellView S A R)). y.0.trie.locks) led.1;
+          marks = ap (λ (y : Me F (CellView S A R)). y.0.trie.marks) led.1;
         }
 
     -- where nothing stands, or a mark, the pass is where it was
@@ -100,6 +102,7 @@ module _ {S A R F : Type 0} where
     seen_again cell a b e at = record {
       comes = (stays_trie a b _ e refl, at_after digest layout a b wanted.key point (ap (λ (y : Me F (CellView S A R)). y.0.trie.stands) e) at);
       locks = ap (λ (y : Me F (CellView S A R)). y.0.trie.locks) e;
+      marks = ap (λ (y : Me F (CellView S A R)). y.0.trie.marks) e;
     }
 
     pub empty_stays : (a b : Me F (CellView S A R)) → Loads Empty a b → IsAtPlace digest layout a.0 wanted.key point → Comes Again a b
@@ -165,6 +168,7 @@ module _ {S A R F : Type 0} where
               };
             };
             locks = ap (λ (y : Me F (CellView S A R)). y.0.trie.locks) has.is;
+            marks = ap (λ (y : Me F (CellView S A R)). y.0.trie.marks) has.is;
           })
 
       met_now : (other : Key) → Told (Other other) → b ≡ with_trie a (meeting wanted.key point.place (Leaf slot leaf_way) (level_at a.0.trie point.place) met_leaf a.0.trie)
@@ -175,6 +179,7 @@ module _ {S A R F : Type 0} where
       other_stays other told at = let e = met_now other told in record {
         comes = (stays_trie a b _ e refl, at_after digest layout a b wanted.key point (ap (λ (y : Me F (CellView S A R)). y.0.trie.stands) e) at);
         locks = ap (λ (y : Me F (CellView S A R)). y.0.trie.locks) e;
+        marks = ap (λ (y : Me F (CellView S A R)). y.0.trie.marks) e;
       }
 
       -- and then words of the leaf's key were loaded
@@ -183,6 +188,7 @@ module _ {S A R F : Type 0} where
         read_then step came = record {
           comes = comes_then m digest layout wanted point step a b c _ came.comes compares.is refl refl refl;
           locks = ap (λ (y : Me F (CellView S A R)). y.0.trie.locks) compares.is ∙ came.locks;
+          marks = ap (λ (y : Me F (CellView S A R)). y.0.trie.marks) compares.is ∙ came.marks;
         }
 
         pub holder_read_ends : (found : Found) → Told (Holder found) → Comes (Ends (Held.Taken found)) a c
@@ -234,6 +240,7 @@ module _ {S A R F : Type 0} where
             };
           };
           locks = ap (λ (y : Me F (CellView S A R)). y.0.trie.locks) is;
+          marks = ap (λ (y : Me F (CellView S A R)). y.0.trie.marks) is;
         }
 
     -- the outcome is the step's, alone or behind it

@@ -151,11 +151,12 @@ pub record HasNewTurn {S : Type 0} (turn : Option (Turn S)) (slot : ℕ) : Type 
   pub settled : mine.ahead ≡ None
 
 -- new nodes that the pass owns, built for both leaves, and nothing else: the first of them may be hung in the place, and then the leaves stand
--- at their foot
+-- at their foot. The pass marked no node
 pub record HasGrown {S A R : Type 0} (m : Meaning S A R) (digest : Key → ℕ) (layout : Layout) (v : CellView S A R) (wanted : Wanted) (point : Point) (branch : Branch) : Type 0 where
   pub may : MayHoldSo m v wanted.id wanted.way
   pub exists : wanted.id.slot < layout.slots
   pub stored : ¬ Contains v.pools.unstored wanted.id.slot
+  pub unmarked : v.trie.marks ≡ []
   pub at : IsAtPlace digest layout v wanted.key point
   pub key_stored : HasStoredKey layout v.pools.stored wanted.id.slot wanted.way wanted.key
   pub nodes : List ℕ
@@ -178,7 +179,7 @@ pub record SeesOtherLeaf (side : TrieSide) (key : Key) (point : Point) (other : 
 
 -- the pass loaded a place, under its lock, and has its nodes still
 pub record HoldsNodes {S A R F : Type 0} (old now : Me F (CellView S A R)) : Type 0 where
-  pub is : now ≡ with_trie old (record now.0.trie { locks = old.0.trie.locks })
+  pub is : now ≡ with_trie old (record now.0.trie { locks = old.0.trie.locks; marks = old.0.trie.marks })
   pub unpublished : now.0.trie.published ≡ old.0.trie.published
 
 -- the hold ended: Done by the nodes, or Taken with the nodes still the pass's
@@ -191,12 +192,12 @@ pub record HasHung {S A R F : Type 0} (m : Meaning S A R) (wanted : Wanted) (hel
     record old.0 {
       seats = record old.0.seats { history = now.0.seats.history };
       pools = record old.0.pools { nodes = []; stored = now.0.pools.stored; notes = notes_but wanted.id.slot (note_field wanted.way) old.0.pools.notes };
-      trie = record now.0.trie { locks = old.0.trie.locks };
+      trie = record now.0.trie { locks = old.0.trie.locks; marks = old.0.trie.marks };
       turn = with_ahead None old.0.turn;
     },
     old.1,
   )
-  pub taken : held ≢ Held.Done → now ≡ (record old.0 { seats = record old.0.seats { history = now.0.seats.history }; trie = record now.0.trie { locks = old.0.trie.locks } }, old.1)
+  pub taken : held ≢ Held.Done → now ≡ (record old.0 { seats = record old.0.seats { history = now.0.seats.history }; trie = record now.0.trie { locks = old.0.trie.locks; marks = old.0.trie.marks } }, old.1)
 
 -- what comes of it: the key is held, by the new nodes, which aren't the pass's any more, or is Taken; or nothing was changed
 abbrev pub HangsSo : {S A R F : Type 0} → Meaning S A R → (Key → ℕ) → Layout → Wanted → Point → Step → Me F (CellView S A R) → Me F (CellView S A R) → Type 0

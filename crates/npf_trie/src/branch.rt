@@ -60,6 +60,8 @@ pub(crate) fn build_branch<L: Law, H: KeyHash>(
     requires nodes { HasNewNodes cells.now.table.shared.key pass.old.seat.me.0.pools nodes.now }
     requires mine { mine.now.hash ≡ H.digest mine.now.key }
     requires theirs { theirs.now.hash ≡ H.digest theirs.now.key }
+    requires real { mine.now.leaf ≢ Mark }
+    requires their_real { theirs.now.leaf ≢ Mark }
     requires parts { PartsAt mine.now.hash mine.now.key theirs.now.hash theirs.now.key (point.level + length nodes.now) }
     ensures own { IsPassIn cells.now pass.new }
     ensures next { pass.new.seat.me ≡ with_pools pass.old.seat.me (record pass.old.seat.me.0.pools { stored = pass.new.seat.me.0.pools.stored }) }
@@ -101,7 +103,8 @@ fn fill_node<L: Law, H: KeyHash>(
     requires own { IsPassIn cells.now pass.old }
     requires exists { node < cells.now.table.shared.key.nodes }
     requires owned { Contains pass.old.seat.me.0.pools.nodes node }
-    requires markless { (leaf ≢ Mark) × (other ≢ Mark) }
+    requires real { leaf ≢ Mark }
+    requires other_real { other ≢ Mark }
     ensures own { IsPassIn cells.now pass.new }
     ensures next { pass.new.seat.me ≡ with_pools pass.old.seat.me (record pass.old.seat.me.0.pools { stored = pass.new.seat.me.0.pools.stored }) }
     ensures cells { (digit : ℕ) → digit < 16 → cell_stored cells.now.table.shared.key pass.new.seat.me.0.pools.stored (Node node digit) ≡ forked_cell mine leaf theirs other digit }

@@ -10,7 +10,7 @@ pub store_private-requires-clause-place : goal.store_private-requires-clause-pla
 store_private-requires-clause-place g t c = c.requires.nodes.exist c.in-Some.node.now (first_in c.args.cells.now.table.shared.key c.args.nodes.now c.in-Some.node.now c.in-Some.rest.now c.in-Some.ensures.cases.0)
 
 pub store_private-requires-clause-may : goal.store_private-requires-clause-may
-store_private-requires-clause-may g t c = record { owned = c.requires.nodes.owned c.in-Some.node.now (first_in c.args.cells.now.table.shared.key c.args.nodes.now c.in-Some.node.now c.in-Some.rest.now c.in-Some.ensures.cases.0); stateless = omega arith }
+store_private-requires-clause-may g t c = record { owned = c.requires.nodes.owned c.in-Some.node.now (first_in c.args.cells.now.table.shared.key c.args.nodes.now c.in-Some.node.now c.in-Some.rest.now c.in-Some.ensures.cases.0); stateless = omega arith; markless = λ low. absurd (omega (arith, low)) }
 
 pub fill_node-requires-clause-exists : goal.fill_node-requires-clause-exists
 fill_node-requires-clause-exists g t c = c.requires.nodes.exist c.in-Some.node.now (first_in c.args.cells.now.table.shared.key c.args.nodes.now c.in-Some.node.now c.in-Some.rest.now c.in-Some.ensures.cases.0)
@@ -51,7 +51,7 @@ build_branch-requires g t c κs within =
                     some,
                     (
                       rest_new c.args.cells.now.table.shared.key c.args.nodes.now c.in-Some.node.now c.in-Some.rest.now c.in-Some.ensures.cases.0 c.store_private.new.pass.seat.me.0.pools (record { exist = c.requires.nodes.exist; owned = new; apart = c.requires.nodes.apart }),
-                      (c.requires.mine, (c.requires.theirs, subst (λ l. PartsAt c.args.mine.now.hash c.args.mine.now.key c.args.theirs.now.hash c.args.theirs.now.key l) deeper c.requires.parts)),
+                      (c.requires.mine, (c.requires.theirs, (c.requires.real, (c.requires.their_real, subst (λ l. PartsAt c.args.mine.now.hash c.args.mine.now.key c.args.theirs.now.hash c.args.theirs.now.key l) deeper c.requires.parts)))),
                     ),
                   ),
                 ),

@@ -1,8 +1,16 @@
 use Rattle.std.proofs.Common.{ap, ◌∙◌, arith}
 use Rattle.npf_paths.specs.CellWords.{cell_word}
 use Rattle.npf_trie.specs.Stores.{forked_cell}
+use Rattle.npf_trie.proofs.ForkLemmas.{forked_word}
 use Rattle.npf_trie.proofs.StoreLemmas.{one_place_more}
 use Rattle.npf_trie.proofs.branch.fill_node.Goals as goal
+
+pub store_private-requires-clause-may : goal.store_private-requires-clause-may
+store_private-requires-clause-may g c = record {
+  owned = c.loop-digit.invariant.filled.owned;
+  stateless = omega arith;
+  markless = λ low. forked_word c.args.mine c.args.theirs c.args.leaf c.args.other c.loop-digit.digit _ c.requires.real c.requires.other_real (c.word.ensures ∙ ap cell_word c.forked_cell-cell.ensures);
+}
 
 pub loop-digit-preserved : goal.loop-digit-preserved
 loop-digit-preserved g c =

@@ -3,7 +3,9 @@ use Rattle.npf_cells_leaves.specs.Trie.{digits_of}
 use Rattle.std.proofs.Common.{◌+◌, ◌-◌, ap, sym, rules, arith, ◌≡◌, ◌≤◌, length, subst, ◌∙◌, refl, ◌≢◌}
 use Rattle.std.specs.Prelude.{Contains, slice_index}
 use Rattle.npf_cells_rule.specs.Passes.{IsProtected}
+use Rattle.npf_turn.proofs.MarkLemmas.{none_marked}
 use Rattle.npf_trie.proofs.CountLemmas.{by_pools}
+use Rattle.npf_trie.proofs.ForkLemmas.{leaf_real}
 use Rattle.npf_trie.proofs.GrowLemmas.{took_so, took_more, gave_all, foot_of, parts_below, branch_so, parents_so, readies, may_still, ends_without, has_grown, owns_still, steps_done, steps_back}
 use Rattle.npf_core.specs.declared.held.Held.{Held}
 use Rattle.npf_trie.specs.declared.step.Step.TheVariants.{Ends}
@@ -25,6 +27,12 @@ pub build_branch-requires-clause-parts : goal.build_branch-requires-clause-parts
 build_branch-requires-clause-parts g c =
     parts_below _ _ _ _ _ _ c.in-Some.parting c.args.point.level _ c.in-Some.ensures.some refl refl c.if-parting-point.true
     (ap length c.as_slice.ensures.value ∙ c.in-Some-take_nodes.ensures.takes.counted)
+
+pub build_branch-requires-clause-real : goal.build_branch-requires-clause-real
+build_branch-requires-clause-real g c = leaf_real _ _ _ c.leaf.ensures
+
+pub build_branch-requires-clause-their_real : goal.build_branch-requires-clause-their_real
+build_branch-requires-clause-their_real g c = leaf_real _ _ _ c.cell.ensures
 
 pub store_key-requires-clause-may : goal.store_key-requires-clause-may
 store_key-requires-clause-may g c =
@@ -55,7 +63,7 @@ move_leaf-step-requires-clause-grown g c =
     let at_last = ap (λ xs. slice_index xs (c.in-Some.parting - c.args.point.level - 1)) c.deref.ensures.0 in
     let own = foot_of g.H.KeyHash.digest _ c.args.wanted.now.key c.args.point.level c.in-Some.parting c.args.point.place c.in-Some-take_nodes.nodes.items _ _ c.requires.hashed c.if-parting-point.true counted at_last c.place_in.ensures in
     let moved = foot_of g.H.KeyHash.digest _ c.args.other.now.key c.args.point.level c.in-Some.parting c.args.point.place c.in-Some-take_nodes.nodes.items _ _ c.hash.ensures c.if-parting-point.true counted at_last c.place_in-2.ensures in
-    rw c.deref-2.ensures.0 (has_grown _ _ _ _ _ _ c.requires.can (record { other = c.args.other.now; first = slice_index c.in-Some-take_nodes.nodes.items 0; own_place = c.place_in.result; moved_to = c.place_in-2.result }) _ _ _ _ _ _ c.requires.at c.in-Some-take_nodes.ensures.takes ready c.store_key.ensures.stores c.store_key.ensures.keeps leads parents some own moved)
+    rw c.deref-2.ensures.0 (has_grown _ _ _ _ _ _ c.requires.can (record { other = c.args.other.now; first = slice_index c.in-Some-take_nodes.nodes.items 0; own_place = c.place_in.result; moved_to = c.place_in-2.result }) _ _ _ _ _ _ c.requires.at c.in-Some-take_nodes.ensures.takes ready c.store_key.ensures.stores c.store_key.ensures.keeps leads parents some own moved (none_marked c.requires.own c.requires.can.locks))
 
 pub give_all-requires-clause-owned : goal.give_all-requires-clause-owned
 give_all-requires-clause-owned g c =

@@ -1,6 +1,6 @@
 use Rattle.std.proofs.Common.{◌≡◌, ◌∙◌, [], ◌∷◌, ap, sym, subst, arith}
 use Rattle.npf_cells_rule.specs.Passes.{CarriesByTurn}
-use Rattle.npf_trie.proofs.HangLemmas.{grown_locked, turn_locked, locks_locked, loads_locked, locks_hung, ends_nothing, moves_so, loads_so, protected_locked}
+use Rattle.npf_trie.proofs.HangLemmas.{grown_locked, turn_locked, locks_locked, loads_locked, locks_hung, marks_hung, ends_nothing, moves_so, loads_so, protected_locked}
 use Rattle.npf_trie.proofs.grow.move_leaf.Goals as goal
 
 pub hang-step-requires-clause-protected : goal.hang-step-requires-clause-protected
@@ -27,6 +27,11 @@ pub unlock-requires-clause-only : goal.unlock-requires-clause-only
 unlock-requires-clause-only g c =
     let carried : c.args.pass.now.seat.me.1 ≡ [] = subst (λ t. CarriesByTurn t c.args.pass.now.seat.me.1) c.requires.turnless c.requires.own.carries in
     locks_hung g.L.Law.meaning g.H.KeyHash.digest c.args.cells.now.table.shared.key c.args.wanted.now c.args.point c.args.branch.now.other.slot _ c.args.pass.now.seat.me c.wait_turn.new.pass.seat.me c.lock-2.new.pass.seat.me c.requires.turnless c.requires.free carried c.wait_turn.ensures.takes c.lock-2.ensures.gets c.hang-step.new.pass.seat.me c.hang-step.result c.hang-step.ensures.hangs ∙ ap (λ l. l ∷ []) (c.lock.ensures ∙ sym c.lock-3.ensures)
+
+pub unlock-requires-clause-unmarked : goal.unlock-requires-clause-unmarked
+unlock-requires-clause-unmarked g c =
+    let carried : c.args.pass.now.seat.me.1 ≡ [] = subst (λ t. CarriesByTurn t c.args.pass.now.seat.me.1) c.requires.turnless c.requires.own.carries in
+    marks_hung g.L.Law.meaning g.H.KeyHash.digest c.args.cells.now.table.shared.key c.args.wanted.now c.args.point c.args.branch.now.other.slot _ c.args.pass.now.seat.me c.wait_turn.new.pass.seat.me c.lock-2.new.pass.seat.me c.requires.turnless c.requires.free carried c.wait_turn.ensures.takes c.lock-2.ensures.gets c.hang-step.new.pass.seat.me c.hang-step.result c.hang-step.ensures.hangs ∙ c.requires.grown.unmarked
 
 pub end_turn-requires-clause-may : goal.end_turn-requires-clause-may
 end_turn-requires-clause-may g c =
