@@ -1,25 +1,27 @@
 -- A key of a killed connection is given up under the slot's turn, where its note names the place of its leaf.
 use Rattle.std.specs.List.{Contains}
-use Rattle.std.proofs.Common.{◌≡◌, ◌≢◌, ℕ, ◌+◌, ◌*◌, ◌<◌, ◌≤◌, ◌↔◌, Some, None, [], ◌∷◌, refl, sym, ap, ◌∙◌, subst, ⊎_elim, arith}
+use Rattle.std.proofs.Common.{◌≡◌, ◌≢◌, ℕ, ◌+◌, ◌*◌, ◌<◌, ◌≤◌, ◌↔◌, Some, None, [], ◌∷◌, refl, sym, ap, ◌∙◌, subst, ⊎_elim, arith, length}
 use Rattle.std.proofs.lemmas.List.Elements.{Contains-append_left, Contains-push}
 use Rattle.atomic_table.specs.Table.{Me}
 use Rattle.npf_types.specs.declared.key.Way.{Way}
 use Rattle.npf_core.specs.declared.conn_id.ConnId.{ConnId}
 use Rattle.npf_core.specs.declared.slot.Slot.{Slot}
-use Rattle.npf_core.specs.History.{state_of}
+use Rattle.npf_core.specs.History.{Legal, state_of}
 use Rattle.npf_core.specs.declared.act.Act.TheVariants.{Unhold}
 use Rattle.npf_core.specs.declared.reply.Reply.TheVariants.{Nothing as Replied}
-use Rattle.npf_core.specs.declared.stage.Stage.TheVariants.{Dead}
-use Rattle.npf_core.specs.Machine.{stage_of, Holds}
+use Rattle.npf_core.specs.declared.entry.Entry.{Entry}
+use Rattle.npf_core.specs.declared.stage.Stage.TheVariants.{Dead, Building}
+use Rattle.npf_core.specs.Machine.{stage_of, Holds, IsClaimed}
 use Rattle.npf_connections.specs.Adding.{AddsOwn}
 use Rattle.npf_connections.specs.Entries.{entry_of}
-use Rattle.npf_connections.specs.Pass.{IsPass}
+use Rattle.npf_connections.specs.Pass.{IsPass, IsOwn, all_places}
 use Rattle.npf_core.specs.Meaning.{Meaning}
 use Rattle.npf_paths.specs.declared.place.Lock.{Lock}
 use Rattle.npf_paths.specs.declared.place.Place.{Place}
 use Rattle.npf_paths.specs.declared.place.Place.TheVariants as Places
 use Rattle.npf_paths.specs.Places.{lock_of}
 use Rattle.npf_seats.proofs.SeatLemmas.{cases_lt}
+use Rattle.npf_cells_pins.specs.declared.pin.EpochSide.{EpochSide}
 use Rattle.npf_cells_words.specs.declared.layout.Layout.{Layout}
 use Rattle.npf_cells_words.specs.Codes.{place_code}
 use Rattle.npf_cells_words.specs.Layout.{note_field}
@@ -27,8 +29,8 @@ use Rattle.npf_cells_words.specs.Places.{IsInTrie, IsLockOf}
 use Rattle.npf_cells_lives.specs.declared.turn.Turn.{Turn}
 use Rattle.npf_cells_lives.specs.Turns.{Running, running, stage_phase}
 use Rattle.npf_cells_rule.specs.declared.view.CellView.{CellView}
-use Rattle.npf_cells_rule.specs.Passes.{IsProtected, cell_pass}
-use Rattle.npf_cells_rule.specs.Views.{with_trie}
+use Rattle.npf_cells_rule.specs.Passes.{IsProtected, cell_pass, is_pinned}
+use Rattle.npf_cells_rule.specs.Views.{unloaded, with_trie}
 use Rattle.npf_cells_holds.specs.LockKinds.{locking}
 use Rattle.npf_cells_holds.specs.UnlinkKinds.{MayUnlink, HasUnlinked}
 use Rattle.npf_cells_turns.specs.declared.act.TurnAct.TheVariants.{Nothing}
@@ -36,6 +38,7 @@ use Rattle.npf_cells_turns.specs.EndKinds.{MayEndBy}
 use Rattle.npf_cells_turns.specs.NoteKinds.{noting, TellsKilledKey, ShowsKill}
 use Rattle.npf_cells_turns.specs.TurnKinds.{HasSlotTurn, turn_at}
 use Rattle.npf_turn.specs.Ending.{without_key, GivesUpKey, HasNoKey}
+use Rattle.npf_turn.specs.TakingOff.{EpochsGoOn, HasEmptied, LeavesPlace}
 
 -- the lock of a place that the table has is one of the table's
 pub lock_there : (layout : Layout) (p : Place) → IsInTrie layout p → IsLockOf layout (lock_of p)
@@ -97,37 +100,65 @@ module _ {S A R : Type 0} (m : Meaning S A R) (layout : Layout) (old : Me (Runni
     locked = Contains-append_left (lock_of p ∷ []) old.0.trie.locks (lock_of p) (Contains-push [] (lock_of p));
   })
 
-  -- what is left of it once the key was given up
-  module _ (lock : Lock) (locked gone : Me (Running S) (CellView S A R)) (is : locked ≡ holding lock) (unlinks : HasUnlinked m id way locked gone) (unlocked : old.0.trie.locks ≡ []) where
-    unlinks_so : HasUnlinked m id way (holding lock) gone
-    unlinks_so = subst (λ (y : Me (Running S) (CellView S A R)). HasUnlinked m id way y gone) is unlinks
+  -- what is left of it once the key was given up, and the place's node was taken off or not
+  module _ (p : Place) (locked gone : Me (Running S) (CellView S A R)) (is : locked ≡ holding (lock_of p)) (unlinks : HasUnlinked m id way p locked gone) (unlocked : old.0.trie.locks ≡ []) where
+    unlinks_so : HasUnlinked m id way p (holding (lock_of p)) gone
+    unlinks_so = subst (λ (y : Me (Running S) (CellView S A R)). HasUnlinked m id way p y gone) is unlinks
 
-    pub only : gone.0.trie.locks ≡ lock ∷ []
-    only = ap (λ (y : Me (Running S) (CellView S A R)). y.0.trie.locks) unlinks_so.is ∙ ap (λ locks. lock ∷ locks) unlocked
+    abbrev freed_with : EpochSide → Me (Running S) (CellView S A R) → Me (Running S) (CellView S A R)
+    freed_with epochs y = (record y.0 { epochs = epochs; trie = record y.0.trie { locks = []; emptied = None; met_mark = None } }, y.1)
 
-    pub unmarked : old.0.trie.marks ≡ [] → gone.0.trie.marks ≡ []
-    unmarked none = ap (λ (y : Me (Running S) (CellView S A R)). y.0.trie.marks) unlinks_so.is ∙ none
+    pub emptied : old.0.trie.marks ≡ [] → HasEmptied gone.0.trie p
+    emptied none = subst (λ (y : Me (Running S) (CellView S A R)). HasEmptied y.0.trie p) (sym unlinks_so.is) (record { only = ap (λ locks. lock_of p ∷ locks) unlocked; knows = refl; unmarked = none; unseen = refl; unmet = refl })
 
-    pub may_end_after : (freed : Me (Running S) (CellView S A R)) → freed ≡ with_trie gone (record gone.0.trie { locks = []; emptied = None; met_mark = None }) → MayEndBy m Nothing id.slot freed
-    may_end_after freed frees = subst (λ (y : Me (Running S) (CellView S A R)). MayEndBy m Nothing id.slot y) (sym (frees ∙ ap (λ (y : Me (Running S) (CellView S A R)). with_trie y (record y.0.trie { locks = []; emptied = None; met_mark = None })) unlinks_so.is))
-        (record { turn = turn_told; has = refl; there = refl; may = tt; carries = refl; phase = refl; settled = refl })
+    pub protected_still : IsProtected old.0.epochs.pin → IsProtected gone.0.epochs.pin
+    protected_still protected = subst (λ (y : Me (Running S) (CellView S A R)). IsProtected y.0.epochs.pin) (sym unlinks_so.is) protected
 
-    pub gives_up : (freed now : Me (Running S) (CellView S A R)) → freed ≡ with_trie gone (record gone.0.trie { locks = []; emptied = None; met_mark = None }) → now ≡ (record freed.0 { turn = None }, []) → GivesUpKey m id way old now
-    gives_up freed now frees ended = record {
-      held = unlinks_so.held;
-      dead = subst (λ h. stage_of (state_of m h) id ≡ Dead) (sym same) unlinks_so.dead;
-      others = λ other key ne. subst (λ h. Holds (state_of m old.0.seats.history) id other key ↔ Holds (state_of m h) id other key) (sym same) (unlinks_so.others other key ne);
-      adds = subst (λ h. AddsOwn (cell_pass old.0) h (entry_of (cell_pass old.0) (Unhold id way) Replied ∷ [])) (sym same) unlinks_so.adds;
-      legal = λ pass. subst (λ (y : Me (Running S) (CellView S A R)). IsPass m (cell_pass y.0)) (sym ended_is) (subst (λ (y : Me (Running S) (CellView S A R)). IsPass m (cell_pass (record y.0 { trie = record y.0.trie { locks = []; emptied = None; met_mark = None }; turn = None }))) (sym unlinks_so.is)
-          (subst (λ (y : Me (Running S) (CellView S A R)). IsPass m (cell_pass y.0)) unlinks_so.is (unlinks_so.legal pass)));
-      is = ended_is ∙ (ap (λ (y : Me (Running S) (CellView S A R)). (record y.0 { trie = record y.0.trie { locks = []; emptied = None; met_mark = None }; turn = None }, [])) unlinks_so.is ∙ ap (λ h. (without_key old.0 h id way, [])) (sym same));
-    }
-      where
-        ended_is : now ≡ (record gone.0 { trie = record gone.0.trie { locks = []; emptied = None; met_mark = None }; turn = None }, [])
-        ended_is = ended ∙ ap (λ (y : Me (Running S) (CellView S A R)). (record y.0 { turn = None }, [])) frees
+    module _ (freed : Me (Running S) (CellView S A R)) (left : LeavesPlace gone freed) where
+      pub may_end_after : MayEndBy m Nothing id.slot freed
+      may_end_after = subst (λ (y : Me (Running S) (CellView S A R)). MayEndBy m Nothing id.slot y) (sym (left.is ∙ ap (freed_with freed.0.epochs) unlinks_so.is))
+          (record { turn = turn_told; has = refl; there = refl; may = tt; carries = refl; phase = refl; settled = refl })
 
-        same : now.0.seats.history ≡ gone.0.seats.history
-        same = ap (λ (y : Me (Running S) (CellView S A R)). y.0.seats.history) ended_is
+      pub gives_up : (now : Me (Running S) (CellView S A R)) → now ≡ (record freed.0 { turn = None }, []) → GivesUpKey m id way old now
+      gives_up now ended = record {
+        held = unlinks_so.held;
+        dead = subst (λ h. stage_of (state_of m h) id ≡ Dead) (sym same) unlinks_so.dead;
+        others = λ other key ne. subst (λ h. Holds (state_of m old.0.seats.history) id other key ↔ Holds (state_of m h) id other key) (sym same) (unlinks_so.others other key ne);
+        adds = subst (λ h. AddsOwn (cell_pass old.0) h (entry_of (cell_pass old.0) (Unhold id way) Replied ∷ [])) (sym same) unlinks_so.adds;
+        legal = λ pass.
+            let was = unlinks_so.legal pass in
+            let gone_pass = subst (λ (y : Me (Running S) (CellView S A R)). IsPass m (cell_pass y.0)) unlinks_so.is was in
+            subst (λ (y : Me (Running S) (CellView S A R)). IsPass m (cell_pass y.0)) (sym now_is) (record {
+              legal = subst (λ h. Legal m old.0.seats.about h) (sym same) gone_pass.legal;
+              stays = subst (λ h. (i : ConnId) → Contains old.0.trie.answered i → IsClaimed (stage_of (state_of m h) i)) (sym same) gone_pass.stays;
+              building = subst (λ h. (i : ConnId) → Contains old.0.pools.builds i → stage_of (state_of m h) i ≡ Building old.0.seats.number) (sym same) gone_pass.building;
+              unanswered = λ out. gone_pass.unanswered (ap is_pinned (sym pin) ∙ out);
+              idle = λ out. gone_pass.idle (ap is_pinned (sym pin) ∙ out);
+              alone = subst (λ h. length old.0.seats.readers ≡ all_places → (entry : Entry S A R) → Contains h entry → IsOwn (cell_pass old.0) entry.seat) (sym same) gone_pass.alone;
+              most = epochs.most gone_pass.most;
+            });
+        is = now_is;
+        epochs = epochs;
+      }
+        where
+          ended_is : now ≡ (record gone.0 { epochs = freed.0.epochs; trie = record gone.0.trie { locks = []; emptied = None; met_mark = None }; turn = None }, [])
+          ended_is = ended ∙ ap (λ (y : Me (Running S) (CellView S A R)). (record y.0 { turn = None }, [])) left.is
+
+          same : now.0.seats.history ≡ gone.0.seats.history
+          same = ap (λ (y : Me (Running S) (CellView S A R)). y.0.seats.history) ended_is
+
+          known : now.0.epochs ≡ freed.0.epochs
+          known = ap (λ (y : Me (Running S) (CellView S A R)). y.0.epochs) ended_is
+
+          epochs : EpochsGoOn (unloaded old.0.epochs) now.0.epochs
+          epochs = subst (EpochsGoOn (unloaded old.0.epochs)) (sym known) (subst (λ (y : Me (Running S) (CellView S A R)). EpochsGoOn y.0.epochs freed.0.epochs) unlinks_so.is left.epochs)
+
+          pin : now.0.epochs.pin ≡ old.0.epochs.pin
+          pin = epochs.pin
+
+          now_is : now ≡ (without_key old.0 now.0.seats.history now.0.epochs id way, [])
+          now_is = ended_is ∙ (ap (λ (y : Me (Running S) (CellView S A R)). (record y.0 { epochs = freed.0.epochs; trie = record y.0.trie { locks = []; emptied = None; met_mark = None }; turn = None }, [])) unlinks_so.is
+              ∙ (λ i. (without_key old.0 (sym same i) (sym known i) id way, [])))
 
   -- where there is none the turn is ended
   pub may_end_idle : (noted : Me (Running S) (CellView S A R)) → noted ≡ told → MayEndBy m Nothing id.slot noted

@@ -1,6 +1,6 @@
 -- All keys of a killed connection are given up, one way after the other.
 use Rattle.std.specs.List.{Contains, filter}
-use Rattle.std.proofs.Common.{◌≡◌, ◌≢◌, ◌↔◌, Bool, true, false, cond, eqb, eq-eqb, IsTrue, Option, Some, None, List, [], ◌∷◌, ◌++◌, refl, sym, ap, ◌∙◌, subst, ⊎_elim, append-nil}
+use Rattle.std.proofs.Common.{◌≡◌, ◌≢◌, ◌≤◌, ◌↔◌, Bool, true, false, cond, eqb, eq-eqb, IsTrue, Option, Some, None, List, [], ◌∷◌, ◌++◌, refl, sym, ap, ◌∙◌, subst, ⊎_elim, append-nil, arith}
 use Rattle.std.proofs.lemmas.List.{same_from_push}
 use Rattle.std.proofs.lemmas.List.Elements.{Contains-append_left, Contains-append_right, Contains-push}
 use Rattle.atomic_table.specs.Table.{Me}
@@ -25,6 +25,7 @@ use Rattle.npf_connections.specs.Pass.{Pass, IsPass}
 use Rattle.npf_connections.specs.Ways.{HoldsThese}
 use Rattle.npf_connections.proofs.AddLemmas.{adds_more}
 use Rattle.npf_seats.proofs.PrefixLemmas.{cons_cases, none_listed}
+use Rattle.npf_cells_pins.specs.declared.pin.EpochSide.{EpochSide}
 use Rattle.npf_cells_lives.specs.Deaths.{ids_elsewhere}
 use Rattle.npf_cells_lives.specs.Turns.{Running}
 use Rattle.npf_cells_rule.specs.declared.view.CellView.{CellView}
@@ -64,7 +65,11 @@ module _ {S A R : Type 0} (m : Meaning S A R) (id : ConnId) where
     pub others : (other : Way) (key : Key) → other ≢ way → Holds (state_of m old.0.seats.history) id other key ↔ Holds (state_of m now.0.seats.history) id other key
     pub legal : IsPass m (cell_pass old.0) → IsPass m (cell_pass now.0)
     pub same : gave ≡ false → now.0.seats.history ≡ old.0.seats.history
-    pub is : now ≡ (seen_with (key_ended gave id way old.0) now.0.seats.history, [])
+    pub is : now ≡ (seen_with (key_ended gave id way old.0) now.0.seats.history now.0.epochs, [])
+    pub pin : now.0.epochs.pin ≡ old.0.epochs.pin
+    pub raises : now.0.epochs.raises ≡ old.0.epochs.raises
+    pub greatest : old.0.epochs.greatest ≤ now.0.epochs.greatest
+    pub known : old.0.epochs.known ≤ now.0.epochs.known
 
   ends_so : (way : Way) (gave : Bool) (old now : Me (Running S) (CellView S A R)) → HasEndedKey m id way gave old now → Ends way gave old now
   ends_so way true old now so = record {
@@ -79,6 +84,10 @@ module _ {S A R : Type 0} (m : Meaning S A R) (id : ConnId) where
     legal = so.legal;
     same = λ no'. absurd cc;
     is = so.is;
+    pin = so.epochs.pin;
+    raises = so.epochs.raises;
+    greatest = so.epochs.greatest;
+    known = so.epochs.known;
   }
   ends_so way false old now so = record {
     adds = record {
@@ -91,11 +100,18 @@ module _ {S A R : Type 0} (m : Meaning S A R) (id : ConnId) where
     others = λ other key ne. (subst (λ h. Holds (state_of m h) id other key) (sym history), subst (λ h. Holds (state_of m h) id other key) history);
     legal = λ pass. subst (λ (y : Me (Running S) (CellView S A R)). IsPass m (cell_pass y.0)) (sym so.is) pass;
     same = λ _. history;
-    is = so.is ∙ ap (λ h. (seen_with (record old.0 { turn = None }) h, [])) (sym history);
+    is = so.is ∙ (λ i. (seen_with (record old.0 { turn = None }) (sym history i) (sym epochs i), []));
+    pin = ap (λ (side : EpochSide). side.pin) epochs;
+    raises = ap (λ (side : EpochSide). side.raises) epochs;
+    greatest = (let rose = ap (λ (side : EpochSide). side.greatest) epochs in omega (arith, rose));
+    known = (let rose = ap (λ (side : EpochSide). side.known) epochs in omega (arith, rose));
   }
     where
       history : now.0.seats.history ≡ old.0.seats.history
       history = ap (λ (y : Me (Running S) (CellView S A R)). y.0.seats.history) so.is
+
+      epochs : now.0.epochs ≡ old.0.epochs
+      epochs = ap (λ (y : Me (Running S) (CellView S A R)). y.0.epochs) so.is
 
       nothing : (init : List (Entry S A R)) (last : Entry S A R) → [] ≡ init ++ last ∷ [] → ⊥
       nothing [] last e = absurd cc
@@ -113,7 +129,7 @@ module _ {S A R : Type 0} (m : Meaning S A R) (id : ConnId) where
   goes way true old now so unlocked = record {
     turnless = ap (λ (y : Me (Running S) (CellView S A R)). y.0.turn) so.is;
     unlocked = ap (λ (y : Me (Running S) (CellView S A R)). y.0.trie.locks) so.is;
-    pin = ap (λ (y : Me (Running S) (CellView S A R)). y.0.epochs.pin) so.is;
+    pin = so.epochs.pin;
     kills = ap (λ (y : Me (Running S) (CellView S A R)). y.0.pools.kills) so.is;
     gave = λ found c ne. ⊎_elim
         (λ (same : record { id = id; way = way } ≡ found). absurd (ne (sym same)))
@@ -128,18 +144,18 @@ module _ {S A R : Type 0} (m : Meaning S A R) (id : ConnId) where
     gave = λ found c ne. subst (λ (y : Me (Running S) (CellView S A R)). Contains y.0.pools.gave_up found) so.is c;
   }
 
-  -- what is seen between is overwritten
-  seen_on : (gave : Bool) (way : Way) (v : CellView S A R) (h h' : List (Entry S A R)) → seen_with (key_ended gave id way (seen_with v h)) h' ≡ seen_with (key_ended gave id way v) h'
-  seen_on true way v h h' = refl
-  seen_on false way v h h' = refl
+  -- what is seen and known between is overwritten
+  seen_on : (gave : Bool) (way : Way) (v : CellView S A R) (h h' : List (Entry S A R)) (e e' : EpochSide) → seen_with (key_ended gave id way (seen_with v h e)) h' e' ≡ seen_with (key_ended gave id way v) h' e'
+  seen_on true way v h h' e e' = refl
+  seen_on false way v h h' e e' = refl
 
-  number_on : (gave : Bool) (way : Way) (v : CellView S A R) (h : List (Entry S A R)) → (seen_with (key_ended gave id way v) h).seats.number ≡ v.seats.number
-  number_on true way v h = refl
-  number_on false way v h = refl
+  number_on : (gave : Bool) (way : Way) (v : CellView S A R) (h : List (Entry S A R)) (e : EpochSide) → (seen_with (key_ended gave id way v) h e).seats.number ≡ v.seats.number
+  number_on true way v h e = refl
+  number_on false way v h e = refl
 
-  joined_on : (gave : Bool) (way : Way) (v : CellView S A R) (h : List (Entry S A R)) → (seen_with (key_ended gave id way v) h).seats.joined ≡ v.seats.joined
-  joined_on true way v h = refl
-  joined_on false way v h = refl
+  joined_on : (gave : Bool) (way : Way) (v : CellView S A R) (h : List (Entry S A R)) (e : EpochSide) → (seen_with (key_ended gave id way v) h e).seats.joined ≡ v.seats.joined
+  joined_on true way v h e = refl
+  joined_on false way v h e = refl
 
   -- which ways had a key, and their entries
   abbrev had : Bool → Bool → Bool → Way → Bool
@@ -167,26 +183,27 @@ module _ {S A R : Type 0} (m : Meaning S A R) (id : ConnId) where
     c : Ends Port three second now
     c = ends_so Port three second now c'
 
-    view_first : first.0 ≡ seen_with (key_ended one id Forward old.0) first.0.seats.history
+    view_first : first.0 ≡ seen_with (key_ended one id Forward old.0) first.0.seats.history first.0.epochs
     view_first = ap (λ (y : Me (Running S) (CellView S A R)). y.0) a.is
 
-    view_second : second.0 ≡ seen_with (key_ended two id Backward (key_ended one id Forward old.0)) second.0.seats.history
-    view_second = ap (λ (y : Me (Running S) (CellView S A R)). y.0) b.is ∙ (ap (λ v. seen_with (key_ended two id Backward v) second.0.seats.history) view_first ∙ seen_on two Backward (key_ended one id Forward old.0) first.0.seats.history second.0.seats.history)
-
-    number_first : first.0.seats.number ≡ old.0.seats.number
-    number_first = ap (λ (v : CellView S A R). v.seats.number) view_first ∙ number_on one Forward old.0 first.0.seats.history
-
-    joined_first : first.0.seats.joined ≡ old.0.seats.joined
-    joined_first = ap (λ (v : CellView S A R). v.seats.joined) view_first ∙ joined_on one Forward old.0 first.0.seats.history
-
-    view_b : second.0 ≡ seen_with (key_ended two id Backward first.0) second.0.seats.history
+    view_b : second.0 ≡ seen_with (key_ended two id Backward first.0) second.0.seats.history second.0.epochs
     view_b = ap (λ (y : Me (Running S) (CellView S A R)). y.0) b.is
 
+    view_second : second.0 ≡ seen_with (key_ended two id Backward (key_ended one id Forward old.0)) second.0.seats.history second.0.epochs
+    view_second = view_b ∙ (ap (λ v. seen_with (key_ended two id Backward v) second.0.seats.history second.0.epochs) view_first
+        ∙ seen_on two Backward (key_ended one id Forward old.0) first.0.seats.history second.0.seats.history first.0.epochs second.0.epochs)
+
+    number_first : first.0.seats.number ≡ old.0.seats.number
+    number_first = ap (λ (v : CellView S A R). v.seats.number) view_first ∙ number_on one Forward old.0 first.0.seats.history first.0.epochs
+
+    joined_first : first.0.seats.joined ≡ old.0.seats.joined
+    joined_first = ap (λ (v : CellView S A R). v.seats.joined) view_first ∙ joined_on one Forward old.0 first.0.seats.history first.0.epochs
+
     number_second : second.0.seats.number ≡ old.0.seats.number
-    number_second = ap (λ (v : CellView S A R). v.seats.number) view_b ∙ (number_on two Backward first.0 second.0.seats.history ∙ number_first)
+    number_second = ap (λ (v : CellView S A R). v.seats.number) view_b ∙ (number_on two Backward first.0 second.0.seats.history second.0.epochs ∙ number_first)
 
     joined_second : second.0.seats.joined ≡ old.0.seats.joined
-    joined_second = ap (λ (v : CellView S A R). v.seats.joined) view_b ∙ (joined_on two Backward first.0 second.0.seats.history ∙ joined_first)
+    joined_second = ap (λ (v : CellView S A R). v.seats.joined) view_b ∙ (joined_on two Backward first.0 second.0.seats.history second.0.epochs ∙ joined_first)
 
     adds_two : AddsOwn (cell_pass old.0) second.0.seats.history (cond one (unhold (cell_pass old.0) Forward ∷ []) [] ++ cond two (unhold (cell_pass old.0) Backward ∷ []) [])
     adds_two =
@@ -227,7 +244,12 @@ module _ {S A R : Type 0} (m : Meaning S A R) (id : ConnId) where
       adds = adds_all;
       legal = λ pass. c.legal (b.legal (a.legal pass));
       bare = record { dead = c.dead; keyless = keyless };
-      is = c.is ∙ ap (λ v. (v, [])) (ap (λ v. seen_with (key_ended three id Port v) now.0.seats.history) view_second ∙ seen_on three Port (key_ended two id Backward (key_ended one id Forward old.0)) second.0.seats.history now.0.seats.history);
+      is = c.is ∙ ap (λ v. (v, [])) (ap (λ v. seen_with (key_ended three id Port v) now.0.seats.history now.0.epochs) view_second
+          ∙ seen_on three Port (key_ended two id Backward (key_ended one id Forward old.0)) second.0.seats.history now.0.seats.history second.0.epochs now.0.epochs);
+      pin = c.pin ∙ (b.pin ∙ a.pin);
+      raises = c.raises ∙ (b.raises ∙ a.raises);
+      greatest = (let x = a.greatest in let y = b.greatest in let z = c.greatest in omega (arith, x, y, z));
+      known = (let x = a.known in let y = b.known in let z = c.known in omega (arith, x, y, z));
     }
 
 -- nothing is left where each is left out
@@ -255,6 +277,10 @@ module _ {S A R : Type 0} (id : ConnId) where
   hands_after true way v turnless none = λ i. record (hands v) { locks = sym none i; turn = sym turnless i }
   hands_after false way v turnless none = λ i. record (hands v) { turn = sym turnless i }
 
+  pin_after : (gave : Bool) (way : Way) (v : CellView S A R) → (key_ended gave id way v).epochs.pin ≡ v.epochs.pin
+  pin_after true way v = refl
+  pin_after false way v = refl
+
   of_it : (gave : Bool) (way : Way) (v : CellView S A R) → ((g : Found) → Contains v.pools.gave_up g → g.id ≡ id) → (g : Found) → Contains (key_ended gave id way v).pools.gave_up g → g.id ≡ id
   of_it true way v mine g c = ⊎_elim
       (λ (same : record { id = id; way = way } ≡ g). ap (λ (f : Found). f.id) (sym same))
@@ -276,9 +302,11 @@ module _ {S A R : Type 0} (id : ConnId) where
         let first = key_ended (keys.held Forward) id Forward old.0 in
         let second = key_ended (keys.held Backward) id Backward first in
         let one = locks_after (keys.held Forward) Forward old.0 none in
+        let pins = pin_after (keys.held Port) Port second ∙ (pin_after (keys.held Backward) Backward first ∙ pin_after (keys.held Forward) Forward old.0) in
         ap (λ (y : Me (Running S) (CellView S A R)). hands y.0) gone.is ∙ (ap (λ (y : Me (Running S) (CellView S A R)). hands y.0) keys.is
+        ∙ (ap (λ pin. record (hands left) { pin = pin }) (keys.pin ∙ sym pins)
         ∙ (hands_after (keys.held Port) Port second (turn_after (keys.held Backward) Backward first) (locks_after (keys.held Backward) Backward first one)
-        ∙ (hands_after (keys.held Backward) Backward first (turn_after (keys.held Forward) Forward old.0) one ∙ hands_after (keys.held Forward) Forward old.0 turnless none)))
+        ∙ (hands_after (keys.held Backward) Backward first (turn_after (keys.held Forward) Forward old.0) one ∙ hands_after (keys.held Forward) Forward old.0 turnless none))))
 
     pub still_killed : Contains old.0.pools.kills id → Contains between.0.pools.kills id
     still_killed c = subst (λ ids. Contains ids id) (sym kills_left) c

@@ -5,5 +5,6 @@ pub mod LetGoLemmas
 pub mod LockLemmas
 pub mod MarkLemmas
 pub mod ReclaimLemmas
+pub mod RegainLemmas
 pub mod TakingOffLemmas
 pub mod WorkLemmas

@@ -1,6 +1,7 @@
 -- What it leaves of a pass to take an empty node off, and to get one back.
 use Rattle.std.specs.Prelude.{◌≡◌, ℕ, ◌+◌, ◌≤◌, Bool, true, false, None, [], ◌∷◌}
 use Rattle.atomic_table.specs.Table.{Me}
+use Rattle.npf_connections.specs.Worn.{last_epoch}
 use Rattle.npf_paths.specs.declared.place.Place.{Place}
 use Rattle.npf_paths.specs.Places.{lock_of}
 use Rattle.npf_cells_pins.specs.declared.pin.EpochSide.{EpochSide}
@@ -18,12 +19,13 @@ pub record HasEmptied (side : TrieSide) (p : Place) : Type 0 where
   pub unseen : side.seen ≡ None
   pub unmet : side.meets ≡ None
 
--- it knows of the epoch what it knew, or of a later one, and reads as before
+-- it knows of the epoch what it knew, or of a later one, but of none past the last; and it reads as before
 pub record EpochsGoOn (old now : EpochSide) : Type 0 where
   pub pin : now.pin ≡ old.pin
   pub raises : now.raises ≡ old.raises
   pub greatest : old.greatest ≤ now.greatest
   pub known : old.known ≤ now.known
+  pub most : old.greatest ≤ last_epoch → now.greatest ≤ last_epoch
 
 -- it loaded this epoch, or a later one
 pub record HasReached (side : EpochSide) (epoch : ℕ) : Type 0 where

@@ -1,7 +1,7 @@
 use Rattle.std.proofs.Common.{◌≡◌, ◌+◌, ◌*◌, ◌<◌, sym, subst}
 use Rattle.npf_paths.specs.declared.place.Lock.{Lock}
 use Rattle.npf_cells_words.specs.declared.layout.Layout.{Layout}
-use Rattle.npf_turn.proofs.EndingLemmas.{names_within, told_so, tells_keys, holding, holds_lock, may_unlink, unmarked, gives_up, has_none}
+use Rattle.npf_turn.proofs.EndingLemmas.{names_within, told_so, tells_keys, holding, holds_lock, may_unlink, emptied, protected_still, gives_up, has_none}
 use Rattle.npf_turn.proofs.MarkLemmas.{none_marked}
 use Rattle.npf_turn.proofs.ending.end_key.Goals as goal
 
@@ -38,8 +38,8 @@ unlink-requires-clause-may g c =
     (subst (λ (lock : Lock). c.lock-2.new.pass.seat.me ≡ holding m layout old c.args.id c.args.way taken.was note lock) c.lock.ensures held)
     c.place_of-place.ensures.is c.requires.killed c.requires.held
 
-pub unlock-requires-clause-unmarked : goal.unlock-requires-clause-unmarked
-unlock-requires-clause-unmarked g c =
+pub take_off-requires-clause-emptied : goal.take_off-requires-clause-emptied
+take_off-requires-clause-emptied g c =
     let m = g.L.Law.meaning in
     let layout = c.args.cells.now.table.shared.key in
     let old = c.args.pass.now.seat.me in
@@ -47,7 +47,20 @@ unlock-requires-clause-unmarked g c =
     let note = c.load_note-note.result in
     let told' = told_so m layout old c.args.id c.args.way taken.was note _ _ taken.is c.load_note-note.ensures.next in
     let held = holds_lock m layout old c.args.id c.args.way taken.was note _ _ c.lock.result told' c.lock-2.ensures.gets in
-    unmarked m layout old c.args.id c.args.way taken.was note c.lock.result _ _ held c.unlink.ensures.unlinked c.requires.unlocked (none_marked c.requires.own c.requires.unlocked)
+    emptied m layout old c.args.id c.args.way taken.was note c.place_of-place.result _ _
+    (subst (λ (lock : Lock). c.lock-2.new.pass.seat.me ≡ holding m layout old c.args.id c.args.way taken.was note lock) c.lock.ensures held) c.unlink.ensures.unlinked c.requires.unlocked (none_marked c.requires.own c.requires.unlocked)
+
+pub take_off-requires-clause-protected : goal.take_off-requires-clause-protected
+take_off-requires-clause-protected g c =
+    let m = g.L.Law.meaning in
+    let layout = c.args.cells.now.table.shared.key in
+    let old = c.args.pass.now.seat.me in
+    let taken = c.wait_turn.ensures.takes in
+    let note = c.load_note-note.result in
+    let told' = told_so m layout old c.args.id c.args.way taken.was note _ _ taken.is c.load_note-note.ensures.next in
+    let held = holds_lock m layout old c.args.id c.args.way taken.was note _ _ c.lock.result told' c.lock-2.ensures.gets in
+    protected_still m layout old c.args.id c.args.way taken.was note c.place_of-place.result _ _
+    (subst (λ (lock : Lock). c.lock-2.new.pass.seat.me ≡ holding m layout old c.args.id c.args.way taken.was note lock) c.lock.ensures held) c.unlink.ensures.unlinked c.requires.unlocked c.requires.protected
 
 pub returns-clause-ends : goal.returns-clause-ends
 returns-clause-ends g c =
@@ -58,4 +71,5 @@ returns-clause-ends g c =
     let note = c.load_note-note.result in
     let told' = told_so m layout old c.args.id c.args.way taken.was note _ _ taken.is c.load_note-note.ensures.next in
     let held = holds_lock m layout old c.args.id c.args.way taken.was note _ _ c.lock.result told' c.lock-2.ensures.gets in
-    gives_up m layout old c.args.id c.args.way taken.was note c.lock.result _ _ held c.unlink.ensures.unlinked c.requires.unlocked _ _ c.unlock.ensures.frees c.end_turn-2.ensures.tells
+    gives_up m layout old c.args.id c.args.way taken.was note c.place_of-place.result _ _
+    (subst (λ (lock : Lock). c.lock-2.new.pass.seat.me ≡ holding m layout old c.args.id c.args.way taken.was note lock) c.lock.ensures held) c.unlink.ensures.unlinked c.requires.unlocked _ c.take_off.ensures.leaves _ c.end_turn-2.ensures.tells
