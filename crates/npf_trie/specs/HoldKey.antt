@@ -10,6 +10,7 @@ use Rattle.npf_connections.specs.Adding.{AddsOwn}
 use Rattle.npf_connections.specs.Answered.{taken_ids}
 use Rattle.npf_connections.specs.Entries.{hold_entries}
 use Rattle.npf_connections.specs.Pass.{IsPass}
+use Rattle.npf_connections.specs.Worn.{last_epoch}
 use Rattle.npf_paths.specs.declared.cell.Cell.TheVariants.{Leaf}
 use Rattle.npf_paths.specs.declared.place.Place.TheVariants as Places
 use Rattle.npf_paths.specs.Growing.{IsBranch}
@@ -42,12 +43,13 @@ use Rattle.npf_trie.specs.declared.step.Step.TheVariants.{Ends, Leads, Again, An
 use Rattle.npf_trie.specs.declared.step.Wanted.{Wanted}
 
 -- a pass that is to hold a key for a connection: it is building it, has stored its incarnation and seen it take no key of that way, and has
--- neither a node nor a lock nor a turn
+-- neither a node, also none that it got back, nor a lock nor a turn
 pub record CanHold {S A R : Type 0} (m : Meaning S A R) (layout : Layout) (v : CellView S A R) (id : ConnId) (way : Way) : Type 0 where
   pub may : MayHoldSo m v id way
   pub exists : id.slot < layout.slots
   pub stored : ¬ Contains v.pools.unstored id.slot
   pub nodes : v.pools.nodes ≡ []
+  pub unfreed : v.pools.unfreed ≡ []
   pub locks : v.trie.locks ≡ []
   pub turnless : v.turn ≡ None
 
@@ -112,6 +114,7 @@ pub record StaysAnew {S A R F : Type 0} (old now : Me F (CellView S A R)) : Type
   pub protected : IsProtected now.0.epochs.pin
   pub greatest : old.0.epochs.greatest ≤ now.0.epochs.greatest
   pub known : old.0.epochs.known ≤ now.0.epochs.known
+  pub most : old.0.epochs.greatest ≤ last_epoch → now.0.epochs.greatest ≤ last_epoch
 
 -- the hold then ends in the last of these stays
 pub record SettlesAnew {S A R F : Type 0} (m : Meaning S A R) (layout : Layout) (id : ConnId) (key : Key) (way : Way) (held : Held) (old now : Me F (CellView S A R)) : Type 0 where
