@@ -29,7 +29,7 @@ use Rattle.npf_trie.specs.declared.step.Met.{Met}
 use Rattle.npf_trie.specs.declared.step.Met.TheVariants.{Holder, Other}
 use Rattle.npf_trie.specs.declared.step.Point.{Point}
 use Rattle.npf_trie.specs.declared.step.Step.{Step}
-use Rattle.npf_trie.specs.declared.step.Step.TheVariants.{Ends, Leads, Again}
+use Rattle.npf_trie.specs.declared.step.Step.TheVariants.{Ends, Leads, Again, Anew}
 use Rattle.npf_trie.specs.declared.step.Wanted.{Wanted}
 use Rattle.npf_trie.specs.HoldKey.{CanHold, IsAtPlace, StepsSo, TellsMet}
 use Rattle.npf_trie.specs.LookUp.{ComparesWords}
@@ -39,7 +39,7 @@ use Rattle.npf_trie.proofs.StoreLemmas.{noting}
 use Rattle.npf_cells_words.specs.Codes.{place_code}
 use Rattle.npf_cells_words.specs.Layout.{note_field}
 use Rattle.npf_trie.proofs.HoldLemmas.{comes_after, comes_then, steps_so, StaysOn, stays_after, stays_trie, stays_stored, at_after, may_after}
-use Rattle.npf_trie.proofs.StepLemmas.{Comes, Loads, node_leads, mark_stays, sees_empty, empty_stays, holder_read_ends, other_read_stays, published_ends}
+use Rattle.npf_trie.proofs.StepLemmas.{Comes, Loads, node_leads, mark_anew, sees_empty, empty_stays, holder_read_ends, other_read_stays, published_ends}
 
 -- what a load for the key asks, and tells
 pub aims_there : (digest : Key → ℕ) (side : TrieSide) (wanted : Wanted) (p : Place) (aim : Aim) → aim ≡ Aim.Hold wanted.id wanted.key wanted.way → StandsOnPath digest side wanted.key p → StandsOnPath digest side (aim_key aim) p
@@ -86,6 +86,13 @@ ready_now {S} {A} {R} {F} m digest layout wanted point lock words a b d can unma
       turnless = stays.keeps.turn ∙ can.turnless;
     }
 
+-- it stored the key, and didn't get the lock since the place's node is taken off
+pub left_anew : {S A R F : Type 0} (m : Meaning S A R) (digest : Key → ℕ) (layout : Layout) (wanted : Wanted) (point : Point) (words : List StoredWord) (a b d : Me F (CellView S A R)) →
+    b ≡ with_pools a (record a.0.pools { stored = words }) → d ≡ b → StepsSo m digest layout wanted point Anew a d
+left_anew {S} {A} {R} {F} m digest layout wanted point words a b d stores same =
+    let is = same ∙ stores in
+    steps_so m digest layout wanted point Anew a d (stays_stored a d words is) (ap (λ (y : Me F (CellView S A R)). y.0.trie.locks) is)
+
 module _ {S A R F : Type 0} {m : Meaning S A R} {digest : Key → ℕ} {layout : Layout} {wanted : Wanted} {point : Point} {a d : Me F (CellView S A R)} (ready : IsReady m digest layout wanted point a d) where
   -- behind what it comes to under the lock the pass has no other
   pub only_lock : (step : Step) (e e' : Me F (CellView S A R)) (lock : Lock) → e' ≡ e → lock ≡ lock_of point.place → Comes m digest layout wanted point step d e → e'.0.trie.locks ≡ lock ∷ []
@@ -113,8 +120,8 @@ module _ {S A R F : Type 0} {m : Meaning S A R} {digest : Key → ℕ} {layout :
     pub came_node : (node : ℕ) (e : Me F (CellView S A R)) → Tells (Node node) e → Comes m digest layout wanted point (Leads node) d e
     came_node node e tells = node_leads m digest layout wanted point node d e (loads_so (Node node) e tells) ready.at
 
-    pub came_mark : (e : Me F (CellView S A R)) → Tells Mark e → Comes m digest layout wanted point Again d e
-    came_mark e tells = mark_stays m digest layout wanted point d e (loads_so Mark e tells) ready.at
+    pub came_mark : (e : Me F (CellView S A R)) → Tells Mark e → Comes m digest layout wanted point Anew d e
+    came_mark e tells = mark_anew m digest layout wanted point d e (loads_so Mark e tells)
 
     module _ (slot : ℕ) (way : Way) (e f : Me F (CellView S A R)) (tells : Tells (Leaf slot way) e) (compares : ComparesWords 5 e f) where
       abbrev pub IsTold : Met → Type 0

@@ -37,7 +37,7 @@ use Rattle.npf_cells_leaves.specs.Trie.{digits_of}
 use Rattle.npf_trie.specs.declared.step.OtherLeaf.{OtherLeaf}
 use Rattle.npf_trie.specs.declared.step.Point.{Point}
 use Rattle.npf_trie.specs.declared.step.Step.{Step}
-use Rattle.npf_trie.specs.declared.step.Step.TheVariants.{Ends, Leads, Again}
+use Rattle.npf_trie.specs.declared.step.Step.TheVariants.{Ends, Leads, Again, Anew}
 use Rattle.npf_trie.specs.declared.step.Wanted.{Wanted}
 use Rattle.npf_trie.specs.HoldKey.{CanHold, SettlesHold, HoldsOn, IsAtPlace, StepsSo, having_held, noted_after, HasGrown, HoldsNodes, HasHung, HangsSo, HasMet}
 use Rattle.npf_trie.specs.Nodes.{TakesNodes, FindsTooFew, left_with}
@@ -253,6 +253,7 @@ module _ {S A R F : Type 0} (m : Meaning S A R) (digest : Key → ℕ) (layout :
         same (Ends held) differs' has = ap (λ (y : Me F (CellView S A R)). y.0.pools.nodes) (has.taken (λ e. differs' (ap Ends e)))
         same (Leads node) differs' hangs' = ap (λ (y : Me F (CellView S A R)). y.0.pools.nodes) hangs'.0.is
         same Again differs' hangs' = ap (λ (y : Me F (CellView S A R)). y.0.pools.nodes) hangs'.0.is
+        same Anew differs' hangs' = ap (λ (y : Me F (CellView S A R)). y.0.pools.nodes) hangs'.is
 
     -- and then they are given back
     module _ (now : Me F (CellView S A R)) (found : ℕ) (left : List StoredWord) (gives : now ≡ gave_back found left hung) where
@@ -293,3 +294,4 @@ module _ {S A R F : Type 0} (m : Meaning S A R) (digest : Key → ℕ) (layout :
           (ap (λ (y : Me F (CellView S A R)). y.0.pools.notes) at_last ∙ refused held apart has.some old.0.pools.notes)
       steps_back (Leads node) differs hangs = (goes_on hangs.0, same_place _ hangs.1)
       steps_back Again differs hangs = (goes_on hangs.0, same_place _ hangs.1)
+      steps_back Anew differs hangs = goes_on hangs

@@ -61,7 +61,7 @@ use Rattle.npf_trie.specs.declared.step.Point.{Point}
 use Rattle.npf_trie.specs.declared.step.Wanted.{Wanted}
 use Rattle.npf_trie.specs.declared.step.Branch.{Branch}
 use Rattle.npf_trie.specs.declared.step.Step.{Step}
-use Rattle.npf_trie.specs.declared.step.Step.TheVariants.{Ends, Leads, Again}
+use Rattle.npf_trie.specs.declared.step.Step.TheVariants.{Ends, Leads, Again, Anew}
 use Rattle.npf_turn.proofs.MarkLemmas.{none_in_place}
 use Rattle.npf_trie.specs.HoldKey.{IsAtPlace, TellsMet, HasNewTurn, HasGrown, SeesOtherLeaf, HoldsNodes, HasHung, HangsSo}
 use Rattle.npf_trie.specs.Stores.{MayStoreKey}
@@ -447,17 +447,11 @@ module _ {S A R F : Type 0} (m : Meaning S A R) (digest : Key → ℕ) (layout :
           taken = λ e. absurd (e refl);
         }
 
--- the turn of another slot's leaf was got before, and the place's lock behind it; both are given up in the other order
-module _ {S A R : Type 0} (m : Meaning S A R) (digest : Key → ℕ) (layout : Layout) (wanted : Wanted) (point : Point) (slot : ℕ) (lock : Lock) (old took locked : Me (Running S) (CellView S A R))
-    (turnless : old.0.turn ≡ None) (free : old.0.trie.locks ≡ []) (carries : old.1 ≡ []) (takes : HasTaken slot old took) (gets : locked ≡ with_trie took (locking lock took.0.trie)) where
-  abbrev Pass' : Type 0
-  Pass' = Me (Running S) (CellView S A R)
-
-  locked_is : locked ≡ (record old.0 { turn = Some (turn_at slot takes.was); trie = locking lock old.0.trie }, (slot, running takes.was.stage) ∷ [])
-  locked_is = gets ∙ ap (λ (y : Pass'). with_trie y (locking lock y.0.trie)) takes.is
-
+-- the place's lock was got, and is given up behind what comes of it
+module _ {S A R F : Type 0} (m : Meaning S A R) (digest : Key → ℕ) (layout : Layout) (wanted : Wanted) (point : Point) (lock : Lock) (old locked : Me F (CellView S A R))
+    (free : old.0.trie.locks ≡ []) (gets : locked ≡ with_trie old (locking lock old.0.trie)) where
   pub grown_locked : (branch : Branch) → HasGrown m digest layout old.0 wanted point branch → HasGrown m digest layout locked.0 wanted point branch
-  grown_locked branch grown = subst (λ (y : Pass'). HasGrown m digest layout y.0 wanted point branch) (sym locked_is) (record {
+  grown_locked branch grown = subst (λ (y : Me F (CellView S A R)). HasGrown m digest layout y.0 wanted point branch) (sym gets) (record {
     may = record { built = grown.may.built; bare = grown.may.bare };
     exists = grown.exists;
     stored = grown.stored;
@@ -475,104 +469,67 @@ module _ {S A R : Type 0} (m : Meaning S A R) (digest : Key → ℕ) (layout : L
     moved_to = grown.moved_to;
   })
 
-  pub turn_locked : HasNewTurn locked.0.turn slot
-  turn_locked = subst (λ (y : Pass'). HasNewTurn y.0.turn slot) (sym locked_is) (record { mine = turn_at slot takes.was; has = refl; there = refl; settled = refl })
+  pub turn_locked : (slot : ℕ) → HasNewTurn old.0.turn slot → HasNewTurn locked.0.turn slot
+  turn_locked slot turn = subst (λ (y : Me F (CellView S A R)). HasNewTurn y.0.turn slot) (sym gets) turn
 
   pub protected_locked : IsProtected old.0.epochs.pin → IsProtected locked.0.epochs.pin
-  protected_locked is = subst (λ (y : Pass'). IsProtected y.0.epochs.pin) (sym locked_is) is
+  protected_locked is = subst (λ (y : Me F (CellView S A R)). IsProtected y.0.epochs.pin) (sym gets) is
 
   pub locks_locked : locked.0.trie.locks ≡ lock ∷ []
-  locks_locked = ap (λ (y : Pass'). y.0.trie.locks) locked_is ∙ ap (λ ls. lock ∷ ls) free
+  locks_locked = ap (λ (y : Me F (CellView S A R)). y.0.trie.locks) gets ∙ ap (λ ls. lock ∷ ls) free
 
   pub loads_locked : locked.0.trie.places ≡ old.0.trie.places
-  loads_locked = ap (λ (y : Pass'). y.0.trie.places) locked_is
+  loads_locked = ap (λ (y : Me F (CellView S A R)). y.0.trie.places) gets
 
-  module _ (hung : Me (Running S) (CellView S A R)) where
-    -- what comes of it leaves the locks, the marks and the turn
+  module _ (hung : Me F (CellView S A R)) where
+    -- what comes of it leaves the locks and the marks
     side_hung : (step : Step) → HangsSo m digest layout wanted point step locked hung → hung.0.trie ≡ record hung.0.trie { locks = locked.0.trie.locks; marks = locked.0.trie.marks }
     side_hung (Ends held) has = by_held held has
       where
         by_held : (held : Held) → HasHung m wanted held locked hung → hung.0.trie ≡ record hung.0.trie { locks = locked.0.trie.locks; marks = locked.0.trie.marks }
-        by_held Held.Done has' = ap (λ (y : Pass'). y.0.trie) (has'.done refl)
-        by_held (Held.Taken found) has' = ap (λ (y : Pass'). y.0.trie) (has'.taken (λ e. cc))
+        by_held Held.Done has' = ap (λ (y : Me F (CellView S A R)). y.0.trie) (has'.done refl)
+        by_held (Held.Taken found) has' = ap (λ (y : Me F (CellView S A R)). y.0.trie) (has'.taken (λ e. cc))
         by_held Held.NoNode has' = absurd (has'.some refl)
-    side_hung (Leads node) hangs = ap (λ (y : Pass'). y.0.trie) hangs.0.is
-    side_hung Again hangs = ap (λ (y : Pass'). y.0.trie) hangs.0.is
+    side_hung (Leads node) hangs = ap (λ (y : Me F (CellView S A R)). y.0.trie) hangs.0.is
+    side_hung Again hangs = ap (λ (y : Me F (CellView S A R)). y.0.trie) hangs.0.is
+    side_hung Anew hangs = ap (λ (y : Me F (CellView S A R)). y.0.trie) hangs.is
 
     pub locks_hung : (step : Step) → HangsSo m digest layout wanted point step locked hung → hung.0.trie.locks ≡ lock ∷ []
     locks_hung step hangs = ap (λ (t : TrieSide). t.locks) (side_hung step hangs) ∙ locks_locked
 
     pub marks_hung : (step : Step) → HangsSo m digest layout wanted point step locked hung → hung.0.trie.marks ≡ old.0.trie.marks
-    marks_hung step hangs = ap (λ (t : TrieSide). t.marks) (side_hung step hangs) ∙ ap (λ (y : Pass'). y.0.trie.marks) locked_is
+    marks_hung step hangs = ap (λ (t : TrieSide). t.marks) (side_hung step hangs) ∙ ap (λ (y : Me F (CellView S A R)). y.0.trie.marks) gets
 
-    -- so the turn may be ended with nothing
-    pub ends_nothing : (unlocked : Me (Running S) (CellView S A R)) (step : Step) → HangsSo m digest layout wanted point step locked hung → unlocked ≡ with_trie hung (record hung.0.trie { locks = []; emptied = None; met_mark = None }) → MayEndBy m Nothing slot unlocked
-    ends_nothing unlocked step hangs frees = record {
-      turn = turn_at slot takes.was;
-      has = ap (λ (y : Pass'). y.0.turn) frees ∙ turned step hangs;
-      there = refl;
-      may = tt;
-      carries = ap (λ (y : Pass'). y.1) frees ∙ (carried step hangs ∙ ap (λ (y : Pass'). y.1) locked_is);
-      phase = refl;
-      settled = refl;
-    }
-      where
-        turn_is : locked.0.turn ≡ Some (turn_at slot takes.was)
-        turn_is = ap (λ (y : Pass'). y.0.turn) locked_is
+    module _ (now : Me F (CellView S A R)) (frees : now ≡ with_trie hung (record hung.0.trie { locks = []; emptied = None; met_mark = None })) where
+      abbrev freed : Me F (CellView S A R) → Me F (CellView S A R)
+      freed y = with_trie y (record y.0.trie { locks = []; emptied = None; met_mark = None })
 
-        turn_held : (held : Held) → HasHung m wanted held locked hung → hung.0.turn ≡ Some (turn_at slot takes.was)
-        turn_held Held.Done has = ap (λ (y : Pass'). y.0.turn) (has.done refl) ∙ ap (with_ahead None) turn_is
-        turn_held (Held.Taken found) has = ap (λ (y : Pass'). y.0.turn) (has.taken (λ e. cc)) ∙ turn_is
-        turn_held Held.NoNode has = absurd (has.some refl)
-
-        turned : (s : Step) → HangsSo m digest layout wanted point s locked hung → hung.0.turn ≡ Some (turn_at slot takes.was)
-        turned (Ends held) has = turn_held held has
-        turned (Leads node) hangs' = ap (λ (y : Pass'). y.0.turn) hangs'.0.is ∙ turn_is
-        turned Again hangs' = ap (λ (y : Pass'). y.0.turn) hangs'.0.is ∙ turn_is
-
-        carried_held : (held : Held) → HasHung m wanted held locked hung → hung.1 ≡ locked.1
-        carried_held Held.Done has = ap (λ (y : Pass'). y.1) (has.done refl)
-        carried_held (Held.Taken found) has = ap (λ (y : Pass'). y.1) (has.taken (λ e. cc))
-        carried_held Held.NoNode has = absurd (has.some refl)
-
-        carried : (s : Step) → HangsSo m digest layout wanted point s locked hung → hung.1 ≡ locked.1
-        carried (Ends held) has = carried_held held has
-        carried (Leads node) hangs' = ap (λ (y : Pass'). y.1) hangs'.0.is
-        carried Again hangs' = ap (λ (y : Pass'). y.1) hangs'.0.is
-
-    module _ (unlocked now : Me (Running S) (CellView S A R)) (frees : unlocked ≡ with_trie hung (record hung.0.trie { locks = []; emptied = None; met_mark = None })) (ends : now ≡ (record unlocked.0 { turn = None }, [])) where
-      abbrev after : Pass' → Pass'
-      after y = (record y.0 { trie = record y.0.trie { locks = []; emptied = None; met_mark = None }; turn = None }, [])
-
-      now_is : now ≡ after hung
-      now_is = ends ∙ ap (λ (y : Pass'). let z : Pass' = (record y.0 { turn = None }, []) in z) frees
-
-      stayed : HoldsNodes locked hung → HoldsNodes old now
-      stayed stays =
+      freed_nodes : HoldsNodes locked hung → HoldsNodes old now
+      freed_nodes stays =
           let last : TrieSide = hung.0.trie in
-          let at_last = now_is ∙ (ap after stays.is ∙ ap (λ (y : Pass'). after (with_trie y (record last { locks = y.0.trie.locks; marks = y.0.trie.marks }))) locked_is) in
+          let at_last = frees ∙ (ap freed stays.is ∙ ap (λ (y : Me F (CellView S A R)). freed (with_trie y (record last { locks = y.0.trie.locks; marks = y.0.trie.marks }))) gets) in
           record {
-            is = subst (λ (y : Pass'). y ≡ with_trie old (record y.0.trie { locks = old.0.trie.locks; marks = old.0.trie.marks })) (sym at_last) (λ i. (record old.0 { trie = record last { locks = sym free i; marks = old.0.trie.marks; emptied = None; met_mark = None }; turn = sym turnless i }, sym carries i));
-            unpublished = ap (λ (y : Pass'). y.0.trie.published) now_is ∙ (stays.unpublished ∙ ap (λ (y : Pass'). y.0.trie.published) locked_is);
+            is = subst (λ (y : Me F (CellView S A R)). y ≡ with_trie old (record y.0.trie { locks = old.0.trie.locks; marks = old.0.trie.marks })) (sym at_last) (λ i. with_trie old (record last { locks = sym free i; marks = old.0.trie.marks; emptied = None; met_mark = None }));
+            unpublished = ap (λ (y : Me F (CellView S A R)). y.0.trie.published) frees ∙ (stays.unpublished ∙ ap (λ (y : Me F (CellView S A R)). y.0.trie.published) gets);
           }
 
-      placed : (point' : Point) → IsAtPlace digest layout hung.0 wanted.key point' → IsAtPlace digest layout now.0 wanted.key point'
-      placed point' at = place_stays digest layout hung.0 now.0 wanted.key point' (ap (λ (y : Pass'). y.0.trie.stands) now_is) at
+      freed_place : (point' : Point) → IsAtPlace digest layout hung.0 wanted.key point' → IsAtPlace digest layout now.0 wanted.key point'
+      freed_place point' at = place_stays digest layout hung.0 now.0 wanted.key point' (ap (λ (y : Me F (CellView S A R)). y.0.trie.stands) frees) at
 
-      ended : (held : Held) → HasHung m wanted held locked hung → HasHung m wanted held old now
-      ended held has =
+      freed_held : (held : Held) → HasHung m wanted held locked hung → HasHung m wanted held old now
+      freed_held held has =
           let history : List (Entry S A R) = hung.0.seats.history in
           let words : List StoredWord = hung.0.pools.stored in
           let last : TrieSide = hung.0.trie in
-          let adds = subst (λ (y : Pass'). AddsOwn (cell_pass y.0) history (hold_entries (cell_pass y.0) wanted.id wanted.key wanted.way held)) locked_is has.adds in
+          let adds = subst (λ (y : Me F (CellView S A R)). AddsOwn (cell_pass y.0) history (hold_entries (cell_pass y.0) wanted.id wanted.key wanted.way held)) gets has.adds in
           let mine : AddsOwn (cell_pass old.0) history (hold_entries (cell_pass old.0) wanted.id wanted.key wanted.way held) = record { adds = record { rest = adds.adds.rest; goes_on = adds.adds.goes_on; own = adds.adds.own; listed = adds.adds.listed }; ends = adds.ends } in
           record {
             some = has.some;
-            adds = subst (λ (h : List (Entry S A R)). AddsOwn (cell_pass old.0) h (hold_entries (cell_pass old.0) wanted.id wanted.key wanted.way held)) (sym (ap (λ (y : Pass'). y.0.seats.history) now_is)) mine;
-            legal = subst (λ (y : Pass'). IsPass m (cell_pass y.0)) (sym now_is) has.legal;
-            answered = ap (λ (y : Pass'). y.0.trie.answered) now_is ∙ has.answered;
+            adds = subst (λ (h : List (Entry S A R)). AddsOwn (cell_pass old.0) h (hold_entries (cell_pass old.0) wanted.id wanted.key wanted.way held)) (sym (ap (λ (y : Me F (CellView S A R)). y.0.seats.history) frees)) mine;
+            legal = subst (λ (y : Me F (CellView S A R)). IsPass m (cell_pass y.0)) (sym frees) has.legal;
+            answered = ap (λ (y : Me F (CellView S A R)). y.0.trie.answered) frees ∙ has.answered;
             done = λ e.
-                let at_last = now_is ∙ (ap after (has.done e) ∙ ap (λ (y : Pass'). after (
+                let at_last = frees ∙ (ap freed (has.done e) ∙ ap (λ (y : Me F (CellView S A R)). freed (
                   record y.0 {
                     seats = record y.0.seats { history = history };
                     pools = record y.0.pools { nodes = []; stored = words; notes = notes_but wanted.id.slot (note_field wanted.way) y.0.pools.notes };
@@ -580,8 +537,8 @@ module _ {S A R : Type 0} (m : Meaning S A R) (digest : Key → ℕ) (layout : L
                     turn = with_ahead None y.0.turn;
                   },
                   y.1,
-                )) locked_is) in
-                subst (λ (y : Pass'). y ≡ (
+                )) gets) in
+                subst (λ (y : Me F (CellView S A R)). y ≡ (
                   record old.0 {
                     seats = record old.0.seats { history = y.0.seats.history };
                     pools = record old.0.pools { nodes = []; stored = y.0.pools.stored; notes = notes_but wanted.id.slot (note_field wanted.way) old.0.pools.notes };
@@ -594,20 +551,164 @@ module _ {S A R : Type 0} (m : Meaning S A R) (digest : Key → ℕ) (layout : L
                     seats = record old.0.seats { history = history };
                     pools = record old.0.pools { nodes = []; stored = words; notes = notes_but wanted.id.slot (note_field wanted.way) old.0.pools.notes };
                     trie = record last { locks = sym free i; marks = old.0.trie.marks; emptied = None; met_mark = None };
+                    turn = with_ahead None old.0.turn;
+                  },
+                  old.1,
+                ));
+            taken = λ e.
+                let at_last = frees ∙ (ap freed (has.taken e) ∙ ap (λ (y : Me F (CellView S A R)). freed (record y.0 { seats = record y.0.seats { history = history }; trie = record last { locks = y.0.trie.locks; marks = y.0.trie.marks } }, y.1)) gets) in
+                subst (λ (y : Me F (CellView S A R)). y ≡ (record old.0 { seats = record old.0.seats { history = y.0.seats.history }; trie = record y.0.trie { locks = old.0.trie.locks; marks = old.0.trie.marks } }, old.1))
+                (sym at_last) (λ i. (record old.0 { seats = record old.0.seats { history = history }; trie = record last { locks = sym free i; marks = old.0.trie.marks; emptied = None; met_mark = None } }, old.1));
+          }
+
+      pub freed_so : (step : Step) → HangsSo m digest layout wanted point step locked hung → HangsSo m digest layout wanted point step old now
+      freed_so (Ends held) has = freed_held held has
+      freed_so (Leads node) hangs = (freed_nodes hangs.0, freed_place _ hangs.1)
+      freed_so Again hangs = (freed_nodes hangs.0, freed_place point hangs.1)
+      freed_so Anew hangs = freed_nodes hangs
+
+      pub loads_freed : now.0.trie.places ≡ hung.0.trie.places
+      loads_freed = ap (λ (y : Me F (CellView S A R)). y.0.trie.places) frees
+
+-- a pass that did nothing has its nodes still
+pub nodes_self : {S A R F : Type 0} (old now : Me F (CellView S A R)) → now ≡ old → HoldsNodes old now
+nodes_self {S} {A} {R} {F} old now same = subst (λ (y : Me F (CellView S A R)). HoldsNodes old y) (sym same) (record { is = refl; unpublished = refl })
+
+-- the turn of another leaf's slot was got before, and is given up behind what comes of it
+module _ {S A R : Type 0} (m : Meaning S A R) (digest : Key → ℕ) (layout : Layout) (wanted : Wanted) (point : Point) (slot : ℕ) (old took : Me (Running S) (CellView S A R))
+    (turnless : old.0.turn ≡ None) (carries : old.1 ≡ []) (takes : HasTaken slot old took) where
+  abbrev Pass' : Type 0
+  Pass' = Me (Running S) (CellView S A R)
+
+  pub grown_turned : (branch : Branch) → HasGrown m digest layout old.0 wanted point branch → HasGrown m digest layout took.0 wanted point branch
+  grown_turned branch grown = subst (λ (y : Pass'). HasGrown m digest layout y.0 wanted point branch) (sym takes.is) (record {
+    may = record { built = grown.may.built; bare = grown.may.bare };
+    exists = grown.exists;
+    stored = grown.stored;
+    unmarked = grown.unmarked;
+    at = place_stays digest layout old.0 _ wanted.key point refl grown.at;
+    key_stored = grown.key_stored;
+    nodes = grown.nodes;
+    leads = grown.leads;
+    owned = grown.owned;
+    apart = grown.apart;
+    parents = grown.parents;
+    all = grown.all;
+    some = grown.some;
+    own_place = grown.own_place;
+    moved_to = grown.moved_to;
+  })
+
+  pub turn_turned : HasNewTurn took.0.turn slot
+  turn_turned = subst (λ (y : Pass'). HasNewTurn y.0.turn slot) (sym takes.is) (record { mine = turn_at slot takes.was; has = refl; there = refl; settled = refl })
+
+  pub protected_turned : IsProtected old.0.epochs.pin → IsProtected took.0.epochs.pin
+  protected_turned is = subst (λ (y : Pass'). IsProtected y.0.epochs.pin) (sym takes.is) is
+
+  pub free_turned : old.0.trie.locks ≡ [] → took.0.trie.locks ≡ []
+  free_turned free = ap (λ (y : Pass'). y.0.trie.locks) takes.is ∙ free
+
+  module _ (hung : Me (Running S) (CellView S A R)) where
+    -- what comes of it leaves the turn, so that may be ended with nothing
+    pub ends_nothing : (step : Step) → HangsSo m digest layout wanted point step took hung → MayEndBy m Nothing slot hung
+    ends_nothing step hangs = record {
+      turn = turn_at slot takes.was;
+      has = turned step hangs;
+      there = refl;
+      may = tt;
+      carries = carried step hangs ∙ ap (λ (y : Pass'). y.1) takes.is;
+      phase = refl;
+      settled = refl;
+    }
+      where
+        turn_is : took.0.turn ≡ Some (turn_at slot takes.was)
+        turn_is = ap (λ (y : Pass'). y.0.turn) takes.is
+
+        turn_held : (held : Held) → HasHung m wanted held took hung → hung.0.turn ≡ Some (turn_at slot takes.was)
+        turn_held Held.Done has = ap (λ (y : Pass'). y.0.turn) (has.done refl) ∙ ap (with_ahead None) turn_is
+        turn_held (Held.Taken found) has = ap (λ (y : Pass'). y.0.turn) (has.taken (λ e. cc)) ∙ turn_is
+        turn_held Held.NoNode has = absurd (has.some refl)
+
+        turned : (s : Step) → HangsSo m digest layout wanted point s took hung → hung.0.turn ≡ Some (turn_at slot takes.was)
+        turned (Ends held) has = turn_held held has
+        turned (Leads node) hangs' = ap (λ (y : Pass'). y.0.turn) hangs'.0.is ∙ turn_is
+        turned Again hangs' = ap (λ (y : Pass'). y.0.turn) hangs'.0.is ∙ turn_is
+        turned Anew hangs' = ap (λ (y : Pass'). y.0.turn) hangs'.is ∙ turn_is
+
+        carried_held : (held : Held) → HasHung m wanted held took hung → hung.1 ≡ took.1
+        carried_held Held.Done has = ap (λ (y : Pass'). y.1) (has.done refl)
+        carried_held (Held.Taken found) has = ap (λ (y : Pass'). y.1) (has.taken (λ e. cc))
+        carried_held Held.NoNode has = absurd (has.some refl)
+
+        carried : (s : Step) → HangsSo m digest layout wanted point s took hung → hung.1 ≡ took.1
+        carried (Ends held) has = carried_held held has
+        carried (Leads node) hangs' = ap (λ (y : Pass'). y.1) hangs'.0.is
+        carried Again hangs' = ap (λ (y : Pass'). y.1) hangs'.0.is
+        carried Anew hangs' = ap (λ (y : Pass'). y.1) hangs'.is
+
+    module _ (now : Me (Running S) (CellView S A R)) (ends : now ≡ (record hung.0 { turn = None }, [])) where
+      abbrev after : Pass' → Pass'
+      after y = (record y.0 { turn = None }, [])
+
+      ended_nodes : HoldsNodes took hung → HoldsNodes old now
+      ended_nodes stays =
+          let last : TrieSide = hung.0.trie in
+          let at_last = ends ∙ (ap after stays.is ∙ ap (λ (y : Pass'). after (with_trie y (record last { locks = y.0.trie.locks; marks = y.0.trie.marks }))) takes.is) in
+          record {
+            is = subst (λ (y : Pass'). y ≡ with_trie old (record y.0.trie { locks = old.0.trie.locks; marks = old.0.trie.marks })) (sym at_last) (λ i. (record old.0 { trie = record last { locks = old.0.trie.locks; marks = old.0.trie.marks }; turn = sym turnless i }, sym carries i));
+            unpublished = ap (λ (y : Pass'). y.0.trie.published) ends ∙ (stays.unpublished ∙ ap (λ (y : Pass'). y.0.trie.published) takes.is);
+          }
+
+      ended_place : (point' : Point) → IsAtPlace digest layout hung.0 wanted.key point' → IsAtPlace digest layout now.0 wanted.key point'
+      ended_place point' at = place_stays digest layout hung.0 now.0 wanted.key point' (ap (λ (y : Pass'). y.0.trie.stands) ends) at
+
+      ended_held : (held : Held) → HasHung m wanted held took hung → HasHung m wanted held old now
+      ended_held held has =
+          let history : List (Entry S A R) = hung.0.seats.history in
+          let words : List StoredWord = hung.0.pools.stored in
+          let last : TrieSide = hung.0.trie in
+          let adds = subst (λ (y : Pass'). AddsOwn (cell_pass y.0) history (hold_entries (cell_pass y.0) wanted.id wanted.key wanted.way held)) takes.is has.adds in
+          let mine : AddsOwn (cell_pass old.0) history (hold_entries (cell_pass old.0) wanted.id wanted.key wanted.way held) = record { adds = record { rest = adds.adds.rest; goes_on = adds.adds.goes_on; own = adds.adds.own; listed = adds.adds.listed }; ends = adds.ends } in
+          record {
+            some = has.some;
+            adds = subst (λ (h : List (Entry S A R)). AddsOwn (cell_pass old.0) h (hold_entries (cell_pass old.0) wanted.id wanted.key wanted.way held)) (sym (ap (λ (y : Pass'). y.0.seats.history) ends)) mine;
+            legal = subst (λ (y : Pass'). IsPass m (cell_pass y.0)) (sym ends) has.legal;
+            answered = ap (λ (y : Pass'). y.0.trie.answered) ends ∙ has.answered;
+            done = λ e.
+                let at_last = ends ∙ (ap after (has.done e) ∙ ap (λ (y : Pass'). after (
+                  record y.0 {
+                    seats = record y.0.seats { history = history };
+                    pools = record y.0.pools { nodes = []; stored = words; notes = notes_but wanted.id.slot (note_field wanted.way) y.0.pools.notes };
+                    trie = record last { locks = y.0.trie.locks; marks = y.0.trie.marks };
+                    turn = with_ahead None y.0.turn;
+                  },
+                  y.1,
+                )) takes.is) in
+                subst (λ (y : Pass'). y ≡ (
+                  record old.0 {
+                    seats = record old.0.seats { history = y.0.seats.history };
+                    pools = record old.0.pools { nodes = []; stored = y.0.pools.stored; notes = notes_but wanted.id.slot (note_field wanted.way) old.0.pools.notes };
+                    trie = record y.0.trie { locks = old.0.trie.locks; marks = old.0.trie.marks };
+                    turn = with_ahead None old.0.turn;
+                  },
+                  old.1,
+                )) (sym at_last) (λ i. (
+                  record old.0 {
+                    seats = record old.0.seats { history = history };
+                    pools = record old.0.pools { nodes = []; stored = words; notes = notes_but wanted.id.slot (note_field wanted.way) old.0.pools.notes };
+                    trie = record last { locks = old.0.trie.locks; marks = old.0.trie.marks };
                     turn = sym (ap (with_ahead None) turnless) i;
                   },
                   sym carries i,
                 ));
             taken = λ e.
-                let at_last = now_is ∙ (ap after (has.taken e) ∙ ap (λ (y : Pass'). after (record y.0 { seats = record y.0.seats { history = history }; trie = record last { locks = y.0.trie.locks; marks = y.0.trie.marks } }, y.1)) locked_is) in
+                let at_last = ends ∙ (ap after (has.taken e) ∙ ap (λ (y : Pass'). after (record y.0 { seats = record y.0.seats { history = history }; trie = record last { locks = y.0.trie.locks; marks = y.0.trie.marks } }, y.1)) takes.is) in
                 subst (λ (y : Pass'). y ≡ (record old.0 { seats = record old.0.seats { history = y.0.seats.history }; trie = record y.0.trie { locks = old.0.trie.locks; marks = old.0.trie.marks } }, old.1))
-                (sym at_last) (λ i. (record old.0 { seats = record old.0.seats { history = history }; trie = record last { locks = sym free i; marks = old.0.trie.marks; emptied = None; met_mark = None }; turn = sym turnless i }, sym carries i));
+                (sym at_last) (λ i. (record old.0 { seats = record old.0.seats { history = history }; trie = record last { locks = old.0.trie.locks; marks = old.0.trie.marks }; turn = sym turnless i }, sym carries i));
           }
 
-      pub moves_so : (step : Step) → HangsSo m digest layout wanted point step locked hung → HangsSo m digest layout wanted point step old now
-      moves_so (Ends held) has = ended held has
-      moves_so (Leads node) hangs = (stayed hangs.0, placed _ hangs.1)
-      moves_so Again hangs = (stayed hangs.0, placed point hangs.1)
-
-      pub loads_so : hung.0.trie.places ≡ now.0.trie.places
-      loads_so = sym (ap (λ (y : Pass'). y.0.trie.places) now_is)
+      pub ended_so : (step : Step) → HangsSo m digest layout wanted point step took hung → HangsSo m digest layout wanted point step old now
+      ended_so (Ends held) has = ended_held held has
+      ended_so (Leads node) hangs = (ended_nodes hangs.0, ended_place _ hangs.1)
+      ended_so Again hangs = (ended_nodes hangs.0, ended_place point hangs.1)
+      ended_so Anew hangs = ended_nodes hangs

@@ -27,12 +27,12 @@ use Rattle.npf_cells_leaves.specs.declared.trie.TrieSide.{TrieSide}
 use Rattle.npf_cells_lives.specs.declared.pools.StoredWord.{StoredWord}
 use Rattle.npf_cells_holds.specs.HoldKinds.{MayHoldSo}
 use Rattle.npf_cells_holds.specs.LookKinds.{StandsOnPath, level_of, level_at}
-use Rattle.npf_cells_rule.specs.Views.{dead_hand, with_trie, with_pools}
+use Rattle.npf_cells_rule.specs.Views.{DeadHand, dead_hand, with_trie, with_pools}
 use Rattle.npf_cells_rule.specs.Passes.{cell_pass, IsProtected}
 use Rattle.npf_cells_leaves.specs.Trie.{digits_of}
 use Rattle.npf_trie.specs.declared.step.Point.{Point}
 use Rattle.npf_trie.specs.declared.step.Step.{Step}
-use Rattle.npf_trie.specs.declared.step.Step.TheVariants.{Ends, Leads, Again}
+use Rattle.npf_trie.specs.declared.step.Step.TheVariants.{Ends, Leads, Again, Anew}
 use Rattle.npf_trie.specs.declared.step.Wanted.{Wanted}
 use Rattle.npf_trie.specs.HoldKey.{CanHold, HoldsOn, SettlesHold, IsAtPlace, StepsSo, having_held, noted_after}
 
@@ -186,6 +186,7 @@ module _ {S A R F : Type 0} (m : Meaning S A R) where
     exists = can.exists;
     stored = λ inside. can.stored (subst (λ slots. Contains slots id.slot) stays.keeps.unstored inside);
     nodes = stays.keeps.nodes ∙ can.nodes;
+    unfreed = ap (λ (hand : DeadHand). hand.unfreed) stays.keeps.dead ∙ can.unfreed;
     locks = locks ∙ can.locks;
     turnless = stays.keeps.turn ∙ can.turnless;
   }
@@ -261,11 +262,13 @@ module _ {S A R F : Type 0} (m : Meaning S A R) where
     ComesTo (Ends held) old now = EndsHold wanted.id wanted.key wanted.way held old now
     ComesTo (Leads node) old now = StaysOn old now × IsAtPlace digest layout now.0 wanted.key (next_point digest wanted point node)
     ComesTo Again old now = StaysOn old now × IsAtPlace digest layout now.0 wanted.key point
+    ComesTo Anew old now = StaysOn old now
 
     pub comes_after : (step : Step) (a b c : Me F (CellView S A R)) → StaysOn a b → ComesTo step b c → ComesTo step a c
     comes_after (Ends held) a b c stays comes = ends_after a b c wanted.id wanted.key wanted.way held stays comes
     comes_after (Leads node) a b c stays comes = (stays_after a b c stays comes.0, comes.1)
     comes_after Again a b c stays comes = (stays_after a b c stays comes.0, comes.1)
+    comes_after Anew a b c stays comes = stays_after a b c stays comes
 
     -- then it frees a lock, or loads words of keys
     pub comes_then : (step : Step) (a b c : Me F (CellView S A R)) (side : TrieSide) → ComesTo step a b → c ≡ with_trie b side → side.answered ≡ b.0.trie.answered → side.published ≡ b.0.trie.published → side.stands ≡ b.0.trie.stands → ComesTo step a c
@@ -274,18 +277,21 @@ module _ {S A R F : Type 0} (m : Meaning S A R) where
         (stays_after a b c comes.0 (stays_trie b c side e published), at_after digest layout b c wanted.key (next_point digest wanted point node) (ap (λ (y : Me F (CellView S A R)). y.0.trie.stands) e ∙ stands) comes.1)
     comes_then Again a b c side comes e answered published stands =
         (stays_after a b c comes.0 (stays_trie b c side e published), at_after digest layout b c wanted.key point (ap (λ (y : Me F (CellView S A R)). y.0.trie.stands) e ∙ stands) comes.1)
+    comes_then Anew a b c side comes e answered published stands = stays_after a b c comes (stays_trie b c side e published)
 
     -- with the same locks it is the step
     pub steps_so : (step : Step) (old now : Me F (CellView S A R)) → ComesTo step old now → now.0.trie.locks ≡ old.0.trie.locks → StepsSo m digest layout wanted point step old now
     steps_so (Ends held) old now comes locks = answers_so layout old now wanted.id wanted.key wanted.way held comes locks
     steps_so (Leads node) old now comes locks = (holds_on old now comes.0 locks, comes.1)
     steps_so Again old now comes locks = (holds_on old now comes.0 locks, comes.1)
+    steps_so Anew old now comes locks = holds_on old now comes locks
 
     -- a step behind others that held nothing yet
     pub steps_after : (step : Step) (a b c : Me F (CellView S A R)) → HoldsOn a b → StepsSo m digest layout wanted point step b c → StepsSo m digest layout wanted point step a c
     steps_after (Ends held) a b c on so = answers_after layout a b c wanted.id wanted.key wanted.way held on so
     steps_after (Leads node) a b c on so = (on_after a b c on so.0, so.1)
     steps_after Again a b c on so = (on_after a b c on so.0, so.1)
+    steps_after Anew a b c on so = on_after a b c on so
 
 -- a hold begins at the root's place of the first digit
 pub at_root : {S A R : Type 0} (digest : Key → ℕ) (layout : Layout) (v : CellView S A R) (key : Key) (hash digit : ℕ) → hash ≡ digest key → digit ≡ digit_of hash key 0 → digit < 64 →
@@ -297,9 +303,3 @@ pub at_next : {S A R : Type 0} (digest : Key → ℕ) (layout : Layout) (v : Cel
     next ≡ record { place = Places.Node node (digit_of hash key (level + 1)); level = level + 1 } → IsAtPlace digest layout v key (record { place = Places.Node node (digits_of digest key (level + 1)); level = level + 1 }) → IsAtPlace digest layout v key next
 at_next digest layout v key level next node hash hashed is at =
     subst (λ (p : Point). IsAtPlace digest layout v key p) (sym (is ∙ ap (λ h. let p : Point = record { place = Places.Node node (digit_of h key (level + 1)); level = level + 1 } in p) hashed)) at
-
-pub holds_self : {S A R F : Type 0} (a : Me F (CellView S A R)) → HoldsOn a a
-holds_self a = record { is = refl; history = refl; sweeps = omega arith; unpublished = refl; noted = refl }
-
-pub can_on : {S A R F : Type 0} (m : Meaning S A R) (layout : Layout) (a b : Me F (CellView S A R)) (id : ConnId) (way : Way) → HoldsOn a b → CanHold m layout a.0 id way → CanHold m layout b.0 id way
-can_on m layout a b id way on can = can_after m layout a b id way (on_stays a b on) (same_locks a b on.is) can

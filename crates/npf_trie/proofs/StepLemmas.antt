@@ -37,7 +37,7 @@ use Rattle.npf_trie.specs.declared.step.Met.{Met}
 use Rattle.npf_trie.specs.declared.step.Met.TheVariants.{Holder, Other}
 use Rattle.npf_trie.specs.declared.step.Point.{Point}
 use Rattle.npf_trie.specs.declared.step.Step.{Step}
-use Rattle.npf_trie.specs.declared.step.Step.TheVariants.{Ends, Leads, Again}
+use Rattle.npf_trie.specs.declared.step.Step.TheVariants.{Ends, Leads, Again, Anew}
 use Rattle.npf_trie.specs.declared.step.Wanted.{Wanted}
 use Rattle.npf_trie.specs.HoldKey.{CanHold, IsAtPlace, StepsSo, TellsMet, HasMet}
 use Rattle.npf_trie.specs.LookUp.{ComparesWords}
@@ -97,19 +97,21 @@ module _ {S A R F : Type 0} where
           marks = ap (λ (y : Me F (CellView S A R)). y.0.trie.marks) led.1;
         }
 
-    -- where nothing stands, or a mark, the pass is where it was
-    seen_again : (cell : Cell) (a b : Me F (CellView S A R)) → b ≡ with_trie a (sighting wanted.key (level_at a.0.trie point.place) point.place cell (renewed a.0.trie)) → IsAtPlace digest layout a.0 wanted.key point → Comes Again a b
-    seen_again cell a b e at = record {
+    -- where nothing stands the pass is where it was
+    pub empty_stays : (a b : Me F (CellView S A R)) → Loads Empty a b → IsAtPlace digest layout a.0 wanted.key point → Comes Again a b
+    empty_stays a b loads at = let e = loads.nothing (inl refl) in record {
       comes = (stays_trie a b _ e refl, at_after digest layout a b wanted.key point (ap (λ (y : Me F (CellView S A R)). y.0.trie.stands) e) at);
       locks = ap (λ (y : Me F (CellView S A R)). y.0.trie.locks) e;
       marks = ap (λ (y : Me F (CellView S A R)). y.0.trie.marks) e;
     }
 
-    pub empty_stays : (a b : Me F (CellView S A R)) → Loads Empty a b → IsAtPlace digest layout a.0 wanted.key point → Comes Again a b
-    empty_stays a b loads at = seen_again Empty a b (loads.nothing (inl refl)) at
-
-    pub mark_stays : (a b : Me F (CellView S A R)) → Loads Mark a b → IsAtPlace digest layout a.0 wanted.key point → Comes Again a b
-    mark_stays a b loads at = seen_again Mark a b (loads.nothing (inr refl)) at
+    -- where a mark stands the path is walked anew
+    pub mark_anew : (a b : Me F (CellView S A R)) → Loads Mark a b → Comes Anew a b
+    mark_anew a b loads = let e = loads.nothing (inr refl) in record {
+      comes = stays_trie a b _ e refl;
+      locks = ap (λ (y : Me F (CellView S A R)). y.0.trie.locks) e;
+      marks = ap (λ (y : Me F (CellView S A R)). y.0.trie.marks) e;
+    }
 
     -- and under the lock it saw that nothing stands there
     pub sees_empty : (a b : Me F (CellView S A R)) (rest : List Lock) → Loads Empty a b → a.0.trie.locks ≡ lock_of point.place ∷ rest → SeesLocked b.0.trie point.place Empty

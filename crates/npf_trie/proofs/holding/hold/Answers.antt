@@ -1,5 +1,6 @@
 use Rattle.std.proofs.Common.{refl, arith}
-use Rattle.npf_trie.proofs.HoldLemmas.{at_root, at_next, holds_self, on_after, on_stays, protected_after, can_on, answers_after}
+use Rattle.npf_trie.proofs.HoldLemmas.{at_root, at_next}
+use Rattle.npf_trie.proofs.AnewLemmas.{anew_self, anew_on, anew_after, can_anew, nodeless}
 use Rattle.npf_trie.proofs.holding.hold.Goals as goal
 
 pub loop-init : goal.loop-init
@@ -7,8 +8,7 @@ loop-init g c = record {
   next = tt;
   finite = tt;
   own = c.requires.own;
-  on = holds_self _;
-  loads = omega arith;
+  anew = anew_self _ c.requires.protected;
   at = at_root _ _ _ _ _ _ c.hash-hash.ensures c.digit.ensures.value (c.digit.ensures.root refl);
 }
 
@@ -17,8 +17,7 @@ loop-preserved g c = record {
   next = tt;
   finite = tt;
   own = c.in-Again.ensures.own;
-  on = on_after _ _ _ c.loop.invariant.on c.in-Again.ensures.steps.0;
-  loads = omega (arith, c.loop.invariant.loads, c.in-Again.ensures.loaded);
+  anew = anew_on _ _ _ c.loop.invariant.anew c.in-Again.ensures.steps.0 c.in-Again.ensures.loaded;
   at = c.in-Again.ensures.steps.1;
 }
 
@@ -27,19 +26,36 @@ loop-preserved-in-Leads g c = record {
   next = tt;
   finite = tt;
   own = c.in-Leads.ensures.own;
-  on = on_after _ _ _ c.loop.invariant.on c.in-Leads.ensures.steps.0;
-  loads = omega (arith, c.loop.invariant.loads, c.in-Leads.ensures.loaded);
+  anew = anew_on _ _ _ c.loop.invariant.anew c.in-Leads.ensures.steps.0 c.in-Leads.ensures.loaded;
   at = at_next _ _ _ _ _ _ _ _ c.hash-hash.ensures c.further-point.ensures c.in-Leads.ensures.steps.1;
 }
 
+pub loop-preserved-in-Anew : goal.loop-preserved-in-Anew
+loop-preserved-in-Anew g c = record {
+  next = tt;
+  finite = tt;
+  own = c.stay_anew.ensures.own;
+  anew = anew_after _ _ _ (anew_on _ _ _ c.loop.invariant.anew c.in-Anew.ensures.steps c.in-Anew.ensures.loaded) c.stay_anew.ensures.anew;
+  at = at_root _ _ _ _ _ _ c.hash-hash.ensures c.digit.ensures.value (c.digit.ensures.root refl);
+}
+
 pub step-requires-clause-protected : goal.step-requires-clause-protected
-step-requires-clause-protected g c = protected_after _ _ (on_stays _ _ c.loop.invariant.on).keeps c.requires.protected
+step-requires-clause-protected g c = c.loop.invariant.anew.protected
 
 pub step-requires-clause-can : goal.step-requires-clause-can
-step-requires-clause-can g c = can_on _ _ _ _ _ _ c.loop.invariant.on c.requires.can
+step-requires-clause-can g c = can_anew _ _ _ _ _ _ c.loop.invariant.anew c.requires.can
+
+pub stay_anew-requires-clause-protected : goal.stay_anew-requires-clause-protected
+stay_anew-requires-clause-protected g c = (anew_on _ _ _ c.loop.invariant.anew c.in-Anew.ensures.steps c.in-Anew.ensures.loaded).protected
+
+pub stay_anew-requires-clause-unlocked : goal.stay_anew-requires-clause-unlocked
+stay_anew-requires-clause-unlocked g c = (can_anew _ _ _ _ _ _ (anew_on _ _ _ c.loop.invariant.anew c.in-Anew.ensures.steps c.in-Anew.ensures.loaded) c.requires.can).locks
+
+pub stay_anew-requires-clause-nodes : goal.stay_anew-requires-clause-nodes
+stay_anew-requires-clause-nodes g c = nodeless (can_anew _ _ _ _ _ _ (anew_on _ _ _ c.loop.invariant.anew c.in-Anew.ensures.steps c.in-Anew.ensures.loaded) c.requires.can)
 
 pub returns-in-Ends-clause-answers : goal.returns-in-Ends-clause-answers
-returns-in-Ends-clause-answers g c = answers_after _ _ _ _ _ _ _ _ _ c.loop.invariant.on c.in-Ends.ensures.steps
+returns-in-Ends-clause-answers g c = record { between = _; anew = c.loop.invariant.anew; settles = c.in-Ends.ensures.steps }
 
 pub returns-in-Ends-clause-loaded : goal.returns-in-Ends-clause-loaded
-returns-in-Ends-clause-loaded g c = omega (arith, c.loop.invariant.loads, c.in-Ends.ensures.loaded)
+returns-in-Ends-clause-loaded g c = omega (arith, c.loop.invariant.anew.places, c.in-Ends.ensures.loaded)

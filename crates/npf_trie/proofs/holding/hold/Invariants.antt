@@ -1,15 +1,16 @@
-use Rattle.std.specs.Prelude.{◌≤◌}
+use Rattle.std.specs.Prelude.{◌≡◌, ◌≤◌}
+use Rattle.npf_paths.specs.Digits.{digit_of}
+use Rattle.npf_paths.specs.declared.place.Place.TheVariants as Places
 use Rattle.npf_cells.specs.Cells.{IsPassIn}
-use Rattle.npf_trie.specs.HoldKey.{HoldsOn, IsAtPlace}
+use Rattle.npf_trie.specs.HoldKey.{StaysAnew, IsAtPlace}
 use Rattle.npf_trie.proofs.holding.hold.Given as goal
 
--- nothing is held yet, and the pass stands at this point of the key's path
+-- nothing is held yet, whichever stays were begun, and the pass stands at this point of the key's path
 abbrev pub invariant-loop : goal.invariant-loop
 invariant-loop g l = record {
   next : (goal.iterator-loop g).can_next l.iterator';
   finite : (goal.iterator-loop g).is_finite l.iterator';
   own : IsPassIn l.cells l.pass;
-  on : HoldsOn l.initial.pass.seat.me l.pass.seat.me;
-  loads : l.initial.pass.seat.me.0.trie.places ≤ l.pass.seat.me.0.trie.places;
+  anew : StaysAnew l.initial.pass.seat.me l.pass.seat.me;
   at : IsAtPlace g.H.KeyHash.digest l.cells.table.shared.key l.pass.seat.me.0 l.key l.point;
 }

@@ -1,6 +1,6 @@
 use Rattle.std.proofs.Common.{arith}
 use Rattle.npf_trie.proofs.CountLemmas.{by_load, by_words}
-use Rattle.npf_trie.proofs.StepLemmas.{leaf_loaded, node_leads, empty_stays, holder_read_ends, other_read_stays, other_met, stepped, stepped_after, can_still, protected_still}
+use Rattle.npf_trie.proofs.StepLemmas.{leaf_loaded, node_leads, mark_anew, empty_stays, holder_read_ends, other_read_stays, other_met, stepped, stepped_after, can_still, protected_still}
 use Rattle.npf_trie.proofs.FillLemmas.{aim_tells}
 use Rattle.npf_trie.proofs.holding.step.Goals as goal
 
@@ -52,6 +52,11 @@ returns-in-Other-clause-steps g c =
     let loads = aim_tells g.L.Law.meaning g.H.KeyHash.digest c.args.cells.now.table.shared.key c.args.wanted.now c.args.point _ _ _ _ c.aim.ensures c.in-Leaf.ensures.tells in
     let came = other_read_stays g.L.Law.meaning g.H.KeyHash.digest c.args.cells.now.table.shared.key c.args.wanted.now c.args.point _ _ _ _ loads _ c.meet.ensures.compares c.in-Other.key c.in-Other.ensures.met c.requires.at in
     stepped_after g.L.Law.meaning g.H.KeyHash.digest c.args.cells.now.table.shared.key c.args.wanted.now c.args.point _ _ _ _ came c.grow.ensures.steps
+
+pub returns-in-Mark-clause-steps : goal.returns-in-Mark-clause-steps
+returns-in-Mark-clause-steps g c =
+    let loads = aim_tells g.L.Law.meaning g.H.KeyHash.digest c.args.cells.now.table.shared.key c.args.wanted.now c.args.point _ _ _ _ c.aim.ensures c.in-Mark.ensures.tells in
+    stepped g.L.Law.meaning g.H.KeyHash.digest c.args.cells.now.table.shared.key c.args.wanted.now c.args.point _ _ _ (mark_anew g.L.Law.meaning g.H.KeyHash.digest c.args.cells.now.table.shared.key c.args.wanted.now c.args.point _ _ loads)
 
 pub returns-in-Node-clause-loaded : goal.returns-in-Node-clause-loaded
 returns-in-Node-clause-loaded g c = let load = by_load g.L.Law.meaning g.H.KeyHash.digest c.args.cells.now.table.shared.key c.args.wanted.now c.args.point _ c.aim.ensures _ _ _ c.in-Node.ensures.tells in omega (arith, load)
