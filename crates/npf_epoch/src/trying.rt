@@ -30,6 +30,7 @@ pub fn try_advance<L: Law, H: KeyHash>(cells: &Cells<L, H>, pass: &mut CellPass<
     ensures reached { pass.new.seat.me.0.epochs.loaded ≤ pass.new.seat.me.0.epochs.known }
     ensures greatest { pass.new.seat.me.0.epochs.loaded ≤ pass.new.seat.me.0.epochs.greatest }
     ensures later { pass.old.seat.me.0.epochs.greatest ≤ pass.new.seat.me.0.epochs.greatest }
+    ensures most { pass.old.seat.me.0.epochs.greatest ≤ last_epoch → pass.new.seat.me.0.epochs.greatest ≤ last_epoch }
     ensures sole { length pass.old.seat.me.0.seats.readers ≡ all_places → pass.old.seat.me.0.epochs.pin ≡ Idle → result ≡ false → pass.new.seat.me.0.epochs.loaded ≡ last_epoch }
 {
     let epoch = cells.load_epoch(pass);

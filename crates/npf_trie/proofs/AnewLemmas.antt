@@ -9,10 +9,11 @@ use Rattle.npf_core.specs.declared.held.Held.{Held}
 use Rattle.npf_core.specs.History.{state_of}
 use Rattle.npf_core.specs.Machine.{HoldsNone}
 use Rattle.npf_core.specs.Meaning.{Meaning}
+use Rattle.npf_connections.specs.Worn.{last_epoch}
 use Rattle.npf_cells_words.specs.declared.layout.Layout.{Layout}
 use Rattle.npf_cells_rule.specs.declared.view.CellView.{CellView}
 use Rattle.npf_cells_pins.specs.declared.pin.EpochSide.{EpochSide}
-use Rattle.npf_cells_pins.specs.Pinning.{loading}
+use Rattle.npf_cells_pins.specs.Pinning.{IsMet, loading}
 use Rattle.npf_cells_leaves.specs.declared.trie.TrieSide.{TrieSide}
 use Rattle.npf_cells_lives.specs.declared.pools.PoolSide.{PoolSide}
 use Rattle.npf_cells_moves.specs.Kinds.{unpinned}
@@ -27,7 +28,7 @@ module _ {S A R F : Type 0} where
   Pass' = Me F (CellView S A R)
 
   pub anew_self : (a : Pass') → IsProtected a.0.epochs.pin → StaysAnew a a
-  anew_self a protected = record { is = refl; history = refl; sweeps = omega arith; unpublished = refl; noted = refl; places = omega arith; protected = protected; greatest = omega arith; known = omega arith }
+  anew_self a protected = record { is = refl; history = refl; sweeps = omega arith; unpublished = refl; noted = refl; places = omega arith; protected = protected; greatest = omega arith; known = omega arith; most = λ most. most }
 
   pub anew_after : (a b c : Pass') → StaysAnew a b → StaysAnew b c → StaysAnew a c
   anew_after a b c ab bc =
@@ -42,6 +43,7 @@ module _ {S A R F : Type 0} where
         protected = bc.protected;
         greatest = let x = ab.greatest in let y = bc.greatest in omega (arith, x, y);
         known = let x = ab.known in let y = bc.known in omega (arith, x, y);
+        most = λ most. bc.most (ab.most most);
       }
 
   same_epochs : (b c : Pass') → HoldsOn b c → c.0.epochs ≡ b.0.epochs
@@ -61,6 +63,7 @@ module _ {S A R F : Type 0} where
         protected = subst (λ (e : EpochSide). IsProtected e.pin) (sym same) protected;
         greatest = let e = ap (λ (side : EpochSide). side.greatest) same in omega (arith, e);
         known = let e = ap (λ (side : EpochSide). side.known) same in omega (arith, e);
+        most = λ most. let e = ap (λ (side : EpochSide). side.greatest) same in omega (arith, e, most);
       }
 
   pub anew_on : (a b c : Pass') → StaysAnew a b → HoldsOn b c → b.0.trie.places + 1 ≤ c.0.trie.places → StaysAnew a c
@@ -86,7 +89,7 @@ module _ {S A R F : Type 0} where
 
   -- a stay is ended and another begun, in which a mark may have been cleared
   module _ (a left tried entered loaded now : Pass') (epoch : ℕ) (freed : Bool) (leaves : left ≡ unpinned a) (tries : tried ≡ with_epochs left tried.0.epochs) (enters : entered ≡ with_epochs tried entered.0.epochs)
-      (loads : loaded ≡ with_epochs entered (loading entered.0.epochs epoch)) (returns : ReturnsNode freed loaded now) (same : now.0.epochs ≡ loaded.0.epochs) where
+      (loads : loaded ≡ with_epochs entered (loading entered.0.epochs epoch)) (returns : ReturnsNode freed loaded now) (same : now.0.epochs ≡ loaded.0.epochs) (met : IsMet entered.0.epochs epoch) where
     abbrev side : EpochSide
     side = loading entered.0.epochs epoch
 
@@ -112,8 +115,8 @@ module _ {S A R F : Type 0} where
           y.1,
         ) in z) stays_loaded
 
-    pub stays_anew : HasEntered tried.0.epochs entered.0.epochs → IsProtected entered.0.epochs.pin → left.0.epochs.greatest ≤ tried.0.epochs.greatest → left.0.epochs.known ≤ tried.0.epochs.known → StaysAnew a now
-    stays_anew has protected greatest known =
+    pub stays_anew : HasEntered tried.0.epochs entered.0.epochs → IsProtected entered.0.epochs.pin → left.0.epochs.greatest ≤ tried.0.epochs.greatest → left.0.epochs.known ≤ tried.0.epochs.known → (left.0.epochs.greatest ≤ last_epoch → tried.0.epochs.greatest ≤ last_epoch) → StaysAnew a now
+    stays_anew has protected greatest known most =
         let first_g = ap (λ (y : Pass'). y.0.epochs.greatest) leaves in
         let first_k = ap (λ (y : Pass'). y.0.epochs.known) leaves in
         let then_g = ap (λ (e : EpochSide). e.greatest) has.is in
@@ -134,6 +137,12 @@ module _ {S A R F : Type 0} where
           protected = subst (λ (e : EpochSide). IsProtected e.pin) (sym (same ∙ ap (λ (y : Pass'). y.0.epochs) loads)) protected;
           greatest = omega (arith, first_g, greatest, then_g, load_g, last_g);
           known = omega (arith, first_k, known, then_k, load_k, last_k);
+          most = λ was.
+              let tried_most = most (omega (arith, first_g, was)) in
+              let order = has.order in
+              let protecting = has.most in
+              let met_most = met.most in
+              omega (arith, then_g, load_g, last_g, tried_most, order, protecting, met_most);
         }
       where
         settles_so : now ≡ (record (having_held a.0 now.0) { epochs = now.0.epochs }, a.1)
