@@ -18,14 +18,7 @@ use Rattle.npf_cells_rule.specs.Views.{with_trie}
 use Rattle.npf_cells_holds.specs.LockKinds.{locking}
 use Rattle.npf_cells_returns.specs.LoadKinds.{loading_cell, loading_parent, with_digit, with_parent}
 use Rattle.npf_cells_returns.specs.MarkKinds.{MayMarkNode}
-
--- the pass, but for what it found under its locks
-abbrev pub finding : {S A R F : Type 0} → Me F (CellView S A R) → Me F (CellView S A R) → Me F (CellView S A R)
-finding old now = with_trie old (record old.0.trie { emptied = now.0.trie.emptied; met_mark = now.0.trie.met_mark })
-
--- the pass knows that nothing stands in the node's places, and that its parent word names this place
-abbrev pub IsBareUnder : {S A R F : Type 0} → ℕ → Me F (CellView S A R) → Place → Type 0
-IsBareUnder node now place = (found : Emptied) × (now.0.trie.emptied ≡ Some found) × (found.node ≡ node) × ((digit : ℕ) → digit < 16 → Contains found.digits digit) × (found.parent ≡ Some (place_code place))
+use Rattle.npf_turn.specs.TakingOff.{FindsBareUnder, finding}
 
 -- the pass found the places of the node before this one empty
 pub record BareBelow {S A R F : Type 0} (node digit : ℕ) (old now : Me F (CellView S A R)) : Type 0 where
@@ -56,7 +49,7 @@ module _ {S A R F : Type 0} (node : ℕ) (old now next : Me F (CellView S A R)) 
   }
 
   -- the parent word is remembered with them
-  pub parent_named : (parent : Option Place) (code : ℕ) → IfSome parent (λ p. place_code p ≡ code) → BareBelow node 16 old now → next ≡ with_trie now (loading_parent node code now.0.trie) → IfSome parent (λ p. IsBareUnder node next p)
+  pub parent_named : (parent : Option Place) (code : ℕ) → IfSome parent (λ p. place_code p ≡ code) → BareBelow node 16 old now → next ≡ with_trie now (loading_parent node code now.0.trie) → IfSome parent (FindsBareUnder next.0.trie node)
   parent_named None code named bare is = tt
   parent_named (Some p) code named bare is = (
     record bare.found { parent = Some code },
@@ -66,16 +59,21 @@ module _ {S A R F : Type 0} (node : ℕ) (old now next : Me F (CellView S A R)) 
     ap (λ n. Some n) (sym named),
   )
 
-  -- with the lock of that place the node may be marked
-  pub may_mark : (layout : Layout) (lock : Lock) (parent : Place) → IsBareUnder node now parent → now.0.trie.locks ≡ Locking.Node node ∷ [] → IsInTrie layout parent → lock ≡ lock_of parent → next ≡ with_trie now (locking lock now.0.trie) → MayMarkNode layout next.0 node
-  may_mark layout lock parent bare only inside is gets = subst (λ (y : Me F (CellView S A R)). MayMarkNode layout y.0 node) (sym gets) (record {
+-- with the lock of that place the node may be marked
+module _ {S A R F : Type 0} (layout : Layout) (node : ℕ) (parent : Place) (old : Me F (CellView S A R)) where
+  pub may_mark : FindsBareUnder old.0.trie node parent → old.0.trie.locks ≡ lock_of parent ∷ Locking.Node node ∷ [] → IsInTrie layout parent → MayMarkNode layout old.0 node
+  may_mark bare both inside = record {
     found = bare.0;
     has = bare.1;
     there = bare.2;
-    own = Contains-append_right (lock ∷ []) now.0.trie.locks (Locking.Node node) (subst (λ locks. Contains locks (Locking.Node node)) (sym only) (Contains-push [] (Locking.Node node)));
+    own = subst (λ locks. Contains locks (Locking.Node node)) (sym both) (Contains-push (lock_of parent ∷ []) (Locking.Node node));
     all = bare.3;
     place = parent;
     inside = inside;
     parent = bare.4;
-    locked = subst (Contains (lock ∷ now.0.trie.locks)) is (Contains-append_left (lock ∷ []) now.0.trie.locks lock (Contains-push [] lock));
-  })
+    locked = subst (λ locks. Contains locks (lock_of parent)) (sym both) (Contains-append_left (lock_of parent ∷ []) (Locking.Node node ∷ []) (lock_of parent) (Contains-push [] (lock_of parent)));
+  }
+
+  -- and the pass knows it still that got the lock
+  pub still_bare : (lock : Lock) (now : Me F (CellView S A R)) → now ≡ with_trie old (locking lock old.0.trie) → FindsBareUnder old.0.trie node parent → FindsBareUnder now.0.trie node parent
+  still_bare lock now gets bare = (bare.0, ap (λ (y : Me F (CellView S A R)). y.0.trie.emptied) gets ∙ bare.1, bare.2, bare.3, bare.4)

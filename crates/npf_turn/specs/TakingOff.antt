@@ -1,9 +1,11 @@
 -- What it leaves of a pass to take an empty node off, and to get one back.
-use Rattle.std.specs.Prelude.{◌≡◌, ℕ, ◌+◌, ◌≤◌, Bool, true, false, None, [], ◌∷◌}
+use Rattle.std.specs.Prelude.{◌≡◌, ℕ, ◌+◌, ◌<◌, ◌≤◌, Bool, true, false, Some, None, [], ◌∷◌, Contains}
 use Rattle.atomic_table.specs.Table.{Me}
 use Rattle.npf_connections.specs.Worn.{last_epoch}
 use Rattle.npf_paths.specs.declared.place.Place.{Place}
 use Rattle.npf_paths.specs.Places.{lock_of}
+use Rattle.npf_cells_words.specs.declared.mark.Emptied.{Emptied}
+use Rattle.npf_cells_words.specs.Codes.{place_code}
 use Rattle.npf_cells_pins.specs.declared.pin.EpochSide.{EpochSide}
 use Rattle.npf_cells_leaves.specs.declared.trie.TrieSide.{TrieSide}
 use Rattle.npf_cells_lives.specs.declared.pools.PoolSide.{PoolSide}
@@ -18,6 +20,21 @@ pub record HasEmptied (side : TrieSide) (p : Place) : Type 0 where
   pub unmarked : side.marks ≡ []
   pub unseen : side.seen ≡ None
   pub unmet : side.meets ≡ None
+
+-- the pass, but for what it found under its locks
+abbrev pub finding : {S A R F : Type 0} → Me F (CellView S A R) → Me F (CellView S A R) → Me F (CellView S A R)
+finding old now = with_trie old (record old.0.trie { emptied = now.0.trie.emptied; met_mark = now.0.trie.met_mark })
+
+-- the pass knows of this node that it hangs, and of some of its places that nothing stands there
+abbrev pub KnowsNode : TrieSide → ℕ → Type 0
+KnowsNode side node = (found : Emptied) × (side.emptied ≡ Some found) × (found.node ≡ node)
+
+-- of all its places; and that its parent word names this place
+abbrev pub FindsBare : TrieSide → ℕ → Type 0
+FindsBare side node = (found : Emptied) × (side.emptied ≡ Some found) × (found.node ≡ node) × ((digit : ℕ) → digit < 16 → Contains found.digits digit)
+
+abbrev pub FindsBareUnder : TrieSide → ℕ → Place → Type 0
+FindsBareUnder side node place = (found : Emptied) × (side.emptied ≡ Some found) × (found.node ≡ node) × ((digit : ℕ) → digit < 16 → Contains found.digits digit) × (found.parent ≡ Some (place_code place))
 
 -- it knows of the epoch what it knew, or of a later one, but of none past the last; and it reads as before
 pub record EpochsGoOn (old now : EpochSide) : Type 0 where
@@ -52,7 +69,7 @@ TriesToClear p true old now = now ≡ (
   },
   old.1,
 )
-TriesToClear p false old now = now ≡ with_trie old (record old.0.trie { emptied = now.0.trie.emptied; met_mark = now.0.trie.met_mark })
+TriesToClear p false old now = now ≡ finding old now
 
 -- it may have got a node back, which it gave back, and taken another off: but for that, and what it loaded and stored, it is as it was
 pub record ReturnsNode {S A R F : Type 0} (freed : Bool) (old now : Me F (CellView S A R)) : Type 0 where

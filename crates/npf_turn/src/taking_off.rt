@@ -4,17 +4,13 @@
 // in which it hangs. It waits for the lock of that place with the node's own: who waits with a lock waits for one further up, and who has the
 // topmost of them waits for none. If it gave up where it doesn't get that lock at once, nobody would come to the empty node again, and the
 // node would be lost with all those above it.
-ghost use Rattle.std.specs.Prelude.{◌≡◌, ◌≢◌, ◌<◌, ℕ, Some, None, [], ◌∷◌, true, false, IfSome, Contains};
+ghost use Rattle.std.specs.Prelude.{◌≡◌, ◌≢◌, ◌<◌, None, [], ◌∷◌, true, IfSome, Contains};
 ghost use Rattle.npf_paths.specs.declared.place.Lock.TheVariants as Locking;
 ghost use Rattle.npf_paths.specs.Places.{lock_of};
-ghost use Rattle.npf_cells_words.specs.declared.mark.Emptied.{Emptied};
-ghost use Rattle.npf_cells_words.specs.Codes.{place_code};
 ghost use Rattle.npf_cells_words.specs.Places.{IsInTrie};
 ghost use Rattle.npf_cells.specs.Cells.{IsPassIn};
-ghost use Rattle.npf_cells_returns.specs.MarkKinds.{MayMarkNode};
 ghost use Rattle.npf_cells_rule.specs.Passes.{IsProtected};
-ghost use Rattle.npf_cells_rule.specs.Views.{with_trie};
-ghost use Rattle.npf_turn.specs.TakingOff.{HasEmptied, LeavesPlace};
+ghost use Rattle.npf_turn.specs.TakingOff.{finding, FindsBare, FindsBareUnder, HasEmptied, KnowsNode, LeavesPlace};
 
 use crate::locking::{lock, unlock};
 use crate::naming::place_named;
@@ -66,11 +62,11 @@ fn parent_of_bare<L: Law, H: KeyHash>(
     requires own { IsPassIn cells.now pass.old }
     requires exists { node < cells.now.table.shared.key.nodes }
     requires locked { Contains pass.old.seat.me.0.trie.locks (Locking.Node node) }
-    requires emptied { (found : Emptied) × (pass.old.seat.me.0.trie.emptied ≡ Some found) × (found.node ≡ node) }
+    requires emptied { KnowsNode pass.old.seat.me.0.trie node }
     ensures own { IsPassIn cells.now pass.new }
-    ensures same { pass.new.seat.me ≡ with_trie pass.old.seat.me (record pass.old.seat.me.0.trie { emptied = pass.new.seat.me.0.trie.emptied; met_mark = pass.new.seat.me.0.trie.met_mark }) }
+    ensures same { pass.new.seat.me ≡ finding pass.old.seat.me pass.new.seat.me }
     ensures within { IfSome result (IsInTrie cells.now.table.shared.key) }
-    ensures bare { IfSome result (λ place. (found : Emptied) × (pass.new.seat.me.0.trie.emptied ≡ Some found) × (found.node ≡ node) × ((digit : ℕ) → digit < 16 → Contains found.digits digit) × (found.parent ≡ Some (place_code place))) }
+    ensures bare { IfSome result (FindsBareUnder pass.new.seat.me.0.trie node) }
 {
     if !is_bare(cells, pass, node) {
         return None;
@@ -84,10 +80,11 @@ fn is_bare<L: Law, H: KeyHash>(cells: &Cells<L, H>, pass: &mut CellPass<L>, node
     requires own { IsPassIn cells.now pass.old }
     requires exists { node < cells.now.table.shared.key.nodes }
     requires locked { Contains pass.old.seat.me.0.trie.locks (Locking.Node node) }
-    requires emptied { (found : Emptied) × (pass.old.seat.me.0.trie.emptied ≡ Some found) × (found.node ≡ node) }
+    requires emptied { KnowsNode pass.old.seat.me.0.trie node }
     ensures own { IsPassIn cells.now pass.new }
-    ensures same { pass.new.seat.me ≡ with_trie pass.old.seat.me (record pass.old.seat.me.0.trie { emptied = pass.new.seat.me.0.trie.emptied; met_mark = pass.new.seat.me.0.trie.met_mark }) }
-    ensures knows { (found : Emptied) × (pass.new.seat.me.0.trie.emptied ≡ Some found) × (found.node ≡ node) × (result ≡ true → (digit : ℕ) → digit < 16 → Contains found.digits digit) }
+    ensures same { pass.new.seat.me ≡ finding pass.old.seat.me pass.new.seat.me }
+    ensures knows { KnowsNode pass.new.seat.me.0.trie node }
+    ensures bare { result ≡ true → FindsBare pass.new.seat.me.0.trie node }
 {
     for digit in 0..NODE_DIGITS {
         if cells.load_cell(pass, Place::Node { node, digit }) != NOTHING {
@@ -107,12 +104,12 @@ fn mark_off<L: Law, H: KeyHash>(
     requires own { IsPassIn cells.now pass.old }
     requires exists { node < cells.now.table.shared.key.nodes }
     requires place { IsInTrie cells.now.table.shared.key parent }
-    requires may { MayMarkNode cells.now.table.shared.key pass.old.seat.me.0 node }
-    requires hangs { (found : Emptied) × (pass.old.seat.me.0.trie.emptied ≡ Some found) × (found.parent ≡ Some (place_code parent)) }
+    requires bare { FindsBareUnder pass.old.seat.me.0.trie node parent }
     requires both { pass.old.seat.me.0.trie.locks ≡ lock_of parent ∷ Locking.Node node ∷ [] }
     requires apart { lock_of parent ≢ Locking.Node node }
     requires unmarked { pass.old.seat.me.0.trie.marks ≡ [] }
-    requires unseen { (pass.old.seat.me.0.trie.seen ≡ None) × (pass.old.seat.me.0.trie.meets ≡ None) }
+    requires unseen { pass.old.seat.me.0.trie.seen ≡ None }
+    requires unmet { pass.old.seat.me.0.trie.meets ≡ None }
     ensures own { IsPassIn cells.now pass.new }
     ensures leaves { LeavesPlace pass.old.seat.me pass.new.seat.me }
 {
