@@ -5,5 +5,5 @@ use Rattle.npf_conndb.proofs.collecting.regain_nodes.Given as goal
 abbrev pub invariant-loop-node : goal.invariant-loop-node
 invariant-loop-node g l = record {
   own : IsPassIn l.cells l.pass;
-  regains : Regains g.L.Law.meaning l.epoch l.initial.pass.seat.me l.pass.seat.me;
+  regains : Regains g.L.Law.meaning l.epoch l.fn.pass.seat.me l.pass.seat.me;
 }
