@@ -1,11 +1,9 @@
 -- New stays of a hold: what it is building stays.
-use Rattle.std.proofs.Common.{◌≡◌, ◌≢◌, ℕ, ◌+◌, ◌≤◌, Bool, None, [], max, refl, sym, ap, ◌∙◌, subst, arith}
+use Rattle.std.proofs.Common.{◌≡◌, ℕ, ◌+◌, ◌≤◌, Bool, None, [], refl, sym, ap, ◌∙◌, subst, arith}
 use Rattle.std.specs.List.{Contains}
 use Rattle.atomic_table.specs.Table.{Me}
-use Rattle.npf_types.specs.declared.key.Key.{Key}
 use Rattle.npf_types.specs.declared.key.Way.{Way}
 use Rattle.npf_core.specs.declared.conn_id.ConnId.{ConnId}
-use Rattle.npf_core.specs.declared.held.Held.{Held}
 use Rattle.npf_core.specs.History.{state_of}
 use Rattle.npf_core.specs.Machine.{HoldsNone}
 use Rattle.npf_core.specs.Meaning.{Meaning}
@@ -13,15 +11,13 @@ use Rattle.npf_cells_words.specs.declared.layout.Layout.{Layout}
 use Rattle.npf_cells_rule.specs.declared.view.CellView.{CellView}
 use Rattle.npf_cells_pins.specs.declared.pin.EpochSide.{EpochSide}
 use Rattle.npf_cells_pins.specs.Pinning.{loading}
-use Rattle.npf_cells_leaves.specs.declared.trie.TrieSide.{TrieSide}
-use Rattle.npf_cells_lives.specs.declared.pools.PoolSide.{PoolSide}
 use Rattle.npf_cells_moves.specs.Kinds.{unpinned}
 use Rattle.npf_cells_rule.specs.Passes.{IsProtected}
 use Rattle.npf_cells_rule.specs.Views.{with_epochs}
 use Rattle.npf_connections.specs.Worn.{last_epoch}
 use Rattle.npf_epoch.specs.Stays.{HasEntered}
 use Rattle.npf_turn.specs.TakingOff.{HasNoNodes, ReturnsNode}
-use Rattle.npf_trie.specs.HoldKey.{CanHold, HoldsOn, SettlesHold, SettlesAnew, StaysAnew, having_held}
+use Rattle.npf_trie.specs.HoldKey.{CanHold, HoldsOn, StaysAnew, having_held}
 
 -- who can hold a key may clear a mark
 pub nodeless : {S A R : Type 0} {m : Meaning S A R} {layout : Layout} {v : CellView S A R} {id : ConnId} {way : Way} → CanHold m layout v id way → HasNoNodes v.pools
@@ -139,8 +135,4 @@ module _ {S A R F : Type 0} where
         }
       where
         settles_so : now ≡ (record (having_held a.0 now.0) { epochs = now.0.epochs }, a.1)
-        settles_so =
-            let side' : EpochSide = now.0.epochs in
-            let pools' : PoolSide = now.0.pools in
-            let trie' : TrieSide = now.0.trie in
-            subst (λ (y : Me F (CellView S A R)). y ≡ (record (having_held a.0 y.0) { epochs = y.0.epochs }, a.1)) (sym stays_is) refl
+        settles_so = subst (λ (y : Me F (CellView S A R)). y ≡ (record (having_held a.0 y.0) { epochs = y.0.epochs }, a.1)) (sym stays_is) refl

@@ -46,7 +46,7 @@ use Rattle.npf_cells_lives.specs.declared.pools.StoredWord.{StoredWord}
 use Rattle.npf_cells_lives.specs.declared.turn.Ahead.{Ahead}
 use Rattle.npf_cells_lives.specs.declared.turn.Turn.{Turn}
 use Rattle.npf_cells_lives.specs.Notes.{notes_but, with_ahead}
-use Rattle.npf_cells_lives.specs.Turns.{Running, running}
+use Rattle.npf_cells_lives.specs.Turns.{Running}
 use Rattle.npf_cells_takes.specs.PrivateKinds.{MayStoreAhead, leading}
 use Rattle.npf_cells_turns.specs.declared.act.TurnAct.TheVariants.{Nothing}
 use Rattle.npf_cells_turns.specs.EndKinds.{MayEndBy}
@@ -469,37 +469,7 @@ module _ {S A R F : Type 0} (m : Meaning S A R) (digest : Key → ℕ) (layout :
     moved_to = grown.moved_to;
   })
 
-  pub turn_locked : (slot : ℕ) → HasNewTurn old.0.turn slot → HasNewTurn locked.0.turn slot
-  turn_locked slot turn = subst (λ (y : Me F (CellView S A R)). HasNewTurn y.0.turn slot) (sym gets) turn
-
-  pub protected_locked : IsProtected old.0.epochs.pin → IsProtected locked.0.epochs.pin
-  protected_locked is = subst (λ (y : Me F (CellView S A R)). IsProtected y.0.epochs.pin) (sym gets) is
-
-  pub locks_locked : locked.0.trie.locks ≡ lock ∷ []
-  locks_locked = ap (λ (y : Me F (CellView S A R)). y.0.trie.locks) gets ∙ ap (λ ls. lock ∷ ls) free
-
-  pub loads_locked : locked.0.trie.places ≡ old.0.trie.places
-  loads_locked = ap (λ (y : Me F (CellView S A R)). y.0.trie.places) gets
-
   module _ (hung : Me F (CellView S A R)) where
-    -- what comes of it leaves the locks and the marks
-    side_hung : (step : Step) → HangsSo m digest layout wanted point step locked hung → hung.0.trie ≡ record hung.0.trie { locks = locked.0.trie.locks; marks = locked.0.trie.marks }
-    side_hung (Ends held) has = by_held held has
-      where
-        by_held : (held : Held) → HasHung m wanted held locked hung → hung.0.trie ≡ record hung.0.trie { locks = locked.0.trie.locks; marks = locked.0.trie.marks }
-        by_held Held.Done has' = ap (λ (y : Me F (CellView S A R)). y.0.trie) (has'.done refl)
-        by_held (Held.Taken found) has' = ap (λ (y : Me F (CellView S A R)). y.0.trie) (has'.taken (λ e. cc))
-        by_held Held.NoNode has' = absurd (has'.some refl)
-    side_hung (Leads node) hangs = ap (λ (y : Me F (CellView S A R)). y.0.trie) hangs.0.is
-    side_hung Again hangs = ap (λ (y : Me F (CellView S A R)). y.0.trie) hangs.0.is
-    side_hung Anew hangs = ap (λ (y : Me F (CellView S A R)). y.0.trie) hangs.is
-
-    pub locks_hung : (step : Step) → HangsSo m digest layout wanted point step locked hung → hung.0.trie.locks ≡ lock ∷ []
-    locks_hung step hangs = ap (λ (t : TrieSide). t.locks) (side_hung step hangs) ∙ locks_locked
-
-    pub marks_hung : (step : Step) → HangsSo m digest layout wanted point step locked hung → hung.0.trie.marks ≡ old.0.trie.marks
-    marks_hung step hangs = ap (λ (t : TrieSide). t.marks) (side_hung step hangs) ∙ ap (λ (y : Me F (CellView S A R)). y.0.trie.marks) gets
-
     module _ (now : Me F (CellView S A R)) (frees : now ≡ with_trie hung (record hung.0.trie { locks = []; emptied = None; met_mark = None })) where
       abbrev freed : Me F (CellView S A R) → Me F (CellView S A R)
       freed y = with_trie y (record y.0.trie { locks = []; emptied = None; met_mark = None })
@@ -566,13 +536,6 @@ module _ {S A R F : Type 0} (m : Meaning S A R) (digest : Key → ℕ) (layout :
       freed_so (Leads node) hangs = (freed_nodes hangs.0, freed_place _ hangs.1)
       freed_so Again hangs = (freed_nodes hangs.0, freed_place point hangs.1)
       freed_so Anew hangs = freed_nodes hangs
-
-      pub loads_freed : now.0.trie.places ≡ hung.0.trie.places
-      loads_freed = ap (λ (y : Me F (CellView S A R)). y.0.trie.places) frees
-
--- a pass that did nothing has its nodes still
-pub nodes_self : {S A R F : Type 0} (old now : Me F (CellView S A R)) → now ≡ old → HoldsNodes old now
-nodes_self {S} {A} {R} {F} old now same = subst (λ (y : Me F (CellView S A R)). HoldsNodes old y) (sym same) (record { is = refl; unpublished = refl })
 
 -- the turn of another leaf's slot was got before, and is given up behind what comes of it
 module _ {S A R : Type 0} (m : Meaning S A R) (digest : Key → ℕ) (layout : Layout) (wanted : Wanted) (point : Point) (slot : ℕ) (old took : Me (Running S) (CellView S A R))

@@ -21,8 +21,8 @@ use Rattle.npf_cells_rule.specs.declared.view.CellView.{CellView}
 use Rattle.npf_cells_leaves.specs.Sights.{SeesLocked}
 use Rattle.npf_cells_leaves.specs.declared.trie.LoadedLeaf.{LoadedLeaf}
 use Rattle.npf_cells_leaves.specs.declared.trie.PathPlace.{PathPlace}
-use Rattle.npf_cells_holds.specs.HoldKinds.{HoldsAt, meeting, renewed}
-use Rattle.npf_cells_holds.specs.LookKinds.{IsLeafOf, level_of, level_at, sighting}
+use Rattle.npf_cells_holds.specs.HoldKinds.{HoldsAt, meeting}
+use Rattle.npf_cells_holds.specs.LookKinds.{IsLeafOf, level_of, level_at}
 use Rattle.npf_cells_rule.specs.Views.{dead_hand, with_trie}
 use Rattle.npf_cells_words.specs.Places.{IsLockOf, IsInTrie}
 use Rattle.npf_cells_rule.specs.Passes.{IsProtected, cell_pass}

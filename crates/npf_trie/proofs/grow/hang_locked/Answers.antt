@@ -1,5 +1,4 @@
-use Rattle.std.proofs.Common.{◌∙◌, ◌∷◌, [], ap, sym, arith}
-use Rattle.npf_trie.proofs.HangLemmas.{grown_locked, loads_locked, freed_so, loads_freed, nodes_self}
+use Rattle.npf_trie.proofs.HangLemmas.{grown_locked, freed_so}
 use Rattle.npf_trie.proofs.grow.hang_locked.Goals as goal
 
 pub hang-step-requires-clause-grown : goal.hang-step-requires-clause-grown

@@ -1,4 +1,4 @@
-use Rattle.std.proofs.Common.{◌≡◌, ◌∙◌, [], ap, subst, arith}
+use Rattle.std.proofs.Common.{◌≡◌, [], ap, subst, arith}
 use Rattle.npf_cells_rule.specs.Passes.{CarriesByTurn}
 use Rattle.npf_trie.proofs.HangLemmas.{grown_turned, turn_turned, protected_turned, free_turned, ends_nothing, ended_so}
 use Rattle.npf_trie.proofs.grow.move_leaf.Goals as goal

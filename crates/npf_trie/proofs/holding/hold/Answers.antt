@@ -12,8 +12,8 @@ loop-init g c = record {
   at = at_root _ _ _ _ _ _ c.hash-hash.ensures c.digit.ensures.value (c.digit.ensures.root refl);
 }
 
-pub loop-preserved : goal.loop-preserved
-loop-preserved g c = record {
+pub loop-preserved-in-Again : goal.loop-preserved-in-Again
+loop-preserved-in-Again g c = record {
   next = tt;
   finite = tt;
   own = c.in-Again.ensures.own;
@@ -30,8 +30,8 @@ loop-preserved-in-Leads g c = record {
   at = at_next _ _ _ _ _ _ _ _ c.hash-hash.ensures c.further-point.ensures c.in-Leads.ensures.steps.1;
 }
 
-pub loop-preserved-in-Anew : goal.loop-preserved-in-Anew
-loop-preserved-in-Anew g c = record {
+pub loop-preserved : goal.loop-preserved
+loop-preserved g c = record {
   next = tt;
   finite = tt;
   own = c.stay_anew.ensures.own;

@@ -1,6 +1,3 @@
-use Rattle.std.specs.Prelude.{◌≡◌, ◌≤◌}
-use Rattle.npf_paths.specs.Digits.{digit_of}
-use Rattle.npf_paths.specs.declared.place.Place.TheVariants as Places
 use Rattle.npf_cells.specs.Cells.{IsPassIn}
 use Rattle.npf_trie.specs.HoldKey.{StaysAnew, IsAtPlace}
 use Rattle.npf_trie.proofs.holding.hold.Given as goal
