@@ -1,5 +1,5 @@
 -- Passes that hold keys.
-use Rattle.std.proofs.Common.{◌≡◌, ℕ, ◌+◌, ◌≤◌, Bool, true, List, [], refl, sym, ap, ◌∙◌, subst, arith}
+use Rattle.std.proofs.Common.{◌≡◌, ◌+◌, ◌≤◌, Bool, true, List, [], refl, sym, ap, ◌∙◌, subst, arith}
 use Rattle.std.specs.List.{Contains}
 use Rattle.atomic_table.specs.Table.{Me}
 use Rattle.npf_types.specs.declared.key.Key.{Key}
@@ -18,8 +18,7 @@ use Rattle.npf_connections.specs.StayLaw.{Holding}
 use Rattle.npf_seats.proofs.PrefixLemmas.{none_listed}
 use Rattle.npf_cells_words.specs.declared.layout.Layout.{Layout}
 use Rattle.npf_cells_rule.specs.declared.view.CellView.{CellView}
-use Rattle.npf_cells_pins.specs.declared.pin.Pin.{Pin}
-use Rattle.npf_cells_rule.specs.Passes.{IsProtected, cell_pass, is_pinned}
+use Rattle.npf_cells_rule.specs.Passes.{IsProtected, cell_pass}
 use Rattle.npf_cells_rule.proofs.PassLemmas.{pinned_in}
 use Rattle.npf_cells_turns.specs.EndKinds.{HasBareNotes}
 use Rattle.npf_trie.specs.HoldKey.{SettlesHold, StaysAnew, noted_after}

@@ -1,9 +1,7 @@
 -- A pass gets nodes back in a stay of its own.
-use Rattle.std.proofs.Common.{◌≡◌, ℕ, ◌≤◌, false, max, refl, sym, ap, ◌∙◌, subst, arith}
-use Rattle.std.specs.Prelude.{Bool}
+use Rattle.std.proofs.Common.{◌≡◌, ℕ, ◌≤◌, Bool, false, max, sym, ap, ◌∙◌, subst, arith}
 use Rattle.atomic_table.specs.Table.{Me}
 use Rattle.npf_core.specs.Meaning.{Meaning}
-use Rattle.npf_connections.specs.Collecting.{IsClean}
 use Rattle.npf_connections.specs.Pass.{IsPass}
 use Rattle.npf_connections.specs.Worn.{last_epoch}
 use Rattle.npf_cells_pins.specs.declared.pin.EpochSide.{EpochSide}
@@ -16,7 +14,7 @@ use Rattle.npf_cells_rule.specs.Views.{with_epochs}
 use Rattle.npf_epoch.specs.Stays.{HasEntered}
 use Rattle.npf_turn.specs.TakingOff.{HasNoNodes, HasReached, ReturnsNode}
 use Rattle.npf_conndb.specs.Between.{IsBetweenCalls, StaysBetween}
-use Rattle.npf_conndb.proofs.PassLemmas.{hands, goes_between, goes_on, adds_nothing, begins}
+use Rattle.npf_conndb.proofs.PassLemmas.{hands, goes_between, adds_nothing, begins}
 use Rattle.npf_conndb.proofs.VisitLemmas.{stays_more, visit_goes, visit_pass, visit_between}
 
 -- who only knows of a later epoch is between calls as it was
