@@ -192,6 +192,7 @@ module _ {S A R F : Type 0} (m : Meaning S A R) (n : ℕ) (old now : Me F (CellV
       given_up = ap (λ (y : Me F (CellView S A R)). y.0.pools.gave_up) claims.is ∙ between.given_up;
       reclaimed = ap (λ (y : Me F (CellView S A R)). y.0.pools.reclaims) claims.is ∙ between.reclaimed;
       freed = ap (λ (y : Me F (CellView S A R)). y.0.pools.cleared) claims.is ∙ between.freed;
+      returned = ap (λ (y : Me F (CellView S A R)). y.0.pools.unfreed) claims.is ∙ between.returned;
     };
     legal = λ _. claims.legal;
     pin = ap (λ (y : Me F (CellView S A R)). y.0.epochs.pin) claims.is;

@@ -46,7 +46,7 @@ module _ {S A R : Type 0} (m : Meaning S A R) (digest : Key → ℕ) (layout : L
     same = λ e. refl;
     stays = record {
       goes = record { view = refl; epoch = omega arith };
-      between = goes_between m old.0 (record old.0 { turn = None }) (λ i. (old.0.epochs.pin, old.0.trie.locks, sym between.turnless i, old.0.pools.nodes, old.0.pools.unstored, old.0.pools.kills, old.0.pools.gave_up, old.0.pools.reclaims, old.0.pools.cleared)) refl refl legal legal
+      between = goes_between m old.0 (record old.0 { turn = None }) (λ i. (old.0.epochs.pin, old.0.trie.locks, sym between.turnless i, old.0.pools.nodes, old.0.pools.unstored, old.0.pools.kills, old.0.pools.gave_up, old.0.pools.reclaims, old.0.pools.cleared, old.0.pools.unfreed)) refl refl legal legal
           (record { rest = []; goes_on = sym (append-nil old.0.seats.history) }) between;
       legal = legal;
       pin = refl;
@@ -113,7 +113,7 @@ module _ {S A R : Type 0} (m : Meaning S A R) (digest : Key → ℕ) (layout : L
 
         hands_same : hands now.0 ≡ hands old.0
         hands_same = ap (λ (y : Me (Running S) (CellView S A R)). hands y.0) freed.is
-            ∙ (λ i. (old.0.epochs.pin, old.0.trie.locks, sym between.turnless i, old.0.pools.nodes, old.0.pools.unstored, old.0.pools.kills, old.0.pools.gave_up, old.0.pools.reclaims, old.0.pools.cleared))
+            ∙ (λ i. (old.0.epochs.pin, old.0.trie.locks, sym between.turnless i, old.0.pools.nodes, old.0.pools.unstored, old.0.pools.kills, old.0.pools.gave_up, old.0.pools.reclaims, old.0.pools.cleared, old.0.pools.unfreed))
 
   -- as a try to free it ends
   pub reclaimed_so : (epoch : ℕ) → old.0.epochs.loaded ≡ epoch → (result : Option ConnId) (now : Me (Running S) (CellView S A R)) → HasReclaimed m digest layout slot epoch result old now → CollectsSlot m slot result old now

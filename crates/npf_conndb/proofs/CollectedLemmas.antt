@@ -15,7 +15,7 @@ use Rattle.npf_core.specs.declared.stage.Stage.TheVariants.{Dead}
 use Rattle.npf_core.specs.History.{IsPrefix, Legal, state_of}
 use Rattle.npf_core.specs.Meaning.{Meaning}
 use Rattle.npf_connections.specs.Adding.{Adds, AddsOwn}
-use Rattle.npf_connections.specs.Collecting.{IsClean, IsWorn}
+use Rattle.npf_connections.specs.Collecting.{FreesAlone, HasNoDead, IsClean, IsWorn}
 use Rattle.npf_connections.specs.Entries.{entry_of, free_entries}
 use Rattle.npf_connections.specs.Pass.{Pass, IsPass, all_places}
 use Rattle.npf_connections.specs.Worn.{ClaimsLast, last_epoch}
@@ -84,7 +84,7 @@ module _ {S A R : Type 0} (m : Meaning S A R) (epoch : ℕ) (old : Me (Running S
       })
 
       hands_same : hands now.0 ≡ hands old.0
-      hands_same = ap (λ (y : Me (Running S) (CellView S A R)). hands y.0) same ∙ (λ i. ((idle ∙ sym out) i, old.0.trie.locks, old.0.turn, old.0.pools.nodes, old.0.pools.unstored, old.0.pools.kills, old.0.pools.gave_up, old.0.pools.reclaims, old.0.pools.cleared))
+      hands_same = ap (λ (y : Me (Running S) (CellView S A R)). hands y.0) same ∙ (λ i. ((idle ∙ sym out) i, old.0.trie.locks, old.0.turn, old.0.pools.nodes, old.0.pools.unstored, old.0.pools.kills, old.0.pools.gave_up, old.0.pools.reclaims, old.0.pools.cleared, old.0.pools.unfreed))
 
   -- the pass has seen more, while nothing was freed
   module _ (slot : ℕ) (now next : Me (Running S) (CellView S A R)) (so : HasCollected m epoch slot old now) (none : Adds (cell_pass old.0) now.0.seats.history []) (sees : HasSeenMore m now next) where
@@ -179,3 +179,15 @@ module _ {S A R : Type 0} (m : Meaning S A R) (epoch : ℕ) (old : Me (Running S
       let legal = subst (λ n. Legal m n now.0.seats.history) sized so.stays.legal.legal in
       let within = dead_within m slots now.0.seats.history id legal dead in
       so.clean (ap (λ (p : Pass (Entry S A R)). p.places) (sym so.stays.goes.view) ∙ all) unworn id.slot (omega (arith, within, past)) (dead_at ((state_of m now.0.seats.history).slot id.slot) id.inc dead).1
+
+-- Once the slots are done the pass sees no more: what was clean stays so.
+module _ {S A R : Type 0} (m : Meaning S A R) (old now : CellView S A R) (stays : StaysBetween m old now) (seats : now.seats ≡ old.seats) where
+  history : now.seats.history ≡ old.seats.history
+  history = ap (λ s. s.history) seats
+
+  pub frees_still : (pass : Pass (Entry S A R)) → FreesAlone pass old.seats.history → FreesAlone pass now.seats.history
+  frees_still pass frees = subst (FreesAlone pass) (sym history) frees
+
+  pub clean_still : IsClean m (cell_pass old) → IsClean m (cell_pass now)
+  clean_still clean all unworn = subst (λ h. HasNoDead (state_of m h)) (sym history)
+      (clean (ap (λ s. length s.readers) (sym seats) ∙ all) (was_unworn m old now stays (record { rest = []; goes_on = history ∙ sym (append-nil old.seats.history) }) unworn))

@@ -40,13 +40,13 @@ use Rattle.npf_conndb.proofs.PassLemmas.{hands, goes_between, goes_on, begins, n
 
 -- what a pass has of the pools but for what it builds and knows of slots
 abbrev Rest : Type 0
-Rest = List ℕ × List ℕ × List ConnId × List Found × List ConnId × List ConnId × ℕ
+Rest = List ℕ × List ℕ × List ConnId × List Found × List ConnId × List ConnId × ℕ × List ℕ
 
 abbrev rest : PoolSide → Rest
-rest side = (side.nodes, side.unstored, side.kills, side.gave_up, side.reclaims, side.cleared, side.sweeps)
+rest side = (side.nodes, side.unstored, side.kills, side.gave_up, side.reclaims, side.cleared, side.sweeps, side.unfreed)
 
 abbrev rest_with : ConnId → PoolSide → Rest
-rest_with id side = (side.nodes, side.unstored, id ∷ side.kills, side.gave_up, side.reclaims, side.cleared, side.sweeps)
+rest_with id side = (side.nodes, side.unstored, id ∷ side.kills, side.gave_up, side.reclaims, side.cleared, side.sweeps, side.unfreed)
 
 -- a pass that killed a connection, and what it has of the pools besides
 module _ {S A R : Type 0} (m : Meaning S A R) (id : ConnId) (why : Why) (side : PoolSide) (old killed : Me (Running S) (CellView S A R)) (pass : IsPass m (cell_pass old.0)) (between : IsBetweenCalls m old.0)
@@ -128,6 +128,7 @@ module _ {S A R : Type 0} (m : Meaning S A R) (id : ConnId) (why : Why) (side : 
       given_up = ap (λ (v : CellView S A R). v.pools.gave_up) now_is;
       reclaimed = ap (λ (v : CellView S A R). v.pools.reclaims) now_is ∙ (ap (λ (r : Rest). r.4) has ∙ between.reclaimed);
       freed = ap (λ (v : CellView S A R). v.pools.cleared) now_is ∙ (ap (λ (r : Rest). r.5) has ∙ between.freed);
+      returned = ap (λ (v : CellView S A R). v.pools.unfreed) now_is ∙ (ap (λ (r : Rest). r.7) has ∙ between.returned);
     }
 
 -- a connection that the pass was building is abandoned

@@ -1,5 +1,5 @@
 -- A killed connection gives its keys up, and is let go.
-use Rattle.std.proofs.Common.{◌≡◌, ◌≢◌, ◌↔◌, ◌⊎◌, ℕ, Bool, true, false, cond, eqb, eq-eqb, max, None, List, [], ◌∷◌, ◌++◌, refl, sym, ap, ◌∙◌, subst, inl, inr, arith, append-nil}
+use Rattle.std.proofs.Common.{◌≡◌, ◌≢◌, ◌↔◌, ◌⊎◌, ℕ, ◌≤◌, Bool, true, false, cond, eqb, eq-eqb, max, None, List, [], ◌∷◌, ◌++◌, refl, sym, ap, ◌∙◌, subst, inl, inr, arith, append-nil}
 use Rattle.std.specs.List.{Contains, filter}
 use Rattle.std.proofs.lemmas.List.Elements.{Contains-push}
 use Rattle.atomic_table.specs.Table.{Me}
@@ -115,7 +115,7 @@ module _ {S A R : Type 0} (m : Meaning S A R) (id : ConnId) (way : Way) (old now
   pub record Ended : Type 0 where
     pub is : now.0 ≡ but_keys old.0 now.0
     pub pin : now.0.epochs.pin ≡ old.0.epochs.pin
-    pub greatest : now.0.epochs.greatest ≡ old.0.epochs.greatest
+    pub later : old.0.epochs.greatest ≤ now.0.epochs.greatest
     pub answered : now.0.trie.answered ≡ old.0.trie.answered
     pub unlocked : old.0.trie.locks ≡ [] → now.0.trie.locks ≡ []
     pub turn : now.0.turn ≡ None
@@ -126,8 +126,8 @@ module _ {S A R : Type 0} (m : Meaning S A R) (id : ConnId) (way : Way) (old now
   pub ended : (held : Bool) → HasEndedKey m id way held old now → Ended
   ended true so = record {
     is = view ∙ sym (ap (but_keys old.0) view);
-    pin = ap (λ (y : Me (Running S) (CellView S A R)). y.0.epochs.pin) so.is;
-    greatest = ap (λ (y : Me (Running S) (CellView S A R)). y.0.epochs.greatest) so.is;
+    pin = so.epochs.pin;
+    later = so.epochs.greatest;
     answered = ap (λ (y : Me (Running S) (CellView S A R)). y.0.trie.answered) so.is;
     unlocked = λ _. ap (λ (y : Me (Running S) (CellView S A R)). y.0.trie.locks) so.is;
     turn = ap (λ (y : Me (Running S) (CellView S A R)). y.0.turn) so.is;
@@ -140,12 +140,12 @@ module _ {S A R : Type 0} (m : Meaning S A R) (id : ConnId) (way : Way) (old now
       another w apart none (inl same) = apart (sym (ap (λ (f : Found). f.way) same))
       another w apart none (inr c) = none c
 
-      view : now.0 ≡ record (without_key old.0 now.0.seats.history id way) { turn = old.0.turn }
-      view = ap (λ (y : Me (Running S) (CellView S A R)). y.0) so.is ∙ ap (λ t. let v : CellView S A R = record (without_key old.0 now.0.seats.history id way) { turn = t } in v) (sym turnless)
+      view : now.0 ≡ record (without_key old.0 now.0.seats.history now.0.epochs id way) { turn = old.0.turn }
+      view = ap (λ (y : Me (Running S) (CellView S A R)). y.0) so.is ∙ ap (λ t. let v : CellView S A R = record (without_key old.0 now.0.seats.history now.0.epochs id way) { turn = t } in v) (sym turnless)
   ended false so = record {
     is = view ∙ sym (ap (but_keys old.0) view);
     pin = ap (λ (y : Me (Running S) (CellView S A R)). y.0.epochs.pin) so.is;
-    greatest = ap (λ (y : Me (Running S) (CellView S A R)). y.0.epochs.greatest) so.is;
+    later = (let same = ap (λ (y : Me (Running S) (CellView S A R)). y.0.epochs.greatest) so.is in omega (arith, same));
     answered = ap (λ (y : Me (Running S) (CellView S A R)). y.0.trie.answered) so.is;
     unlocked = λ locks. ap (λ (y : Me (Running S) (CellView S A R)). y.0.trie.locks) so.is ∙ locks;
     turn = ap (λ (y : Me (Running S) (CellView S A R)). y.0.turn) so.is;
@@ -239,8 +239,8 @@ module _ {S A R : Type 0} (m : Meaning S A R) (id : ConnId) (old one two three :
       is = now_is;
       pin = ap (λ (y : Me (Running S) (CellView S A R)). y.0.epochs.pin) goes.is ∙ (ended_p.pin ∙ (ended_b.pin ∙ ended_f.pin));
       later = (let rose : now.0.epochs.greatest ≡ max three.0.epochs.greatest goes.epoch = ap (λ (y : Me (Running S) (CellView S A R)). y.0.epochs.greatest) goes.is in
-          let same = ended_p.greatest ∙ (ended_b.greatest ∙ ended_f.greatest) in
-          omega (arith, rose, same));
+          let first = ended_f.later in let second = ended_b.later in let third = ended_p.later in
+          omega (arith, rose, first, second, third));
       answered = ap (λ (y : Me (Running S) (CellView S A R)). y.0.trie.answered) goes.is ∙ (ended_p.answered ∙ (ended_b.answered ∙ ended_f.answered));
       unlocked = ap (λ (y : Me (Running S) (CellView S A R)). y.0.trie.locks) goes.is ∙ ended_p.unlocked (ended_b.unlocked (ended_f.unlocked killed.unlocked));
     }

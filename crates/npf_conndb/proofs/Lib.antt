@@ -15,6 +15,7 @@ pub mod LettingLemmas
 pub mod MoveLemmas
 pub mod NoteLemmas
 pub mod PassLemmas
+pub mod RegainLemmas
 pub mod SeenLemmas
 pub mod SlotLemmas
 pub mod SoleLemmas

@@ -32,10 +32,10 @@ stays_pinned pin entered idle = true≢false (sym entered ∙ ap is_pinned idle)
 
 -- how a pass is pinned, and what it has in hand but for what it builds
 abbrev pub Hands : Type 0 → Type 0
-Hands S = Pin × List Lock × Option (Turn S) × List ℕ × List ℕ × List ConnId × List Found × List ConnId × List ConnId
+Hands S = Pin × List Lock × Option (Turn S) × List ℕ × List ℕ × List ConnId × List Found × List ConnId × List ConnId × List ℕ
 
 abbrev pub hands : {S A R : Type 0} → CellView S A R → Hands S
-hands v = (v.epochs.pin, v.trie.locks, v.turn, v.pools.nodes, v.pools.unstored, v.pools.kills, v.pools.gave_up, v.pools.reclaims, v.pools.cleared)
+hands v = (v.epochs.pin, v.trie.locks, v.turn, v.pools.nodes, v.pools.unstored, v.pools.kills, v.pools.gave_up, v.pools.reclaims, v.pools.cleared, v.pools.unfreed)
 
 -- it is between calls with what it had between others
 pub still_between : {S A R : Type 0} (m : Meaning S A R) (old now : CellView S A R) → hands now ≡ hands old → ((id : ConnId) → Contains now.pools.builds id → HasBareNotes m now id) → IsBetweenCalls m old → IsBetweenCalls m now
@@ -50,6 +50,7 @@ still_between {S} m old now same noted between = record {
   given_up = ap (λ (h : Hands S). h.6) same ∙ between.given_up;
   reclaimed = ap (λ (h : Hands S). h.7) same ∙ between.reclaimed;
   freed = ap (λ (h : Hands S). h.8) same ∙ between.freed;
+  returned = ap (λ (h : Hands S). h.9) same ∙ between.returned;
 }
 
 -- who builds what it built, and knows the notes that it knew, knows what it did of those that it builds
@@ -65,7 +66,7 @@ pub goes_between : {S A R : Type 0} (m : Meaning S A R) (old now : CellView S A 
 goes_between m old now same builds notes was is on between = still_between m old now same (noted_on m old now was is on builds notes between.noted) between
 
 -- a pass in no stay that has nothing in hand and builds nothing
-pub rests_between : {S A R : Type 0} (m : Meaning S A R) (v : CellView S A R) → hands v ≡ (Idle, [], None, [], [], [], [], [], []) → v.pools.builds ≡ [] → IsBetweenCalls m v
+pub rests_between : {S A R : Type 0} (m : Meaning S A R) (v : CellView S A R) → hands v ≡ (Idle, [], None, [], [], [], [], [], [], []) → v.pools.builds ≡ [] → IsBetweenCalls m v
 rests_between {S} m v same none = record {
   protected = λ entered. absurd (stays_pinned v.epochs.pin entered (ap (λ (h : Hands S). h.0) same));
   unlocked = ap (λ (h : Hands S). h.1) same;
@@ -77,6 +78,7 @@ rests_between {S} m v same none = record {
   given_up = ap (λ (h : Hands S). h.6) same;
   reclaimed = ap (λ (h : Hands S). h.7) same;
   freed = ap (λ (h : Hands S). h.8) same;
+  returned = ap (λ (h : Hands S). h.9) same;
 }
 
 -- the pass went on as wanted, where it shows what was wanted with some history and a later epoch

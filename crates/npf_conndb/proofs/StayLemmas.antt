@@ -57,6 +57,7 @@ module _ {S A R F : Type 0} (m : Meaning S A R) (old now : Me F (CellView S A R)
     given_up = ap (λ (y : Me F (CellView S A R)). y.0.pools.gave_up) same ∙ between.given_up;
     reclaimed = ap (λ (y : Me F (CellView S A R)). y.0.pools.reclaims) same ∙ between.reclaimed;
     freed = ap (λ (y : Me F (CellView S A R)). y.0.pools.cleared) same ∙ between.freed;
+    returned = ap (λ (y : Me F (CellView S A R)). y.0.pools.unfreed) same ∙ between.returned;
   }
 
 module _ {S A R F : Type 0} (m : Meaning S A R) (old now : Me F (CellView S A R)) (next : now ≡ unpinned old) where
@@ -87,4 +88,5 @@ module _ {S A R F : Type 0} (m : Meaning S A R) (old now : Me F (CellView S A R)
     given_up = between.given_up;
     reclaimed = between.reclaimed;
     freed = between.freed;
+    returned = between.returned;
   })
