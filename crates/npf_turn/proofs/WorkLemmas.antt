@@ -129,8 +129,8 @@ module _ {S A R : Type 0} where
         let flow_is : gone_on m way arg on.held ≡ running (stepped m way arg was.stage) = ap (gone_on m way arg) (sym (gave on.held on.was) ∙ held) ∙ runs_on m way arg was.stage in
         record {
           is = on.is
-            ∙ ap (λ v. (now.0, (slot, v) ∷ [])) flow_is
-            ∙ ap (λ (y : Me (Running S) (CellView S A R)). (y.0, (slot, running (stepped m way arg was.stage)) ∷ [])) so.is;
+              ∙ ap (λ v. (now.0, (slot, v) ∷ [])) flow_is
+              ∙ ap (λ (y : Me (Running S) (CellView S A R)). (y.0, (slot, running (stepped m way arg was.stage)) ∷ [])) so.is;
         }
 
     -- and what the step was answered
