@@ -19,6 +19,7 @@ pub fn fill(rt: &impl Wait, cells: &Cells<FlowLaw, Fnv>, pass: &mut CellPass<Flo
     requires own { IsPassIn cells.now pass.old }
     requires protected { IsProtected pass.old.seat.me.0.epochs.pin }
     requires nodes { pass.old.seat.me.0.pools.nodes ≡ [] }
+    requires unfreed { pass.old.seat.me.0.pools.unfreed ≡ [] }
     requires locks { pass.old.seat.me.0.trie.locks ≡ [] }
     requires turn { pass.old.seat.me.0.turn ≡ None }
     ensures own { IsPassIn cells.now pass.new }
@@ -43,11 +44,13 @@ fn hold_next(
     requires own { IsPassIn cells.now pass.old }
     requires protected { IsProtected pass.old.seat.me.0.epochs.pin }
     requires nodes { pass.old.seat.me.0.pools.nodes ≡ [] }
+    requires unfreed { pass.old.seat.me.0.pools.unfreed ≡ [] }
     requires locks { pass.old.seat.me.0.trie.locks ≡ [] }
     requires turn { pass.old.seat.me.0.turn ≡ None }
     ensures own { IsPassIn cells.now pass.new }
     ensures protected { IsProtected pass.new.seat.me.0.epochs.pin }
     ensures nodes { pass.new.seat.me.0.pools.nodes ≡ [] }
+    ensures unfreed { pass.new.seat.me.0.pools.unfreed ≡ [] }
     ensures locks { pass.new.seat.me.0.trie.locks ≡ [] }
     ensures turn { pass.new.seat.me.0.turn ≡ None }
 {

@@ -8,6 +8,7 @@ invariant-loop-number g l = record {
   own : IsPassIn l.cells l.pass;
   protected : IsProtected l.pass.seat.me.0.epochs.pin;
   nodes : l.pass.seat.me.0.pools.nodes ≡ [];
+  unfreed : l.pass.seat.me.0.pools.unfreed ≡ [];
   locks : l.pass.seat.me.0.trie.locks ≡ [];
   turn : l.pass.seat.me.0.turn ≡ None;
 }
