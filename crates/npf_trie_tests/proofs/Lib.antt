@@ -1,3 +1,4 @@
+mod AnewLemmas
 mod BuildLemmas
 mod FoundLemmas
 mod OpenLemmas

@@ -32,7 +32,7 @@ use Rattle.npf_cells_rule.specs.Passes.{cell_pass}
 use Rattle.npf_cells_takes.specs.PrivateKinds.{MayStore, noted_in, stored_in}
 use Rattle.npf_cells_turns.specs.EndKinds.{HasBareNotes}
 use Rattle.npf_pool_beginning.specs.Begins.{HasBegun}
-use Rattle.npf_trie.specs.HoldKey.{CanHold, SettlesHold}
+use Rattle.npf_trie.specs.HoldKey.{CanHold, SettlesAnew, SettlesHold}
 
 -- no holder was answered where the hold is done
 free_before : (x : Option Found) → held_by x ≡ Held.Done → x ≡ None
@@ -88,26 +88,33 @@ module _ {S A R F : Type 0} (m : Meaning S A R) (layout : Layout) (id : ConnId) 
   })
 
   -- it may hold a key then
-  pub can_hold : (me now : Me F (CellView S A R)) → now ≡ both_bared id me → HasBegun m layout now.0 id → me.0.pools.nodes ≡ [] → me.0.trie.locks ≡ [] → me.0.turn ≡ None → CanHold m layout now.0 id Forward
-  can_hold me now is begun nodes locks turn = record {
+  pub can_hold : (me now : Me F (CellView S A R)) → now ≡ both_bared id me → HasBegun m layout now.0 id → me.0.pools.nodes ≡ [] → me.0.pools.unfreed ≡ [] → me.0.trie.locks ≡ [] → me.0.turn ≡ None → CanHold m layout now.0 id Forward
+  can_hold me now is begun nodes unfreed locks turn = record {
     may = begun.may Forward;
     exists = begun.exists;
     stored = begun.stored;
     nodes = ap (λ (y : Me F (CellView S A R)). y.0.pools.nodes) is ∙ nodes;
+    unfreed = ap (λ (y : Me F (CellView S A R)). y.0.pools.unfreed) is ∙ unfreed;
     locks = ap (λ (y : Me F (CellView S A R)). y.0.trie.locks) is ∙ locks;
     turnless = ap (λ (y : Me F (CellView S A R)). y.0.turn) is ∙ turn;
   }
 
   -- once it holds a key Forward, its other notes are 0
-  pub bare_notes : (key : Key) (me held now : Me F (CellView S A R)) → held ≡ both_bared id me → SettlesHold m layout id key Forward Held.Done held now → HasBareNotes m now.0 id
-  bare_notes key me held now is settles = by_way
+  pub bare_notes : (key : Key) (me held now : Me F (CellView S A R)) → held ≡ both_bared id me → SettlesAnew m layout id key Forward Held.Done held now → HasBareNotes m now.0 id
+  bare_notes key me held now is answers = by_way
     where
+      settles : SettlesHold m layout id key Forward Held.Done answers.between now
+      settles = answers.settles
+
+      noted : answers.between.0.pools.notes ≡ (both_bared id me).0.pools.notes
+      noted = answers.anew.noted ∙ ap (λ (y : Me F (CellView S A R)). y.0.pools.notes) is
+
       left : (note : Note) → Contains (both_bared id me).0.pools.notes note → is_note_of id.slot (note_field Forward) note ≡ false → Contains now.0.pools.notes note
-      left note c other = subst (λ notes. Contains notes note) (sym (settles.noted ∙ ap (λ (y : Me F (CellView S A R)). notes_but id.slot (note_field Forward) y.0.pools.notes) is))
+      left note c other = subst (λ notes. Contains notes note) (sym (settles.noted ∙ ap (notes_but id.slot (note_field Forward)) noted))
           (has_filtered (λ n. not (is_note_of id.slot (note_field Forward) n)) (both_bared id me).0.pools.notes note c (ap not other))
 
       by_way : (way : Way) → HoldsNone (state_of m now.0.seats.history) id way → Contains now.0.pools.notes (bare id way)
-      by_way Forward none = absurd (let given = done_holds m (cell_pass held.0) _ now.0.seats.history id key Forward (settles.legal (λ e. cc)).legal settles.adds in none given.0 given.1)
+      by_way Forward none = absurd (let given = done_holds m (cell_pass answers.between.0) _ now.0.seats.history id key Forward (settles.legal (λ e. cc)).legal settles.adds in none given.0 given.1)
       by_way Backward none = left (bare id Backward)
           (Contains-append_right (bare id Port ∷ []) (notes_but id.slot (note_field Port) (bared id Backward me).0.pools.notes) (bare id Backward)
           (has_filtered (λ n. not (is_note_of id.slot (note_field Port) n)) (bared id Backward me).0.pools.notes (bare id Backward) (0, omega arith, refl) (ap not (apart id.slot (note_field Port) (note_field Backward) refl))))

@@ -1,6 +1,8 @@
 // The lives of one slot's connections, and the words that stand there.
-ghost use Rattle.std.specs.Prelude.{◌≡◌, ◌<◌};
+ghost use Rattle.std.specs.Prelude.{◌≡◌, ◌<◌, IfSome};
+ghost use Rattle.npf_flow.specs.Flows.{flow_law};
 ghost use Rattle.npf_cells.specs.Cells.{IsPassIn};
+ghost use Rattle.npf_trie_tests.specs.Built.{IsBuilt};
 ghost use Rattle.npf_trie_tests.specs.Hands.{IsEmptyHanded, HasFreeHands};
 
 use crate::answers::{put, same};
@@ -64,6 +66,26 @@ pub(crate) fn expire_late(
     Some(id)
 }
 
+// Starts what the pass is building.
+fn start_built(
+    rt: &impl Wait,
+    cells: &Cells<FlowLaw, ByProtocol>,
+    pass: &mut CellPass<FlowLaw>,
+    built: Option<ConnId>,
+)
+    requires own { IsPassIn cells.now pass.old }
+    requires empty { IsEmptyHanded pass.old.seat.me.0 }
+    requires hands { HasFreeHands pass.old.seat.me.0 }
+    requires built { IfSome built (λ id. IsBuilt flow_law cells.now.table.shared.key pass.old.seat.me.0 id) }
+    ensures own { IsPassIn cells.now pass.new }
+    ensures empty { IsEmptyHanded pass.new.seat.me.0 }
+    ensures hands { HasFreeHands pass.new.seat.me.0 }
+{
+    if let Some(id) = built {
+        start(rt, cells, pass, id, 7, FLOW);
+    }
+}
+
 // A connection that is started, steps once, and expires.
 fn tell_started(
     rt: &impl Wait,
@@ -81,9 +103,7 @@ fn tell_started(
 {
     let built = build(rt, cells, pass, FORWARD, BACKWARD);
     tell_words(cells, pass, told)?;
-    if let Some(id) = built {
-        start(rt, cells, pass, id, 7, FLOW);
-    }
+    start_built(rt, cells, pass, built);
     let place = place_of(step_by(rt, cells, pass, BACKWARD));
     let expired = expire_late(rt, cells, pass);
     put(told, &(built, place, expired))?;

@@ -1,7 +1,8 @@
-use Rattle.std.proofs.Common.{◌≡◌, ap, ◌∙◌, sym, subst, List}
+use Rattle.std.proofs.Common.{◌≡◌, ℕ, ap, ◌∙◌, sym, subst, List}
 use Rattle.std.specs.Prelude.{Contains}
 use Rattle.npf_types.specs.declared.key.Way.TheVariants.{Forward, Backward, Port}
 use Rattle.npf_core.specs.declared.conn_id.ConnId.{ConnId}
+use Rattle.npf_cells_rule.specs.Views.{DeadHand}
 use Rattle.npf_cells_leaves.specs.declared.trie.TrieSide.{TrieSide}
 use Rattle.npf_cells_words.specs.declared.layout.Pool.TheVariants.{Slots}
 use Rattle.npf_cells_takes.specs.PrivateKinds.{MayStore}
@@ -23,6 +24,7 @@ hold-requires-clause-can g c =
     can_hold _ _ c.in_ok-id.id _ _ (second ∙ ap (λ me. bared c.in_ok-id.id Port me) first)
     (begun_on _ _ c.in_ok-id.id Port _ _ second (begun_on _ _ c.in_ok-id.id Backward _ _ first c.in_ok-id.ensures.begun))
     (c.in_ok-id.ensures.keeps.nodes ∙ c.requires.hands.nodes)
+    (ap (λ (hand : DeadHand). hand.unfreed) c.in_ok-id.ensures.keeps.dead ∙ c.requires.hands.unfreed)
     (ap (λ (side : TrieSide). side.locks) c.in_ok-id.ensures.keeps.trie ∙ c.requires.hands.locks)
     (c.in_ok-id.ensures.keeps.turn ∙ c.requires.hands.turn)
 
@@ -30,9 +32,17 @@ pub start-requires-clause-builds : goal.start-requires-clause-builds
 start-requires-clause-builds g c =
     let first = backward_bared c.in_ok-id.id _ _ _ c.note_field.ensures c.store_private.ensures.next in
     let second = port_bared c.in_ok-id.id _ _ _ c.note_field-2.ensures c.store_private-2.ensures.next in
-    let builds = ap (λ y. y.0.pools.builds) c.in-Done.ensures.answers.is in
+    let builds = ap (λ y. y.0.pools.builds) c.in-Done.ensures.answers.settles.is ∙ ap (λ y. y.0.pools.builds) c.in-Done.ensures.answers.anew.is in
     let begun = begun_on _ _ c.in_ok-id.id Port _ _ second (begun_on _ _ c.in_ok-id.id Backward _ _ first c.in_ok-id.ensures.begun) in
     subst (λ (ids : List ConnId). Contains ids c.in_ok-id.id) (sym builds) (begun.may Forward).built
+
+pub start-requires-clause-stored : goal.start-requires-clause-stored
+start-requires-clause-stored g c =
+    let first = backward_bared c.in_ok-id.id _ _ _ c.note_field.ensures c.store_private.ensures.next in
+    let second = port_bared c.in_ok-id.id _ _ _ c.note_field-2.ensures c.store_private-2.ensures.next in
+    let unstored = ap (λ y. y.0.pools.unstored) c.in-Done.ensures.answers.settles.is ∙ ap (λ y. y.0.pools.unstored) c.in-Done.ensures.answers.anew.is in
+    let begun = begun_on _ _ c.in_ok-id.id Port _ _ second (begun_on _ _ c.in_ok-id.id Backward _ _ first c.in_ok-id.ensures.begun) in
+    λ has. begun.stored (subst (λ (slots : List ℕ). Contains slots c.in_ok-id.id.slot) unstored has)
 
 pub start-requires-clause-notes : goal.start-requires-clause-notes
 start-requires-clause-notes g c =
