@@ -302,17 +302,29 @@ fn live_deep<R: Wait, C: Connections<Sum>>(
 }
 
 // Ten phases, in each of which a connection is opened that wants every node of the table, and
-// expires. Each collection takes a level off, so
-// after 95 all nodes are free again.
-fn tell_phases(rt: &impl Wait, alloc: Global, told: &mut String) -> Result<(), Fail> {
-    let (conns, mut pass) = Conns::<Sum, OneHash>::new(alloc, 2, 94)?;
+// expires. Each collection takes a level off, so after 95 all nodes are free again.
+fn live_phases<R: Wait, C: Connections<Sum>>(
+    rt: &R,
+    conns: &C,
+    pass: &mut C::Pass,
+    told: &mut String,
+) -> Result<(), Fail>
+    requires out { IsOut sum_law (C.fits conns.now) C.view pass.old }
+    requires place { 1 ≤ (C.view pass.old).places }
+{
     for phase in 0..10u64 {
-        let held = live_deep(rt, &conns, &mut pass, phase);
-        let expired = conns.expire(rt, &mut pass, 100);
-        collect_often(rt, &conns, &mut pass, 95);
+        let held = live_deep(rt, conns, pass, phase);
+        let expired = conns.expire(rt, pass, 100);
+        collect_often(rt, conns, pass, 95);
         put(told, &(held, expired))?;
     }
     Ok(())
+}
+
+// The phases, in a table of 94 nodes.
+fn tell_phases(rt: &impl Wait, alloc: Global, told: &mut String) -> Result<(), Fail> {
+    let (conns, mut pass) = Conns::<Sum, OneHash>::new(alloc, 2, 94)?;
+    live_phases(rt, &conns, &mut pass, told)
 }
 
 #[test]
