@@ -12,8 +12,8 @@ pub struct Segment {
     pub scale: Option<u8>,
 }
 
-/// What a packet carries above IP. `mss_at` is the place of a maximum segment size option's number, and `echo` the
-/// identifier of an echo message; both count from where `Facts` says.
+/// What a packet carries above IP. `mss_at` is the place of a maximum segment size option's number, counted from the
+/// record's first byte, and `echo` the identifier of an echo message.
 #[derive(Clone, Copy, Debug, PartialEq, Eq, PartialOrd, Ord, Hash)]
 pub enum L4 {
     Tcp {

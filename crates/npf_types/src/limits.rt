@@ -63,6 +63,3 @@ pub const MAX_NODES: usize = 262_144;
 
 /// Places of readers in a table that is read without locks.
 pub const MAX_READERS: usize = 66;
-
-/// Worker threads of a run.
-pub const MAX_WORKERS: usize = 64;
