@@ -73,6 +73,20 @@ impl<L: Law> CellPass<L> {
             Pool::Nodes => self.hints.nodes = word,
         }
     }
+
+    /// The latest state, 2^63 and an epoch, of the nodes that the pass and those that it took in let go and that may not have come back; 0
+    /// where there is none. Any number is a hint.
+    pub fn left(&self) -> u64 {
+        self.hints.left
+    }
+
+    /// Remembers the state of the node that was let go last, or 0 once all came back.
+    pub fn set_left(&mut self, state: u64)
+        ensures seat { self.new.seat ≡ self.old.seat }
+        ensures readers { self.new.readers ≡ self.old.readers }
+    {
+        self.hints.left = state;
+    }
 }
 
 impl<L: Law, H: KeyHash> Cells<L, H> {
@@ -192,10 +206,15 @@ impl<L: Law, H: KeyHash> Cells<L, H> {
         ensures joins { IsJoined (cell_pass pass.old.seat.me.0) (cell_pass other.seat.me.0) (cell_pass pass.new.seat.me.0) }
         ensures legal { IsPass L.meaning (cell_pass pass.new.seat.me.0) }
     {
-        let CellPass { seat, readers, .. } = other;
+        let CellPass {
+            seat,
+            readers,
+            hints,
+        } = other;
         self.table.shared.join_seat::<TakesIn>(&mut pass.seat, seat);
         self.table.shared.load::<Reads<L>>(&mut pass.seat, EPOCH);
         add_all(&mut pass.readers, &readers);
+        pass.set_left(pass.hints.left.max(hints.left));
     }
 
     /// Loads the epoch, and begins a new scan of the readers. It isn't before any with which the pass let a connection go.

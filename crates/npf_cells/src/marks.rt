@@ -208,8 +208,8 @@ impl<L: Law, H: KeyHash> Cells<L, H> {
             .store::<MarksState>(&mut pass.seat, word, MARKED);
     }
 
-    /// Puts the mark of a node that the pass marked in the place where the node hangs, whose lock the pass has. From then on no key leads to
-    /// the node. The pass forgets the epoch that it loaded.
+    /// Puts the mark of a node that the pass marked in the place where the node hangs, whose lock the pass has. From then on a walk that comes
+    /// to the place ends there. The pass forgets the epoch that it loaded.
     pub fn mark_place(&self, pass: &mut CellPass<L>, place: Place, node: u32)
         requires own { IsPassIn self.now pass.old }
         requires place { IsInTrie self.now.table.shared.key place }

@@ -2,6 +2,7 @@
 use Rattle.std.proofs.Common.{◌≡◌, ℕ, Option, None, List, [], ◌∙◌, true, refl}
 use Rattle.atomic_table.specs.Seated.{TableId}
 use Rattle.atomic_table.specs.Table.{Me}
+use Rattle.npf_core.specs.declared.entry.Entry.{Entry}
 use Rattle.npf_cells_words.specs.declared.layout.Layout.{Layout}
 use Rattle.npf_cells_pins.specs.declared.pin.Pin.{Pin}
 use Rattle.npf_cells_pins.specs.declared.pin.Pin.TheVariants.{Idle, Pinned, Protected}
@@ -11,13 +12,15 @@ use Rattle.npf_cells_rule.specs.declared.view.CellView.{CellView}
 use Rattle.npf_cells_rule.specs.Passes.{CarriesByTurn, IsPassOf, is_pinned, IsProtected}
 use Rattle.npf_cells_rule.specs.Views.{with_pools}
 
--- a pass of the table stays one through a step that changes what it knows and has of the pools
-pub pools_on : {S A R F : Type 0} (layout : Layout) (table seat seat' : TableId) (readers : List ℕ) (me next : Me F (CellView S A R)) (side : PoolSide) →
-    IsPassOf layout table seat readers me → seat' ≡ seat → next ≡ with_pools me side → IsPassOf layout table seat' readers next
-pools_on layout table seat seat' readers me next side own same is = rw is (record {
+-- a pass of the table stays one through a step that changes what it has seen of the history, what it knows and has of the pools, its turn and what
+-- it carries, and nothing else
+pub passes_on : {S A R F : Type 0} (layout : Layout) (table seat seat' : TableId) (readers : List ℕ) (me : Me F (CellView S A R)) (history : List (Entry S A R)) (pools : PoolSide) (turn : Option (Turn S)) (carried : List (ℕ × F)) →
+    IsPassOf layout table seat readers me → seat' ≡ seat → CarriesByTurn turn carried →
+    IsPassOf layout table seat' readers (record me.0 { seats = record me.0.seats { history = history }; pools = pools; turn = turn }, carried)
+passes_on layout table seat seat' readers me history pools turn carried own same carries = record {
   same = same ∙ own.same;
   words = own.words;
-  carries = own.carries;
+  carries = carries;
   sized = own.sized;
   lives = own.lives;
   theirs = own.theirs;
@@ -29,7 +32,12 @@ pools_on layout table seat seat' readers me next side own same is = rw is (recor
   unanswered = own.unanswered;
   unlocked = own.unlocked;
   marked = own.marked;
-})
+}
+
+-- through one that changes what it knows and has of the pools
+pub pools_on : {S A R F : Type 0} (layout : Layout) (table seat seat' : TableId) (readers : List ℕ) (me next : Me F (CellView S A R)) (side : PoolSide) →
+    IsPassOf layout table seat readers me → seat' ≡ seat → next ≡ with_pools me side → IsPassOf layout table seat' readers next
+pools_on layout table seat seat' readers me next side own same is = rw is (passes_on layout table seat seat' readers me me.0.seats.history side me.0.turn me.1 own same own.carries)
 
 -- a pass that is protected is in a stay
 pub pinned_in : (pin : Pin) → IsProtected pin → is_pinned pin ≡ true

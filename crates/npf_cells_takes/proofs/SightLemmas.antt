@@ -29,7 +29,7 @@ use Rattle.npf_cells_lives.specs.declared.turn.Turn.{Turn}
 use Rattle.npf_cells_lives.specs.Notes.{with_ahead}
 use Rattle.npf_cells_rule.specs.Views.{seat_side, with_pools}
 use Rattle.npf_cells_rule.proofs.EntryLemmas.{sees_nothing, sole_seen}
-use Rattle.npf_cells_rule.proofs.PassLemmas.{pools_on}
+use Rattle.npf_cells_rule.proofs.PassLemmas.{passes_on, pools_on}
 use Rattle.npf_cells_takes.specs.SlotKinds.{seeing_slots, HasFreed, HasSeenSlots}
 use Rattle.npf_cells_lives.specs.Turns.{Running}
 
@@ -65,22 +65,7 @@ module _ {S A R : Type 0} (m : Meaning S A R) (digest : Key → ℕ) (layout : L
 -- a pass of the table stays one through such a step
 pub sees_on : {S A R : Type 0} (m : Meaning S A R) (layout : Layout) (table seat seat' : TableId) (readers : List ℕ) (word found : ℕ) (me next : Me (Running S) (CellView S A R)) →
     IsPassOf layout table seat readers me → seat' ≡ seat → HasSeenSlots m layout word found me next → IsPassOf layout table seat' readers next
-sees_on m layout table seat seat' readers word found me next own same seen = rw seen.is (record {
-  same = same ∙ own.same;
-  words = own.words;
-  carries = own.carries;
-  sized = own.sized;
-  lives = own.lives;
-  theirs = own.theirs;
-  owns = own.owns;
-  place = own.place;
-  most = own.most;
-  reader = own.reader;
-  epoch = own.epoch;
-  unanswered = own.unanswered;
-  unlocked = own.unlocked;
-  marked = own.marked;
-})
+sees_on m layout table seat seat' readers word found me next own same seen = rw seen.is (passes_on layout table seat seat' readers me _ _ _ _ own same own.carries)
 
 -- so it does through a load of a word of either pool
 pub swept_on : {S A R : Type 0} (m : Meaning S A R) (layout : Layout) (table seat seat' : TableId) (readers : List ℕ) (word found : ℕ) (me next : Me (Running S) (CellView S A R)) (side : PoolSide) (pool : Pool) →
@@ -91,22 +76,7 @@ swept_on m layout table seat seat' readers word found me next side Slots own sam
 -- so it does through a Free
 pub freed_on : {S A R : Type 0} (m : Meaning S A R) (layout : Layout) (table seat seat' : TableId) (readers : List ℕ) (conn : ConnId) (found : ℕ) (me next : Me (Running S) (CellView S A R)) →
     IsPassOf layout table seat readers me → seat' ≡ seat → HasFreed m conn found me next → IsPassOf layout table seat' readers next
-freed_on m layout table seat seat' readers conn found me next own same freed = rw freed.is (record {
-  same = same ∙ own.same;
-  words = own.words;
-  carries = own.carries;
-  sized = own.sized;
-  lives = own.lives;
-  theirs = own.theirs;
-  owns = own.owns;
-  place = own.place;
-  most = own.most;
-  reader = own.reader;
-  epoch = own.epoch;
-  unanswered = own.unanswered;
-  unlocked = own.unlocked;
-  marked = own.marked;
-})
+freed_on m layout table seat seat' readers conn found me next own same freed = rw freed.is (passes_on layout table seat seat' readers me _ _ _ _ own same own.carries)
 
 -- so it does where only what it is ahead of changes
 pub led_carries : {S F : Type 0} (ahead : Option Ahead) (turn : Option (Turn S)) (carried : List (ℕ × F)) → CarriesByTurn turn carried → CarriesByTurn (with_ahead ahead turn) carried
@@ -115,19 +85,4 @@ led_carries ahead (Some turn) carried carries = carries
 
 pub led_on : {S A R : Type 0} (layout : Layout) (table seat seat' : TableId) (readers : List ℕ) (field value : ℕ) (me next : Me (Running S) (CellView S A R)) → IsPassOf layout table seat readers me → seat' ≡ seat → next ≡ leading field value me →
     IsPassOf layout table seat' readers next
-led_on layout table seat seat' readers field value me next own same is = rw is (record {
-  same = same ∙ own.same;
-  words = own.words;
-  carries = led_carries (Some (record { field = field; value = value })) me.0.turn me.1 own.carries;
-  sized = own.sized;
-  lives = own.lives;
-  theirs = own.theirs;
-  owns = own.owns;
-  place = own.place;
-  most = own.most;
-  reader = own.reader;
-  epoch = own.epoch;
-  unanswered = own.unanswered;
-  unlocked = own.unlocked;
-  marked = own.marked;
-})
+led_on layout table seat seat' readers field value me next own same is = rw is (passes_on layout table seat seat' readers me _ _ _ _ own same (led_carries (Some (record { field = field; value = value })) me.0.turn me.1 own.carries))

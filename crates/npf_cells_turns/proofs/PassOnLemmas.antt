@@ -15,6 +15,7 @@ use Rattle.npf_cells_lives.specs.Notes.{with_said}
 use Rattle.npf_cells_lives.specs.Turns.{Running, running}
 use Rattle.npf_cells_rule.specs.declared.view.CellView.{CellView}
 use Rattle.npf_cells_rule.specs.Passes.{CarriesByTurn, IsPassOf}
+use Rattle.npf_cells_rule.proofs.PassLemmas.{passes_on}
 use Rattle.npf_cells_turns.specs.declared.act.TurnAct.{TurnAct}
 use Rattle.npf_cells_turns.specs.declared.act.TurnAct.TheVariants.{Nothing, Start, Step as Steps, Abandoned, Expired, Reclaim}
 use Rattle.npf_cells_turns.specs.EndKinds.{acted, epochs_after, with_reclaim, TellsEnd}
@@ -46,42 +47,12 @@ module _ {S A R : Type 0} (layout : Layout) (table seat : TableId) (readers : Li
   -- through one that changes its turn alone, and what it carries
   pub turned_on : (seat' : TableId) (next : Me (Running S) (CellView S A R)) (turn : Option (Turn S)) (carried : List (ℕ × Running S)) → IsPassOf layout table seat readers me → seat' ≡ seat →
       next ≡ (record me.0 { turn = turn }, carried) → CarriesByTurn turn carried → IsPassOf layout table seat' readers next
-  turned_on seat' next turn carried own same is carries = rw is (record {
-    same = same ∙ own.same;
-    words = own.words;
-    carries = carries;
-    sized = own.sized;
-    lives = own.lives;
-    theirs = own.theirs;
-    owns = own.owns;
-    place = own.place;
-    most = own.most;
-    reader = own.reader;
-    epoch = own.epoch;
-    unanswered = own.unanswered;
-    unlocked = own.unlocked;
-    marked = own.marked;
-  })
+  turned_on seat' next turn carried own same is carries = rw is (passes_on layout table seat seat' readers me _ _ _ _ own same carries)
 
   -- through one by which it reclaims a connection
   pub reclaimed_on : (seat' : TableId) (next : Me (Running S) (CellView S A R)) (conn : ConnId) → IsPassOf layout table seat readers me → seat' ≡ seat → next ≡ (record me.0 { pools = with_reclaim conn me.0.pools; turn = None }, []) →
       IsPassOf layout table seat' readers next
-  reclaimed_on seat' next conn own same is = rw is (record {
-    same = same ∙ own.same;
-    words = own.words;
-    carries = refl;
-    sized = own.sized;
-    lives = own.lives;
-    theirs = own.theirs;
-    owns = own.owns;
-    place = own.place;
-    most = own.most;
-    reader = own.reader;
-    epoch = own.epoch;
-    unanswered = own.unanswered;
-    unlocked = own.unlocked;
-    marked = own.marked;
-  })
+  reclaimed_on seat' next conn own same is = rw is (passes_on layout table seat seat' readers me _ _ _ _ own same refl)
 
   -- through a load of a note under a turn
   pub noted_on : (seat' : TableId) (next : Me (Running S) (CellView S A R)) (field found : ℕ) → IsPassOf layout table seat readers me → seat' ≡ seat → next ≡ noting field found me → IsPassOf layout table seat' readers next

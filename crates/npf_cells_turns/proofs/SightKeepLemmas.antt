@@ -27,6 +27,7 @@ use Rattle.npf_cells_lives.proofs.DeathLemmas.{dead_stage, gone_dead}
 use Rattle.npf_cells_lives.proofs.FreedLemmas.{gone_in, there_or_idle}
 use Rattle.npf_cells_rule.proofs.EntryLemmas.{sees_nothing, sole_seen}
 use Rattle.npf_cells_rule.proofs.Frames.{alone_still, sight_step}
+use Rattle.npf_cells_rule.proofs.PassLemmas.{passes_on}
 use Rattle.npf_cells_turns.specs.SightKinds.{seeing, StaysByTurn, HasSeen, Sees}
 
 pub above : (n : ℕ) → n ≢ 0 → 1 ≤ n
@@ -81,19 +82,4 @@ module _ {S A R : Type 0} (m : Meaning S A R) (digest : Key → ℕ) (layout : L
 -- a pass of the table stays one through such a step
 pub seen_on : {S A R : Type 0} (m : Meaning S A R) (layout : Layout) (table seat seat' : TableId) (readers : List ℕ) (me next : Me (Running S) (CellView S A R)) →
     IsPassOf layout table seat readers me → seat' ≡ seat → HasSeen m me next → IsPassOf layout table seat' readers next
-seen_on m layout table seat seat' readers me next own same seen = rw seen.is (record {
-  same = same ∙ own.same;
-  words = own.words;
-  carries = own.carries;
-  sized = own.sized;
-  lives = own.lives;
-  theirs = own.theirs;
-  owns = own.owns;
-  place = own.place;
-  most = own.most;
-  reader = own.reader;
-  epoch = own.epoch;
-  unanswered = own.unanswered;
-  unlocked = own.unlocked;
-  marked = own.marked;
-})
+seen_on m layout table seat seat' readers me next own same seen = rw seen.is (passes_on layout table seat seat' readers me _ _ _ _ own same own.carries)

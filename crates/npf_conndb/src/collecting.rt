@@ -43,11 +43,32 @@ pub(crate) fn collect<L: Law, H: KeyHash>(
     for slot in visited..cells.layout().slots {
         collect_slot(cells, pass, slot, epoch);
     }
-    regain_nodes(rt, cells, pass);
+    regain_left(rt, cells, pass);
+}
+
+// Gets nodes back, unless the pass knows of none that was let go.
+fn regain_left<L: Law, H: KeyHash>(rt: &impl Wait, cells: &Cells<L, H>, pass: &mut CellPass<L>)
+    requires own { IsPassIn cells.now pass.old }
+    requires legal { IsPass L.meaning (cell_pass pass.old.seat.me.0) }
+    requires between { IsBetweenCalls L.meaning pass.old.seat.me.0 }
+    requires out { pass.old.seat.me.0.epochs.pin ≡ Idle }
+    ensures own { IsPassIn cells.now pass.new }
+    ensures stays { StaysBetween L.meaning pass.old.seat.me.0 pass.new.seat.me.0 }
+    ensures same { pass.new.seat.me.0.seats ≡ pass.old.seat.me.0.seats }
+{
+    let left = pass.left();
+    if left != 0 {
+        regain_nodes(rt, cells, pass, left);
+    }
 }
 
 // Frees each node that was taken off two epochs before or more, and takes those off in which only such a one hung. It is in a stay for that.
-fn regain_nodes<L: Law, H: KeyHash>(rt: &impl Wait, cells: &Cells<L, H>, pass: &mut CellPass<L>)
+fn regain_nodes<L: Law, H: KeyHash>(
+    rt: &impl Wait,
+    cells: &Cells<L, H>,
+    pass: &mut CellPass<L>,
+    left: u64,
+)
     requires own { IsPassIn cells.now pass.old }
     requires legal { IsPass L.meaning (cell_pass pass.old.seat.me.0) }
     requires between { IsBetweenCalls L.meaning pass.old.seat.me.0 }
@@ -62,6 +83,19 @@ fn regain_nodes<L: Law, H: KeyHash>(rt: &impl Wait, cells: &Cells<L, H>, pass: &
         regain(rt, cells, pass, node, epoch);
     }
     leave(cells, pass);
+    forget_left(pass, left, epoch);
+}
+
+// Forgets that nodes were let go, the last of them with this state, once the pass went over all of them at this epoch: those have come back, if no
+// other pass was left that may have had the lock of a place. What the pass took off meanwhile it knows by a later state.
+fn forget_left<L: Law>(pass: &mut CellPass<L>, left: u64, epoch: u64)
+    ensures seat { pass.new.seat ≡ pass.old.seat }
+    ensures readers { pass.new.readers ≡ pass.old.readers }
+{
+    let was_long_left = left.wrapping_sub(EPOCHS).saturating_add(2) <= epoch;
+    if was_long_left && pass.left() == left && pass.places() == READERS as usize {
+        pass.set_left(0);
+    }
 }
 
 // Raises the epoch, and visits the slots up to the first that it frees. Answers the epoch, and how many slots it visited. What is freed ends

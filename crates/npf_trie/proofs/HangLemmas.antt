@@ -249,6 +249,27 @@ module _ {S A R F : Type 0} (digest : Key → ℕ) (layout : Layout) where
     place_stays digest layout old.0 now.0 key point (ap (λ (y : Me F (CellView S A R)). y.0.trie.stands) sees.is) at,
   )
 
+-- nodes that were built to be hung are so whatever the pass loads or locks beside them
+module _ {S A R : Type 0} (m : Meaning S A R) (digest : Key → ℕ) (layout : Layout) (wanted : Wanted) (point : Point) (branch : Branch) (v : CellView S A R) where
+  grown_beside : (side : TrieSide) → side.stands ≡ v.trie.stands → side.marks ≡ v.trie.marks → HasGrown m digest layout v wanted point branch → HasGrown m digest layout (record v { trie = side }) wanted point branch
+  grown_beside side stands marks grown = record {
+    may = record { built = grown.may.built; bare = grown.may.bare };
+    exists = grown.exists;
+    stored = grown.stored;
+    unmarked = marks ∙ grown.unmarked;
+    at = place_stays digest layout v _ wanted.key point stands grown.at;
+    key_stored = grown.key_stored;
+    nodes = grown.nodes;
+    leads = grown.leads;
+    owned = grown.owned;
+    apart = grown.apart;
+    parents = grown.parents;
+    all = grown.all;
+    some = grown.some;
+    own_place = grown.own_place;
+    moved_to = grown.moved_to;
+  }
+
 -- who is ahead of nothing again has the turn as it was without being ahead
 led_back : {S : Type 0} (turn : Option (Turn S)) (ahead : Option Ahead) → with_ahead None (with_ahead ahead turn) ≡ with_ahead None turn
 led_back None ahead = refl
@@ -261,23 +282,7 @@ module _ {S A R F : Type 0} (m : Meaning S A R) (digest : Key → ℕ) (layout :
     side = record (meeting wanted.key point.place (Cells.Leaf branch.other.slot branch.other.way) (level_at old.0.trie point.place) sees.leaf old.0.trie) { words = now.0.trie.words }
 
     pub grown_still : HasGrown m digest layout old.0 wanted point branch → HasGrown m digest layout now.0 wanted point branch
-    grown_still grown = subst (λ (y : Me F (CellView S A R)). HasGrown m digest layout y.0 wanted point branch) (sym sees.is) (record {
-      may = record { built = grown.may.built; bare = grown.may.bare };
-      exists = grown.exists;
-      stored = grown.stored;
-      unmarked = grown.unmarked;
-      at = place_stays digest layout old.0 _ wanted.key point refl grown.at;
-      key_stored = grown.key_stored;
-      nodes = grown.nodes;
-      leads = grown.leads;
-      owned = grown.owned;
-      apart = grown.apart;
-      parents = grown.parents;
-      all = grown.all;
-      some = grown.some;
-      own_place = grown.own_place;
-      moved_to = grown.moved_to;
-    })
+    grown_still grown = subst (λ (y : Me F (CellView S A R)). HasGrown m digest layout y.0 wanted point branch) (sym sees.is) (grown_beside m digest layout wanted point branch old.0 side refl refl grown)
 
     pub turn_still : HasNewTurn old.0.turn branch.other.slot → HasNewTurn now.0.turn branch.other.slot
     turn_still turn = subst (λ (y : Me F (CellView S A R)). HasNewTurn y.0.turn branch.other.slot) (sym sees.is) turn
@@ -451,23 +456,8 @@ module _ {S A R F : Type 0} (m : Meaning S A R) (digest : Key → ℕ) (layout :
 module _ {S A R F : Type 0} (m : Meaning S A R) (digest : Key → ℕ) (layout : Layout) (wanted : Wanted) (point : Point) (lock : Lock) (old locked : Me F (CellView S A R))
     (free : old.0.trie.locks ≡ []) (gets : locked ≡ with_trie old (locking lock old.0.trie)) where
   pub grown_locked : (branch : Branch) → HasGrown m digest layout old.0 wanted point branch → HasGrown m digest layout locked.0 wanted point branch
-  grown_locked branch grown = subst (λ (y : Me F (CellView S A R)). HasGrown m digest layout y.0 wanted point branch) (sym gets) (record {
-    may = record { built = grown.may.built; bare = grown.may.bare };
-    exists = grown.exists;
-    stored = grown.stored;
-    unmarked = grown.unmarked;
-    at = place_stays digest layout old.0 _ wanted.key point refl grown.at;
-    key_stored = grown.key_stored;
-    nodes = grown.nodes;
-    leads = grown.leads;
-    owned = grown.owned;
-    apart = grown.apart;
-    parents = grown.parents;
-    all = grown.all;
-    some = grown.some;
-    own_place = grown.own_place;
-    moved_to = grown.moved_to;
-  })
+  grown_locked branch grown =
+      subst (λ (y : Me F (CellView S A R)). HasGrown m digest layout y.0 wanted point branch) (sym gets) (grown_beside m digest layout wanted point branch old.0 (locking lock old.0.trie) refl refl grown)
 
   module _ (hung : Me F (CellView S A R)) where
     module _ (now : Me F (CellView S A R)) (frees : now ≡ with_trie hung (record hung.0.trie { locks = []; emptied = None; met_mark = None })) where

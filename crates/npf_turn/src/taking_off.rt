@@ -116,6 +116,7 @@ fn mark_off<L: Law, H: KeyHash>(
     cells.mark_node(pass, node);
     cells.mark_place(pass, parent, node);
     cells.store_node(pass, parent.lock(), FREE);
-    let epoch = cells.load_epoch(pass);
-    cells.store_node(pass, Lock::Node(node), LEFT + epoch);
+    let left = LEFT + cells.load_epoch(pass);
+    cells.store_node(pass, Lock::Node(node), left);
+    pass.set_left(left);
 }
