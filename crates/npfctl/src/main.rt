@@ -16,6 +16,7 @@ use npf_types::limits::{MAX_CONNECTIONS, MAX_NODES};
 use std::alloc::AllocError;
 use std::env;
 use std::io::ErrorKind;
+use std::mem;
 use std::process::ExitCode;
 
 /// How many connections a table may have at a time, and how many nodes for their keys.
@@ -46,7 +47,7 @@ fn main(rt: HostRuntime) -> ExitCode {
     let mut files = FolderFiles::new(&rt);
     let mut out = StdoutSink::new(&rt);
     let mut err = StderrSink::new(&rt);
-    ExitCode::from(npfctl_top(
+    let status = npfctl_top(
         &rt,
         alloc,
         words.as_slice(),
@@ -56,7 +57,10 @@ fn main(rt: HostRuntime) -> ExitCode {
         &conns,
         &mut pass,
         &NoGate,
-    ))
+    );
+    // Its memory goes with the process; to drop it would let each of its slots go by itself.
+    mem::forget(conns);
+    ExitCode::from(status)
 }
 
 /// The room of the table: a command that runs no packets asks it nothing.
