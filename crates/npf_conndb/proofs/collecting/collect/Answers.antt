@@ -14,24 +14,24 @@ loop-slot-preserved g c = record {
   collected = collected_more g.L.Law.meaning c.free_first-epoch.result.0 c.args.pass.now.seat.me c.loop-slot.slot c.collect_slot.result _ _ c.loop-slot.invariant.collected c.collect_slot.ensures.collects;
 }
 
-pub regain_nodes-requires-clause-legal : goal.regain_nodes-requires-clause-legal
-regain_nodes-requires-clause-legal g c = c.loop-slot.invariant.collected.stays.legal
+pub regain_left-requires-clause-legal : goal.regain_left-requires-clause-legal
+regain_left-requires-clause-legal g c = c.loop-slot.invariant.collected.stays.legal
 
-pub regain_nodes-requires-clause-between : goal.regain_nodes-requires-clause-between
-regain_nodes-requires-clause-between g c = c.loop-slot.invariant.collected.stays.between
+pub regain_left-requires-clause-between : goal.regain_left-requires-clause-between
+regain_left-requires-clause-between g c = c.loop-slot.invariant.collected.stays.between
 
-pub regain_nodes-requires-clause-out : goal.regain_nodes-requires-clause-out
-regain_nodes-requires-clause-out g c = c.loop-slot.invariant.collected.stays.pin ∙ c.requires.out
+pub regain_left-requires-clause-out : goal.regain_left-requires-clause-out
+regain_left-requires-clause-out g c = c.loop-slot.invariant.collected.stays.pin ∙ c.requires.out
 
 pub returns-clause-stays : goal.returns-clause-stays
-returns-clause-stays g c = stays_more g.L.Law.meaning 0 0 0 0 _ _ _ c.loop-slot.invariant.collected.stays c.regain_nodes.ensures.stays
+returns-clause-stays g c = stays_more g.L.Law.meaning 0 0 0 0 _ _ _ c.loop-slot.invariant.collected.stays c.regain_left.ensures.stays
 
 pub returns-clause-frees : goal.returns-clause-frees
 returns-clause-frees g c =
     let so = c.loop-slot.invariant.collected in
-    frees_still g.L.Law.meaning _ _ c.regain_nodes.ensures.stays c.regain_nodes.ensures.same (cell_pass c.args.pass.now.seat.me.0) (record { ids = so.ids; adds = so.adds })
+    frees_still g.L.Law.meaning _ _ c.regain_left.ensures.stays c.regain_left.ensures.same (cell_pass c.args.pass.now.seat.me.0) (record { ids = so.ids; adds = so.adds })
 
 pub returns-clause-clean : goal.returns-clause-clean
-returns-clause-clean g c = clean_still g.L.Law.meaning _ _ c.regain_nodes.ensures.stays c.regain_nodes.ensures.same
+returns-clause-clean g c = clean_still g.L.Law.meaning _ _ c.regain_left.ensures.stays c.regain_left.ensures.same
     (collected_all g.L.Law.meaning c.free_first-epoch.result.0 c.args.pass.now.seat.me c.args.cells.now.table.shared.key.slots c.loop-slot.slot c.loop-slot.pass.seat.me c.loop-slot.invariant.collected c.loop-slot.invariant.own.sized
     (subst (λ (l : Layout). l.slots ≤ c.loop-slot.slot) c.layout-slot-end.ensures c.loop-slot-test.false))

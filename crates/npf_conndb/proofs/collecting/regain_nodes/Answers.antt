@@ -48,7 +48,7 @@ pub leave-requires-clause-unlocked : goal.leave-requires-clause-unlocked
 leave-requires-clause-unlocked g c = c.loop-node.invariant.regains.stays.between.unlocked
 
 pub returns-clause-stays : goal.returns-clause-stays
-returns-clause-stays g c = regained_stays g.L.Law.meaning _ _ _ c.loop-node.invariant.regains _ c.requires.legal c.requires.out c.leave.ensures.next
+returns-clause-stays g c = regained_stays g.L.Law.meaning _ _ _ c.loop-node.invariant.regains _ c.requires.legal c.requires.out (ap (λ seat. seat.me) c.forget_left.ensures.seat ∙ c.leave.ensures.next)
 
 pub returns-clause-same : goal.returns-clause-same
-returns-clause-same g c = regained_seats g.L.Law.meaning _ _ _ c.loop-node.invariant.regains _ c.leave.ensures.next
+returns-clause-same g c = regained_seats g.L.Law.meaning _ _ _ c.loop-node.invariant.regains _ (ap (λ seat. seat.me) c.forget_left.ensures.seat ∙ c.leave.ensures.next)
