@@ -214,7 +214,7 @@ impl<L: Law, H: KeyHash> Cells<L, H> {
         self.table.shared.join_seat::<TakesIn>(&mut pass.seat, seat);
         self.table.shared.load::<Reads<L>>(&mut pass.seat, EPOCH);
         add_all(&mut pass.readers, &readers);
-        pass.set_left(pass.hints.left.max(hints.left));
+        pass.hints.left = pass.hints.left.max(hints.left);
     }
 
     /// Loads the epoch, and begins a new scan of the readers. It isn't before any with which the pass let a connection go.

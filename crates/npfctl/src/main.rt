@@ -14,10 +14,9 @@ use npf_outside::{FolderFiles, StderrSink, StdoutSink};
 use npf_runner::NoGate;
 use npf_types::limits::{MAX_CONNECTIONS, MAX_NODES};
 use std::alloc::AllocError;
-use std::env;
 use std::io::ErrorKind;
-use std::mem;
 use std::process::ExitCode;
+use std::{env, mem};
 
 /// How many connections a table may have at a time, and how many nodes for their keys.
 struct Room {
