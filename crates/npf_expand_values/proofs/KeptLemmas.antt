@@ -1,5 +1,5 @@
 -- What is kept of definitions, by their places, and what stays where one more stands behind them.
-use Rattle.std.proofs.Common.{◌≡◌, ◌<◌, ◌≤◌, ◌+◌, ℕ, Bool, true, false, Option, Some, None, List, [], ◌∷◌, ◌++◌, All, length, reverse, get_or, refl, sym, ap, subst, ◌∙◌, inl, inr, ◌⊎◌, append-nil, append_assoc, map, take, arith}
+use Rattle.std.proofs.Common.{◌≡◌, ◌<◌, ◌≤◌, ◌+◌, ℕ, Bool, true, false, Option, Some, None, List, [], ◌∷◌, ◌++◌, All, length, reverse, get_or, refl, sym, ap, subst, ◌∙◌, inl, inr, ◌⊎◌, append-nil, map, take, arith}
 use Rattle.std.specs.Prelude.{slice_get, if◌then◌else◌}
 use Rattle.std.specs.HashMap.{get_by}
 use Rattle.std.specs.Str.{bytes_eq}
@@ -19,7 +19,7 @@ use Rattle.npf_expand_values.specs.declared.variable.Part.TheVariants.{Single, D
 use Rattle.npf_expand_values.specs.declared.variable.Spliced.{Spliced}
 use Rattle.npf_expand_values.specs.declared.variable.Variables.{Variables}
 use Rattle.npf_expand_values.specs.Atom.{Atom, Binding, kept_atom}
-use Rattle.npf_expand_values.specs.Kept.{AreDefs, AreKeptBy, AreSound, AreSpliced, IsBound, IsDefBehind, IsOfFirst, at_place, bindings_of, def_binding, env_in, first_atom, known, part_atoms, parts_atoms}
+use Rattle.npf_expand_values.specs.Kept.{AreDefs, AreKeptBy, AreKeptIn, AreSound, AreSpliced, IsBound, IsDefBehind, IsOfFirst, at_place, bindings_of, def_binding, env_in, first_atom, kept_parts, known, part_atoms, parts_atoms}
 use Rattle.npf_expand_values.specs.Summary.{joined_summary, summary_of}
 use Rattle.npf_expand_values.specs.Use.{atoms_of}
 use Rattle.npf_expand_values.proofs.SummaryLemmas.{summary_of-append}
@@ -54,29 +54,26 @@ of_first_more n m (Defined place) within older = omega (arith, within, older)
 pub record IsDefAt (bindings : List Binding) (place : ℕ) (def : Def) : Type 0 where
   pub binding : slice_get bindings place ≡ Some (def_binding bindings def)
   pub behind : IsDefBehind bindings def
-  pub older : All (IsOfFirst place) def.values.parts.items
+  pub older : All (IsOfFirst place) (kept_parts def.values)
 
-def_same : (bindings : List Binding) (more : Binding) (def : Def) → All (IsOfFirst (length bindings)) def.values.parts.items
+def_same : (bindings : List Binding) (more : Binding) (def : Def) → All (IsOfFirst (length bindings)) (kept_parts def.values)
     → def_binding (bindings ++ more ∷ []) def ≡ def_binding bindings def
-def_same bindings more def older = ap (λ (atoms : List Atom). record { many = def.many; atoms = atoms }) (parts_same bindings more def.values.parts.items older)
+def_same bindings more def older = ap (λ (atoms : List Atom). record { many = def.many; atoms = atoms }) (parts_same bindings more (kept_parts def.values) older)
 
 def_behind_more : (bindings : List Binding) (more : Binding) (def : Def) → IsDefBehind bindings def → IsDefBehind (bindings ++ more ∷ []) def
 def_behind_more bindings more def is =
-    let same = sym (parts_same bindings more def.values.parts.items is.values.older) in
+    let same = sym (parts_same bindings more (kept_parts def.values) is.older) in
     record {
-      values = record {
-        means = refl;
-        older = All-weaker (IsOfFirst (length bindings)) (IsOfFirst (length (bindings ++ more ∷ [])))
-            (λ part. of_first_more (length bindings) (length (bindings ++ more ∷ [])) part (let longer = length_push bindings more in omega (arith, longer)))
-            def.values.parts.items is.values.older;
-        kept = subst (AreKeptBy def.values.first def.values.summary) same is.values.kept;
-      };
+      older = All-weaker (IsOfFirst (length bindings)) (IsOfFirst (length (bindings ++ more ∷ [])))
+          (λ part. of_first_more (length bindings) (length (bindings ++ more ∷ [])) part (let longer = length_push bindings more in omega (arith, longer)))
+          (kept_parts def.values) is.older;
+      kept = subst (AreKeptIn def.values) same is.kept;
       alone = λ one. subst (λ (atoms : List Atom). length atoms ≤ 1) same (is.alone one);
     }
 
 def_at-more : (bindings : List Binding) (more : Binding) (place : ℕ) (def : Def) → IsDefAt bindings place def → IsDefAt (bindings ++ more ∷ []) place def
 def_at-more bindings more place def is = record {
-  binding = slice_get-kept bindings more place (slice_get_within bindings place _ is.binding) ∙ is.binding ∙ ap Some (sym (def_same bindings more def is.behind.values.older));
+  binding = slice_get-kept bindings more place (slice_get_within bindings place _ is.binding) ∙ is.binding ∙ ap Some (sym (def_same bindings more def is.behind.older));
   behind = def_behind_more bindings more def is.behind;
   older = is.older;
 }
@@ -91,9 +88,9 @@ def_at_last older newest is =
     let more = def_binding bindings newest in
     let count = length-bindings_of older in
     record {
-      binding = subst (λ n. slice_get (bindings ++ more ∷ []) n ≡ Some more) count (slice_get-pushed bindings more) ∙ ap Some (sym (def_same bindings more newest is.values.older));
+      binding = subst (λ n. slice_get (bindings ++ more ∷ []) n ≡ Some more) count (slice_get-pushed bindings more) ∙ ap Some (sym (def_same bindings more newest is.older));
       behind = def_behind_more bindings more newest is;
-      older = subst (λ n. All (IsOfFirst n) newest.values.parts.items) count is.values.older;
+      older = subst (λ n. All (IsOfFirst n) (kept_parts newest.values)) count is.older;
     }
 
 below_or : (n m : ℕ) → n < m + 1 → (n < m) ⊎ (n ≡ m)
@@ -130,14 +127,11 @@ pub length-known : (variables : Variables) → length (known variables) ≡ leng
 length-known variables = length-bindings_of (reverse variables.defs.items) ∙ length-reverse variables.defs.items
 
 -- the values of one part are the part's
-pub only_part : (bindings : List Binding) (parts : List Part) (part : Part) → length parts ≡ 1 → part ≡ get_or parts 0 part
-    → part_atoms bindings part ≡ parts_atoms bindings parts
-only_part bindings [] part one is = absurd (omega (arith, one))
-only_part bindings (only ∷ []) part one is = ap (part_atoms bindings) is ∙ sym (append-nil (part_atoms bindings only))
-only_part bindings (_ ∷ _ ∷ _) part one is = absurd (omega (arith, one))
+pub only_part : (bindings : List Binding) (parts : List Part) (part : Part) → parts ≡ part ∷ [] → part_atoms bindings part ≡ parts_atoms bindings parts
+only_part bindings parts part one = sym (ap (parts_atoms bindings) one ∙ append-nil (part_atoms bindings part))
 
-pub only_older : (count : ℕ) (parts : List Part) (part : Part) → length parts ≡ 1 → part ≡ get_or parts 0 part → All (IsOfFirst count) parts → IsOfFirst count part
-only_older count parts part one is older = subst (IsOfFirst count) (sym is) (older 0 part (omega (arith, one)))
+pub only_older : (count : ℕ) (parts : List Part) (part : Part) → parts ≡ part ∷ [] → All (IsOfFirst count) parts → IsOfFirst count part
+only_older count parts part one older = All-head (IsOfFirst count) part [] (subst (All (IsOfFirst count)) one older)
 
 first_atom-append : (xs ys : List Atom) → first_atom (xs ++ ys) ≡ option_or (first_atom xs) (first_atom ys)
 first_atom-append [] ys = refl
@@ -221,27 +215,16 @@ front_of_first count front last older = λ k d within.
     subst (IsOfFirst count) (get_or_append_left front (last ∷ []) d k within) (older k d (let more = length_push front last in omega (arith, within, more)))
 
 pub replaced_older : (bindings : List Binding) (front : List Part) (place : ℕ) (def : Def) → IsDefAt bindings place def → All (IsOfFirst (length bindings)) (front ++ Defined place ∷ [])
-    → All (IsOfFirst (length bindings)) (front ++ def.values.parts.items)
+    → All (IsOfFirst (length bindings)) (front ++ kept_parts def.values)
 replaced_older bindings front place def is older =
-    All-append (IsOfFirst (length bindings)) front def.values.parts.items (front_of_first (length bindings) front (Defined place) older) is.behind.values.older
+    All-append (IsOfFirst (length bindings)) front (kept_parts def.values) (front_of_first (length bindings) front (Defined place) older) is.behind.older
 
 pub replaced_means : (bindings : List Binding) (front : List Part) (place : ℕ) (def : Def) → IsDefAt bindings place def
-    → parts_atoms bindings (front ++ Defined place ∷ []) ≡ parts_atoms bindings (front ++ def.values.parts.items)
+    → parts_atoms bindings (front ++ Defined place ∷ []) ≡ parts_atoms bindings (front ++ kept_parts def.values)
 replaced_means bindings front place def is =
     flat_map-append (part_atoms bindings) front (Defined place ∷ [])
     ∙ ap (λ (rest : List Atom). parts_atoms bindings front ++ rest) (append-nil (part_atoms bindings (Defined place)) ∙ ap atoms_of is.binding)
-    ∙ sym (flat_map-append (part_atoms bindings) front def.values.parts.items)
-
-pub single_means : (bindings : List Binding) (front : List Part) (atom : Kept) (atoms : List Kept)
-    → parts_atoms bindings (front ++ Single atom ∷ []) ++ reverse (map kept_atom atoms) ≡ parts_atoms bindings front ++ reverse (map kept_atom (atoms ++ atom ∷ []))
-single_means bindings front atom atoms =
-    ap (λ (l : List Atom). l ++ reverse (map kept_atom atoms)) (flat_map-append (part_atoms bindings) front (Single atom ∷ []))
-    ∙ append_assoc (parts_atoms bindings front) (kept_atom atom ∷ []) (reverse (map kept_atom atoms))
-    ∙ ap (λ (rest : List Atom). parts_atoms bindings front ++ rest) (sym (ap reverse (map-append kept_atom atoms (atom ∷ [])) ∙ reverse-append (map kept_atom atoms) (kept_atom atom ∷ [])))
-
-pub no_parts : (parts : List Part) → length parts ≡ 0 → parts ≡ []
-no_parts [] none = refl
-no_parts (_ ∷ _) none = absurd (omega (arith, none))
+    ∙ sym (flat_map-append (part_atoms bindings) front (kept_parts def.values))
 
 pub map-reversed : {X Y : Type 0} (f : X → Y) (xs : List X) → map f (reverse xs) ≡ reverse (map f xs)
 map-reversed f [] = refl
@@ -255,22 +238,19 @@ flat_map-more f xs i x d within is =
     ∙ ap (λ rest. flat_map f (take i xs) ++ rest) (append-nil (f (get_or xs i d)) ∙ ap f (sym is))
 
 -- a definition of values that were spliced
-abbrev def_of : Bool → Spliced → Def
-def_of many values = record { many = many; values = values }
+pub spliced_behind : (bindings : List Binding) (def : Def) (values : Spliced) (atoms : List Atom) → kept_parts def.values ≡ values.parts.items
+    → AreKeptIn def.values atoms → AreSpliced bindings values atoms → (def.many ≡ false → length atoms ≤ 1) → IsDefBehind bindings def
+spliced_behind bindings def values atoms same kept are alone =
+    let means : parts_atoms bindings (kept_parts def.values) ≡ atoms = ap (parts_atoms bindings) same ∙ are.means in
+    record {
+      older = subst (All (IsOfFirst (length bindings))) (sym same) are.older;
+      kept = subst (AreKeptIn def.values) (sym means) kept;
+      alone = λ one. subst (λ (l : List Atom). length l ≤ 1) (sym means) (alone one);
+    }
 
-pub spliced_behind : (bindings : List Binding) (many : Bool) (values : Spliced) (atoms : List Atom) → AreSpliced bindings values atoms
-    → (many ≡ false → length atoms ≤ 1) → IsDefBehind bindings (def_of many values)
-spliced_behind bindings many values atoms are alone = record {
-  values = record { means = refl; older = are.older; kept = subst (AreKeptBy values.first values.summary) (sym are.means) are.kept };
-  alone = λ one. subst (λ (l : List Atom). length l ≤ 1) (sym are.means) (alone one);
-}
-
-abbrev binding : Bool → List Atom → Binding
-binding many atoms = record { many = many; atoms = atoms }
-
-pub spliced_binding : (bindings : List Binding) (many is : Bool) (values : Spliced) (atoms left : List Atom) → AreSpliced bindings values atoms → many ≡ is → atoms ≡ left
-    → def_binding bindings (def_of many values) ≡ binding is left
-spliced_binding bindings many is values atoms left are same_many same = ap (binding many) (are.means ∙ same) ∙ ap (λ m. binding m left) same_many
+pub same_binding : (many is : Bool) (atoms left : List Atom) → many ≡ is → atoms ≡ left
+    → let binding : Binding = record { many = many; atoms = atoms } in binding ≡ record { many = is; atoms = left }
+same_binding many is atoms left same_many same = ap (λ m. record { many = m; atoms = atoms }) same_many ∙ ap (λ (l : List Atom). record { many = is; atoms = l }) same
 
 pub filter_map-mapped : {X Y Z : Type 0} (f : Y → Option Z) (g : X → Y) (xs : List X) → filter_map (λ x. f (g x)) xs ≡ filter_map f (map g xs)
 filter_map-mapped f g [] = refl

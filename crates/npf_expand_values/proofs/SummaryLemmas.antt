@@ -1,34 +1,25 @@
 -- What becomes of values, one behind the other, is what becomes of each, joined.
-use Rattle.std.proofs.Common.{◌≡◌, ℕ, ◌+◌, Bool, true, false, ◌||◌, Option, List, [], ◌∷◌, ◌++◌, refl, sym, ap, ◌∙◌, append-nil, arith}
-use Rattle.std.specs.List.{flat_map, list_any}
+use Rattle.std.proofs.Common.{◌≡◌, ℕ, ◌+◌, Bool, Option, List, ◌++◌, ap, ◌∙◌, arith}
+use Rattle.std.specs.List.{flat_map}
 use Rattle.std.proofs.lemmas.Grind.{flat_map-append}
 use Rattle.std.proofs.lemmas.List.Folds.{list_any-append}
 use Rattle.std.proofs.lemmas.List.Sums.{sum_by-append}
-use Rattle.npf_types.specs.declared.span.Span.{Span}
 use Rattle.npf_faults.specs.declared.fault.ConfFault.{ConfFault}
-use Rattle.npf_faults.specs.declared.fault.Fault.TheVariants.{Expected}
-use Rattle.npf_faults.specs.First.{earlier, fault_if, first_fault}
+use Rattle.npf_faults.specs.First.{first_fault}
 use Rattle.npf_faults.proofs.FirstLemmas.{first_fault-append}
 use Rattle.npf_expand_values.specs.declared.role.Role.{Role}
 use Rattle.npf_expand_values.specs.declared.role.Role.TheVariants.{AsPort, AsAddress, AsProtocol, AsInterface}
 use Rattle.npf_expand_values.specs.declared.summary.Fate.{Fate}
 use Rattle.npf_expand_values.specs.declared.summary.Summary.{Summary}
 use Rattle.npf_expand_values.specs.Atom.{Atom}
-use Rattle.npf_expand_values.specs.Summary.{counted, fate_in, fate_of, joined_summary, joined_fate, summary_of}
-use Rattle.npf_expand_values.specs.Use.{count_of, element_count, is_unfit, use_faults, word_faults}
+use Rattle.npf_expand_values.specs.Summary.{counted, fate_of, joined_summary, joined_fate, summary_of}
+use Rattle.npf_expand_values.specs.Use.{count_of, element_count, is_unfit, word_faults}
 
 abbrev fate : Bool → Option ConfFault → Fate
 fate unfit word = record { unfit = unfit; word = word }
 
 same_fate : (a b : Bool) (v w : Option ConfFault) → a ≡ b → v ≡ w → fate a v ≡ fate b w
 same_fate a b v w same_unfit same_word = cc
-
-or-false : (b : Bool) → b ≡ (b || false)
-or-false true = refl
-or-false false = refl
-
-pub one_fate : (role : Role) (atom : Atom) → fate_of role (atom ∷ []) ≡ fate (is_unfit role atom) (first_fault (word_faults role atom))
-one_fate role atom = same_fate _ _ _ _ (sym (or-false (is_unfit role atom))) (ap first_fault (append-nil (word_faults role atom)))
 
 fate_of-append : (role : Role) (xs ys : List Atom) → fate_of role (xs ++ ys) ≡ joined_fate (fate_of role xs) (fate_of role ys)
 fate_of-append role xs ys = same_fate _ _ _ _ (list_any-append (is_unfit role) xs ys)
@@ -47,17 +38,6 @@ pub summary_of-append : (xs ys : List Atom) → summary_of (xs ++ ys) ≡ joined
 summary_of-append xs ys = same_summary _ _ _ _ _ _ _ _ _ _
     (ap counted (sum_by-append count_of xs ys) ∙ counted-both (element_count xs) (element_count ys))
     (fate_of-append AsPort xs ys) (fate_of-append AsAddress xs ys) (fate_of-append AsProtocol xs ys) (fate_of-append AsInterface xs ys)
-
-pub fate_in-summary : (role : Role) (atoms : List Atom) → fate_in role (summary_of atoms) ≡ fate_of role atoms
-fate_in-summary AsPort atoms = refl
-fate_in-summary AsAddress atoms = refl
-fate_in-summary AsProtocol atoms = refl
-fate_in-summary AsInterface atoms = refl
-
--- the first fault of values that are used at a place
-pub fault_of_fate : (role : Role) (span : Span) (atoms : List Atom)
-    → first_fault (use_faults role span atoms) ≡ earlier (first_fault (fault_if (list_any (is_unfit role) atoms) span Expected)) (first_fault (flat_map (word_faults role) atoms))
-fault_of_fate role span atoms = first_fault-append (fault_if (list_any (is_unfit role) atoms) span Expected) (flat_map (word_faults role) atoms)
 
 pub counted_of_both : (a b : ℕ) → counted (a + b) ≡ counted (counted a + counted b)
 counted_of_both a b = counted-both a b

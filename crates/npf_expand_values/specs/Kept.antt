@@ -9,6 +9,8 @@ use Rattle.npf_expand_values.specs.declared.atom.Atom.{Atom as Kept}
 use Rattle.npf_expand_values.specs.declared.summary.Summary.{Summary}
 use Rattle.npf_expand_values.specs.declared.variable.Bound.{Bound}
 use Rattle.npf_expand_values.specs.declared.variable.Def.{Def}
+use Rattle.npf_expand_values.specs.declared.variable.DefValues.{DefValues}
+use Rattle.npf_expand_values.specs.declared.variable.DefValues.TheVariants.{Nothing, One, Many}
 use Rattle.npf_expand_values.specs.declared.variable.Part.{Part}
 use Rattle.npf_expand_values.specs.declared.variable.Part.TheVariants.{Single, Defined}
 use Rattle.npf_expand_values.specs.declared.variable.Spliced.{Spliced}
@@ -25,8 +27,14 @@ part_atoms bindings (Defined place) = atoms_of (slice_get bindings place)
 abbrev pub parts_atoms : List Binding → List Part → List Atom
 parts_atoms bindings parts = flat_map (part_atoms bindings) parts
 
+-- the parts of the values of a definition
+abbrev pub kept_parts : DefValues → List Part
+kept_parts Nothing = []
+kept_parts (One atom) = Single atom ∷ []
+kept_parts (Many values) = values.parts.items
+
 abbrev pub def_binding : List Binding → Def → Binding
-def_binding bindings def = record { many = def.many; atoms = parts_atoms bindings def.values.parts.items }
+def_binding bindings def = record { many = def.many; atoms = parts_atoms bindings (kept_parts def.values) }
 
 -- what definitions bind, in the order of the text; of the definitions the newest stands first
 abbrev pub bindings_of : List Def → List Binding
@@ -47,6 +55,12 @@ pub record AreKeptBy (front : Option Kept) (summary : Summary) (atoms : List Ato
   pub first : option_map kept_atom front ≡ first_atom atoms
   pub summed : summary ≡ summary_of atoms
 
+-- a definition's values are these atoms, as far as they are kept beside their parts
+abbrev pub AreKeptIn : DefValues → List Atom → Type 0
+AreKeptIn Nothing atoms = atoms ≡ []
+AreKeptIn (One atom) atoms = atoms ≡ kept_atom atom ∷ []
+AreKeptIn (Many values) atoms = AreKeptBy values.first values.summary atoms
+
 -- the parts are these atoms
 pub record AreSpliced (bindings : List Binding) (values : Spliced) (atoms : List Atom) : Type 0 where
   pub means : parts_atoms bindings values.parts.items ≡ atoms
@@ -55,8 +69,9 @@ pub record AreSpliced (bindings : List Binding) (values : Spliced) (atoms : List
 
 -- a definition behind those that bind their names so
 pub record IsDefBehind (bindings : List Binding) (def : Def) : Type 0 where
-  pub values : AreSpliced bindings def.values (parts_atoms bindings def.values.parts.items)
-  pub alone : def.many ≡ false → length (parts_atoms bindings def.values.parts.items) ≤ 1
+  pub older : All (IsOfFirst (length bindings)) (kept_parts def.values)
+  pub kept : AreKeptIn def.values (parts_atoms bindings (kept_parts def.values))
+  pub alone : def.many ≡ false → length (parts_atoms bindings (kept_parts def.values)) ≤ 1
 
 abbrev pub AreDefs : List Def → Type 0
 AreDefs [] = Unit {0}

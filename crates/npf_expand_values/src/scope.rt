@@ -175,7 +175,7 @@ impl<'a> Scope<'_, 'a, '_> {
         requires { AreSound self.now.variables.now }
         ensures { IfOk result (λ all. AreSpliced (known_of_scope self.now) all (spliced (ifaces_of_scope self.now) (env_of_scope self.now) values.now)) }
     {
-        let mut all = Spliced::new(alloc);
+        let mut all = Spliced::new(alloc, values.len())?;
         for value in values {
             all.add_where(self.value_binding(value))?;
         }
@@ -193,7 +193,7 @@ impl<'a> Scope<'_, 'a, '_> {
         requires { AreSound self.now.variables.now }
         ensures { IfOk result (λ all. AreSpliced (known_of_scope self.now) all (flat_map (λ one. atoms_of (one_binding (env_of_scope self.now) one)) ones.now)) }
     {
-        let mut all = Spliced::new(alloc);
+        let mut all = Spliced::new(alloc, ones.len())?;
         for one in ones {
             all.add_where(self.one_binding(one))?;
         }

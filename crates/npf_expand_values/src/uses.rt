@@ -15,7 +15,7 @@ ghost use Rattle.npf_expand_values.specs.Variable.{binding_of, bound_faults, def
 use crate::atom::Atom;
 use crate::role::Role;
 use crate::scope::{Scope, one_span, undefined, value_span};
-use crate::variable::{Def, Spliced};
+use crate::variable::Def;
 use npf_faults::{ConfFault, Fault, earlier, fault_if};
 use npf_syntax::{One, Value, Values};
 use npf_types::{NoMemory, Span};
@@ -146,15 +146,10 @@ impl<'a> Scope<'_, 'a, '_> {
     {
         let many = self.is_list(values);
         if fault.is_some() {
-            return Ok(Def {
-                many,
-                values: Spliced::new(alloc),
-            });
+            return Ok(Def::refused(many));
         }
-        Ok(Def {
-            many,
-            values: self.splice(alloc, listed_values(values))?,
-        })
+        let values = self.splice(alloc, listed_values(values))?;
+        Def::of(alloc, many, values)
     }
 
     fn is_list(&self, values: &'a Values) -> bool

@@ -1,11 +1,11 @@
 // Variables, and what they are bound to. A list keeps the places of the variables in it and is spliced where it is used, in a rule within
 // the limit alone. So a list that doubles again and again costs nothing until then, and then no more than the limit's elements.
-ghost use Rattle.std.specs.Prelude.{◌≡◌, ◌<◌, ◌≤◌, ◌∷◌, ◌++◌, ℕ, [], false, if◌then◌else◌, All, IfOk, List, None, OnOk, Option, Some, length, map, slice_get};
+ghost use Rattle.std.specs.Prelude.{◌≡◌, ◌<◌, ◌≤◌, ◌∷◌, ◌++◌, ℕ, [], false, if◌then◌else◌, All, IfOk, IfSome, List, None, OnOk, Option, Some, length, map, slice_get};
 ghost use Rattle.std.specs.Option.{option_map};
 ghost use Rattle.std.specs.Str.{bytes_eq};
 ghost use Rattle.npf_faults.specs.First.{first_fault};
 ghost use Rattle.npf_expand_values.specs.Atom.{Atom as Plain, Binding, kept_atom};
-ghost use Rattle.npf_expand_values.specs.Kept.{AreSound, AreSpliced, IsBound, IsBoundWhere, IsDefBehind, IsOfFirst, def_binding, env_in, known, part_atoms, parts_atoms};
+ghost use Rattle.npf_expand_values.specs.Kept.{AreKeptBy, AreKeptIn, AreSound, AreSpliced, IsBound, IsBoundWhere, IsDefBehind, IsOfFirst, def_binding, env_in, kept_parts, known, part_atoms, parts_atoms};
 ghost use Rattle.npf_expand_values.specs.Iface.{bound_name};
 ghost use Rattle.npf_expand_values.specs.Use.{atoms_of, single_faults, use_faults};
 
@@ -13,6 +13,7 @@ use crate::atom::Atom;
 use crate::role::Role;
 use crate::summary::Summary;
 use npf_faults::{ConfFault, Fault, fault_if};
+use npf_syntax::Boxed;
 use npf_types::{NoMemory, Span};
 use std::alloc::Global;
 use std::collections::HashMap;
@@ -41,11 +42,20 @@ pub(crate) struct Bound<'a> {
     pub(crate) summary: Summary,
 }
 
+/// What is kept of the values of a definition: of a single one no more than itself, from which the rest follows, since a text may
+/// have 800,000 definitions.
+#[derive(Drop)]
+enum DefValues<'a> {
+    Nothing,
+    One(Atom<'a>),
+    Many(Boxed<Spliced<'a>>),
+}
+
 /// A definition, and whether it is one of a list.
 #[derive(Drop)]
 pub struct Def<'a> {
-    pub(crate) many: bool,
-    pub(crate) values: Spliced<'a>,
+    many: bool,
+    values: DefValues<'a>,
 }
 
 /// The definitions so far, and the place of the latest of each name.
@@ -104,14 +114,15 @@ impl<'a> Bound<'a> {
 }
 
 impl<'a> Spliced<'a> {
-    pub(crate) fn new(alloc: Global) -> Spliced<'a>
-        ensures { (bindings : List Binding) → AreSpliced bindings result [] }
+    /// None yet, with room for so many.
+    pub(crate) fn new(alloc: Global, room: usize) -> Result<Spliced<'a>, NoMemory>
+        ensures { IfOk result (λ values. (bindings : List Binding) → AreSpliced bindings values []) }
     {
-        Spliced {
+        Ok(Spliced {
             first: None,
-            parts: Vec::new(alloc),
+            parts: Vec::with_capacity(alloc, room)?,
             summary: Summary::none(),
-        }
+        })
     }
 
     /// Puts the values that these are bound to behind the others.
@@ -136,6 +147,90 @@ impl<'a> Spliced<'a> {
             Some(bound) => self.add(&bound),
             None => Ok(()),
         }
+    }
+
+    // Their only part, where they are one.
+    fn only(&self) -> Option<Part<'a>>
+        ensures { IfSome result (λ part. self.now.parts.items ≡ part ∷ []) }
+    {
+        match self.parts.as_slice() {
+            [part] => Some(*part),
+            _ => None,
+        }
+    }
+}
+
+impl<'a> DefValues<'a> {
+    // Those of a definition that was not refused.
+    fn of(alloc: Global, values: Spliced<'a>) -> Result<DefValues<'a>, NoMemory>
+        ensures parts { IfOk result (λ kept. kept_parts kept ≡ values.entry.parts.items) }
+        ensures kept { IfOk result (λ kept. (bindings : List Binding) → (atoms : List Plain)
+            → AreSpliced bindings values.entry atoms → AreKeptIn kept atoms) }
+    {
+        match values.only() {
+            Some(Part::Single(atom)) => Ok(DefValues::One(atom)),
+            _ => Ok(DefValues::Many(Boxed::new(alloc, values)?)),
+        }
+    }
+
+    // The first of them, and what becomes of them.
+    fn kept(&self) -> (Option<Atom<'a>>, Summary)
+        ensures { (atoms : List Plain) → AreKeptIn self.now atoms → AreKeptBy result.0 result.1 atoms }
+    {
+        match self {
+            DefValues::Nothing => (None, Summary::none()),
+            DefValues::One(atom) => (Some(*atom), Summary::of(atom)),
+            DefValues::Many(values) => (values.get().first, values.get().summary),
+        }
+    }
+
+    // Their only part, where they are one.
+    fn only(&self) -> Option<Part<'a>>
+        ensures { IfSome result (λ part. kept_parts self.now ≡ part ∷ []) }
+    {
+        match self {
+            DefValues::Nothing => None,
+            DefValues::One(atom) => Some(Part::Single(*atom)),
+            DefValues::Many(values) => values.get().only(),
+        }
+    }
+
+    // Puts their parts on a stack.
+    fn put_on(&self, stack: &mut Vec<Part<'a>>) -> Result<(), NoMemory>
+        ensures { OnOk result (stack.new.items ≡ stack.old.items ++ kept_parts self.now) }
+    {
+        match self {
+            DefValues::Nothing => {}
+            DefValues::One(atom) => stack.push(Part::Single(*atom))?,
+            DefValues::Many(values) => stack.extend_from_slice(values.get().parts.as_slice())?,
+        }
+        Ok(())
+    }
+}
+
+impl<'a> Def<'a> {
+    /// One that is refused: it binds its name to nothing.
+    pub(crate) fn refused(many: bool) -> Def<'a>
+        ensures behind { (bindings : List Binding) → IsDefBehind bindings result }
+        ensures binding { (bindings : List Binding) → def_binding bindings result ≡ record { many = many; atoms = [] } }
+    {
+        Def {
+            many,
+            values: DefValues::Nothing,
+        }
+    }
+
+    /// One of these values.
+    pub(crate) fn of(alloc: Global, many: bool, values: Spliced<'a>) -> Result<Def<'a>, NoMemory>
+        ensures behind { IfOk result (λ def. (bindings : List Binding) → (atoms : List Plain) → AreSpliced bindings values.entry atoms
+            → (many ≡ false → length atoms ≤ 1) → IsDefBehind bindings def) }
+        ensures binding { IfOk result (λ def. (bindings : List Binding) → (atoms : List Plain) → AreSpliced bindings values.entry atoms
+            → def_binding bindings def ≡ record { many = many; atoms = atoms }) }
+    {
+        Ok(Def {
+            many,
+            values: DefValues::of(alloc, values)?,
+        })
     }
 }
 
@@ -168,11 +263,12 @@ impl<'a> Variables<'a> {
         ensures { IsBoundWhere (known self.now) (Some result) (slice_get (known self.now) place) }
     {
         let def = &self.defs[place];
+        let (first, summary) = def.values.kept();
         Bound {
             many: def.many,
-            first: def.values.first,
+            first,
             part: self.part(place),
-            summary: def.values.summary,
+            summary,
         }
     }
 
@@ -183,11 +279,9 @@ impl<'a> Variables<'a> {
         ensures means { part_atoms (known self.now) result ≡ atoms_of (slice_get (known self.now) place) }
         ensures older { IsOfFirst (length (known self.now)) result }
     {
-        let parts = self.defs[place].values.parts.as_slice();
-        if parts.len() == 1 {
-            parts[0]
-        } else {
-            Part::Defined(place)
+        match self.defs[place].values.only() {
+            Some(part) => part,
+            None => Part::Defined(place),
         }
     }
 
@@ -220,9 +314,7 @@ impl<'a> Variables<'a> {
         while let Some(part) = stack.pop() {
             match part {
                 Part::Single(atom) => atoms.push(atom)?,
-                Part::Defined(place) => stack.extend_from_slice(
-                    self.defs[place].values.parts.as_slice(),
-                )?,
+                Part::Defined(place) => self.defs[place].values.put_on(&mut stack)?,
             }
         }
         atoms.reverse();

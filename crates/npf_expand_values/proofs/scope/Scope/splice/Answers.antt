@@ -17,4 +17,4 @@ loop-value-preserved c =
     }
 
 pub loop-value-init : goal.loop-value-init
-loop-value-init c = record { so_far = c.new-all.ensures (known_of_scope c.args.self.now) }
+loop-value-init c = record { so_far = c.in_ok-all.ensures (known_of_scope c.args.self.now) }

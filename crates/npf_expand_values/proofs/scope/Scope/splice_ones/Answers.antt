@@ -20,7 +20,7 @@ loop-one-preserved c =
     }
 
 pub loop-one-init : goal.loop-one-init
-loop-one-init c = record { so_far = c.new-all.ensures (known_of_scope c.args.self.now) }
+loop-one-init c = record { so_far = c.in_ok-all.ensures (known_of_scope c.args.self.now) }
 
 pub returns : goal.returns
 returns c =

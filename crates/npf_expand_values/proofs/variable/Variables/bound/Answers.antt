@@ -10,10 +10,10 @@ returns c =
     let variables = c.args.self.now in
     let def = c.index-def.result.now in
     let is = known_at variables c.args.place def c.requires.sound (slice_get_read variables.defs.items _ c.args.place def refl c.requires.within c.index-def.ensures) in
-    subst (IsBoundWhere (known variables) (Some (record { many = def.many; first = def.values.first; part = c.part.result; summary = def.values.summary }))) (sym is.binding) (record {
+    subst (IsBoundWhere (known variables) (Some (record { many = def.many; first = c.kept.result.0; part = c.part.result; summary = c.kept.result.1 }))) (sym is.binding) (record {
       many = refl;
       means = c.part.ensures.means ∙ ap atoms_of is.binding;
       older = c.part.ensures.older;
-      kept = is.behind.values.kept;
+      kept = c.kept.ensures _ is.behind.kept;
       alone = is.behind.alone;
     })
