@@ -1,3 +1,4 @@
+pub mod Always
 pub mod Binding
 pub mod Configuration
 pub mod Flat

@@ -7,6 +7,7 @@ ghost use Rattle.npf_ruleset.specs.Layout.{ArePlacesOf, fault_there};
 ghost use Rattle.npf_ruleset.specs.Place.{IsPlaceOfRule, placed_at};
 ghost use Rattle.npf_ruleset.specs.Refusal.{AreProgramsOf, IsCompilable, RefusesAllRules};
 
+use crate::always::describes_all;
 use crate::binding::Binding;
 use crate::fault::BuildFault;
 use crate::flat::FlatRule;
@@ -81,6 +82,7 @@ fn flat_rule(groups: &[Group], place: Place, program: Program) -> FlatRule
         binding: Binding::of_rule(&placed),
         last: placed.rule.last,
         row: Row::of(placed.rule),
+        always: describes_all(&program),
         program,
         place,
     }

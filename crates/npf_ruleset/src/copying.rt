@@ -17,6 +17,7 @@ fn copy_rule(alloc: Global, rule: &FlatRule) -> Result<FlatRule, NoMemory>
         row: rule.row,
         program: rule.program.copy(alloc)?,
         place: rule.place,
+        always: rule.always,
     })
 }
 

@@ -1,6 +1,7 @@
 // What is laid out flat. Rows stand with their programs; apart they were no faster. Where no rule of a group is `final`, its rules aren't
 // gone over for that first.
-ghost use Rattle.std.specs.Prelude.{◌≡◌};
+ghost use Rattle.std.specs.Prelude.{◌≡◌, true};
+ghost use Rattle.npf_ruleset.specs.Always.{DescribesAll};
 
 use crate::binding::Binding;
 use crate::place::Place;
@@ -8,7 +9,8 @@ use crate::row::Row;
 use npf_bpf::Program;
 
 /// A rule: what each packet meets that it describes, whether it is `final`, what it is bound to, its
-/// program, and where it stands in the model.
+/// program, and where it stands in the model. `always` tells that the program describes every packet,
+/// so that it needn't be run.
 #[derive(Drop)]
 pub struct FlatRule {
     pub(crate) row: Row,
@@ -16,6 +18,8 @@ pub struct FlatRule {
     pub(crate) binding: Binding,
     pub(crate) program: Program,
     pub(crate) place: Place,
+    pub(crate) always: bool,
+    ghost described: { always ≡ true → DescribesAll program },
 }
 
 impl FlatRule {

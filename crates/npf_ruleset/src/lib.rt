@@ -5,7 +5,8 @@
 // meets which the rule describes: the family, the protocols as a set of bits, and the hulls of the
 // addresses and ports of both ends. What a rule is bound to by direction and interface stands there
 // too, with what its ruleset is bound to. A walk that comes to a rule runs its program only where the
-// row admits the packet: the program alone decides that the rule describes the packet.
+// row admits the packet: the program alone decides that the rule describes the packet. A program that
+// tests nothing describes every packet, and isn't run.
 //
 // In a group the rules with `final` are tried upwards first, and, where none of them matched, the
 // others downwards, so that the first match ends it (npf.conf(5), "Groups" and "Rules"). A group
@@ -18,6 +19,7 @@
 #![tactic(auto)]
 
 mod addr_hull;
+mod always;
 mod binding;
 mod building;
 mod compiling;

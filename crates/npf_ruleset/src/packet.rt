@@ -4,6 +4,7 @@ ghost use Rattle.std.specs.Prelude.{◌≡◌};
 ghost use Rattle.npf_bpfgen.specs.Premise.{ip_version};
 ghost use Rattle.npf_ruleset.specs.Row.{destination_end, source_end};
 
+use crate::always::DESCRIBED;
 use crate::flat::FlatRule;
 use crate::row::PacketEnd;
 use crate::tables::table_has;
@@ -28,9 +29,6 @@ pub(crate) struct Packet<'a> {
     pub ghost to: { destination ≡ destination_end facts.now },
 }
 
-/// What a program returns on the packets that its rule describes.
-const DESCRIBED: u32 = u32::MAX;
-
 impl Packet<'_> {
     ghost use Rattle.std.specs.Prelude.{◌==◌};
     ghost use Rattle.npf_bpf.specs.Value.{program_value};
@@ -38,13 +36,14 @@ impl Packet<'_> {
 
     /// Whether the rule matches: its row admits the packet, it isn't bound to elsewhere, and its
     /// program describes it. Inlined into the loops over rules, most of which are left at their rows.
+    /// A rule that describes every packet has no program run.
     #[inline(always)]
     pub(crate) fn meets(&self, rule: &FlatRule) -> bool
         ensures { result ≡ flat_matches self.now rule.now }
     {
         rule.row.admits(self)
             && rule.binding.leaves(self.ifid, self.dir)
-            && self.is_described(&rule.program)
+            && (rule.always || self.is_described(&rule.program))
     }
 
     // Whether a rule's program describes it. Few rules come so far, so the machine is kept out of the loop over the others.
