@@ -1,5 +1,5 @@
-// The part of the rule on marks, by which emptied nodes of the trie without locks are to come back, and what keeps it. No call marks a node yet. The
-// function does nothing: it is a theorem.
+// The part of the rule on marks, by which emptied nodes of the trie without locks come back, and what keeps it. The calls are those of `npf_cells`
+// (marks.rt). The function does nothing: it is a theorem.
 //
 // Readers walk while a node is taken off. So whoever has its lock, and the lock of its parent's place, marks the node once nothing stands in its
 // places; then the mark takes the node's place, and the node is let go with an epoch that the pass loaded since. Whoever may still be in the node

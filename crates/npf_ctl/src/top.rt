@@ -76,7 +76,7 @@ pub fn npfctl_top<
         (E.moment err.old) (E.moment err.new) result }
 
     // What must be refused is, for the fault that its files come to, and what can be done is, but for want of memory, or of a node for a
-    // connection that is loaded. Told files come to one of both (npf_ctl_prepare_law), so this is exactly where.
+    // connection that is loaded. Told files never come to both (npf_ctl_prepare_law), so neither is asked for where the other is.
     ensures refuses_words { is_command_line (word_texts words.now) ≡ false → HasStatus 2 result }
     ensures refuses { (tree : Tree) (fault : FaultType) → (F.moment files.old).contents ≡ Some tree
         → MustRefuse (word_texts words.now) tree (C.view pass.old).slots fault
