@@ -65,10 +65,6 @@ module _ {S A R : Type 0} (m : Meaning S A R) (digest : Key → ℕ) (layout : L
   kept_so now is empty note stood early = left_so now (is ∙ (λ i. (record old.0 { turn = between.turnless i }, empty i)))
       (λ all unworn later. early_alive m digest layout old.0 lives settled all hand between.turnless slot old.0.epochs.loaded within old.0.seats.about legal.legal (λ c. unworn (inr c)) later note stood early)
 
-  -- a vacant slot is left
-  pub vacant_so : old.1 ≡ [] → (k.slot slot).stage ≡ Vacant → CollectsSlot m slot None old old
-  vacant_so empty vacant = left_so old (λ i. (record old.0 { turn = between.turnless i }, empty i)) (λ all unworn later dead. let no : Vacant ≡ Dead = sym vacant ∙ dead in cc)
-
   pub left_for : (now : Me (Running S) (CellView S A R)) → LeavesSlot m digest layout slot old.0.epochs.loaded old now → CollectsSlot m slot None old now
   left_for now left = left_so now left.is (λ all unworn later. left_alive m digest layout old.0 lives settled all hand between.turnless slot old.0.epochs.loaded within old.0.seats.about legal.legal (λ c. unworn (inr c)) later left.why)
 

@@ -2,7 +2,7 @@
 use Rattle.std.specs.List.{Contains}
 use Rattle.std.specs.Prelude.{is_some}
 use Rattle.std.proofs.Common.{◌≡◌, ◌≢◌, ℕ, ◌+◌, ◌≤◌, ◌<◌, false, Option, Some, None, List, [], ◌∷◌, ◌++◌, length, append-nil, refl, sym, ap, ◌∙◌, subst, ⊎_elim, inl, inr, arith}
-use Rattle.std.proofs.lemmas.Bool.{cases_eq}
+use Rattle.std.proofs.lemmas.Bool.{cases_eq, cases_lt}
 use Rattle.std.proofs.lemmas.List.{map-append}
 use Rattle.std.proofs.lemmas.List.Elements.{Contains-append_left}
 use Rattle.atomic_table.specs.Table.{Me}
@@ -11,7 +11,7 @@ use Rattle.npf_core.specs.declared.conn_id.ConnId.{ConnId}
 use Rattle.npf_core.specs.declared.entry.Entry.{Entry}
 use Rattle.npf_core.specs.declared.reply.Reply.TheVariants.{Nothing}
 use Rattle.npf_core.specs.declared.slot.Slot.{Slot}
-use Rattle.npf_core.specs.declared.stage.Stage.TheVariants.{Dead}
+use Rattle.npf_core.specs.declared.stage.Stage.TheVariants.{Dead, Vacant}
 use Rattle.npf_core.specs.History.{IsPrefix, Legal, state_of}
 use Rattle.npf_core.specs.Meaning.{Meaning}
 use Rattle.npf_connections.specs.Adding.{Adds, AddsOwn}
@@ -28,7 +28,7 @@ use Rattle.npf_cells_rule.specs.Passes.{cell_pass, is_pinned}
 use Rattle.npf_cells_rule.specs.Views.{with_epochs}
 use Rattle.npf_conndb.specs.Between.{IsBetweenCalls, StaysBetween}
 use Rattle.npf_pool.specs.Take.{HasSeenMore}
-use Rattle.npf_conndb.specs.Frees.{CollectsSlot, HasCollected, VisitsSlot, freed_ids}
+use Rattle.npf_conndb.specs.Frees.{CollectsSlot, HasCollected, freed_ids}
 use Rattle.npf_conndb.proofs.AddingLemmas.{adds_one}
 use Rattle.npf_conndb.proofs.PassLemmas.{hands, goes_between, goes_further, adds_nothing, adds_none, begins}
 use Rattle.npf_conndb.proofs.SeenLemmas.{seen_stays}
@@ -117,6 +117,18 @@ module _ {S A R : Type 0} (m : Meaning S A R) (epoch : ℕ) (old : Me (Running S
       clean = λ all unworn p h dead. so.clean all (before unworn) p h (ap (λ hist. ((state_of m hist).slot p).stage) (sym (whole all)) ∙ dead);
     }
 
+  -- more slots, in which nobody stands
+  pub collected_vacant : (i j : ℕ) (now : Me (Running S) (CellView S A R)) → HasCollected m epoch i old now → ((p : ℕ) → i ≤ p → p < j → ((state_of m now.0.seats.history).slot p).stage ≡ Vacant) → HasCollected m epoch j old now
+  collected_vacant i j now so vacant = record {
+    ids = so.ids;
+    adds = so.adds;
+    stays = so.stays;
+    loaded = so.loaded;
+    dated = so.dated;
+    later = so.later;
+    clean = λ all unworn p h. ⊎_elim (λ (below : p < i). so.clean all unworn p below) (λ (past : i ≤ p) dead. let no : Vacant ≡ Dead = sym (vacant p past h) ∙ dead in cc) (cases_lt p i);
+  }
+
   -- one slot more
   module _ (slot : ℕ) (freed : Option ConnId) (now next : Me (Running S) (CellView S A R)) (so : HasCollected m epoch slot old now) (more : CollectsSlot m slot freed now next) where
     shown : cell_pass now.0 ≡ record (cell_pass old.0) { history = now.0.seats.history; epoch = now.0.epochs.greatest }
@@ -161,13 +173,9 @@ module _ {S A R : Type 0} (m : Meaning S A R) (epoch : ℕ) (old : Me (Running S
           clean = clean_more;
         }
 
-  -- where the pass saw more before it, and nothing was freed until then
-  module _ (slot : ℕ) (freed : Option ConnId) (now next : Me (Running S) (CellView S A R)) (so : HasCollected m epoch slot old now) (none : Adds (cell_pass old.0) now.0.seats.history []) (more : VisitsSlot m slot freed now next) where
-    pub visited_more : HasCollected m epoch (slot + 1) old next
-    visited_more = collected_more slot freed more.between next (collected_seen slot now more.between so none more.sees) more.collects
-
-    pub visited_none : freed ≡ None → Adds (cell_pass old.0) next.0.seats.history []
-    visited_none is = subst (λ h. Adds (cell_pass old.0) h []) (sym (more.collects.same is)) (sees_none slot now more.between so none more.sees)
+  -- nothing was freed in it either
+  pub collected_still : (slot : ℕ) (freed : Option ConnId) (now next : Me (Running S) (CellView S A R)) → CollectsSlot m slot freed now next → freed ≡ None → Adds (cell_pass old.0) now.0.seats.history [] → Adds (cell_pass old.0) next.0.seats.history []
+  collected_still slot freed now next more is none = subst (λ h. Adds (cell_pass old.0) h []) (sym (more.same is)) none
 
   -- of more slots, and so of fewer
   pub collected_below : (i j : ℕ) (now : Me (Running S) (CellView S A R)) → j ≤ i → HasCollected m epoch i old now → HasCollected m epoch j old now

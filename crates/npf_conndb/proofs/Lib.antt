@@ -21,5 +21,6 @@ pub mod SlotLemmas
 pub mod SoleLemmas
 pub mod StayLemmas
 pub mod TurnLemmas
+pub mod VacancyLemmas
 pub mod VisitLemmas
 pub mod WithinLemmas

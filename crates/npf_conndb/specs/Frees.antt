@@ -11,7 +11,6 @@ use Rattle.npf_connections.specs.Entries.{free_entries}
 use Rattle.npf_connections.specs.Pass.{all_places}
 use Rattle.npf_cells_rule.specs.declared.view.CellView.{CellView}
 use Rattle.npf_cells_rule.specs.Passes.{cell_pass}
-use Rattle.npf_pool.specs.Take.{HasSeenMore}
 use Rattle.npf_conndb.specs.Between.{StaysBetween}
 
 -- the connections of a slot that was freed, or none
@@ -30,12 +29,6 @@ pub record CollectsSlot {S A R F : Type 0} (m : Meaning S A R) (slot : ℕ) (fre
   pub dated : now.0.pools.dated ≡ old.0.pools.dated
   pub others : length old.0.seats.readers ≡ all_places → (p : ℕ) → p ≢ slot → (state_of m now.0.seats.history).slot p ≡ (state_of m old.0.seats.history).slot p
   pub clean : length old.0.seats.readers ≡ all_places → ¬ IsWorn (cell_pass old.0) → old.0.pools.dated + 2 ≤ old.0.epochs.loaded → ((state_of m now.0.seats.history).slot slot).stage ≢ Dead
-
--- the pass saw more of the history, to which it added nothing, and then did that
-pub record VisitsSlot {S A R F : Type 0} (m : Meaning S A R) (slot : ℕ) (freed : Option ConnId) (old now : Me F (CellView S A R)) : Type 0 where
-  pub between : Me F (CellView S A R)
-  pub sees : HasSeenMore m old between
-  pub collects : CollectsSlot m slot freed between now
 
 -- with this epoch the pass freed these connections, which ends the history, if any; and where it owns all reader places and isn't worn, nothing
 -- Dead is in the slots below this one

@@ -7,9 +7,9 @@ ghost use Rattle.npf_cells.specs.Cells.{IsPassIn};
 ghost use Rattle.npf_cells_pins.specs.declared.pin.Pin.TheVariants.{Idle};
 ghost use Rattle.npf_cells_rule.specs.Passes.{cell_pass};
 ghost use Rattle.npf_conndb.specs.Between.{IsBetweenCalls, StaysBetween};
-ghost use Rattle.npf_conndb.specs.Frees.{CollectsSlot, HasCollected, VisitsSlot};
+ghost use Rattle.npf_conndb.specs.Frees.{CollectsSlot, HasCollected};
 
-use crate::vacancy::is_vacant;
+use crate::vacancy::vacant_slots;
 use npf_cells::{CellPass, Cells, Pool, READERS};
 use npf_core::{ConnId, Law};
 use npf_epoch::{enter, leave, try_advance};
@@ -98,8 +98,8 @@ fn forget_left<L: Law>(pass: &mut CellPass<L>, left: u64, epoch: u64)
     }
 }
 
-// Raises the epoch, and visits the slots up to the first that it frees. Answers the epoch, and how many slots it visited. What is freed ends
-// what the pass adds, so behind it the pass may see no more, and can't tell vacant slots.
+// Raises the epoch, and visits the slots that somebody has claimed, up to the first that it frees. Answers the epoch, and how many slots are done.
+// What is freed ends what the pass adds, so behind it the pass may see no more, and can't tell vacant slots.
 fn free_first<L: Law, H: KeyHash>(cells: &Cells<L, H>, pass: &mut CellPass<L>) -> (u64, u32)
     requires own { IsPassIn cells.now pass.old }
     requires legal { IsPass L.meaning (cell_pass pass.old.seat.me.0) }
@@ -110,10 +110,17 @@ fn free_first<L: Law, H: KeyHash>(cells: &Cells<L, H>, pass: &mut CellPass<L>) -
 {
     let epoch = raise_epoch(cells, pass);
     let slots = cells.layout().slots;
-    for slot in 0..slots {
-        if visit_slot(cells, pass, slot, epoch).is_some() {
+    let mut slot = 0;
+    while slot < slots {
+        let vacant = vacant_slots(cells, pass, slot);
+        if vacant > 0 {
+            slot += vacant;
+            continue;
+        }
+        if collect_slot(cells, pass, slot, epoch).is_some() {
             return (epoch, slot + 1);
         }
+        slot += 1;
     }
     (epoch, slots)
 }
@@ -139,27 +146,6 @@ fn raise_epoch<L: Law, H: KeyHash>(cells: &Cells<L, H>, pass: &mut CellPass<L>) 
     try_advance(cells, pass);
     try_advance(cells, pass);
     cells.load_epoch(pass)
-}
-
-// Frees the slot's connection, where it may be freed by this epoch, and answers it. The pass first sees whether anybody has claimed the slot.
-fn visit_slot<L: Law, H: KeyHash>(
-    cells: &Cells<L, H>,
-    pass: &mut CellPass<L>,
-    slot: u32,
-    epoch: u64,
-) -> Option<ConnId>
-    requires own { IsPassIn cells.now pass.old }
-    requires exists { slot < cells.now.table.shared.key.slots }
-    requires legal { IsPass L.meaning (cell_pass pass.old.seat.me.0) }
-    requires between { IsBetweenCalls L.meaning pass.old.seat.me.0 }
-    requires loaded { pass.old.seat.me.0.epochs.loaded ≡ epoch }
-    ensures own { IsPassIn cells.now pass.new }
-    ensures visits { VisitsSlot L.meaning slot result pass.old.seat.me pass.new.seat.me }
-{
-    if is_vacant(cells, pass, slot) {
-        return None;
-    }
-    collect_slot(cells, pass, slot, epoch)
 }
 
 // Frees the slot's connection, where it may be freed by this epoch, and answers it. A slot whose first note says that it may not isn't touched.

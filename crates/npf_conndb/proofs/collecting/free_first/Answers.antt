@@ -1,6 +1,6 @@
-use Rattle.std.proofs.Common.{sym, ap, ◌∙◌}
+use Rattle.std.proofs.Common.{◌+◌, sym, ap, ◌∙◌, arith}
 use Rattle.npf_cells_rule.specs.Passes.{cell_pass}
-use Rattle.npf_conndb.proofs.CollectedLemmas.{collected_none, none_freed, visited_more, visited_none, collected_below}
+use Rattle.npf_conndb.proofs.CollectedLemmas.{collected_none, collected_seen, collected_vacant, collected_more, collected_still, none_freed, sees_none}
 use Rattle.npf_conndb.proofs.PassLemmas.{adds_nothing}
 use Rattle.npf_conndb.proofs.collecting.free_first.Goals as goal
 
@@ -12,24 +12,56 @@ loop-slot-init g c =
     record {
       own = raised.own;
       sized = ap (λ l. l.slots) c.layout-slots.ensures;
+      within = omega arith;
       collected = collected_none g.L.Law.meaning c.raise_epoch-epoch.result old now c.requires.legal c.requires.between c.requires.out raised.same raised.out raised.loaded raised.greatest raised.goes raised.most raised.later;
       none = adds_nothing (cell_pass old.0) now.0.seats.history (ap (λ y. y.0.seats.history) raised.same);
     }
 
-pub loop-slot-preserved : goal.loop-slot-preserved
-loop-slot-preserved g c =
+pub loop-slot-preserved-then-vacant-gt0 : goal.loop-slot-preserved-then-vacant-gt0
+loop-slot-preserved-then-vacant-gt0 g c =
+    let m = g.L.Law.meaning in
+    let epoch = c.raise_epoch-epoch.result in
+    let old = c.args.pass.now.seat.me in
+    let slot = c.loop-slot.slot in
+    let now = c.loop-slot.pass.seat.me in
+    let seen = c.vacant_slots-vacant.new.pass.seat.me in
     let so = c.loop-slot.invariant in
+    let shown = c.vacant_slots-vacant.ensures in
     record {
-      own = c.visit_slot.ensures.own;
+      own = shown.own;
       sized = so.sized;
-      collected = visited_more g.L.Law.meaning c.raise_epoch-epoch.result c.args.pass.now.seat.me c.loop-slot.slot c.visit_slot.result _ _ so.collected so.none c.visit_slot.ensures.visits;
-      none = visited_none g.L.Law.meaning c.raise_epoch-epoch.result c.args.pass.now.seat.me c.loop-slot.slot c.visit_slot.result _ _ so.collected so.none c.visit_slot.ensures.visits (none_freed _ (sym c.is_some.ensures ∙ c.if-is_some.false));
+      within = omega (arith, so.sized, shown.within);
+      collected = collected_vacant m epoch old slot (slot + c.vacant_slots-vacant.result) seen (collected_seen m epoch old slot now seen so.collected so.none shown.sees) shown.vacant;
+      none = sees_none m epoch old slot now seen so.collected so.none shown.sees;
     }
 
 pub returns-then-is_some-clause-collected : goal.returns-then-is_some-clause-collected
 returns-then-is_some-clause-collected g c =
+    let m = g.L.Law.meaning in
+    let epoch = c.raise_epoch-epoch.result in
+    let old = c.args.pass.now.seat.me in
+    let slot = c.loop-slot.slot in
+    let now = c.loop-slot.pass.seat.me in
+    let seen = c.vacant_slots-vacant.new.pass.seat.me in
     let so = c.loop-slot.invariant in
-    visited_more g.L.Law.meaning c.raise_epoch-epoch.result c.args.pass.now.seat.me c.loop-slot.slot _ _ _ so.collected so.none c.visit_slot.ensures.visits
+    collected_more m epoch old slot c.collect_slot.result seen c.collect_slot.new.pass.seat.me (collected_seen m epoch old slot now seen so.collected so.none c.vacant_slots-vacant.ensures.sees) c.collect_slot.ensures.collects
 
-pub returns-clause-collected : goal.returns-clause-collected
-returns-clause-collected g c = collected_below g.L.Law.meaning c.raise_epoch-epoch.result c.args.pass.now.seat.me c.loop-slot.slot _ _ c.loop-slot-test.false c.loop-slot.invariant.collected
+pub loop-slot-preserved : goal.loop-slot-preserved
+loop-slot-preserved g c =
+    let m = g.L.Law.meaning in
+    let epoch = c.raise_epoch-epoch.result in
+    let old = c.args.pass.now.seat.me in
+    let slot = c.loop-slot.slot in
+    let now = c.loop-slot.pass.seat.me in
+    let seen = c.vacant_slots-vacant.new.pass.seat.me in
+    let next = c.collect_slot.new.pass.seat.me in
+    let so = c.loop-slot.invariant in
+    let sees = c.vacant_slots-vacant.ensures.sees in
+    let collects = c.collect_slot.ensures.collects in
+    record {
+      own = c.collect_slot.ensures.own;
+      sized = so.sized;
+      within = omega (arith, c.loop-slot-test.true);
+      collected = collected_more m epoch old slot c.collect_slot.result seen next (collected_seen m epoch old slot now seen so.collected so.none sees) collects;
+      none = collected_still m epoch old slot c.collect_slot.result seen next collects (none_freed _ (sym c.is_some.ensures ∙ c.if-is_some.false)) (sees_none m epoch old slot now seen so.collected so.none sees);
+    }

@@ -1,4 +1,4 @@
-use Rattle.std.proofs.Common.{◌≡◌, []}
+use Rattle.std.proofs.Common.{◌≡◌, ◌≤◌, ◌-◌, []}
 use Rattle.npf_connections.specs.Adding.{Adds}
 use Rattle.npf_cells.specs.Cells.{IsPassIn}
 use Rattle.npf_cells_rule.specs.Passes.{cell_pass}
@@ -9,6 +9,10 @@ abbrev pub invariant-loop-slot : goal.invariant-loop-slot
 invariant-loop-slot g l = record {
   own : IsPassIn l.cells l.pass;
   sized : l.slots ≡ l.cells.table.shared.key.slots;
+  within : l.slot ≤ l.slots;
   collected : HasCollected g.L.Law.meaning l.epoch l.slot l.fn.pass.seat.me l.pass.seat.me;
   none : Adds (cell_pass l.fn.pass.seat.me.0) l.pass.seat.me.0.seats.history [];
 }
+
+abbrev pub decreases-loop-slot : goal.decreases-loop-slot
+decreases-loop-slot g l = l.slots - l.slot
