@@ -1,4 +1,4 @@
-ghost use Rattle.std.specs.Prelude.{◌≡◌, ◌≤◌, ◌<◌, ◌+◌, ◌%◌, ◌==◌, ℕ, true};
+ghost use Rattle.std.specs.Prelude.{◌≡◌, ◌≤◌, ◌<◌, ◌+◌, ℕ, true};
 ghost use Rattle.std.specs.Int.{bit_at};
 ghost use Rattle.npf_core.specs.declared.stage.Stage.TheVariants.{Vacant};
 ghost use Rattle.npf_core.specs.History.{state_of};
@@ -21,8 +21,7 @@ pub(crate) fn is_vacant<L: Law, H: KeyHash>(
     ensures sees { HasSeenMore L.meaning pass.old.seat.me pass.new.seat.me }
     ensures vacant { result ≡ true → ((state_of L.meaning pass.new.seat.me.0.seats.history).slot slot).stage ≡ Vacant }
 {
-    let claimed = cells.load_pool(pass, Pool::Slots, slot / 64);
-    is_clear(claimed, slot)
+    vacant_slots(cells, pass, slot) > 0
 }
 
 /// How many slots from this one on nobody has claimed, up to the last whose bit is in the same word. The pass then has seen all of the history.
@@ -49,11 +48,4 @@ fn clear_places(word: u64, place: u32) -> u32
     ensures clear { (i : ℕ) → place ≤ i → i < place + result → bit_at word i ≡ 0 }
 {
     (word >> place).trailing_zeros().min(64 - place)
-}
-
-// Whether the bit of a place is clear in its word.
-fn is_clear(word: u64, place: u32) -> bool
-    ensures { result ≡ (bit_at word (place % 64) == 0) }
-{
-    (word >> (place % 64)) & 1 == 0
 }
