@@ -177,7 +177,8 @@ def free_copies(folder, most):
 
 
 def time_left(seconds, done, whole):
-    if not 0 < done < whole:
+    # the small crates come first, and by them alone it would seem far too long
+    if not whole <= 4 * done < 4 * whole:
         return ""
     minutes = max(1, round(seconds * (whole - done) / done / 60))
     return f", about {minutes} minute{'s' if minutes > 1 else ''} left"
